@@ -1,0 +1,4 @@
+pub mod HookLemmas
+pub mod EnableLemmas
+pub mod BootLemmas
+pub mod ViewLemmas

@@ -1,0 +1,70 @@
+-- The text of one object, symbol by symbol.
+use Rattle.std.proofs.Common.{◌≡◌, ℕ, suc, ◌+◌, Bool, true, false, List, [], ◌∷◌, length, Option, Some, None, refl, sym, ap, ◌∙◌}
+use Rattle.std.specs.Prelude.{slice_get, slice_index_or, option_map, option_and_then, if◌then◌else◌}
+use Rattle.klp_types.specs.Image.{Symbol, Object, first_site, given_symbol}
+use Rattle.klp_types.specs.Bytes.{patched, patched_from, text_where}
+use Rattle.klp_types.proofs.TextLemmas.{slice_get-patched_from}
+use Rattle.klp_text.specs.TextImage.{TextImage, is_hooked_at, bytes_at}
+use Rattle.klp_core.specs.View.{or_none, symbols_at}
+
+length-patched_from : (handler : ℕ) (hooked : ℕ → Bool) (site : ℕ) (symbols : List Symbol)
+    → length (patched_from handler hooked site symbols) ≡ length symbols
+length-patched_from handler hooked site [] = refl
+length-patched_from handler hooked site (symbol ∷ symbols) = ap suc (length-patched_from handler hooked (suc site) symbols)
+
+some_inj : {m n : ℕ} → Some m ≡ Some n → m ≡ n
+some_inj e = cc
+
+length_where : (handler : ℕ) (hooked : ℕ → Bool) (first count : ℕ) (object : Option Object)
+    → Some count ≡ option_map (λ (found : Object). length found.symbols) object
+    → count ≡ length (or_none (option_map (λ (found : Object). patched_from handler hooked first found.symbols) object))
+length_where handler hooked first count None h = let no : ⊥ = cc in absurd no
+length_where handler hooked first count (Some object) h = some_inj h ∙ sym (length-patched_from handler hooked first object.symbols)
+
+pub length-symbols_at : (text : TextImage) (object count : ℕ)
+    → Some count ≡ option_map (λ (found : Object). length found.symbols) (slice_get text.image.objects object)
+    → count ≡ length (symbols_at text object)
+length-symbols_at text object count h =
+    length_where text.image.handler (is_hooked_at text) (first_site text.image.objects object) count (slice_get text.image.objects object) h
+
+in_object : {A : Type 0} (read : Symbol → A) → ((hooked : Bool) (symbol : Symbol) → (handler : ℕ) → read (patched handler hooked symbol) ≡ read symbol)
+    → (handler : ℕ) (hooked : ℕ → Bool) (first number : ℕ) (object : Option Object)
+    → option_map read (slice_get (or_none (option_map (λ (found : Object). patched_from handler hooked first found.symbols) object)) number)
+    ≡ option_map read (option_and_then (λ (found : Object). slice_get found.symbols number) object)
+in_object read same handler hooked first number None = refl
+in_object read same handler hooked first number (Some object) =
+    ap (option_map read) (slice_get-patched_from handler hooked first object.symbols number)
+    ∙ unpatched (slice_get object.symbols number)
+  where
+    unpatched : (symbol : Option Symbol) → option_map read (option_map (patched handler (hooked (first + number))) symbol) ≡ option_map read symbol
+    unpatched None = refl
+    unpatched (Some symbol) = ap Some (same (hooked (first + number)) symbol handler)
+
+pub symbols_at-name : (text : TextImage) (object number : ℕ)
+    → option_map (λ (s : Symbol). s.name) (slice_get (symbols_at text object) number) ≡ option_map (λ (s : Symbol). s.name) (given_symbol text.image object number)
+symbols_at-name text object number =
+    in_object (λ (s : Symbol). s.name) (λ hooked symbol handler. refl) text.image.handler (is_hooked_at text) (first_site text.image.objects object) number
+    (slice_get text.image.objects object)
+
+pub symbols_at-address : (text : TextImage) (object number : ℕ)
+    → option_map (λ (s : Symbol). s.address) (slice_get (symbols_at text object) number) ≡ option_map (λ (s : Symbol). s.address) (given_symbol text.image object number)
+symbols_at-address text object number =
+    in_object (λ (s : Symbol). s.address) (λ hooked symbol handler. refl) text.image.handler (is_hooked_at text) (first_site text.image.objects object) number
+    (slice_get text.image.objects object)
+
+body_in : (number : ℕ) (symbols : Option (List Symbol))
+    → option_map (λ (s : Symbol). s.body) (option_and_then (λ (ss : List Symbol). slice_get ss number) symbols)
+    ≡ option_map (λ (s : Symbol). s.body) (slice_get (or_none symbols) number)
+body_in number None = refl
+body_in number (Some symbols) = refl
+
+pub symbols_at-body : (text : TextImage) (object number : ℕ) → slice_index_or text.loaded object false ≡ true
+    → bytes_at text object number ≡ option_map (λ (s : Symbol). s.body) (slice_get (symbols_at text object) number)
+symbols_at-body text object number loaded =
+    ap (λ l. option_map (λ (s : Symbol). s.body) (option_and_then (λ (ss : List Symbol). slice_get ss number) (if l then text_where text.image (is_hooked_at text) object else None))) loaded
+    ∙ body_in number (text_where text.image (is_hooked_at text) object)
+
+-- a symbol that has no address isn't there
+pub nothing_from : {A B : Type 0} (read : A → B) (o : Option A) → None ≡ option_map read o → o ≡ None
+nothing_from read None h = refl
+nothing_from read (Some a) h = let no : ⊥ = cc in absurd no

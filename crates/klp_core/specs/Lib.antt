@@ -1,0 +1,5 @@
+pub mod Managed
+pub mod Boot
+pub mod Hooks
+pub mod Kept
+pub mod View

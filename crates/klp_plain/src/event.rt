@@ -1,0 +1,71 @@
+ghost use Rattle.std.specs.Prelude.{◌≡◌, IfOk, OnOk, OnErr, Some};
+ghost use Rattle.klp_types.specs.Step.{first_of, refusals, enabled, completed};
+ghost use Rattle.klp_types.specs.declared.event.Event.TheVariants.{Enable};
+ghost use Rattle.klp_types.specs.Run.{answer, next};
+
+use crate::setting::{Setting, State};
+use klp_types::{Event, Move, PatchId, Refusal, Reply};
+use std::alloc::{AllocError, Global};
+
+// Why the patch can't be enabled.
+fn enable_refusal(setting: &Setting, state: &State, patch: PatchId) -> Option<Refusal>
+    ensures { result ≡ first_of (refusals setting.now state.now (Enable patch)) }
+{
+    if usize::from(patch.0) >= setting.patches.len() {
+        Some(Refusal::NoPatch)
+    } else if state.is_installed(patch) {
+        Some(Refusal::AlreadyThere)
+    } else if state.moving.is_some() {
+        Some(Refusal::Busy)
+    } else {
+        None
+    }
+}
+
+// The patch is put last and starts to move.
+fn enable(state: &mut State, patch: PatchId) -> Result<Reply, AllocError>
+    ensures ok { IfOk result (λ reply. (reply, state.new) ≡ enabled state.old patch) }
+    ensures err { OnErr result (state.new ≡ state.old) }
+{
+    state.installed.push(patch)?;
+    state.moving = Some(Move {
+        patch,
+        target: true,
+    });
+    Ok(Reply::Started)
+}
+
+// The transition ends.
+fn complete(alloc: Global, state: &mut State, moved: Move) -> Result<Reply, AllocError>
+    ensures ok { IfOk result (λ reply. (reply, state.new) ≡ completed state.old (Some moved)) }
+    ensures err { OnErr result (state.new ≡ state.old) }
+{
+    if !moved.target {
+        state.installed = state.without(alloc, moved.patch)?;
+    }
+    state.moving = None;
+    Ok(Reply::Completed(moved.target))
+}
+
+/// One event: its answer, and the state after it. Where memory is short the state is as before.
+pub fn step(
+    alloc: Global,
+    setting: &Setting,
+    state: &mut State,
+    event: Event,
+) -> Result<Result<Reply, Refusal>, AllocError>
+    ensures answer { IfOk result (λ given. given ≡ answer setting.now state.old event) }
+    ensures next { OnOk result (state.new ≡ next setting.now state.old event) }
+    ensures err { OnErr result (state.new ≡ state.old) }
+{
+    match event {
+        Event::Enable(patch) => match enable_refusal(setting, state, patch) {
+            Some(refusal) => Ok(Err(refusal)),
+            None => Ok(Ok(enable(state, patch)?)),
+        },
+        Event::Poll => match state.moving {
+            Some(moved) => Ok(Ok(complete(alloc, state, moved)?)),
+            None => Ok(Err(Refusal::NotMoving)),
+        },
+    }
+}

@@ -1,0 +1,217 @@
+ghost use Rattle.std.specs.Prelude.{◌≡◌, ◌==◌, not, filter, length, IfOk};
+ghost use Rattle.klp_types.specs.Image.{symbols_of};
+ghost use Rattle.klp_types.specs.Setting.{all_functions};
+ghost use Rattle.klp_plain.specs.Plain.{has_few_functions, has_room_behind};
+ghost use Rattle.std.specs.List.{list_any, list_all};
+
+use klp_types::{Move, ObjId, ObjectText, PatchId, Site, SymbolText};
+use std::alloc::{AllocError, Global};
+use std::marker::Model;
+
+/// A new function of a patch.
+#[derive(Clone, Copy, Debug)]
+pub struct Function {
+    /// The site whose function it stands in for, where the image has it.
+    pub site: Option<Site>,
+    pub address: u64,
+}
+
+impl Model for Function {
+    ghost use Rattle.klp_types.specs.Setting.{Function as FunctionOf};
+
+    ghost Value = { FunctionOf };
+
+    ghost view = { λ f. record { site = f.site; address = f.address } };
+
+    ghost inverse = { λ f. record { site = f.site; address = f.address } };
+}
+
+/// What a patch does to one object.
+#[derive(Debug, Drop)]
+pub struct PatchObject {
+    pub object: ObjId,
+    pub functions: Vec<Function>,
+}
+
+impl Model for PatchObject {
+    ghost use Rattle.klp_types.specs.Setting.{PatchObject as PatchObjectOf};
+
+    ghost Value = { PatchObjectOf };
+
+    ghost view = { λ o. record { object = o.object; functions = o.functions.items } };
+}
+
+/// A patch of the catalog.
+#[derive(Debug, Drop)]
+pub struct Patch {
+    /// Whether it replaces all older patches.
+    pub replace: bool,
+    pub objects: Vec<PatchObject>,
+}
+
+impl Model for Patch {
+    ghost use Rattle.klp_types.specs.Setting.{Patch as PatchOf};
+
+    ghost Value = { PatchOf };
+
+    ghost view = { λ p. record { replace = p.replace; objects = p.objects.items } };
+}
+
+/// The image and the catalog's patches.
+#[derive(Debug, Drop)]
+pub struct Setting {
+    pub handler: u64,
+    pub objects: Vec<ObjectText>,
+    pub patches: Vec<Patch>,
+}
+
+impl Model for Setting {
+    ghost use Rattle.klp_types.specs.Setting.{Setting as SettingOf};
+
+    ghost Value = { SettingOf };
+
+    ghost view = { λ s. record {
+      image = record { handler = s.handler; objects = s.objects.items };
+      patches = s.patches.items;
+    } };
+}
+
+/// The state, as tables.
+#[derive(Debug, Drop)]
+pub struct State {
+    /// For each object, whether it is loaded.
+    pub loaded: Vec<bool>,
+    /// Oldest first.
+    pub installed: Vec<PatchId>,
+    pub moving: Option<Move>,
+}
+
+impl Model for State {
+    ghost use Rattle.std.specs.Prelude.{map};
+    ghost use Rattle.klp_types.specs.State.{State as StateOf, bare};
+
+    ghost Value = { StateOf };
+
+    ghost view = { λ s. record { loaded = s.loaded.items; installed = map bare s.installed.items; moving = s.moving } };
+}
+
+impl Setting {
+    ghost use Rattle.std.specs.Prelude.{◌≡◌, IsTrue};
+    ghost use Rattle.klp_plain.specs.Plain.{IsSmall, is_small};
+
+    /// Whether the tables are small enough for a plain machine.
+    pub fn is_small(&self) -> bool
+        ensures exact { result ≡ is_small self.now }
+        ensures small { IsTrue result → IsSmall self.now }
+    {
+        self.passes()
+    }
+
+    fn passes(&self) -> bool
+        ensures { result ≡ is_small self.now }
+    {
+        symbol_count(&self.objects) < 65536
+            && each_has_few(&self.patches)
+            && each_has_room(&self.objects)
+    }
+}
+
+impl State {
+    ghost use Rattle.std.specs.Prelude.{◌≡◌, map, IfOk};
+    ghost use Rattle.klp_types.specs.Step.{without};
+    ghost use Rattle.klp_types.specs.State.{bare, is_loaded, is_installed, installed_patches};
+
+    /// Whether there is such an object and it is loaded.
+    pub(crate) fn is_loaded(&self, object: usize) -> bool
+        ensures { result ≡ is_loaded self.now object }
+    {
+        self.loaded.get(object).copied().unwrap_or(false)
+    }
+
+    /// The installed patches, oldest first.
+    pub(crate) fn installed(&self) -> &[PatchId]
+        ensures { result.now ≡ installed_patches self.now }
+    {
+        &self.installed
+    }
+
+    /// Whether the patch is installed.
+    pub(crate) fn is_installed(&self, patch: PatchId) -> bool
+        ensures { result ≡ is_installed self.now patch }
+    {
+        contains(&self.installed, patch)
+    }
+
+    /// The installed patches but this one.
+    pub(crate) fn without(&self, alloc: Global, patch: PatchId) -> Result<Vec<PatchId>, AllocError>
+        ensures { IfOk result (λ rest. map bare rest.items ≡ without patch self.now.installed) }
+    {
+        let rest = others(alloc, &self.installed, patch)?;
+        Ok(rest)
+    }
+}
+
+// The patches but this one.
+fn others(alloc: Global, patches: &[PatchId], patch: PatchId) -> Result<Vec<PatchId>, AllocError>
+    ensures { IfOk result (λ rest. rest.items ≡ filter (λ other. not (other == patch)) patches.now) }
+{
+    patches
+        .iter()
+        .copied()
+        .filter(|other| *other != patch)
+        .collect(alloc)
+}
+
+// Whether the patch is among these.
+fn contains(patches: &[PatchId], patch: PatchId) -> bool
+    ensures { result ≡ list_any (λ other. other == patch) patches.now }
+{
+    patches.iter().any(|other| *other == patch)
+}
+
+// How many symbols all objects have.
+fn symbol_count(objects: &[ObjectText]) -> u128
+    ensures { result ≡ length (symbols_of objects.now) }
+{
+    let mut count = 0;
+    for object in objects {
+        count += object.symbols.len() as u128;
+    }
+    count
+}
+
+// How many functions all objects of a patch have.
+fn function_count(objects: &[PatchObject]) -> u128
+    ensures { result ≡ length (all_functions objects.now) }
+{
+    let mut count = 0;
+    for object in objects {
+        count += object.functions.len() as u128;
+    }
+    count
+}
+
+fn each_has_few(patches: &[Patch]) -> bool
+    ensures { result ≡ list_all has_few_functions patches.now }
+{
+    patches
+        .iter()
+        .all(|patch| function_count(&patch.objects) < 65536)
+}
+
+fn all_have_room(symbols: &[SymbolText]) -> bool
+    ensures { result ≡ list_all has_room_behind symbols.now }
+{
+    symbols.iter().all(|symbol| symbol.address < u64::MAX - 4)
+}
+
+fn each_has_room(objects: &[ObjectText]) -> bool
+    ensures { result ≡ list_all has_room_behind (symbols_of objects.now) }
+{
+    for object in objects {
+        if !all_have_room(&object.symbols) {
+            return false;
+        }
+    }
+    true
+}

@@ -1,0 +1,3 @@
+pub mod FaultLaws
+pub mod KeptLaws
+pub mod SoundLaws

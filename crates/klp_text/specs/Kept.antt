@@ -1,0 +1,50 @@
+-- What an image keeps: the objects as they were given, and beside them a table of the sites.
+use Rattle.std.specs.Prelude.{◌≡◌, ℕ, ◌+◌, ◌^◌, ◌<◌, ◌≤◌, FitsSigned, Bool, false, List, [], ◌∷◌, ◌++◌, length, drop, map}
+use Rattle.std.specs.Int.{w32}
+use Rattle.std.specs.List.{All, AllZip}
+use Rattle.klp_types.specs.Image.{Symbol, Object, symbols_of}
+use Rattle.klp_types.specs.Bytes.{nop, patched, displacement}
+use Rattle.klp_text.specs.TextImage.{IsWithinLimits}
+use Rattle.klp_text.specs.declared.stored.StoredSymbol.{StoredSymbol}
+
+-- the site of each object's first symbol, where the first of all is this
+abbrev pub first_sites_from : ℕ → List Object → List ℕ
+first_sites_from site [] = []
+first_sites_from site (object ∷ objects) = site ∷ first_sites_from (site + length object.symbols) objects
+
+-- a body has an entry site
+abbrev pub IsLong : Symbol → Type 0
+IsLong symbol = 5 ≤ length symbol.body
+
+-- a call at the entry site reaches the handler
+abbrev pub IsNear : ℕ → Symbol → Type 0
+IsNear handler symbol = FitsSigned w32 (displacement handler symbol.address)
+
+-- it ends within the addresses of 64 bits
+abbrev pub IsInRange : Symbol → Type 0
+IsInRange symbol = symbol.address + length symbol.body < 2 ^ 64
+
+-- a symbol as it stands in the text
+pub record IsStored (handler : ℕ) (stored : StoredSymbol) (symbol : Symbol) : Type 0 where
+  pub address : stored.address ≡ symbol.address
+  pub body : stored.body.items ≡ (patched handler stored.hooked symbol).body
+
+-- the same of one that isn't hooked
+pub record IsResting (stored : StoredSymbol) (symbol : Symbol) : Type 0 where
+  pub address : stored.address ≡ symbol.address
+  pub flag : stored.hooked ≡ false
+  pub body : stored.body.items ≡ nop ++ drop 5 symbol.body
+
+-- which of the sites are hooked
+abbrev pub hooked_of : List StoredSymbol → List Bool
+hooked_of stored = map (λ (s : StoredSymbol). s.hooked) stored
+
+-- the tables are those of the objects
+pub record IsKept (handler : ℕ) (objects : List Object) (loaded : List Bool) (first_sites : List ℕ) (stored : List StoredSymbol) : Type 0 where
+  pub limits : IsWithinLimits objects
+  pub long : All IsLong (symbols_of objects)
+  pub near : All (IsNear handler) (symbols_of objects)
+  pub in_range : All IsInRange (symbols_of objects)
+  pub each_loaded : length loaded ≡ length objects
+  pub first_sites_are : first_sites ≡ first_sites_from 0 objects
+  pub stored_are : AllZip (IsStored handler) stored (symbols_of objects)

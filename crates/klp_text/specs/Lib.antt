@@ -1,0 +1,3 @@
+pub mod TextImage
+pub mod Faults
+pub mod Kept

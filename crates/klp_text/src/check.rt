@@ -1,0 +1,176 @@
+ghost use Rattle.std.specs.Prelude.{◌≡◌, ◌+◌, ◌++◌, [], nat_lt, length, bytes_eq};
+ghost use Rattle.std.specs.List.{list_any};
+ghost use Rattle.klp_types.specs.Image.{Object, symbols_of};
+ghost use Rattle.klp_text.specs.Faults as faults;
+
+use crate::entry::can_reach;
+use crate::fault::ImageFault;
+use crate::limits::{ENTRY_SITE_LEN, MAX_BODY, MAX_OBJECTS, MAX_SITES};
+use klp_types::{ObjectText, SymbolText};
+
+/// The name of the first object.
+const KERNEL: &str = "vmlinux";
+
+/// The fault of these objects, if they make no image.
+pub fn image_fault(handler: u64, objects: &[ObjectText]) -> Option<ImageFault>
+    ensures { result ≡ faults.image_fault handler objects.now }
+{
+    if is_too_many(objects) {
+        Some(ImageFault::TooMany)
+    } else if !begins_with_kernel(objects) {
+        Some(ImageFault::NoKernel)
+    } else if has_duplicate(objects) {
+        Some(ImageFault::DuplicateObject)
+    } else {
+        symbols_fault(handler, objects)
+    }
+}
+
+fn is_too_many(objects: &[ObjectText]) -> bool
+    ensures { result ≡ faults.is_too_many objects.now }
+{
+    objects.len() > MAX_OBJECTS || has_too_many_sites(objects) || has_long_body(objects)
+}
+
+fn has_too_many_sites(objects: &[ObjectText]) -> bool
+    ensures { result ≡ nat_lt 256 (length (symbols_of objects.now)) }
+{
+    let mut sites = 0;
+    for object in objects {
+        if object.symbols.len() > MAX_SITES - sites {
+            return true;
+        }
+        sites += object.symbols.len();
+    }
+    false
+}
+
+fn has_long_body(objects: &[ObjectText]) -> bool
+    ensures { result ≡ list_any faults.is_long (symbols_of objects.now) }
+{
+    for object in objects {
+        if has_long_symbol(object.symbols.as_slice()) {
+            return true;
+        }
+    }
+    false
+}
+
+fn has_long_symbol(symbols: &[SymbolText]) -> bool
+    ensures { result ≡ list_any faults.is_long symbols.now }
+{
+    symbols.iter().any(|symbol| symbol.body.len() > MAX_BODY)
+}
+
+fn begins_with_kernel(objects: &[ObjectText]) -> bool
+    ensures { result ≡ faults.begins_with_kernel objects.now }
+{
+    match objects {
+        [] => false,
+        [first, ..] => first.name.as_str() == KERNEL,
+    }
+}
+
+fn has_duplicate(objects: &[ObjectText]) -> bool
+    ensures { result ≡ faults.has_duplicate objects.now }
+{
+    for (i, object) in objects.iter().enumerate() {
+        if has_name(&objects[i + 1..], object.name.as_str()) {
+            return true;
+        }
+    }
+    false
+}
+
+fn has_name(objects: &[ObjectText], name: &str) -> bool
+    ensures { result ≡ list_any (λ (other : Object). bytes_eq other.name name.now) objects.now }
+{
+    objects.iter().any(|object| object.name.as_str() == name)
+}
+
+/// The fault of the first symbol that has one.
+fn symbols_fault(handler: u64, objects: &[ObjectText]) -> Option<ImageFault>
+    ensures { result ≡ faults.first_fault (faults.symbols_tests handler [] (symbols_of objects.now)) }
+{
+    for (i, object) in objects.iter().enumerate() {
+        if let Some(fault) = object_fault(handler, &objects[..i], object.symbols.as_slice()) {
+            return Some(fault);
+        }
+    }
+    None
+}
+
+/// The same of one object, which these others come before.
+fn object_fault(handler: u64, earlier: &[ObjectText], symbols: &[SymbolText]) -> Option<ImageFault>
+    ensures { result ≡ faults.first_fault (faults.symbols_tests handler (symbols_of earlier.now) symbols.now) }
+{
+    for (i, symbol) in symbols.iter().enumerate() {
+        if let Some(fault) = symbol_fault(handler, earlier, &symbols[..i], symbol) {
+            return Some(fault);
+        }
+    }
+    None
+}
+
+/// The fault of one symbol, which these objects and these symbols of its own object come before.
+fn symbol_fault(
+    handler: u64,
+    objects: &[ObjectText],
+    symbols: &[SymbolText],
+    symbol: &SymbolText,
+) -> Option<ImageFault>
+    ensures { result ≡ faults.first_fault (faults.symbol_tests handler (symbols_of objects.now ++ symbols.now) symbol.now) }
+{
+    if symbol.body.len() < ENTRY_SITE_LEN {
+        Some(ImageFault::ShortSymbol)
+    } else if !can_reach(handler, symbol.address) {
+        Some(ImageFault::Displacement)
+    } else if is_in_the_way(objects, symbols, symbol) {
+        Some(ImageFault::Overlap)
+    } else {
+        None
+    }
+}
+
+/// Whether a symbol ends beyond the last address, or lies on one of these others.
+///
+/// Each symbol is compared with all before it: at most 256 * 255 / 2 times for an image. The fault
+/// is that of the first symbol in the image's order, which a sort by address would lose, and a
+/// sort takes memory.
+fn is_in_the_way(objects: &[ObjectText], symbols: &[SymbolText], symbol: &SymbolText) -> bool
+    ensures { result ≡ faults.is_in_the_way (symbols_of objects.now ++ symbols.now) symbol.now }
+{
+    end_of(symbol) > u128::from(u64::MAX)
+        || lies_on_objects(objects, symbol)
+        || lies_on_symbols(symbols, symbol)
+}
+
+fn lies_on_objects(objects: &[ObjectText], symbol: &SymbolText) -> bool
+    ensures { result ≡ list_any (faults.share_address symbol.now) (symbols_of objects.now) }
+{
+    for object in objects {
+        if lies_on_symbols(object.symbols.as_slice(), symbol) {
+            return true;
+        }
+    }
+    false
+}
+
+fn lies_on_symbols(symbols: &[SymbolText], symbol: &SymbolText) -> bool
+    ensures { result ≡ list_any (faults.share_address symbol.now) symbols.now }
+{
+    symbols.iter().any(|other| share_address(symbol, other))
+}
+
+fn share_address(a: &SymbolText, b: &SymbolText) -> bool
+    ensures { result ≡ faults.share_address a.now b.now }
+{
+    u128::from(a.address) < end_of(b) && u128::from(b.address) < end_of(a)
+}
+
+/// The address behind a symbol, which may be above all of 64 bits.
+fn end_of(symbol: &SymbolText) -> u128
+    ensures { result ≡ symbol.now.address + length symbol.now.body }
+{
+    u128::from(symbol.address) + symbol.body.len() as u128
+}

@@ -1,0 +1,40 @@
+ghost use Rattle.std.specs.Prelude.{◌≡◌};
+ghost use Rattle.klp_text.specs.declared.fault.ImageFault.TheVariants.{NoMemory};
+
+use std::alloc::AllocError;
+use thiserror::Error;
+
+/// Why objects make no image. The numbers are this project's own, and stay.
+#[derive(Clone, Copy, Debug, PartialEq, Eq, Hash, Error)]
+pub enum ImageFault {
+    /// A symbol lies on an address of an earlier one of any object, or ends beyond the last
+    /// address of 64 bits.
+    #[error("Overlap")]
+    Overlap = 1,
+    /// A body is shorter than an entry site.
+    #[error("ShortSymbol")]
+    ShortSymbol = 2,
+    /// A call at the symbol's address doesn't reach the handler.
+    #[error("Displacement")]
+    Displacement = 3,
+    /// Two objects have one name.
+    #[error("DuplicateObject")]
+    DuplicateObject = 4,
+    /// There are too many objects or sites, or a body is too long.
+    #[error("TooMany")]
+    TooMany = 5,
+    /// There is no memory for the image.
+    #[error("NoMemory")]
+    NoMemory = 6,
+    /// There is no object, or the first one isn't `vmlinux`.
+    #[error("NoKernel")]
+    NoKernel = 7,
+}
+
+impl From<AllocError> for ImageFault {
+    ghost from_gives = { λ _ fault. fault ≡ NoMemory };
+
+    fn from(_: AllocError) -> ImageFault {
+        ImageFault::NoMemory
+    }
+}

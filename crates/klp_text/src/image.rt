@@ -1,0 +1,190 @@
+ghost use Rattle.std.specs.Prelude.{◌≡◌, ◌+◌, ◌^◌, ◌<◌, ◌≤◌, ◌⊎◌, true, false, length, slice_get, slice_set, option_map, IfOk, IfErr, OnOk, None};
+ghost use Rattle.klp_types.specs.Image.{Symbol, Object, given_symbol, symbol_of, symbols_of};
+ghost use Rattle.klp_text.specs.TextImage.{opening, bytes_at, site_count, IsWithinLimits};
+ghost use Rattle.std.specs.List.{All, AllZip};
+ghost use Rattle.klp_text.specs.Faults as faults;
+ghost use Rattle.klp_text.specs.Kept.{IsLong, IsResting, first_sites_from};
+ghost use Rattle.klp_text.specs.declared.fault.ImageFault.TheVariants.{NoMemory};
+
+use crate::check::image_fault;
+use crate::fault::ImageFault;
+use crate::stored::StoredSymbol;
+use klp_types::{ObjId, ObjectText, Site};
+use std::alloc::{AllocError, Global};
+use std::marker::Model;
+
+/// The text of all objects, loaded or not: their names and symbols, and the bytes of each body as
+/// they stand.
+///
+/// Sites are numbered over all objects in order. The objects are fixed from the start; what
+/// changes is which of them are loaded and which sites are hooked. All calls but `new` cost the
+/// same however many sites there are, and take no memory.
+#[derive(Debug, Drop)]
+pub struct Image {
+    handler: u64,
+    /// As they were given.
+    objects: Vec<ObjectText>,
+    /// By object, whether it is loaded.
+    loaded: Vec<bool>,
+    /// By object, the site of its first symbol.
+    first_sites: Vec<u16>,
+    /// By site, the symbol as it stands.
+    sites: Vec<StoredSymbol>,
+}
+
+impl Model for Image {
+    ghost use Rattle.klp_text.specs.TextImage.{TextImage};
+    ghost use Rattle.klp_text.specs.Kept.{IsKept, hooked_of};
+
+    ghost Value = { TextImage };
+
+    ghost view = { λ i. record {
+      image = record { handler = i.handler; objects = i.objects.items };
+      loaded = i.loaded.items;
+      hooked = hooked_of i.sites.items;
+    } };
+
+    ghost invariant = { λ i. IsKept i.handler i.objects.items i.loaded.items i.first_sites.items i.sites.items };
+}
+
+impl Image {
+    /// Makes an image of these objects, for hooked sites to call this handler. Object 0 is loaded
+    /// and nothing is hooked: each entry site holds the NOP, whatever stood there.
+    ///
+    /// Faults are looked for in this order: `TooMany`, `NoKernel`, `DuplicateObject`, and then
+    /// symbol by symbol `ShortSymbol`, `Displacement` and `Overlap`. `NoMemory` may come in place
+    /// of any of them. The objects are dropped on a fault.
+    ///
+    /// Each symbol is compared with all before it, and each body is copied.
+    pub fn new(alloc: Global, objects: Vec<ObjectText>, handler: u64) -> Result<Image, ImageFault>
+        ensures ok { IfOk result (λ image.
+            (faults.image_fault handler objects.items ≡ None) × (image ≡ opening handler objects.items)) }
+        ensures fault { IfErr result (λ fault. (fault ≡ NoMemory) ⊎ (faults.image_fault handler objects.items ≡ Some fault)) }
+        ensures limits { OnOk result (IsWithinLimits objects.items) }
+    {
+        if let Some(fault) = image_fault(handler, objects.as_slice()) {
+            return Err(fault);
+        }
+        let mut loaded = vec![in alloc; false; objects.len()]?;
+        loaded[0] = true;
+        let first_sites = first_sites(alloc, objects.as_slice())?;
+        let sites = stored_symbols(alloc, objects.as_slice())?;
+        Ok(Image {
+            handler,
+            objects,
+            loaded,
+            first_sites,
+            sites,
+        })
+    }
+
+    /// Puts a call of the handler at an entry site, in one write of five bytes.
+    pub fn hook(&mut self, site: Site)
+        requires { site < site_count self.old.image }
+        ensures { self.new ≡ record self.old { hooked = slice_set self.old.hooked site true } }
+    {
+        let handler = self.handler;
+        self.sites[usize::from(site.0)].set_hooked(handler, true);
+    }
+
+    /// Puts the NOP back at an entry site, in one write of five bytes.
+    pub fn unhook(&mut self, site: Site)
+        requires { site < site_count self.old.image }
+        ensures { self.new ≡ record self.old { hooked = slice_set self.old.hooked site false } }
+    {
+        let handler = self.handler;
+        self.sites[usize::from(site.0)].set_hooked(handler, false);
+    }
+
+    /// The bytes of a symbol of a loaded object, as a processor would run them. Symbols count from
+    /// 0 in each object. There is none where the object isn't loaded or has no such symbol.
+    pub fn bytes(&self, object: ObjId, number: u16) -> Option<&[u8]>
+        ensures { option_map (λ b. b.now) result ≡ bytes_at self.now object number }
+    {
+        let object = usize::from(object.0);
+        if !*self.loaded.get(object)? {
+            return None;
+        }
+        if usize::from(number) >= self.objects[object].symbols.len() {
+            return None;
+        }
+        let site = usize::from(self.first_sites[object]) + usize::from(number);
+        Some(self.sites[site].body.as_slice())
+    }
+
+    /// The address of an entry site, which is that of its symbol.
+    pub fn address(&self, site: Site) -> u64
+        requires { site < site_count self.now.image }
+        ensures value { option_map (λ (s : Symbol). s.address) (symbol_of self.now.image site) ≡ Some result }
+        // the entry site lies within 64 bits, and an address stands behind it
+        ensures end { result + 5 < 2 ^ 64 }
+    {
+        self.sites[usize::from(site.0)].address
+    }
+
+    /// How many objects there are, loaded or not.
+    pub fn objects(&self) -> u8
+        ensures count { result ≡ length self.now.image.objects }
+        // what every image has
+        ensures limits { IsWithinLimits self.now.image.objects }
+    {
+        self.objects.len() as u8
+    }
+
+    /// How many symbols an object has, loaded or not.
+    pub fn symbols(&self, object: ObjId) -> Option<u16>
+        ensures { result ≡ option_map (λ (found : Object). length found.symbols) (slice_get self.now.image.objects object) }
+    {
+        let object = self.objects.get(usize::from(object.0))?;
+        Some(object.symbols.len() as u16)
+    }
+
+    /// The name of an object, loaded or not.
+    pub fn object_name(&self, object: ObjId) -> Option<&str>
+        ensures { option_map (λ name. name.now) result
+            ≡ option_map (λ (found : Object). found.name) (slice_get self.now.image.objects object) }
+    {
+        let object = self.objects.get(usize::from(object.0))?;
+        Some(object.name.as_str())
+    }
+
+    /// The name and the address of a symbol, loaded or not.
+    pub fn symbol(&self, object: ObjId, number: u16) -> Option<(&str, u64)>
+        ensures name { option_map (λ found. found.0.now) result
+            ≡ option_map (λ (s : Symbol). s.name) (given_symbol self.now.image object number) }
+        ensures address { option_map (λ found. found.1) result
+            ≡ option_map (λ (s : Symbol). s.address) (given_symbol self.now.image object number) }
+    {
+        let object = self.objects.get(usize::from(object.0))?;
+        let symbol = object.symbols.get(usize::from(number))?;
+        Some((symbol.name.as_str(), symbol.address))
+    }
+}
+
+/// By object, the site of its first symbol.
+fn first_sites(alloc: Global, objects: &[ObjectText]) -> Result<Vec<u16>, AllocError>
+    requires { length (symbols_of objects.now) ≤ 256 }
+    ensures { IfOk result (λ sites. sites.items ≡ first_sites_from 0 objects.now) }
+{
+    let mut sites = Vec::new(alloc);
+    let mut site = 0;
+    for object in objects {
+        sites.push(site)?;
+        site += object.symbols.len() as u16;
+    }
+    Ok(sites)
+}
+
+/// By site, the symbol with a NOP at its entry site.
+fn stored_symbols(alloc: Global, objects: &[ObjectText]) -> Result<Vec<StoredSymbol>, AllocError>
+    requires { All IsLong (symbols_of objects.now) }
+    ensures { IfOk result (λ sites. AllZip IsResting sites.items (symbols_of objects.now)) }
+{
+    let mut sites = Vec::new(alloc);
+    for object in objects {
+        for symbol in &object.symbols {
+            sites.push(StoredSymbol::new(alloc, symbol)?)?;
+        }
+    }
+    Ok(sites)
+}

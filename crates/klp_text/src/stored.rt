@@ -1,0 +1,59 @@
+ghost use Rattle.std.specs.Prelude.{◌≡◌, ◌≤◌, ◌++◌, drop, length, FitsSigned, IfOk, false};
+ghost use Rattle.std.specs.Int.{w32};
+ghost use Rattle.klp_types.specs.Bytes.{nop, displacement, entry_bytes};
+
+use crate::entry::{NOP, call};
+use crate::limits::ENTRY_SITE_LEN;
+use klp_types::SymbolText;
+use std::alloc::{AllocError, Global};
+
+/// A symbol as it stands in the text.
+#[derive(Debug, Drop)]
+pub struct StoredSymbol {
+    pub address: u64,
+    pub hooked: bool,
+    pub body: Vec<u8>,
+}
+
+impl StoredSymbol {
+    /// The symbol with a NOP at its entry site.
+    pub fn new(alloc: Global, symbol: &SymbolText) -> Result<StoredSymbol, AllocError>
+        requires { 5 ≤ length symbol.now.body }
+        ensures address { IfOk result (λ s. s.address ≡ symbol.now.address) }
+        ensures resting { IfOk result (λ s. s.hooked ≡ false) }
+        ensures body { IfOk result (λ s. s.body.items ≡ nop ++ drop 5 symbol.now.body) }
+    {
+        let mut body = Vec::from_slice(alloc, symbol.body.as_slice())?;
+        write_entry(&mut body, &NOP);
+        Ok(StoredSymbol {
+            address: symbol.address,
+            hooked: false,
+            body,
+        })
+    }
+
+    /// Puts a call of the handler at the entry site, or the NOP.
+    pub fn set_hooked(&mut self, handler: u64, hooked: bool)
+        requires long { 5 ≤ length self.old.body.items }
+        requires near { FitsSigned w32 (displacement handler self.old.address) }
+        ensures address { self.new.address ≡ self.old.address }
+        ensures flag { self.new.hooked ≡ hooked }
+        ensures body { self.new.body.items ≡ entry_bytes handler self.old.address hooked ++ drop 5 self.old.body.items }
+    {
+        let entry = if hooked {
+            call(handler, self.address)
+        } else {
+            NOP
+        };
+        write_entry(&mut self.body, &entry);
+        self.hooked = hooked;
+    }
+}
+
+/// Writes over the entry site of a body, in one step.
+fn write_entry(body: &mut [u8], entry: &[u8; ENTRY_SITE_LEN])
+    requires { 5 ≤ length body.old }
+    ensures { body.new ≡ entry.now ++ drop 5 body.old }
+{
+    body[..ENTRY_SITE_LEN].copy_from_slice(entry);
+}

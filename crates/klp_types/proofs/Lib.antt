@@ -1,0 +1,5 @@
+pub mod EntryLemmas
+pub mod RunLemmas
+pub mod TextLemmas
+pub mod SiteLemmas
+pub mod InstalledLemmas

@@ -1,0 +1,56 @@
+-- The bytes of the text.
+use Rattle.std.specs.Prelude.{ℕ, suc, ◌+◌, ◌-◌, ◌^◌, ℤ, pos, negsuc, ◌-ℤ◌, int_lt, int_le, Bool, ◌&&◌, List, [], ◌∷◌, ◌++◌, drop, Option, Some, None, option_map, if◌then◌else◌, slice_get}
+use Rattle.std.specs.Int.{to_le_bytes, cast_unsigned, w32}
+use Rattle.klp_types.specs.Image.{Symbol, Object, Image, first_site}
+use Rattle.klp_types.specs.Setting.{Setting}
+use Rattle.klp_types.specs.State.{State, is_loaded}
+use Rattle.klp_types.specs.Entries.{is_hooked}
+
+-- a NOP of five bytes: 0f 1f 44 00 00
+abbrev pub nop : List ℕ
+nop = 15 ∷ 31 ∷ 68 ∷ 0 ∷ 0 ∷ []
+
+-- how far the handler is from the instruction behind the call at this address
+abbrev pub displacement : ℕ → ℕ → ℤ
+displacement handler address = pos handler -ℤ pos (address + 5)
+
+-- whether a call at this address reaches the handler by a signed number of 32 bits
+abbrev pub can_reach : ℕ → ℕ → Bool
+can_reach handler address =
+    int_le (negsuc (2 ^ 31 - 1)) (displacement handler address) && int_lt (displacement handler address) (pos (2 ^ 31))
+
+-- a call of the handler: e8, and the displacement as a signed number of 32 bits, least byte first
+abbrev pub call : ℕ → ℕ → List ℕ
+call handler address = 232 ∷ to_le_bytes w32 (cast_unsigned w32 (displacement handler address))
+
+-- what stands at an entry site, the first five bytes of a function
+abbrev pub entry_bytes : ℕ → ℕ → Bool → List ℕ
+entry_bytes handler address hooked = if hooked then call handler address else nop
+
+-- a symbol with its entry site replaced
+abbrev pub patched : ℕ → Bool → Symbol → Symbol
+patched handler hooked symbol = record symbol { body = entry_bytes handler symbol.address hooked ++ drop 5 symbol.body }
+
+-- a symbol whose entry site isn't hooked
+abbrev pub resting : Symbol → Symbol
+resting symbol = record symbol { body = nop ++ drop 5 symbol.body }
+
+-- symbols in order, the first of which is this site
+abbrev pub patched_from : ℕ → (ℕ → Bool) → ℕ → List Symbol → List Symbol
+patched_from handler hooked site [] = []
+patched_from handler hooked site (symbol ∷ symbols) =
+    patched handler (hooked site) symbol ∷ patched_from handler hooked (suc site) symbols
+
+-- the symbols of an object of the image, where these sites are hooked
+abbrev pub text_where : Image → (ℕ → Bool) → ℕ → Option (List Symbol)
+text_where image hooked object =
+    option_map (λ (found : Object). patched_from image.handler hooked (first_site image.objects object) found.symbols) (slice_get image.objects object)
+
+-- the text of a loaded object: its symbols, with the bytes that a processor would run
+abbrev pub text_of : Setting → State → ℕ → Option (List Symbol)
+text_of setting state object = if is_loaded state object then text_where setting.image (is_hooked setting state) object else None
+
+-- one symbol of an object's text
+abbrev pub symbol_in : Option (List Symbol) → ℕ → Option Symbol
+symbol_in None number = None
+symbol_in (Some symbols) number = slice_get symbols number

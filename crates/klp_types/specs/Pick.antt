@@ -1,0 +1,51 @@
+-- The version of a function that a task runs.
+use Rattle.std.specs.Prelude.{ℕ, ◌+◌, Bool, false, ◌==◌, ◌&&◌, ℤ, pos, List, [], ◌∷◌, Option, Some, None, option_map, if◌then◌else◌, slice_get}
+use Rattle.klp_types.specs.declared.version.Version.{Version}
+use Rattle.klp_types.specs.declared.version.Version.TheVariants.{Original, New}
+use Rattle.klp_types.specs.declared.version.Target.{Target}
+use Rattle.klp_types.specs.declared.version.Entry.{Entry}
+use Rattle.klp_types.specs.declared.version.Move.{Move}
+use Rattle.klp_types.specs.Image.{Symbol, symbol_of}
+use Rattle.klp_types.specs.Setting.{Setting, Function, functions_of}
+use Rattle.klp_types.specs.State.{State}
+use Rattle.klp_types.specs.Entries.{entries_of, is_site_loaded}
+
+-- whether this is the patch in transition
+abbrev pub moves : Option Move → ℕ → Bool
+moves None patch = false
+moves (Some move) patch = move.patch == patch
+
+-- whether a task hasn't been brought to the patch in transition: its state is 0
+abbrev pub is_unpatched : ℤ → Bool
+is_unpatched (pos n) = n == 0
+is_unpatched other = false
+
+-- the entries that a task may run: one that isn't brought to the moving patch passes over its entry
+abbrev pub entries_for : Option Move → ℤ → List Entry → List Entry
+entries_for moving task [] = []
+entries_for moving task (newest ∷ older) = if moves moving newest.patch && is_unpatched task then older else newest ∷ older
+
+-- the version of an entry; a nop stands for the original
+abbrev pub version_of : ℕ → Option ℕ → ℕ → Version
+version_of site (Some function) patch = New patch function
+version_of site None patch = Original site
+
+-- the version of the newest entry, or the original where there is none
+abbrev pub newest_version : ℕ → List Entry → Version
+newest_version site [] = Original site
+newest_version site (newest ∷ older) = version_of site newest.func newest.patch
+
+-- where a version begins: a new function at its own address, an original right behind its entry site
+abbrev pub address_of : Setting → Version → Option ℕ
+address_of setting (Original site) = option_map (λ (symbol : Symbol). symbol.address + 5) (symbol_of setting.image site)
+address_of setting (New patch function) = option_map (λ (f : Function). f.address) (slice_get (functions_of setting patch) function)
+
+abbrev pub target_of : Setting → Version → Option Target
+target_of setting version = option_map (λ address. record { version = version; address = address }) (address_of setting version)
+
+-- what a task of this state (-1, 0 or 1) runs at a site; none where the site's object isn't loaded
+abbrev pub pick : Setting → State → ℤ → ℕ → Option Target
+pick setting state task site =
+    if is_site_loaded setting state site
+    then target_of setting (newest_version site (entries_for state.moving task (entries_of setting state site)))
+    else None

@@ -1,0 +1,52 @@
+-- What stays fixed while the manager runs: the image and the catalog's patches.
+use Rattle.std.specs.Prelude.{ℕ, suc, Bool, false, ◌==◌, List, [], ◌∷◌, ◌++◌, Option, Some, None, option_map, if◌then◌else◌, slice_get}
+use Rattle.klp_types.specs.Image.{Image}
+
+-- a new function: the site whose function it stands in for, where the image has it, and its own address
+pub record Function : Type 0 where
+  pub site : Option ℕ
+  pub address : ℕ
+
+-- what a patch does to one object
+pub record PatchObject : Type 0 where
+  pub object : ℕ
+  pub functions : List Function
+
+-- a patch: whether it replaces all older ones (a cumulative patch), and its objects in order
+pub record Patch : Type 0 where
+  pub replace : Bool
+  pub objects : List PatchObject
+
+pub record Setting : Type 0 where
+  pub image : Image
+  pub patches : List Patch
+
+-- the functions of all objects in order
+abbrev pub all_functions : List PatchObject → List Function
+all_functions [] = []
+all_functions (object ∷ objects) = object.functions ++ all_functions objects
+
+abbrev pub patch_functions : Option Patch → List Function
+patch_functions None = []
+patch_functions (Some patch) = all_functions patch.objects
+
+-- the functions of a patch of the catalog, counted from 0 over its objects in order; a patch that isn't there has none
+abbrev pub functions_of : Setting → ℕ → List Function
+functions_of setting patch = patch_functions (slice_get setting.patches patch)
+
+abbrev pub patch_replaces : Option Patch → Bool
+patch_replaces None = false
+patch_replaces (Some patch) = patch.replace
+
+-- whether a patch of the catalog is a cumulative one
+abbrev pub replaces : Setting → ℕ → Bool
+replaces setting patch = patch_replaces (slice_get setting.patches patch)
+
+abbrev pub is_at : Option ℕ → ℕ → Bool
+is_at None site = false
+is_at (Some own) site = own == site
+
+-- which function of the list stands in for the site's, counted from 0
+abbrev pub function_for : List Function → ℕ → Option ℕ
+function_for [] site = None
+function_for (function ∷ functions) site = if is_at function.site site then Some 0 else option_map suc (function_for functions site)

@@ -1,0 +1,37 @@
+use crate::number::PatchId;
+use thiserror::Error;
+
+/// What may happen to the manager. One event is one atomic step.
+#[derive(Clone, Copy, Debug, PartialEq, Eq, Hash)]
+pub enum Event {
+    /// The patch is loaded and enabled: its transition starts.
+    Enable(PatchId),
+    /// The transition is tried once more, and completed where nothing holds it up.
+    Poll,
+}
+
+/// What an accepted event answers.
+#[derive(Clone, Copy, Debug, PartialEq, Eq, Hash)]
+pub enum Reply {
+    /// A transition started.
+    Started,
+    /// The transition to this target is complete.
+    Completed(bool),
+}
+
+/// Why an event is refused. The numbers are this project's own, and stay.
+#[derive(Clone, Copy, Debug, PartialEq, Eq, Hash, Error)]
+pub enum Refusal {
+    /// The catalog has no such patch.
+    #[error("NoPatch")]
+    NoPatch = 1,
+    /// Another patch is in transition.
+    #[error("Busy")]
+    Busy = 2,
+    /// The patch is installed already.
+    #[error("AlreadyThere")]
+    AlreadyThere = 3,
+    /// No patch is in transition.
+    #[error("NotMoving")]
+    NotMoving = 15,
+}

@@ -1,0 +1,17 @@
+//! The numbers, names and messages of the live patching manager.
+//!
+//! `specs/` has the definitions that every crate of this repository is proved against: the image,
+//! the patches, the state, the entries of a site, the bytes of the text, the version that a task
+//! runs, and the step. `laws` has what is proved of the definitions themselves.
+#![tactic(auto)]
+
+mod event;
+pub mod laws;
+mod number;
+mod text;
+mod version;
+
+pub use event::{Event, Refusal, Reply};
+pub use number::{ObjId, PatchId, Site};
+pub use text::{ObjectText, SymbolText};
+pub use version::{Entry, Move, Target, Version};

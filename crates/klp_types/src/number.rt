@@ -1,0 +1,44 @@
+use std::marker::Model;
+
+/// An object, by its place in the image from 0. Object 0 is `vmlinux`, the others are modules.
+#[derive(Clone, Copy, Debug, Default, PartialEq, Eq, PartialOrd, Ord, Hash)]
+pub struct ObjId(pub u8);
+
+impl Model for ObjId {
+    ghost use Rattle.std.specs.Prelude.{ℕ};
+
+    ghost Value = { ℕ };
+
+    ghost view = { λ o. o.0 };
+
+    ghost inverse = { λ n. record { 0 = n } };
+}
+
+/// A site, which is one symbol of one object: sites are numbered from 0 over the symbols of all
+/// objects in the image's order.
+#[derive(Clone, Copy, Debug, Default, PartialEq, Eq, PartialOrd, Ord, Hash)]
+pub struct Site(pub u16);
+
+impl Model for Site {
+    ghost use Rattle.std.specs.Prelude.{ℕ};
+
+    ghost Value = { ℕ };
+
+    ghost view = { λ s. s.0 };
+
+    ghost inverse = { λ n. record { 0 = n } };
+}
+
+/// A patch, by its place in the catalog from 0.
+#[derive(Clone, Copy, Debug, Default, PartialEq, Eq, PartialOrd, Ord, Hash)]
+pub struct PatchId(pub u8);
+
+impl Model for PatchId {
+    ghost use Rattle.std.specs.Prelude.{ℕ};
+
+    ghost Value = { ℕ };
+
+    ghost view = { λ p. p.0 };
+
+    ghost inverse = { λ n. record { 0 = n } };
+}

@@ -1,0 +1,34 @@
+use std::marker::Model;
+
+/// A symbol of an object: its name, the address of its first byte, and the bytes of its body.
+#[derive(Debug, Drop)]
+pub struct SymbolText {
+    pub name: String,
+    pub address: u64,
+    pub body: Vec<u8>,
+}
+
+impl Model for SymbolText {
+    ghost use Rattle.std.specs.Prelude.{string_bytes};
+    ghost use Rattle.klp_types.specs.Image.{Symbol};
+
+    ghost Value = { Symbol };
+
+    ghost view = { λ s. record { name = string_bytes s.name; address = s.address; body = s.body.items } };
+}
+
+/// An object of the image: its name, and its symbols in order.
+#[derive(Debug, Drop)]
+pub struct ObjectText {
+    pub name: String,
+    pub symbols: Vec<SymbolText>,
+}
+
+impl Model for ObjectText {
+    ghost use Rattle.std.specs.Prelude.{string_bytes};
+    ghost use Rattle.klp_types.specs.Image.{Object};
+
+    ghost Value = { Object };
+
+    ghost view = { λ o. record { name = string_bytes o.name; symbols = o.symbols.items } };
+}

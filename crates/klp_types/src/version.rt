@@ -1,0 +1,35 @@
+use crate::number::{PatchId, Site};
+
+/// Which code answers a call of a function.
+#[derive(Clone, Copy, Debug, PartialEq, Eq, Hash)]
+pub enum Version {
+    /// The function that the site was built with.
+    Original(Site),
+    /// A new function of a patch, by its place among all functions of the patch from 0.
+    New(PatchId, u16),
+}
+
+/// A version with the address that a call jumps to.
+#[derive(Clone, Copy, Debug, PartialEq, Eq, Hash)]
+pub struct Target {
+    pub version: Version,
+    /// The address of the new function, or the one behind the entry site of an original.
+    pub address: u64,
+}
+
+/// An entry of a function stack: what one installed patch does with a site.
+#[derive(Clone, Copy, Debug, PartialEq, Eq, Hash)]
+pub struct Entry {
+    pub patch: PatchId,
+    /// The function of the patch that stands in for the site's own. `None` is a nop: a cumulative
+    /// patch that gives the original back.
+    pub func: Option<u16>,
+}
+
+/// The patch in transition.
+#[derive(Clone, Copy, Debug, PartialEq, Eq, Hash)]
+pub struct Move {
+    pub patch: PatchId,
+    /// The state that tasks are brought to: `true` to run the patch, `false` to leave it.
+    pub target: bool,
+}
