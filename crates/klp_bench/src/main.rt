@@ -12,8 +12,11 @@ use std::{env, io};
 use thiserror::Error;
 
 const HANDLER: u64 = 0xffff_ffff_8100_0000;
+
 const SITES: u16 = 256;
+
 const PATCHES: u8 = 16;
+
 const FUNCTIONS: u16 = 64;
 
 #[derive(Debug, Drop, Error)]
@@ -104,8 +107,14 @@ fn main(rt: HostRuntime) -> Result<(), Fault> {
         let refused = manager.run(&refused);
         let end = Instant::now(&rt)?;
         counts = (counts.0, refused.1);
-        accepting = u128::saturating_add(accepting, between.saturating_duration_since(start).as_nanos());
-        refusing = u128::saturating_add(refusing, end.saturating_duration_since(between).as_nanos());
+        accepting = u128::saturating_add(
+            accepting,
+            between.saturating_duration_since(start).as_nanos(),
+        );
+        refusing = u128::saturating_add(
+            refusing,
+            end.saturating_duration_since(between).as_nanos(),
+        );
     }
     println!(rt; "accepted {} refused {}", counts.0, counts.1)?;
     if rounds > 1 {

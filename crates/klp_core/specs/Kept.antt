@@ -1,19 +1,15 @@
 -- What a manager keeps.
-use Rattle.std.specs.Prelude.{◌≡◌, ℕ, ◌<◌, ◌≤◌, true, false, List, [], length, map, Option, Some, Vec, slice_index_or, slice_set, replicate}
+use Rattle.std.specs.Prelude.{◌≡◌, ℕ, ◌<◌, ◌≤◌, true, false, List, length, map, Option, Some, Vec, slice_index_or, slice_set, replicate}
 use Rattle.std.specs.declared.alloc.Global.{Global}
 use Rattle.std.specs.List.{IsDistinct, list_any, list_all}
 use Rattle.std.proofs.Common.{eqb}
 use Rattle.klp_types.specs.declared.version.Move.{Move}
 use Rattle.klp_types.specs.Image.{symbols_of}
-use Rattle.klp_types.specs.State.{Installed}
+use Rattle.klp_types.specs.State.{bare}
 use Rattle.klp_types.specs.Entries.{is_hooked}
 use Rattle.klp_text.specs.TextImage.{TextImage}
 use Rattle.klp_core.specs.Boot.{kernel_patch, kernel_sites, fits_kernel}
 use Rattle.klp_core.specs.Managed.{Managed}
-
--- a patch without system states
-abbrev pub bare : ℕ → Installed
-bare patch = record { patch = patch; values = [] }
 
 -- what the fields of a manager stand for
 abbrev pub managed_of : TextImage → List (Vec (ℕ × ℕ) Global) → List ℕ → Option Move → Managed

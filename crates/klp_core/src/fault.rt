@@ -1,7 +1,3 @@
-ghost use Rattle.std.specs.Prelude.{◌≡◌};
-ghost use Rattle.klp_core.specs.declared.fault.BootFault.TheVariants.{NoMemory};
-
-use std::alloc::AllocError;
 use thiserror::Error;
 
 /// Why a manager can't be booted. The numbers are this project's own, and stay.
@@ -10,15 +6,7 @@ pub enum BootFault {
     /// The patches don't fit the image.
     #[error("Mismatch")]
     Mismatch = 1,
-    /// Memory ran out.
+    /// Memory ran out. Nothing that boot takes now asks for any.
     #[error("NoMemory")]
     NoMemory = 2,
-}
-
-impl From<AllocError> for BootFault {
-    ghost from_gives = { λ _ fault. fault ≡ NoMemory };
-
-    fn from(_error: AllocError) -> BootFault {
-        BootFault::NoMemory
-    }
 }

@@ -1,4 +1,4 @@
-ghost use Rattle.std.specs.Prelude.{◌≡◌, ◌+◌, ◌==◌, ◌⊎◌, true, false, length, map, count_by, is_ok, is_err, Ok, Err, None, IfOk, IfErr, OnOk, OnErr, Option, option_map};
+ghost use Rattle.std.specs.Prelude.{◌≡◌, ◌+◌, ◌==◌, ◌↔◌, true, false, length, map, count_by, is_ok, is_err, Ok, Err, None, IfOk, IfErr, IsOk, Option, option_map};
 ghost use Rattle.std.specs.List.{list_any};
 ghost use Rattle.klp_types.specs.declared.event.Event.TheVariants.{Enable, Poll};
 ghost use Rattle.klp_types.specs.State.{is_installed, installed_patches};
@@ -7,7 +7,7 @@ ghost use Rattle.klp_types.specs.Step.{first_of, refusals, enabled};
 ghost use Rattle.klp_types.specs.Run.{answer, next, run, answers};
 ghost use Rattle.klp_text.specs.TextImage.{opening, IsWithinLimits};
 ghost use Rattle.klp_core.specs.Boot.{is_mismatch, kernel_patch, opening_state};
-ghost use Rattle.klp_core.specs.declared.fault.BootFault.TheVariants.{Mismatch, NoMemory};
+ghost use Rattle.klp_core.specs.declared.fault.BootFault.TheVariants.{Mismatch};
 
 use crate::boot::{MAX_PATCHES, is_mismatch};
 use crate::fault::BootFault;
@@ -45,7 +45,7 @@ impl Model for Manager {
 
 impl Manager {
     /// Boots a manager over an image, as it was made, and for each patch its functions in `vmlinux`:
-    /// nothing is installed. All memory is taken here.
+    /// nothing is installed. Image and patches are kept as they come, so no memory is taken yet.
     ///
     /// The patches don't fit the image where there are more than 16 of them, one has more than 64
     /// functions, names a site that `vmlinux` doesn't have, or names one twice. Image and patches
@@ -61,8 +61,8 @@ impl Manager {
           setting = record { image = image.image; patches = map kernel_patch patches.items };
           state = opening_state image.image;
         }) }
-        ensures fits { OnOk result (is_mismatch image.image.objects patches.items ≡ false) }
-        ensures fault { IfErr result (λ fault. (fault ≡ NoMemory) ⊎ ((fault ≡ Mismatch) × (is_mismatch image.image.objects patches.items ≡ true))) }
+        ensures fits { IsOk result ↔ (is_mismatch image.image.objects patches.items ≡ false) }
+        ensures fault { IfErr result (λ fault. fault ≡ Mismatch) }
     {
         if is_mismatch(&image, &patches) {
             return Err(BootFault::Mismatch);

@@ -6,3 +6,6 @@ pub mod Bytes
 pub mod Pick
 pub mod Step
 pub mod Run
+pub mod Records
+pub mod World
+pub mod Script

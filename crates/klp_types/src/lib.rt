@@ -5,13 +5,19 @@
 //! runs, and the step. `laws` has what is proved of the definitions themselves.
 #![tactic(auto)]
 
+mod edit;
 mod event;
 pub mod laws;
 mod number;
+mod record;
+mod shadow;
 mod text;
 mod version;
 
+pub use edit::Edit;
 pub use event::{Event, Refusal, Reply};
 pub use number::{ObjId, PatchId, Site};
+pub use record::{Record, Records};
+pub use shadow::ShadowKey;
 pub use text::{ObjectText, SymbolText};
 pub use version::{Entry, Move, Target, Version};

@@ -1,0 +1,124 @@
+-- Edits made one after another, and scripts that are the same.
+use Rattle.std.proofs.Common.{◌≡◌, ℕ, ◌+◌, ◌≤◌, Bool, true, false, ◌&&◌, List, [], ◌∷◌, ◌++◌, length, length-append, append_assoc, add-one, drop-cons, drop, get_or, ◌<◌, refl, sym, ap, ◌∙◌, arith}
+use Rattle.std.specs.FinMap as finite
+use Rattle.klp_types.specs.declared.edit.Edit.{Edit}
+use Rattle.klp_types.specs.declared.edit.Edit.TheVariants.{Alloc, Free, FreeAll, SetData, TakePrev}
+use Rattle.klp_types.specs.contracts.edit.EditPartialEq.TheImpl.{eq-value}
+use Rattle.std.specs.Cmp.Lexicographic.{pointwise}
+use Rattle.klp_types.specs.declared.shadow.ShadowKey.{ShadowKey}
+use Rattle.std.specs.Bool.{◌==◌}
+use mir.Val.{SFits, of_z, to_z}
+use mir.Syntax.{w32}
+use Rattle.std.proofs.lemmas.Int.{to_z-of_z}
+use lib.IntN.{ℤ}
+use Rattle.std.proofs.lemmas.Bool.{eqb-true, eq-eqb}
+use Rattle.klp_types.specs.Records.{RecordList, spare_of}
+use Rattle.klp_types.specs.World.{World}
+use Rattle.klp_types.specs.Script.{Script, is_alloc, alloc_count, edited, edited_by}
+use Rattle.klp_world.specs.declared.limits.TheConstants.{MAX_VARIABLES}
+use Rattle.klp_world.specs.Noted.{noting, rows_of_edit, rows_of_edits}
+use Rattle.klp_world.proofs.ScriptLemmas.{edit_room}
+use Rattle.std.proofs.lemmas.List.Recursion.{is_count_by}
+use Rattle.std.specs.List.{count_by}
+
+-- the loop over the edits: one edit is made, and these are left
+module _ (patch : ℕ) (left : List Edit) (edit : Edit) (rest : List Edit) (world new : World) (log new_log : RecordList)
+    (split : left ≡ edit ∷ rest) (made : new ≡ edited patch world edit) (noted : new_log ≡ noting log (rows_of_edit patch world edit)) where
+  rows_left : rows_of_edits patch world left ≡ rows_of_edit patch world edit ++ rows_of_edits patch new rest
+  rows_left = ap (rows_of_edits patch world) split ∙ ap (λ w. rows_of_edit patch world edit ++ rows_of_edits patch w rest) (sym made)
+
+  pub world_step : edited_by patch new rest ≡ edited_by patch world left
+  world_step = ap (λ w. edited_by patch w rest) made ∙ sym (ap (edited_by patch world) split)
+
+  pub noted_step : new_log.noted ++ rows_of_edits patch new rest ≡ log.noted ++ rows_of_edits patch world left
+  noted_step =
+      ap (λ (l : RecordList). l.noted ++ rows_of_edits patch new rest) noted
+      ∙ append_assoc log.noted (rows_of_edit patch world edit) (rows_of_edits patch new rest) ∙ ap (log.noted ++◌) (sym rows_left)
+
+  pub room_step : new_log.room ≡ log.room
+  room_step = ap (λ (l : RecordList). l.room) noted
+
+  pub variables_step : finite.len world.shadow + alloc_count left ≤ MAX_VARIABLES → finite.len new.shadow + alloc_count rest ≤ MAX_VARIABLES
+  variables_step few =
+      let more = edit_room patch world edit rest in
+      let same = ap (λ (w : World). finite.len w.shadow) made in
+      let whole = ap alloc_count split in
+      omega arith
+
+  pub records_step : length (rows_of_edits patch world left) ≤ spare_of log → length (rows_of_edits patch new rest) ≤ spare_of new_log
+  records_step few =
+      let rows = ap length rows_left ∙ length-append (rows_of_edit patch world edit) (rows_of_edits patch new rest) in
+      let longer = ap (λ (l : RecordList). length l.noted) noted ∙ length-append log.noted (rows_of_edit patch world edit) in
+      let same = room_step in
+      omega arith
+
+pub alloc_count_is : (edits : List Edit) → alloc_count edits ≡ count_by is_alloc edits
+alloc_count_is = is_count_by alloc_count is_alloc refl (λ edit edits. refl)
+
+pub next_edit : (edits : List Edit) (i : ℕ) (d : Edit) → i < length edits → drop i edits ≡ get_or edits i d ∷ drop (i + 1) edits
+next_edit edits i d lt = rw add-one (drop-cons edits i d lt)
+
+two_true : (a b : Bool) → (a && b) ≡ true → (a ≡ true) × (b ≡ true)
+two_true true b e = (refl, e)
+two_true false b e = cc
+
+same_key : (k l : ShadowKey) → (k.obj == l.obj && k.id == l.id) ≡ true → k ≡ l
+same_key k l e =
+    let parts = two_true (k.obj == l.obj) (k.id == l.id) e in
+    let objs = eqb-true k.obj l.obj parts.0 in
+    let ids = eqb-true k.id l.id parts.1 in
+    λ i. record { obj = objs i; id = ids i }
+
+same_edit : (a b : Edit) → eq-value.it a b ≡ true → a ≡ b
+same_edit (Alloc k v) (Alloc l w) e = let parts = two_true _ (v == w) e in λ i. Alloc (same_key k l parts.0 i) (eqb-true v w parts.1 i)
+same_edit (Free k) (Free l) e = ap Free (same_key k l e)
+same_edit (FreeAll i) (FreeAll j) e = ap FreeAll (eqb-true i j e)
+same_edit (SetData i v) (SetData j w) e = let parts = two_true (i == j) (v == w) e in λ t. SetData (eqb-true i j parts.0 t) (eqb-true v w parts.1 t)
+same_edit (TakePrev i) (TakePrev j) e = ap TakePrev (eqb-true i j e)
+same_edit a b e = cc
+
+pub same_edits : (xs ys : List Edit) → pointwise eq-value.it xs ys ≡ true → xs ≡ ys
+same_edits [] [] e = refl
+same_edits [] (y ∷ ys) e = cc
+same_edits (x ∷ xs) [] e = cc
+same_edits (x ∷ xs) (y ∷ ys) e =
+    let parts = two_true (eq-value.it x y) (pointwise eq-value.it xs ys) e in
+    let first = same_edit x y parts.0 in
+    let others = same_edits xs ys parts.1 in
+    λ i. first i ∷ others i
+
+pub counted_is : (edits seen : List Edit) (n : ℕ) → n ≡ count_by is_alloc seen → seen ≡ edits → n ≡ alloc_count edits
+counted_is edits seen n e same = e ∙ ap (count_by is_alloc) same ∙ sym (alloc_count_is edits)
+
+-- two scripts whose parts are the same
+pub same_script : (a b : Script) (xs ys seen_xs seen_ys : List Edit) (s t : ℤ) (test : Bool) → ◌≡◌ {A = Script} (record { edits = xs; status = s }) a → ◌≡◌ {A = Script} (record { edits = ys; status = t }) b
+    → SFits w32 s → SFits w32 t → of_z w32 s ≡ of_z w32 t → seen_xs ≡ xs → seen_ys ≡ ys → test ≡ pointwise eq-value.it seen_xs seen_ys → test ≡ true → a ≡ b
+same_script a b xs ys seen_xs seen_ys s t test view_a view_b fits_s fits_t status same_xs same_ys tested is =
+    let edits = sym same_xs ∙ same_edits seen_xs seen_ys (sym tested ∙ is) ∙ same_ys in
+    let statuses = sym (to_z-of_z w32 s fits_s) ∙ ap (to_z w32) status ∙ to_z-of_z w32 t fits_t in
+    sym view_a ∙ (λ i. record { edits = edits i; status = statuses i }) ∙ view_b
+
+key_itself : (k : ShadowKey) → (k.obj == k.obj && k.id == k.id) ≡ true
+key_itself k = ap (λ b. b && k.id == k.id) (eq-eqb k.obj k.obj refl) ∙ eq-eqb k.id k.id refl
+
+edit_itself : (a : Edit) → eq-value.it a a ≡ true
+edit_itself (Alloc k v) = ap (λ b. b && v == v) (key_itself k) ∙ eq-eqb v v refl
+edit_itself (Free k) = key_itself k
+edit_itself (FreeAll i) = eq-eqb i i refl
+edit_itself (SetData i v) = ap (λ b. b && v == v) (eq-eqb i i refl) ∙ eq-eqb v v refl
+edit_itself (TakePrev i) = eq-eqb i i refl
+
+edits_themselves : (xs : List Edit) → pointwise eq-value.it xs xs ≡ true
+edits_themselves [] = refl
+edits_themselves (x ∷ xs) = ap (λ b. b && pointwise eq-value.it xs xs) (edit_itself x) ∙ edits_themselves xs
+
+-- the edits of one script are seen to be the same
+pub same_seen : (a b : Script) (xs ys seen_xs seen_ys : List Edit) (s t : ℤ) (test : Bool) → ◌≡◌ {A = Script} (record { edits = xs; status = s }) a → ◌≡◌ {A = Script} (record { edits = ys; status = t }) b
+    → seen_xs ≡ xs → seen_ys ≡ ys → test ≡ pointwise eq-value.it seen_xs seen_ys → a ≡ b → test ≡ true
+same_seen a b xs ys seen_xs seen_ys s t test view_a view_b same_xs same_ys tested is =
+    let edits = same_xs ∙ ap (λ (k : Script). k.edits) (view_a ∙ is ∙ sym view_b) ∙ sym same_ys in
+    tested ∙ ap (λ l. pointwise eq-value.it l seen_ys) edits ∙ edits_themselves seen_ys
+
+pub same_status : (a b : Script) (xs ys : List Edit) (s t : ℤ) → ◌≡◌ {A = Script} (record { edits = xs; status = s }) a → ◌≡◌ {A = Script} (record { edits = ys; status = t }) b
+    → a ≡ b → of_z w32 s ≡ of_z w32 t
+same_status a b xs ys s t view_a view_b is = ap (λ (k : Script). of_z w32 k.status) (view_a ∙ is ∙ sym view_b)

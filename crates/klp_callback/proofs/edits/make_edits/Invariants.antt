@@ -1,0 +1,17 @@
+use Rattle.std.proofs.Common.{◌≡◌, ◌+◌, ◌≤◌, ◌++◌, length, drop}
+use Rattle.std.specs.FinMap as finite
+use Rattle.klp_types.specs.Records.{spare_of}
+use Rattle.klp_types.specs.Script.{alloc_count, edited_by}
+use Rattle.klp_world.specs.declared.limits.TheConstants.{MAX_VARIABLES}
+use Rattle.klp_world.specs.Noted.{rows_of_edits}
+use Rattle.klp_callback.proofs.edits.make_edits.Given as goal
+
+-- what is done and what is left are all, and there is room for what is left
+abbrev pub invariant-loop-edit : goal.invariant-loop-edit
+invariant-loop-edit l = record {
+  world : edited_by l.patch l.world (drop l.edit-index l.edits) ≡ edited_by l.patch l.initial.world l.edits;
+  noted : l.log.noted ++ rows_of_edits l.patch l.world (drop l.edit-index l.edits) ≡ l.initial.log.noted ++ rows_of_edits l.patch l.initial.world l.edits;
+  same_room : l.log.room ≡ l.initial.log.room;
+  variables : finite.len l.world.shadow + alloc_count (drop l.edit-index l.edits) ≤ MAX_VARIABLES;
+  records : length (rows_of_edits l.patch l.world (drop l.edit-index l.edits)) ≤ spare_of l.log;
+}

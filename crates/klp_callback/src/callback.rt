@@ -1,0 +1,42 @@
+ghost use Rattle.std.specs.Prelude.{◌≡◌, ℕ, ◌+◌, ◌≤◌, length};
+ghost use Rattle.std.specs.FinMap as finite;
+ghost use Rattle.klp_types.specs.Records.{spare_of};
+ghost use Rattle.klp_types.specs.Script.{Script as ScriptOfEdits, alloc_count, effect};
+ghost use Rattle.klp_world.specs.Undo.{undone};
+ghost use Rattle.klp_world.specs.Noted.{noting, rows_of_script};
+ghost use Rattle.klp_callback.specs.Told.{counted};
+
+use klp_types::{PatchId, Records};
+use klp_world::{MAX_VARIABLES, Script, World};
+
+/// A callback of a patch for one of its objects (callbacks). It means a script, which stays, and a
+/// count of its runs.
+pub trait Callback: Drop + Send {
+    ghost script_of: { Self → ScriptOfEdits };
+
+    ghost runs_of: { Self → ℕ };
+
+    /// Runs the callback for the patch: makes the edits of its script, notes every row that they
+    /// change, counts the run, and answers the script's status. It takes no memory.
+    fn run(&mut self, patch: PatchId, world: &mut World, log: &mut Records) -> i32
+        requires room { finite.len world.old.shadow + alloc_count (script_of self.old).edits ≤ MAX_VARIABLES }
+        requires records { length (rows_of_script patch world.old (script_of self.old)) ≤ spare_of log.old }
+        ensures status { result ≡ (script_of self.old).status }
+        ensures script { script_of self.new ≡ script_of self.old }
+        ensures runs { runs_of self.new ≡ counted (runs_of self.old) }
+        ensures world { world.new ≡ effect patch world.old (script_of self.old) }
+        ensures noted { log.new ≡ noting log.old (rows_of_script patch world.old (script_of self.old)) }
+        ensures undo { undone world.new (rows_of_script patch world.old (script_of self.old)) ≡ world.old };
+
+    /// How many edits of the script add a shadow variable.
+    fn allocs(&self) -> u16
+        ensures { result ≡ alloc_count (script_of self.now).edits };
+
+    /// How many times the callback ran; the greatest number stays.
+    fn runs(&self) -> u64
+        ensures { result ≡ runs_of self.now };
+
+    /// The script that the callback runs.
+    fn script(&self) -> Script
+        ensures { result ≡ script_of self.now };
+}

@@ -1,0 +1,124 @@
+ghost use Rattle.std.specs.Prelude.{◌≡◌, ◌+◌, ◌≤◌, [], ◌∷◌, length, count_by, IsTrue};
+ghost use Rattle.std.specs.FinMap as finite;
+ghost use Rattle.klp_types.specs.Records.{spare_of};
+ghost use Rattle.klp_types.specs.Script.{alloc_count, is_alloc, edited, edited_by, effect};
+ghost use Rattle.klp_world.specs.Undo.{undone};
+ghost use Rattle.klp_world.specs.Noted.{noting, rows_of_edit, rows_of_edits, rows_of_script};
+
+use arrayvec::ArrayVec;
+use klp_types::{Edit, PatchId, Records};
+use klp_world::{MAX_EDITS, MAX_VARIABLES, Script, World};
+
+/// Makes one edit for the patch.
+fn make_edit(edit: Edit, patch: PatchId, world: &mut World, log: &mut Records)
+    requires room { finite.len world.old.shadow + alloc_count (edit ∷ []) ≤ MAX_VARIABLES }
+    requires records { length (rows_of_edit patch world.old edit) ≤ spare_of log.old }
+    ensures world { world.new ≡ edited patch world.old edit }
+    ensures noted { log.new ≡ noting log.old (rows_of_edit patch world.old edit) }
+{
+    match edit {
+        Edit::Alloc(key, value) => {
+            world.alloc(key, value, log);
+        }
+        Edit::Free(key) => {
+            world.free(key, log);
+        }
+        Edit::FreeAll(id) => {
+            world.free_all(id, log);
+        }
+        Edit::SetData(id, value) => world.set_value(patch, id, value, log),
+        Edit::TakePrev(id) => take_previous(patch, id, world, log),
+    }
+}
+
+/// Gives the patch's state the value that it has in the patch before.
+fn take_previous(patch: PatchId, id: u64, world: &mut World, log: &mut Records)
+    requires { length (rows_of_edit patch world.old (Edit.TakePrev id)) ≤ spare_of log.old }
+    ensures world { world.new ≡ edited patch world.old (Edit.TakePrev id) }
+    ensures noted { log.new ≡ noting log.old (rows_of_edit patch world.old (Edit.TakePrev id)) }
+{
+    if let Some(older) = world.previous(patch, id) {
+        if let Some(value) = world.value(older, id) {
+            world.set_value(patch, id, value, log);
+        }
+    }
+}
+
+/// Makes edits one after another.
+fn make_edits(edits: &[Edit], patch: PatchId, world: &mut World, log: &mut Records)
+    requires room { finite.len world.old.shadow + alloc_count edits.now ≤ MAX_VARIABLES }
+    requires records { length (rows_of_edits patch world.old edits.now) ≤ spare_of log.old }
+    ensures world { world.new ≡ edited_by patch world.old edits.now }
+    ensures noted { log.new ≡ noting log.old (rows_of_edits patch world.old edits.now) }
+{
+    for edit in edits {
+        make_edit(*edit, patch, world, log);
+    }
+}
+
+/// Runs a script for the patch, and answers its status.
+pub(crate) fn run_script(
+    script: &Script,
+    patch: PatchId,
+    world: &mut World,
+    log: &mut Records,
+) -> i32
+    requires room { finite.len world.old.shadow + alloc_count script.now.edits ≤ MAX_VARIABLES }
+    requires records { length (rows_of_script patch world.old script.now) ≤ spare_of log.old }
+    ensures status { result ≡ script.now.status }
+    ensures world { world.new ≡ effect patch world.old script.now }
+    ensures noted { log.new ≡ noting log.old (rows_of_script patch world.old script.now) }
+    ensures undo { undone world.new (rows_of_script patch world.old script.now) ≡ world.old }
+{
+    change_world(script, patch, world, log);
+    script.status
+}
+
+/// Makes the edits of a script, if it succeeds.
+fn change_world(script: &Script, patch: PatchId, world: &mut World, log: &mut Records)
+    requires room { finite.len world.old.shadow + alloc_count script.now.edits ≤ MAX_VARIABLES }
+    requires records { length (rows_of_script patch world.old script.now) ≤ spare_of log.old }
+    ensures world { world.new ≡ effect patch world.old script.now }
+    ensures noted { log.new ≡ noting log.old (rows_of_script patch world.old script.now) }
+{
+    if script.status == 0 {
+        make_edits(&script.edits, patch, world, log);
+    }
+}
+
+/// How many edits of the script add a shadow variable.
+pub(crate) fn allocs_of(script: &Script) -> u16
+    ensures value { result ≡ alloc_count script.now.edits }
+    ensures limit { length script.now.edits ≤ MAX_EDITS }
+{
+    count_allocs(&script.edits) as u16
+}
+
+fn count_allocs(edits: &[Edit]) -> usize
+    ensures { result ≡ count_by is_alloc edits.now }
+{
+    edits
+        .iter()
+        .filter(|edit| matches!(edit, Edit::Alloc(..)))
+        .count()
+}
+
+/// A script with the same edits and status.
+pub(crate) fn copy_of(script: &Script) -> Script
+    ensures { result ≡ script.now }
+{
+    let mut edits = ArrayVec::new();
+    let _ = edits.try_extend_from_slice(&script.edits);
+    Script {
+        edits,
+        status: script.status,
+    }
+}
+
+/// Whether two scripts have the same edits and status.
+pub(crate) fn is_same(a: &Script, b: &Script) -> bool
+    ensures same { IsTrue result → a.now ≡ b.now }
+    ensures whole { a.now ≡ b.now → IsTrue result }
+{
+    a.status == b.status && a.edits.as_slice() == b.edits.as_slice()
+}

@@ -1,0 +1,217 @@
+-- Facts of a draft: its last patch, its counts and its names.
+use Rattle.std.proofs.Common.{◌≡◌, ℕ, suc, ◌+◌, ◌-◌, ◌<◌, Bool, List, [], ◌∷◌, ◌++◌, length, slice_get, option_map, Some, None, Option, refl, sym, subst, ap, ◌∙◌, arith, length-append}
+use Rattle.std.proofs.lemmas.List.Sums.{sum_by-append, sum_by-cons}
+use Rattle.klp_types.specs.Image.{Symbol, Object, symbols_of}
+use Rattle.klp_catalog.specs.Plan.{PlanFunction, PlanTarget, PlanPatch}
+use Rattle.klp_catalog.specs.Parts.{last_of, on_last, targets_of, function_count, with_symbol, with_target, with_function, with_function_in}
+use Rattle.klp_catalog.specs.Kept.{IsKept}
+use Rattle.klp_catalog.proofs.ListLemmas.{map-push}
+use Rattle.klp_catalog.specs.Draft.{names_of, patch_names_of}
+use Rattle.klp_catalog.specs.Limits.{IsSmall}
+use Rattle.std.specs.List.{AllByRecursion}
+
+-- a target stands in a patch
+pub last_patch : (patches : List PlanPatch) → 0 < length (targets_of (last_of patches)) → 0 < length patches
+last_patch [] h = absurd (omega arith)
+last_patch (patch ∷ patches) h = omega arith
+
+-- a symbol more
+pub length-symbols_of-on_last : (symbol : Symbol) (objects : List Object) → 0 < length objects → length (symbols_of (on_last (with_symbol symbol) objects)) ≡ length (symbols_of objects) + 1
+length-symbols_of-on_last symbol [] h = absurd (omega arith)
+length-symbols_of-on_last symbol (object ∷ []) h =
+    omega (arith, length-append (object.symbols ++ symbol ∷ []) [], length-append object.symbols (symbol ∷ []), length-append object.symbols [])
+length-symbols_of-on_last symbol (object ∷ other ∷ objects) h =
+    omega (
+      arith,
+      length-append object.symbols (symbols_of (on_last (with_symbol symbol) (other ∷ objects))),
+      length-append object.symbols (symbols_of (other ∷ objects)),
+      length-symbols_of-on_last symbol (other ∷ objects) (omega arith),
+    )
+
+-- an object without symbols
+pub symbols_of-push : (objects : List Object) (name : List ℕ) → length (symbols_of (objects ++ record { name = name; symbols = [] } ∷ [])) ≡ length (symbols_of objects)
+symbols_of-push [] name = refl
+symbols_of-push (object ∷ objects) name =
+    omega (arith, length-append object.symbols (symbols_of (objects ++ record { name = name; symbols = [] } ∷ [])), length-append object.symbols (symbols_of objects), symbols_of-push objects name)
+
+-- names stay
+pub names_of-on_last : (symbol : Symbol) (objects : List Object) → names_of (on_last (with_symbol symbol) objects) ≡ names_of objects
+names_of-on_last symbol [] = refl
+names_of-on_last symbol (object ∷ []) = refl
+names_of-on_last symbol (object ∷ other ∷ objects) = ap (λ ns. object.name ∷ ns) (names_of-on_last symbol (other ∷ objects))
+
+pub patch_names-with_target : (object : Option ℕ) (patches : List PlanPatch) → patch_names_of (on_last (with_target object) patches) ≡ patch_names_of patches
+patch_names-with_target object [] = refl
+patch_names-with_target None (patch ∷ []) = refl
+patch_names-with_target (Some object) (patch ∷ []) = refl
+patch_names-with_target object (patch ∷ other ∷ patches) = ap (λ ns. patch.name ∷ ns) (patch_names-with_target object (other ∷ patches))
+
+pub patch_names-with_function : (function : PlanFunction) (patches : List PlanPatch) → patch_names_of (on_last (with_function_in function) patches) ≡ patch_names_of patches
+patch_names-with_function function [] = refl
+patch_names-with_function function (patch ∷ []) = refl
+patch_names-with_function function (patch ∷ other ∷ patches) = ap (λ ns. patch.name ∷ ns) (patch_names-with_function function (other ∷ patches))
+
+pub length-on_last : {A : Type 0} (change : A → A) (xs : List A) → length (on_last change xs) ≡ length xs
+length-on_last change [] = refl
+length-on_last change (x ∷ []) = refl
+length-on_last change (x ∷ y ∷ xs) = ap suc (length-on_last change (y ∷ xs))
+
+last_of-cons : {A : Type 0} (x y : A) (xs : List A) → last_of (x ∷ y ∷ xs) ≡ last_of (y ∷ xs)
+last_of-cons x y xs =
+    let whole : suc (suc (length xs)) - 1 ≡ suc (length xs) = omega arith in
+    let part : length xs ≡ suc (length xs) - 1 = omega arith in
+    ap (slice_get (x ∷ y ∷ xs)) whole ∙ ap (slice_get (y ∷ xs)) part
+
+last_of-longer : {A : Type 0} (x : A) (ys : List A) → 0 < length ys → last_of (x ∷ ys) ≡ last_of ys
+last_of-longer x [] h = absurd (omega arith)
+last_of-longer x (y ∷ ys) h = last_of-cons x y ys
+
+pub last_of-on_last : {A : Type 0} (change : A → A) (xs : List A) → last_of (on_last change xs) ≡ option_map change (last_of xs)
+last_of-on_last change [] = refl
+last_of-on_last change (x ∷ []) = refl
+last_of-on_last change (x ∷ y ∷ xs) =
+    last_of-longer x (on_last change (y ∷ xs)) (omega (arith, length-on_last change (y ∷ xs)))
+    ∙ last_of-on_last change (y ∷ xs) ∙ ap (option_map change) (sym (last_of-cons x y xs))
+
+pub last_of-push : {A : Type 0} (xs : List A) (x : A) → last_of (xs ++ x ∷ []) ≡ Some x
+last_of-push [] x = refl
+last_of-push (y ∷ []) x = refl
+last_of-push (y ∷ z ∷ xs) x = last_of-cons y z (xs ++ x ∷ []) ∙ last_of-push (z ∷ xs) x
+
+last_some : {A : Type 0} (xs : List A) → 0 < length xs → (x : A) × (last_of xs ≡ Some x)
+last_some [] h = absurd (omega arith)
+last_some (x ∷ []) h = (x, refl)
+last_some (x ∷ y ∷ xs) h = let rest = last_some (y ∷ xs) (omega arith) in (rest.0, last_of-cons x y xs ∙ rest.1)
+
+-- an object more in the last patch has no functions
+pub function_count-with_target : (object : ℕ) (patches : List PlanPatch) → 0 < length patches
+    → function_count (targets_of (last_of (on_last (with_target (Some object)) patches))) ≡ function_count (targets_of (last_of patches))
+function_count-with_target object patches h =
+    let there = last_some patches h in
+    let targets = there.0.targets in
+    let more = sum_by-append (λ (t : PlanTarget). length t.functions) targets (record { object = object; functions = [] } ∷ []) in
+    let none = sum_by-cons (λ (t : PlanTarget). length t.functions) (record { object = object; functions = [] }) [] in
+    ap (λ p. function_count (targets_of p)) (last_of-on_last (with_target (Some object)) patches ∙ ap (option_map (with_target (Some object))) there.1)
+    ∙ more ∙ omega arith ∙ ap (λ p. function_count (targets_of p)) (sym there.1)
+
+-- a function more
+count_more : (function : PlanFunction) (targets : List PlanTarget) → 0 < length targets → function_count (on_last (with_function function) targets) ≡ function_count targets + 1
+count_more function [] h = absurd (omega arith)
+count_more function (target ∷ []) h =
+    omega (arith, sum_by-cons (λ (t : PlanTarget). length t.functions) (with_function function target) [], sum_by-cons (λ (t : PlanTarget). length t.functions) target [], length-append target.functions (function ∷ []))
+count_more function (target ∷ other ∷ targets) h =
+    omega (
+      arith,
+      sum_by-cons (λ (t : PlanTarget). length t.functions) target (on_last (with_function function) (other ∷ targets)),
+      sum_by-cons (λ (t : PlanTarget). length t.functions) target (other ∷ targets),
+      count_more function (other ∷ targets) (omega arith),
+    )
+
+pub function_count-with_function : (function : PlanFunction) (patches : List PlanPatch) → 0 < length (targets_of (last_of patches))
+    → function_count (targets_of (last_of (on_last (with_function_in function) patches))) ≡ function_count (targets_of (last_of patches)) + 1
+function_count-with_function function patches h =
+    let there = last_some patches (last_patch patches h) in
+    let some : 0 < length there.0.targets = omega (arith, ap (λ p. length (targets_of p)) there.1) in
+    ap (λ p. function_count (targets_of p)) (last_of-on_last (with_function_in function) patches ∙ ap (option_map (with_function_in function)) there.1)
+    ∙ count_more function there.0.targets some ∙ ap (λ p. function_count (targets_of p) + 1) (sym there.1)
+
+-- what holds of each item, behind a change of the last
+all-on_last : {A : Type 0} (P : A → Type 0) (change : A → A) (xs : List A) → AllByRecursion P xs → ((x : A) → last_of xs ≡ Some x → P x → P (change x)) → AllByRecursion P (on_last change xs)
+all-on_last P change [] all more = tt
+all-on_last P change (x ∷ []) all more = (more x refl all.0, tt)
+all-on_last P change (x ∷ y ∷ xs) all more = (all.0, all-on_last P change (y ∷ xs) all.1 (λ z e h. more z (last_of-cons x y xs ∙ e) h))
+
+all-push : {A : Type 0} (P : A → Type 0) (xs : List A) (x : A) → AllByRecursion P xs → P x → AllByRecursion P (xs ++ x ∷ [])
+all-push P [] x all h = (h, tt)
+all-push P (y ∷ xs) x all h = (all.0, all-push P xs x all.1 h)
+
+new_small : (name : List ℕ) (replace : Bool) → IsSmall (record { name = name; replace = replace; targets = [] })
+new_small name replace = record { few_targets = omega arith; few_functions = omega arith }
+
+small-with_target : (object : ℕ) (patch : PlanPatch) → length patch.targets < 8 → IsSmall patch → IsSmall (with_target (Some object) patch)
+small-with_target object patch room small = record {
+  few_targets = omega (arith, length-append patch.targets (record { object = object; functions = [] } ∷ []));
+  few_functions = omega (
+    arith,
+    small.few_functions,
+    sum_by-append (λ (t : PlanTarget). length t.functions) patch.targets (record { object = object; functions = [] } ∷ []),
+    sum_by-cons (λ (t : PlanTarget). length t.functions) (record { object = object; functions = [] }) [],
+  );
+}
+
+small-with_function : (function : PlanFunction) (patch : PlanPatch) → 0 < length patch.targets → function_count patch.targets < 64 → IsSmall patch → IsSmall (with_function_in function patch)
+small-with_function function patch some room small = record {
+  few_targets = omega (arith, small.few_targets, length-on_last (with_function function) patch.targets);
+  few_functions = omega (arith, count_more function patch.targets some);
+}
+
+-- what a draft keeps, behind each kind of line
+module _ {objects : List Object} {object_names : List (List ℕ)} {symbols : ℕ} {patches : List PlanPatch} {patch_names : List (List ℕ)} {functions : ℕ}
+    (kept : IsKept objects object_names symbols patches patch_names functions) where
+  pub kept-symbol : (symbol : Symbol) (next : List Object) → 0 < length objects → next ≡ on_last (with_symbol symbol) objects → IsKept next object_names (symbols + 1) patches patch_names functions
+  kept-symbol symbol next some e = record {
+    objects_by_name = kept.objects_by_name ∙ sym (ap names_of e ∙ names_of-on_last symbol objects);
+    patches_by_name = kept.patches_by_name;
+    symbol_count = omega (arith, kept.symbol_count, ap (λ o. length (symbols_of o)) e, length-symbols_of-on_last symbol objects some);
+    count_of_functions = kept.count_of_functions;
+    few_objects = omega (arith, kept.few_objects, ap length e, length-on_last (with_symbol symbol) objects);
+    few_patches = kept.few_patches;
+  }
+
+  pub kept-object : (name : List ℕ) (next : List Object) (names : List (List ℕ)) → length objects < 17 → next ≡ objects ++ record { name = name; symbols = [] } ∷ []
+      → names ≡ object_names ++ name ∷ [] → IsKept next names symbols patches patch_names functions
+  kept-object name next names few e n = record {
+    objects_by_name = n ∙ ap (λ ns. ns ++ name ∷ []) kept.objects_by_name ∙ sym (ap names_of e ∙ map-push (λ (o : Object). o.name) objects (record { name = name; symbols = [] }));
+    patches_by_name = kept.patches_by_name;
+    symbol_count = kept.symbol_count ∙ sym (ap (λ o. length (symbols_of o)) e ∙ symbols_of-push objects name);
+    count_of_functions = kept.count_of_functions;
+    few_objects = omega (arith, ap length e, length-append objects (record { name = name; symbols = [] } ∷ []));
+    few_patches = kept.few_patches;
+  }
+
+  pub kept-patch : (name : List ℕ) (replace : Bool) (next : List PlanPatch) (names : List (List ℕ)) → length patches < 16 → next ≡ patches ++ record { name = name; replace = replace; targets = [] } ∷ []
+      → names ≡ patch_names ++ name ∷ [] → IsKept objects object_names symbols next names 0
+  kept-patch name replace next names room e n = record {
+    objects_by_name = kept.objects_by_name;
+    patches_by_name = n ∙ ap (λ ns. ns ++ name ∷ []) kept.patches_by_name
+        ∙ sym (ap patch_names_of e ∙ map-push (λ (p : PlanPatch). p.name) patches (record { name = name; replace = replace; targets = [] }));
+    symbol_count = kept.symbol_count;
+    count_of_functions = sym (ap (λ p. function_count (targets_of (last_of p))) e ∙ ap (λ p. function_count (targets_of p)) (last_of-push patches (record { name = name; replace = replace; targets = [] })));
+    few_objects = kept.few_objects;
+    few_patches = record {
+      few_patches = omega (arith, ap length e, length-append patches (record { name = name; replace = replace; targets = [] } ∷ []));
+      each_small = subst (AllByRecursion IsSmall) (sym e) (all-push IsSmall patches (record { name = name; replace = replace; targets = [] }) kept.few_patches.each_small (new_small name replace));
+    };
+  }
+
+  pub kept-target : (object : ℕ) (next : List PlanPatch) → 0 < length patches → length (targets_of (last_of patches)) < 8 → next ≡ on_last (with_target (Some object)) patches → IsKept objects object_names symbols next patch_names functions
+  kept-target object next some room e = record {
+    objects_by_name = kept.objects_by_name;
+    patches_by_name = kept.patches_by_name ∙ sym (ap patch_names_of e ∙ patch_names-with_target (Some object) patches);
+    symbol_count = kept.symbol_count;
+    count_of_functions = kept.count_of_functions ∙ sym (ap (λ p. function_count (targets_of (last_of p))) e ∙ function_count-with_target object patches some);
+    few_objects = kept.few_objects;
+    few_patches = record {
+      few_patches = omega (arith, kept.few_patches.few_patches, ap length e, length-on_last (with_target (Some object)) patches);
+      each_small = subst (AllByRecursion IsSmall) (sym e)
+          (all-on_last IsSmall (with_target (Some object)) patches kept.few_patches.each_small
+          (λ patch last small. small-with_target object patch (omega (arith, ap (λ p. length (targets_of p)) last)) small));
+    };
+  }
+
+  pub kept-function : (function : PlanFunction) (next : List PlanPatch) → 0 < length (targets_of (last_of patches)) → functions < 64 → next ≡ on_last (with_function_in function) patches
+      → IsKept objects object_names symbols next patch_names (functions + 1)
+  kept-function function next some room e = record {
+    objects_by_name = kept.objects_by_name;
+    patches_by_name = kept.patches_by_name ∙ sym (ap patch_names_of e ∙ patch_names-with_function function patches);
+    symbol_count = kept.symbol_count;
+    count_of_functions = ap (λ n. n + 1) kept.count_of_functions ∙ sym (ap (λ p. function_count (targets_of (last_of p))) e ∙ function_count-with_function function patches some);
+    few_objects = kept.few_objects;
+    few_patches = record {
+      few_patches = omega (arith, kept.few_patches.few_patches, ap length e, length-on_last (with_function_in function) patches);
+      each_small = subst (AllByRecursion IsSmall) (sym e)
+          (all-on_last IsSmall (with_function_in function) patches kept.few_patches.each_small
+          (λ patch last small. small-with_function function patch (omega (arith, ap (λ p. length (targets_of p)) last))
+          (omega (arith, kept.count_of_functions, ap (λ p. function_count (targets_of p)) last)) small));
+    };
+  }

@@ -1,0 +1,12 @@
+use Rattle.std.proofs.Common.{length, ap, arith}
+use Rattle.klp_catalog.specs.Parts.{last_of, targets_of}
+use Rattle.klp_catalog.proofs.DraftLemmas.{kept-target}
+use Rattle.klp_catalog.proofs.LineLemmas.{positive}
+use Rattle.klp_catalog.proofs.draft.Draft.place_target.Goals as goal
+
+pub invariant_of-self-2 : goal.invariant_of-self-2
+invariant_of-self-2 c =
+    let some = positive _ c.if-is_empty.ensures in
+    let same = ap length c.open_targets-targets.ensures in
+    let plain = ap (λ patches. length (targets_of (last_of patches))) c.deref.ensures.value in
+    kept-target c.self.invariant c.in-Some.number c.push_target.new.patches.items (omega arith) (omega (arith, same, plain)) c.in_ok-push_target.ensures.ok

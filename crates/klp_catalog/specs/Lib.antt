@@ -1,0 +1,9 @@
+pub mod Plan
+pub mod Parts
+pub mod Limits
+pub mod Words
+pub mod Gives
+pub mod Lines
+pub mod Draft
+pub mod Kept
+pub mod Text

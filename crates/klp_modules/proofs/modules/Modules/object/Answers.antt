@@ -1,0 +1,28 @@
+-- The object of a name is that of its number.
+use Rattle.std.proofs.Common.{◌≡◌, ◌∙◌, sym, Some, None}
+use Rattle.std.specs.Prelude.{position, bytes_eq}
+use Rattle.klp_modules.specs.Kept.{texts_of}
+use Rattle.klp_modules.proofs.NameLaws.{position-texts, object_named-absent, object_named-number}
+use Rattle.klp_modules.proofs.modules.Modules.object.Goals as goal
+
+pub returns-in_default : goal.returns-in_default
+returns-in_default c =
+    let none : position (bytes_eq c.args.name.now) (texts_of c.self.inside.names.keys) ≡ None =
+    sym (position-texts (bytes_eq c.args.name.now) c.self.inside.names.keys) ∙ sym c.in_default.ensures.index in
+    rw (← c.self.view_is) (sym (object_named-absent _ c.self.inside.objects.items c.args.name.now c.self.invariant.numbered none))
+
+pub returns-in_err-object : goal.returns-in_err-object
+returns-in_err-object c =
+    let some : position (bytes_eq c.args.name.now) (texts_of c.self.inside.names.keys) ≡ Some c.in-Some.number =
+    sym (position-texts (bytes_eq c.args.name.now) c.self.inside.names.keys) ∙ sym c.in-Some.ensures.index in
+    let is = object_named-number _ c.self.inside.objects.items c.args.name.now c.in-Some.number c.self.invariant.numbered c.self.invariant.apart some in
+    let place = rw (c.deref.ensures.value) at c.in_err-object.ensures in
+    rw (c.from_residual.ensures, ← c.self.view_is) (place ∙ sym is)
+
+pub returns : goal.returns
+returns c =
+    let some : position (bytes_eq c.args.name.now) (texts_of c.self.inside.names.keys) ≡ Some c.in-Some.number =
+    sym (position-texts (bytes_eq c.args.name.now) c.self.inside.names.keys) ∙ sym c.in-Some.ensures.index in
+    let is = object_named-number _ c.self.inside.objects.items c.args.name.now c.in-Some.number c.self.invariant.numbered c.self.invariant.apart some in
+    let place = rw (c.deref.ensures.value) at c.in_ok-object.ensures in
+    rw (← c.self.view_is) (place ∙ sym is)

@@ -1,0 +1,16 @@
+use thiserror::Error;
+
+/// Why a name and a position pick no symbol of an object. The numbers are this project's own, and
+/// stay.
+#[derive(Clone, Copy, Debug, PartialEq, Eq, Hash, Error)]
+pub enum SymbolFault {
+    /// No symbol has the name.
+    #[error("Missing")]
+    Missing = 1,
+    /// Several symbols have the name, and the position is 0.
+    #[error("Ambiguous")]
+    Ambiguous = 2,
+    /// Fewer symbols than the position have the name.
+    #[error("NoPosition")]
+    NoPosition = 3,
+}

@@ -1,0 +1,27 @@
+use crate::shadow::ShadowKey;
+
+/// What a script does in one step, for the patch whose callback runs it. The edits are this
+/// project's own: a kernel's callback is code, and these stand for what such code does to shadow
+/// variables and system states.
+#[derive(Clone, Copy, Debug, PartialEq, Eq, Hash)]
+pub enum Edit {
+    /// Adds a shadow variable with this value; nothing where it is there.
+    Alloc(ShadowKey, u64),
+    /// Removes a shadow variable; nothing where it isn't there.
+    Free(ShadowKey),
+    /// Removes the shadow variables of this id, whatever their parent objects.
+    FreeAll(u64),
+    /// Gives the patch's own system state of this id the value; nothing where the patch doesn't
+    /// name the state.
+    SetData(u64, u64),
+    /// Gives the patch's own system state of this id the value that it has in the newest patch
+    /// installed before that names it; nothing where there is none.
+    TakePrev(u64),
+}
+
+/// A free of the variable (0, 0): what stands in the unused places of a list of edits.
+impl Default for Edit {
+    fn default() -> Self {
+        Edit::Free(ShadowKey::default())
+    }
+}

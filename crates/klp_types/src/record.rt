@@ -1,0 +1,91 @@
+ghost use Rattle.std.specs.Prelude.{◌≡◌, ◌<◌, [], ◌∷◌, ◌++◌, IfOk, IfSome, IfNone};
+ghost use Rattle.klp_types.specs.Records.{spare_of};
+
+use crate::number::PatchId;
+use crate::shadow::ShadowKey;
+use std::alloc::{AllocError, Global};
+use std::marker::Model;
+
+/// What one row of the state was before a change. To put it back undoes the change of that row.
+#[derive(Clone, Copy, Debug, PartialEq, Eq, Hash)]
+pub enum Record {
+    /// A shadow variable: its value, or `None` where it wasn't there.
+    ShadowVariable {
+        key: ShadowKey,
+        was: Option<u64>,
+    },
+    /// The value of a system state of an installed patch.
+    StateValue {
+        patch: PatchId,
+        id: u64,
+        was: u64,
+    },
+    /// A system state of an installed patch: its value, or `None` where the patch had no such row.
+    StateRow {
+        patch: PatchId,
+        id: u64,
+        was: Option<u64>,
+    },
+    /// An installed patch: its place from the oldest, counted from 0, or `None` where it wasn't
+    /// installed.
+    InstalledPatch {
+        patch: PatchId,
+        place: Option<u8>,
+    },
+}
+
+/// Records in the order in which they were noted, in a list whose room is reserved when it is made.
+///
+/// Noting takes no memory. What undoes a change takes them newest first.
+#[derive(Debug, Drop)]
+pub struct Records {
+    noted: Vec<Record>,
+    room: usize,
+}
+
+impl Model for Records {
+    ghost use Rattle.std.specs.Prelude.{◌≤◌, vec_len, vec_capacity};
+    ghost use Rattle.klp_types.specs.Records.{RecordList};
+
+    ghost Value = { RecordList };
+
+    ghost view = { λ r. record { noted = r.noted.items; room = r.room } };
+
+    ghost invariant = { λ r. (vec_len r.noted ≤ r.room) × (r.room ≤ vec_capacity r.noted) };
+}
+
+impl Records {
+    /// An empty list with room for `room` records. An error is want of memory.
+    pub fn new(alloc: Global, room: usize) -> Result<Self, AllocError>
+        ensures { IfOk result (λ records. records ≡ record { noted = []; room = room }) }
+    {
+        Ok(Self {
+            noted: Vec::with_capacity(alloc, room)?,
+            room,
+        })
+    }
+
+    /// How many more records there is room for.
+    pub fn spare(&self) -> usize
+        ensures { result ≡ spare_of self.now }
+    {
+        self.room - self.noted.len()
+    }
+
+    /// Notes a record, as the newest.
+    pub fn note(&mut self, row: Record)
+        requires { 0 < spare_of self.old }
+        ensures { self.new ≡ record self.old { noted = self.old.noted ++ row ∷ [] } }
+    {
+        let _ = self.noted.push(row);
+    }
+
+    /// Takes the newest record out, if there is one.
+    pub fn take_last(&mut self) -> Option<Record>
+        ensures newest { IfSome result (λ newest. self.old ≡ record self.new { noted = self.new.noted ++ newest ∷ [] }) }
+        ensures empty { IfNone result (self.old.noted ≡ []) }
+        ensures unchanged { IfNone result (self.new ≡ self.old) }
+    {
+        self.noted.pop()
+    }
+}

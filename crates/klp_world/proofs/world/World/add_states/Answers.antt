@@ -1,0 +1,16 @@
+use Rattle.std.proofs.Common.{ap, ◌∙◌, ℕ, List, [], ◌∷◌, ◌++◌, map, arith}
+use Rattle.std.proofs.lemmas.List.{take_all}
+use Rattle.klp_types.specs.State.{Installed}
+use Rattle.klp_types.specs.World.{World}
+use Rattle.klp_world.specs.Undo.{undone}
+use Rattle.klp_world.specs.Noted.{rows_of_add}
+use Rattle.klp_world.proofs.UndoLemmas.{undone_add}
+use Rattle.klp_world.proofs.world.World.add_states.Goals as goal
+
+pub returns-clause-undo : goal.returns-clause-undo
+returns-clause-undo c =
+    let now = c.args.self.now in
+    let all = ap (λ (ids : List ℕ). record { patch = c.args.patch; values = map (λ id. (id, 0)) ids }) (take_all c.loop-id.id-index c.args.ids.now (omega arith)) in
+    ap (λ (w : World). undone w (rows_of_add c.args.patch c.args.ids.now))
+    (c.put_last.ensures ∙ ap (λ (i : Installed). record now { installed = now.installed ++ i ∷ [] }) (c.loop-id.invariant.states ∙ all))
+    ∙ undone_add now c.args.patch c.args.ids.now c.requires.fresh

@@ -1,0 +1,4 @@
+pub mod Coded
+pub mod Undo
+pub mod Noted
+pub mod Sorted

@@ -1,0 +1,42 @@
+-- Records put back: each gives one row of the world what it was.
+use Rattle.std.specs.Prelude.{ℕ, ◌++◌, ◌==◌, nat_lt, List, [], ◌∷◌, length, insert, Option, Some, None, if◌then◌else◌}
+use Rattle.std.specs.FinMap as finite
+use Rattle.klp_types.specs.declared.shadow.ShadowKey.{ShadowKey}
+use Rattle.klp_types.specs.declared.record.Record.{Record}
+use Rattle.klp_types.specs.declared.record.Record.TheVariants.{ShadowVariable, StateValue, StateRow, InstalledPatch}
+use Rattle.klp_types.specs.State.{Installed}
+use Rattle.klp_types.specs.World.{World, with_variable, without_variable, with_value, change_states, taken_out}
+use Rattle.klp_world.specs.declared.limits.TheConstants.{MAX_VARIABLES, MAX_PATCHES, MAX_STATES}
+
+-- a variable is taken out again, or set where there is room for it
+abbrev pub put_variable : World → ShadowKey → Option ℕ → World
+put_variable world key None = without_variable world key
+put_variable world key (Some value) = if nat_lt (finite.len world.shadow) MAX_VARIABLES then with_variable world key value else world
+
+-- the state of this id is gone
+abbrev pub state_taken : ℕ → List (ℕ × ℕ) → List (ℕ × ℕ)
+state_taken id [] = []
+state_taken id (state ∷ states) = if state.0 == id then states else state ∷ state_taken id states
+
+-- a state of a patch is taken out again, or put last where there is room for it
+abbrev pub put_state : ℕ → Option ℕ → List (ℕ × ℕ) → List (ℕ × ℕ)
+put_state id None states = state_taken id states
+put_state id (Some value) states = if nat_lt (length states) MAX_STATES then states ++ (id, value) ∷ [] else states
+
+-- a patch is taken out again, or put in its place where there is room for it, without states
+abbrev pub put_patch : ℕ → Option ℕ → List Installed → List Installed
+put_patch patch None installed = taken_out patch installed
+put_patch patch (Some place) installed =
+    if nat_lt (length installed) MAX_PATCHES then insert installed place (record { patch = patch; values = [] }) else installed
+
+-- the world with one row as the record tells it
+abbrev pub put_back : World → Record → World
+put_back world (ShadowVariable key was) = put_variable world key was
+put_back world (StateValue patch id was) = with_value world patch id was
+put_back world (StateRow patch id was) = record world { installed = change_states patch (put_state id was) world.installed }
+put_back world (InstalledPatch patch place) = record world { installed = put_patch patch place world.installed }
+
+-- the world once all records are put back, the newest, which stands last, first
+abbrev pub undone : World → List Record → World
+undone world [] = world
+undone world (row ∷ newer) = put_back (undone world newer) row

@@ -1,0 +1,20 @@
+//! The world that livepatch callbacks change: the installed patches with the values of their
+//! system states, and the shadow variables.
+#![tactic(auto)]
+
+mod installed;
+pub mod laws;
+mod limits;
+mod patch;
+mod script;
+mod shadow;
+mod world;
+
+pub use installed::InstalledPatches;
+pub use klp_types::Edit;
+pub use limits::{MAX_EDITS, MAX_PATCHES, MAX_STATES, MAX_VARIABLES};
+pub use script::Script;
+pub use world::World;
+
+#[cfg(test)]
+mod tests;

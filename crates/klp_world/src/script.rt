@@ -1,0 +1,24 @@
+use crate::limits::MAX_EDITS;
+use arrayvec::ArrayVec;
+use klp_types::Edit;
+use std::marker::Model;
+
+/// What a callback does and answers: edits of the world in order, and a status. A script with a
+/// status other than 0 makes no edit. (Scripts are this project's own.)
+#[derive(Debug, Drop)]
+pub struct Script {
+    pub edits: ArrayVec<Edit, MAX_EDITS>,
+    pub status: i32,
+}
+
+impl Model for Script {
+    ghost use Rattle.std.specs.Prelude.{FitsSigned};
+    ghost use Rattle.std.specs.Int.{w32};
+    ghost use Rattle.klp_types.specs.Script.{Script as ScriptOfEdits};
+
+    ghost Value = { ScriptOfEdits };
+
+    ghost view = { λ s. record { edits = s.edits.items; status = s.status } };
+
+    ghost invariant = { λ s. FitsSigned w32 s.status };
+}

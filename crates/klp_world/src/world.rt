@@ -1,0 +1,345 @@
+ghost use Rattle.std.specs.Prelude.{◌≡◌, ℕ, ◌+◌, ◌<◌, ◌≤◌, ◌==◌, false, List, [], ◌∷◌, ◌++◌, length, map, reverse, is_some, is_none, unwrap_or, IfOk};
+ghost use Rattle.std.specs.List.{list_any};
+ghost use Rattle.std.specs.FinMap as finite;
+ghost use Rattle.klp_types.specs.Records.{spare_of};
+ghost use Rattle.klp_types.specs.State.{Installed};
+ghost use Rattle.klp_types.specs.World.{variable, state_value, previous_patch, newest_naming, installed_before, change_states, without_variable, without_id, with_value, with_patch, without_patch};
+ghost use Rattle.klp_types.specs.Script.{allocated};
+ghost use Rattle.klp_world.specs.Undo.{put_variable, put_state, put_patch, put_back, undone};
+ghost use Rattle.klp_world.specs.Noted.{noting, rows_of_alloc, rows_of_free, rows_of_free_all, variable_rows, state_row, rows_of_set, rows_of_add, rows_of_drop};
+
+use crate::installed::InstalledPatches;
+use crate::limits::{MAX_PATCHES, MAX_STATES, MAX_VARIABLES};
+use crate::patch::{InstalledPatch, SystemState, place_of_patch};
+use crate::shadow::ShadowMap;
+use klp_types::{PatchId, Record, Records, ShadowKey};
+use std::alloc::{AllocError, Global};
+use std::marker::Model;
+
+/// The installed patches with the values of their system states (system-state), and the shadow
+/// variables (shadow-vars).
+///
+/// All room is taken by [`World::new`]. Each change notes, in the records handed in, every row that
+/// it changes as it was; a row that it leaves as it was isn't noted. To put these records back,
+/// newest first, gives the world before the change.
+#[derive(Debug, Drop)]
+pub struct World {
+    patches: Vec<InstalledPatch>,
+    shadow: ShadowMap,
+}
+
+impl Model for World {
+    ghost use Rattle.std.specs.Prelude.{◌≤◌, vec_len, vec_capacity};
+    ghost use Rattle.klp_types.specs.World.{World as WorldOfPatches};
+    ghost use Rattle.klp_world.specs.Coded.{world_code};
+
+    ghost Value = { WorldOfPatches };
+
+    ghost coded = { world_code };
+
+    ghost use Rattle.klp_world.specs.declared.limits.TheConstants.{MAX_PATCHES};
+
+    ghost view = { λ w. record { installed = w.patches.items; shadow = w.shadow } };
+
+    ghost invariant = { λ w. (vec_len w.patches ≤ MAX_PATCHES) × (MAX_PATCHES ≤ vec_capacity w.patches) };
+}
+
+/// Notes the variables of the id.
+fn note_variables(variables: &[(ShadowKey, u64)], id: u64, log: &mut Records)
+    requires { length (variable_rows id variables.now) ≤ spare_of log.old }
+    ensures { log.new ≡ noting log.old (variable_rows id variables.now) }
+{
+    for &(key, was) in variables {
+        if key.id == id {
+            log.note(Record::ShadowVariable {
+                key,
+                was: Some(was),
+            });
+        }
+    }
+}
+
+/// Notes the states of a patch, the last first.
+fn note_states(patch: PatchId, states: &[SystemState], log: &mut Records)
+    requires { length states.now ≤ spare_of log.old }
+    ensures { log.new ≡ noting log.old (map (state_row patch) (reverse states.now)) }
+{
+    for place in (0..states.len()).rev() {
+        let state = &states[place];
+        log.note(Record::StateRow {
+            patch,
+            id: state.id,
+            was: Some(state.value),
+        });
+    }
+}
+
+/// The newest patch before this one that names the state.
+fn newest_before(patches: &[InstalledPatch], patch: PatchId, id: u64) -> Option<PatchId>
+    ensures { result ≡ newest_naming id (installed_before patch patches.now) }
+{
+    let mut newest = None;
+    for installed in patches {
+        if installed.patch() == patch {
+            return newest;
+        }
+        if installed.value(id).is_some() {
+            newest = Some(installed.patch());
+        }
+    }
+    newest
+}
+
+impl World {
+    /// No patch is installed and no shadow variable is there. An error is want of memory.
+    pub fn new(alloc: Global) -> Result<Self, AllocError>
+        ensures { IfOk result (λ world. world ≡ record { installed = []; shadow = finite.empty }) }
+    {
+        Ok(Self {
+            patches: Vec::with_capacity(alloc, MAX_PATCHES)?,
+            shadow: ShadowMap::new(alloc)?,
+        })
+    }
+
+    /// The value of a shadow variable, if it is there. The look-up halves the variables until it
+    /// meets the key (`klp_shadow_get`).
+    pub fn get(&self, key: ShadowKey) -> Option<u64>
+        ensures { result ≡ variable self.now key }
+    {
+        self.shadow.get(key)
+    }
+
+    /// How many shadow variables there are.
+    pub fn count(&self) -> u16
+        ensures value { result ≡ finite.len self.now.shadow }
+        ensures limit { result ≤ MAX_VARIABLES }
+    {
+        self.shadow.len() as u16
+    }
+
+    /// The installed patches, oldest first.
+    pub fn installed(&self) -> InstalledPatches<'_>
+        ensures { result ≡ map (λ (i : Installed). i.patch) self.now.installed }
+    {
+        InstalledPatches::new(&self.patches)
+    }
+
+    /// The value of a system state of an installed patch. `None` where the patch isn't installed or
+    /// doesn't name the state.
+    pub fn value(&self, patch: PatchId, id: u64) -> Option<u64>
+        ensures { result ≡ state_value self.now patch id }
+    {
+        let Some(place) = place_of_patch(&self.patches, patch) else {
+            return None;
+        };
+        self.patches[place].value(id)
+    }
+
+    /// The newest patch installed before this one that names the state. Where the patch isn't
+    /// installed, all installed patches count as before it. (The rule is this project's own.)
+    pub fn previous(&self, patch: PatchId, id: u64) -> Option<PatchId>
+        ensures { result ≡ previous_patch self.now patch id }
+    {
+        newest_before(&self.patches, patch, id)
+    }
+
+    /// Adds a shadow variable, and answers whether it did: a variable that is there keeps its value
+    /// (`klp_shadow_alloc`). An insertion moves the variables with greater keys.
+    pub fn alloc(&mut self, key: ShadowKey, value: u64, log: &mut Records) -> bool
+        requires room { variable self.old key ≡ None → finite.len self.old.shadow < MAX_VARIABLES }
+        requires records { length (rows_of_alloc self.old key) ≤ spare_of log.old }
+        ensures answer { result ≡ is_none (variable self.old key) }
+        ensures world { self.new ≡ allocated self.old key value (variable self.old key) }
+        ensures noted { log.new ≡ noting log.old (rows_of_alloc self.old key) }
+        ensures undo { undone self.new (rows_of_alloc self.old key) ≡ self.old }
+    {
+        if self.shadow.get(key).is_some() {
+            return false;
+        }
+        self.shadow.insert(key, value);
+        log.note(Record::ShadowVariable { key, was: None });
+        true
+    }
+
+    /// The value of a shadow variable, which is added with this value where it isn't there
+    /// (`klp_shadow_get_or_alloc`).
+    pub fn get_or_alloc(&mut self, key: ShadowKey, value: u64, log: &mut Records) -> u64
+        requires room { variable self.old key ≡ None → finite.len self.old.shadow < MAX_VARIABLES }
+        requires records { length (rows_of_alloc self.old key) ≤ spare_of log.old }
+        ensures answer { result ≡ unwrap_or (variable self.old key) value }
+        ensures world { self.new ≡ allocated self.old key value (variable self.old key) }
+        ensures noted { log.new ≡ noting log.old (rows_of_alloc self.old key) }
+        ensures undo { undone self.new (rows_of_alloc self.old key) ≡ self.old }
+    {
+        let there = self.get(key);
+        self.alloc(key, value, log);
+        there.unwrap_or(value)
+    }
+
+    /// Removes a shadow variable, and answers whether it was there (`klp_shadow_free`). A removal
+    /// moves the variables with greater keys.
+    pub fn free(&mut self, key: ShadowKey, log: &mut Records) -> bool
+        requires { length (rows_of_free self.old key) ≤ spare_of log.old }
+        ensures answer { result ≡ is_some (variable self.old key) }
+        ensures world { self.new ≡ without_variable self.old key }
+        ensures noted { log.new ≡ noting log.old (rows_of_free self.old key) }
+        ensures undo { undone self.new (rows_of_free self.old key) ≡ self.old }
+    {
+        match self.shadow.remove(key) {
+            Some(was) => {
+                log.note(Record::ShadowVariable {
+                    key,
+                    was: Some(was),
+                });
+                true
+            }
+            None => false,
+        }
+    }
+
+    /// Removes all shadow variables of the id, whatever their parent objects, and answers how many
+    /// there were (`klp_shadow_free_all`). It walks over the variables twice.
+    pub fn free_all(&mut self, id: u64, log: &mut Records) -> u16
+        requires { length (rows_of_free_all self.old id) ≤ spare_of log.old }
+        ensures answer { result ≡ length (rows_of_free_all self.old id) }
+        ensures count { result + finite.len self.new.shadow ≡ finite.len self.old.shadow }
+        ensures world { self.new ≡ without_id self.old id }
+        ensures noted { log.new ≡ noting log.old (rows_of_free_all self.old id) }
+        ensures undo { undone self.new (rows_of_free_all self.old id) ≡ self.old }
+    {
+        let before = self.shadow.len();
+        note_variables(self.shadow.as_slice(), id, log);
+        self.shadow.remove_id(id);
+        (before - self.shadow.len()) as u16
+    }
+
+    /// Puts a patch last, with these system states at 0.
+    pub fn add_states(&mut self, patch: PatchId, ids: &[u64], log: &mut Records)
+        requires fresh { list_any (λ (i : Installed). i.patch == patch) self.old.installed ≡ false }
+        requires room { length self.old.installed < MAX_PATCHES }
+        requires states { length ids.now ≤ MAX_STATES }
+        requires records { length (rows_of_add patch ids.now) ≤ spare_of log.old }
+        ensures world { self.new ≡ with_patch self.old patch ids.now }
+        ensures noted { log.new ≡ noting log.old (rows_of_add patch ids.now) }
+        ensures undo { undone self.new (rows_of_add patch ids.now) ≡ self.old }
+    {
+        log.note(Record::InstalledPatch { patch, place: None });
+        let mut installed = InstalledPatch::new(patch);
+        for &id in ids {
+            installed.push(id, 0);
+            log.note(Record::StateRow {
+                patch,
+                id,
+                was: None,
+            });
+        }
+        self.put_last(installed);
+    }
+
+    /// Takes a patch out with its system states, where it is installed. The patches behind it move.
+    pub fn drop_states(&mut self, patch: PatchId, log: &mut Records)
+        requires { length (rows_of_drop self.old patch) ≤ spare_of log.old }
+        ensures world { self.new ≡ without_patch self.old patch }
+        ensures noted { log.new ≡ noting log.old (rows_of_drop self.old patch) }
+        ensures undo { undone self.new (rows_of_drop self.old patch) ≡ self.old }
+    {
+        let Some(place) = place_of_patch(&self.patches, patch) else {
+            return;
+        };
+        let installed = self.patches.remove(place);
+        note_states(patch, installed.states(), log);
+        log.note(Record::InstalledPatch {
+            patch,
+            place: Some(place as u8),
+        });
+    }
+
+    /// Gives a system state of an installed patch the value. Nothing changes where the patch isn't
+    /// installed or doesn't name the state.
+    pub fn set_value(&mut self, patch: PatchId, id: u64, value: u64, log: &mut Records)
+        requires { length (rows_of_set self.old patch id value) ≤ spare_of log.old }
+        ensures world { self.new ≡ with_value self.old patch id value }
+        ensures noted { log.new ≡ noting log.old (rows_of_set self.old patch id value) }
+        ensures undo { undone self.new (rows_of_set self.old patch id value) ≡ self.old }
+    {
+        if let Some(was) = self.replace_value(patch, id, value) {
+            if was != value {
+                log.note(Record::StateValue { patch, id, was });
+            }
+        }
+    }
+
+    /// Gives one row what the record tells. A row for which there is no room stays away; none is
+    /// met where the records of changes are put back newest first.
+    pub fn put_back(&mut self, row: Record)
+        ensures { self.new ≡ put_back self.old row }
+    {
+        match row {
+            Record::ShadowVariable { key, was } => self.put_variable(key, was),
+            Record::StateValue { patch, id, was } => {
+                self.replace_value(patch, id, was);
+            }
+            Record::StateRow { patch, id, was } => self.put_state(patch, id, was),
+            Record::InstalledPatch { patch, place } => self.put_patch(patch, place),
+        }
+    }
+
+    fn put_last(&mut self, installed: InstalledPatch)
+        requires { length self.old.installed < MAX_PATCHES }
+        ensures { self.new ≡ record self.old { installed = self.old.installed ++ installed ∷ [] } }
+    {
+        let _ = self.patches.push(installed);
+    }
+
+    fn put_variable(&mut self, key: ShadowKey, was: Option<u64>)
+        ensures { self.new ≡ put_variable self.old key was }
+    {
+        match was {
+            None => {
+                self.shadow.remove(key);
+            }
+            Some(value) => {
+                if self.shadow.len() < MAX_VARIABLES {
+                    self.shadow.insert(key, value);
+                }
+            }
+        }
+    }
+
+    /// Sets a state of an installed patch, where it is there, and answers the value before.
+    fn replace_value(&mut self, patch: PatchId, id: u64, value: u64) -> Option<u64>
+        ensures was { result ≡ state_value self.old patch id }
+        ensures world { self.new ≡ with_value self.old patch id value }
+    {
+        let Some(place) = place_of_patch(&self.patches, patch) else {
+            return None;
+        };
+        self.patches[place].set_value(id, value)
+    }
+
+    fn put_state(&mut self, patch: PatchId, id: u64, was: Option<u64>)
+        ensures { self.new ≡ record self.old { installed = change_states patch (put_state id was) self.old.installed } }
+    {
+        if let Some(place) = place_of_patch(&self.patches, patch) {
+            self.patches[place].put_back(id, was);
+        }
+    }
+
+    fn put_patch(&mut self, patch: PatchId, place: Option<u8>)
+        ensures { self.new ≡ record self.old { installed = put_patch patch place self.old.installed } }
+    {
+        match place {
+            None => {
+                if let Some(place) = place_of_patch(&self.patches, patch) {
+                    self.patches.remove(place);
+                }
+            }
+            Some(place) => {
+                if self.patches.len() < MAX_PATCHES {
+                    let place = self.patches.len().min(place as usize);
+                    let _ = self.patches.insert(place, InstalledPatch::new(patch));
+                }
+            }
+        }
+    }
+}
