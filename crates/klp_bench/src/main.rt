@@ -2,9 +2,9 @@
 //! runs one round, for which it writes what was accepted and refused and no time.
 #![tactic(auto)]
 
-use klp_core::{BootFault, Manager};
-use klp_text::{Image, ImageFault};
-use klp_types::{Event, ObjectText, PatchId, Site, SymbolText};
+use klp_core::Manager;
+use klp_program::boot;
+use klp_types::{Event, PatchId};
 use std::alloc::{AllocError, Global};
 use std::rt::{Clock, Env};
 use std::time::Instant;
@@ -24,48 +24,32 @@ enum Fault {
     #[error(transparent)]
     Memory(#[from(alloc)] AllocError),
     #[error(transparent)]
-    Image(#[from] ImageFault),
-    #[error(transparent)]
-    Boot(#[from] BootFault),
+    Boot(#[from] klp_program::Fault),
     #[error("Io")]
     Io(#[from] io::Error),
 }
 
-// A kernel of as many functions as there may be, of eight bytes each.
-fn objects(alloc: Global) -> Result<Vec<ObjectText>, AllocError> {
-    let mut symbols = Vec::new(alloc);
+// A kernel of as many functions as there may be, of eight bytes each, and as many patches as there
+// may be, each with as many functions as it may have: four of them cover the kernel.
+fn catalog(alloc: Global) -> Result<String, AllocError> {
+    let mut text = format!(in alloc; "handler {HANDLER:x}\nobject vmlinux\n")?;
     for site in 0..SITES {
-        symbols.push(SymbolText {
-            name: format!(in alloc; "f{site}")?,
-            address: HANDLER + 0x1000 + u64::from(site) * 16,
-            body: [0; 8].to_vec(alloc)?,
-        })?;
+        let address = HANDLER + 0x1000 + u64::from(site) * 16;
+        let line = format!(in alloc; "symbol f{site} {address:x} 0000000000000000\n")?;
+        text.push_str(line.as_str())?;
     }
-    let vmlinux = ObjectText {
-        name: String::from_str(alloc, "vmlinux")?,
-        symbols,
-    };
-    Ok(vec![in alloc; vmlinux]?)
-}
-
-// As many patches as there may be, each with as many functions as it may have: four of them cover
-// the kernel.
-fn patches(alloc: Global) -> Result<Vec<Vec<(Site, u64)>>, AllocError> {
-    let mut patches = Vec::new(alloc);
     for patch in 0..PATCHES {
+        let line = format!(in alloc; "patch p{patch}\ntarget vmlinux\n")?;
+        text.push_str(line.as_str())?;
         let first = u16::from(patch % 4) * FUNCTIONS;
-        let mut functions = Vec::new(alloc);
-        for number in 0..FUNCTIONS {
-            functions.push((Site(first + number), 0xffff_ffff_c000_0000))?;
+        for site in first..first + FUNCTIONS {
+            let line = format!(in alloc;
+                "func .klp.sym.vmlinux.f{site},0 n{site} ffffffffc0000000\n"
+            )?;
+            text.push_str(line.as_str())?;
         }
-        patches.push(functions)?;
     }
-    Ok(patches)
-}
-
-fn boot(alloc: Global) -> Result<Manager, Fault> {
-    let image = Image::new(alloc, objects(alloc)?, HANDLER)?;
-    Ok(Manager::boot(alloc, image, patches(alloc)?)?)
+    Ok(text)
 }
 
 // Each patch is enabled and its transition completed.
@@ -88,33 +72,61 @@ fn refused_events(alloc: Global) -> Result<Vec<Event>, AllocError> {
     Ok(events)
 }
 
+// What one list of events came to.
+#[derive(Clone, Copy, Debug)]
+struct Outcome {
+    accepted: u64,
+    refused: u64,
+    nanoseconds: u128,
+}
+
+// Takes the events, and tells how long that took.
+fn taken<R: Clock>(rt: &R, manager: &mut Manager, events: &[Event]) -> io::Result<Outcome> {
+    let start = Instant::now(rt)?;
+    let (accepted, refused) = manager.run(events);
+    let end = Instant::now(rt)?;
+    Ok(Outcome {
+        accepted,
+        refused,
+        nanoseconds: end.saturating_duration_since(start).as_nanos(),
+    })
+}
+
+// Takes the events that are accepted, and then those that are refused.
+fn both<R: Clock>(
+    rt: &R,
+    manager: &mut Manager,
+    accepted: &[Event],
+    refused: &[Event],
+) -> io::Result<(Outcome, Outcome)> {
+    let accepted = taken(rt, manager, accepted)?;
+    let refused = taken(rt, manager, refused)?;
+    Ok((accepted, refused))
+}
+
+// One round, over a manager of its own.
+fn round<R: Clock>(rt: &R, alloc: Global, text: &str) -> Result<(Outcome, Outcome), Fault> {
+    let accepted = accepted_events(alloc)?;
+    let refused = refused_events(alloc)?;
+    let mut manager = boot(alloc, text.as_bytes())?;
+    Ok(both(rt, &mut manager, &accepted, &refused)?)
+}
+
 fn main(rt: HostRuntime) -> Result<(), Fault> {
     let alloc = rt.alloc();
     let rounds = match env::args(&rt)?.nth(1) {
         Some(word) => word.as_str().parse::<u32>().unwrap_or(1),
         None => 1,
     };
-    let accepted = accepted_events(alloc)?;
-    let refused = refused_events(alloc)?;
+    let text = catalog(alloc)?;
     let mut accepting = 0;
     let mut refusing = 0;
     let mut counts = (0, 0);
     for _ in 0..rounds {
-        let mut manager = boot(alloc)?;
-        let start = Instant::now(&rt)?;
-        counts = manager.run(&accepted);
-        let between = Instant::now(&rt)?;
-        let refused = manager.run(&refused);
-        let end = Instant::now(&rt)?;
-        counts = (counts.0, refused.1);
-        accepting = u128::saturating_add(
-            accepting,
-            between.saturating_duration_since(start).as_nanos(),
-        );
-        refusing = u128::saturating_add(
-            refusing,
-            end.saturating_duration_since(between).as_nanos(),
-        );
+        let (accepted, refused) = round(&rt, alloc, text.as_str())?;
+        counts = (accepted.accepted, refused.refused);
+        accepting = u128::saturating_add(accepting, accepted.nanoseconds);
+        refusing = u128::saturating_add(refusing, refused.nanoseconds);
     }
     println!(rt; "accepted {} refused {}", counts.0, counts.1)?;
     if rounds > 1 {

@@ -153,3 +153,6 @@ impl Callback for Refusing {
         }
     }
 }
+
+#[cfg(test)]
+mod tests;

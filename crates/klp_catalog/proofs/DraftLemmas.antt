@@ -1,5 +1,5 @@
 -- Facts of a draft: its last patch, its counts and its names.
-use Rattle.std.proofs.Common.{◌≡◌, ℕ, suc, ◌+◌, ◌-◌, ◌<◌, Bool, List, [], ◌∷◌, ◌++◌, length, slice_get, option_map, Some, None, Option, refl, sym, subst, ap, ◌∙◌, arith, length-append}
+use Rattle.std.proofs.Common.{◌≡◌, ℕ, suc, ◌+◌, ◌-◌, ◌<◌, ◌≤◌, Bool, List, [], ◌∷◌, ◌++◌, length, slice_get, option_map, Some, None, Option, refl, sym, subst, ap, ◌∙◌, arith, length-append}
 use Rattle.std.proofs.lemmas.List.Sums.{sum_by-append, sum_by-cons}
 use Rattle.klp_types.specs.Image.{Symbol, Object, symbols_of}
 use Rattle.klp_catalog.specs.Plan.{PlanFunction, PlanTarget, PlanPatch}
@@ -8,7 +8,12 @@ use Rattle.klp_catalog.specs.Kept.{IsKept}
 use Rattle.klp_catalog.proofs.ListLemmas.{map-push}
 use Rattle.klp_catalog.specs.Draft.{names_of, patch_names_of}
 use Rattle.klp_catalog.specs.Limits.{IsSmall}
-use Rattle.std.specs.List.{AllByRecursion}
+use Rattle.std.specs.Prelude.{position, bytes_eq}
+use Rattle.std.specs.List.{All, AllByRecursion}
+use Rattle.std.proofs.lemmas.List.{length-map}
+use Rattle.std.proofs.lemmas.List.Quantifiers.{position-Some}
+use Rattle.std.proofs.lemmas.List.Elements.{All-push, All-nil, All-weaker, All-from_recursion, recursion_from_All}
+use Rattle.klp_catalog.specs.Within.{AreTargetsWithin}
 
 -- a target stands in a patch
 pub last_patch : (patches : List PlanPatch) → 0 < length (targets_of (last_of patches)) → 0 < length patches
@@ -125,7 +130,7 @@ all-push : {A : Type 0} (P : A → Type 0) (xs : List A) (x : A) → AllByRecurs
 all-push P [] x all h = (h, tt)
 all-push P (y ∷ xs) x all h = (all.0, all-push P xs x all.1 h)
 
-new_small : (name : List ℕ) (replace : Bool) → IsSmall (record { name = name; replace = replace; targets = [] })
+new_small : (name : List ℕ) (replace : Bool) → IsSmall (record { name = name; replace = replace; targets = []; states = [] })
 new_small name replace = record { few_targets = omega arith; few_functions = omega arith }
 
 small-with_target : (object : ℕ) (patch : PlanPatch) → length patch.targets < 8 → IsSmall patch → IsSmall (with_target (Some object) patch)
@@ -145,6 +150,29 @@ small-with_function function patch some room small = record {
   few_functions = omega (arith, count_more function patch.targets some);
 }
 
+abbrev IsTargetWithin : ℕ → PlanTarget → Type 0
+IsTargetWithin objects target = target.object < objects
+
+abbrev TargetsWithin : ℕ → PlanPatch → Type 0
+TargetsWithin objects patch = All (IsTargetWithin objects) patch.targets
+
+All-on_last : {A : Type 0} (P : A → Type 0) (change : A → A) (xs : List A) → All P xs → ((x : A) → P x → P (change x)) → All P (on_last change xs)
+All-on_last P change xs all keeps =
+    All-from_recursion P (on_last change xs) (all-on_last P change xs (recursion_from_All P xs all) (λ x last h. keeps x h))
+
+-- a target of an object stays one when there are more
+more_objects : (patches : List PlanPatch) (objects more : ℕ) → objects ≤ more → AreTargetsWithin objects patches → AreTargetsWithin more patches
+more_objects patches objects more h within =
+    All-weaker (TargetsWithin objects) (TargetsWithin more)
+    (λ patch ts. All-weaker (IsTargetWithin objects) (IsTargetWithin more) (λ target there. omega arith) patch.targets ts) patches within
+
+-- an object that is found by its name is there
+pub found_within : (objects : List Object) (names : List (List ℕ)) (name : List ℕ) (number : ℕ) → names ≡ names_of objects
+    → position (bytes_eq name) names ≡ Some number → number < length objects
+found_within objects names name number is found =
+    let at = position-Some (bytes_eq name) names number [] found in
+    omega (arith, at.0, ap length is, length-map objects (λ (o : Object). o.name))
+
 -- what a draft keeps, behind each kind of line
 module _ {objects : List Object} {object_names : List (List ℕ)} {symbols : ℕ} {patches : List PlanPatch} {patch_names : List (List ℕ)} {functions : ℕ}
     (kept : IsKept objects object_names symbols patches patch_names functions) where
@@ -156,6 +184,7 @@ module _ {objects : List Object} {object_names : List (List ℕ)} {symbols : ℕ
     count_of_functions = kept.count_of_functions;
     few_objects = omega (arith, kept.few_objects, ap length e, length-on_last (with_symbol symbol) objects);
     few_patches = kept.few_patches;
+    targets_within = subst (λ n. AreTargetsWithin n patches) (sym (ap length e ∙ length-on_last (with_symbol symbol) objects)) kept.targets_within;
   }
 
   pub kept-object : (name : List ℕ) (next : List Object) (names : List (List ℕ)) → length objects < 17 → next ≡ objects ++ record { name = name; symbols = [] } ∷ []
@@ -167,25 +196,27 @@ module _ {objects : List Object} {object_names : List (List ℕ)} {symbols : ℕ
     count_of_functions = kept.count_of_functions;
     few_objects = omega (arith, ap length e, length-append objects (record { name = name; symbols = [] } ∷ []));
     few_patches = kept.few_patches;
+    targets_within = more_objects patches (length objects) (length next) (omega (arith, ap length e, length-append objects (record { name = name; symbols = [] } ∷ []))) kept.targets_within;
   }
 
-  pub kept-patch : (name : List ℕ) (replace : Bool) (next : List PlanPatch) (names : List (List ℕ)) → length patches < 16 → next ≡ patches ++ record { name = name; replace = replace; targets = [] } ∷ []
+  pub kept-patch : (name : List ℕ) (replace : Bool) (next : List PlanPatch) (names : List (List ℕ)) → length patches < 16 → next ≡ patches ++ record { name = name; replace = replace; targets = []; states = [] } ∷ []
       → names ≡ patch_names ++ name ∷ [] → IsKept objects object_names symbols next names 0
   kept-patch name replace next names room e n = record {
     objects_by_name = kept.objects_by_name;
     patches_by_name = n ∙ ap (λ ns. ns ++ name ∷ []) kept.patches_by_name
-        ∙ sym (ap patch_names_of e ∙ map-push (λ (p : PlanPatch). p.name) patches (record { name = name; replace = replace; targets = [] }));
+        ∙ sym (ap patch_names_of e ∙ map-push (λ (p : PlanPatch). p.name) patches (record { name = name; replace = replace; targets = []; states = [] }));
     symbol_count = kept.symbol_count;
-    count_of_functions = sym (ap (λ p. function_count (targets_of (last_of p))) e ∙ ap (λ p. function_count (targets_of p)) (last_of-push patches (record { name = name; replace = replace; targets = [] })));
+    count_of_functions = sym (ap (λ p. function_count (targets_of (last_of p))) e ∙ ap (λ p. function_count (targets_of p)) (last_of-push patches (record { name = name; replace = replace; targets = []; states = [] })));
     few_objects = kept.few_objects;
     few_patches = record {
-      few_patches = omega (arith, ap length e, length-append patches (record { name = name; replace = replace; targets = [] } ∷ []));
-      each_small = subst (AllByRecursion IsSmall) (sym e) (all-push IsSmall patches (record { name = name; replace = replace; targets = [] }) kept.few_patches.each_small (new_small name replace));
+      few_patches = omega (arith, ap length e, length-append patches (record { name = name; replace = replace; targets = []; states = [] } ∷ []));
+      each_small = subst (AllByRecursion IsSmall) (sym e) (all-push IsSmall patches (record { name = name; replace = replace; targets = []; states = [] }) kept.few_patches.each_small (new_small name replace));
     };
+    targets_within = subst (AreTargetsWithin (length objects)) (sym e) (All-push (TargetsWithin (length objects)) patches _ kept.targets_within (All-nil (IsTargetWithin (length objects))));
   }
 
-  pub kept-target : (object : ℕ) (next : List PlanPatch) → 0 < length patches → length (targets_of (last_of patches)) < 8 → next ≡ on_last (with_target (Some object)) patches → IsKept objects object_names symbols next patch_names functions
-  kept-target object next some room e = record {
+  pub kept-target : (object : ℕ) (next : List PlanPatch) → object < length objects → 0 < length patches → length (targets_of (last_of patches)) < 8 → next ≡ on_last (with_target (Some object)) patches → IsKept objects object_names symbols next patch_names functions
+  kept-target object next there some room e = record {
     objects_by_name = kept.objects_by_name;
     patches_by_name = kept.patches_by_name ∙ sym (ap patch_names_of e ∙ patch_names-with_target (Some object) patches);
     symbol_count = kept.symbol_count;
@@ -197,6 +228,9 @@ module _ {objects : List Object} {object_names : List (List ℕ)} {symbols : ℕ
           (all-on_last IsSmall (with_target (Some object)) patches kept.few_patches.each_small
           (λ patch last small. small-with_target object patch (omega (arith, ap (λ p. length (targets_of p)) last)) small));
     };
+    targets_within = subst (AreTargetsWithin (length objects)) (sym e)
+        (All-on_last (TargetsWithin (length objects)) (with_target (Some object)) patches kept.targets_within
+        (λ patch within. All-push (IsTargetWithin (length objects)) patch.targets (record { object = object; functions = [] }) within there));
   }
 
   pub kept-function : (function : PlanFunction) (next : List PlanPatch) → 0 < length (targets_of (last_of patches)) → functions < 64 → next ≡ on_last (with_function_in function) patches
@@ -214,4 +248,7 @@ module _ {objects : List Object} {object_names : List (List ℕ)} {symbols : ℕ
           (λ patch last small. small-with_function function patch (omega (arith, ap (λ p. length (targets_of p)) last))
           (omega (arith, kept.count_of_functions, ap (λ p. function_count (targets_of p)) last)) small));
     };
+    targets_within = subst (AreTargetsWithin (length objects)) (sym e)
+        (All-on_last (TargetsWithin (length objects)) (with_function_in function) patches kept.targets_within
+        (λ patch within. All-on_last (IsTargetWithin (length objects)) (with_function function) patch.targets within (λ target there. there)));
   }

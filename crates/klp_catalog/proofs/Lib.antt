@@ -4,3 +4,4 @@ pub mod LineLemmas
 pub mod ListLemmas
 pub mod DraftLemmas
 pub mod TextLemmas
+pub mod CatalogLemmas

@@ -9,7 +9,7 @@ use Rattle.klp_catalog.specs.declared.line.Line.{Line}
 use Rattle.klp_catalog.specs.declared.line.Line.TheVariants as line
 use Rattle.klp_catalog.specs.Plan.{PlanTarget, PlanPatch}
 use Rattle.klp_catalog.specs.Parts.{last_of, on_last, has_some, targets_of, function_count, with_symbol, with_target, with_function_in}
-use Rattle.klp_catalog.specs.Gives.{first_of, unless}
+use Rattle.klp_types.specs.FirstOf.{first_of, unless}
 
 pub record Draft : Type 0 where
   pub handler : Option ℕ
@@ -68,7 +68,7 @@ abbrev pub added : Draft → Line → Draft
 added draft (line.Handler address) = record draft { handler = Some address }
 added draft (line.Object name) = record draft { objects = draft.objects ++ record { name = name; symbols = [] } ∷ [] }
 added draft (line.Symbol symbol) = record draft { objects = on_last (with_symbol symbol) draft.objects }
-added draft (line.Patch name replace) = record draft { patches = draft.patches ++ record { name = name; replace = replace; targets = [] } ∷ [] }
+added draft (line.Patch name replace) = record draft { patches = draft.patches ++ record { name = name; replace = replace; targets = []; states = [] } ∷ [] }
 added draft (line.Target name) = record draft { patches = on_last (with_target (number_of name (names_of draft.objects))) draft.patches }
 added draft (line.Function function) = record draft { patches = on_last (with_function_in function) draft.patches }
 

@@ -1,5 +1,5 @@
 -- Steps that may fail, and what a function may answer that also takes memory.
-use Rattle.std.specs.Prelude.{◌≡◌, List, [], ◌∷◌, Bool, if◌then◌else◌, Option, Some, None, Result, Ok, Err}
+use Rattle.std.specs.Prelude.{◌≡◌, Result, Ok, Err}
 use Rattle.klp_catalog.specs.declared.fault.TextFaultKind.{TextFaultKind}
 use Rattle.klp_catalog.specs.declared.fault.TextFaultKind.TheVariants.{NoMemory}
 
@@ -23,12 +23,3 @@ Gives view (Err kind) read = Fails kind read
 abbrev pub Becomes : {X Y : Type 0} → Result X TextFaultKind → Y → Result Y TextFaultKind → Type 0
 Becomes (Ok x) next read = read ≡ Ok next
 Becomes (Err kind) next read = Fails kind read
-
--- the first kind of the list whose test holds
-abbrev pub first_of : List (Bool × TextFaultKind) → Option TextFaultKind
-first_of [] = None
-first_of (case ∷ cases) = if case.0 then Some case.1 else first_of cases
-
-abbrev pub unless : {A : Type 0} → Option TextFaultKind → A → Result A TextFaultKind
-unless None value = Ok value
-unless (Some kind) value = Err kind

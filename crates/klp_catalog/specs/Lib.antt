@@ -5,5 +5,10 @@ pub mod Words
 pub mod Gives
 pub mod Lines
 pub mod Draft
+pub mod Within
 pub mod Kept
 pub mod Text
+pub mod Catalog
+pub mod States
+pub mod Assembled
+pub mod Stored

@@ -1,5 +1,6 @@
 -- What a catalog's text says: the handler, the objects with their symbols, and the patches, all in the order of the text.
 use Rattle.std.specs.Prelude.{ℕ, Bool, List}
+use Rattle.klp_types.specs.Compatible.{SystemState}
 use Rattle.klp_types.specs.Image.{Object}
 
 -- a new function: the symbol that it stands in for, by name and position, its own name and its address
@@ -15,11 +16,12 @@ pub record PlanTarget : Type 0 where
   pub object : ℕ
   pub functions : List PlanFunction
 
--- a patch, and whether it replaces all older ones
+-- a patch: whether it replaces all older ones, the objects that it changes, and the system states that it names
 pub record PlanPatch : Type 0 where
   pub name : List ℕ
   pub replace : Bool
   pub targets : List PlanTarget
+  pub states : List SystemState
 
 pub record Plan : Type 0 where
   pub handler : ℕ

@@ -1,11 +1,12 @@
 //! The plan as far as the lines up to here give it.
 
-ghost use Rattle.std.specs.Prelude.{◌≡◌, ◌<◌, ◌==◌, vec_len, length, IsTrue, OnOk, OnErr, option_copied};
+ghost use Rattle.std.specs.Prelude.{◌≡◌, ◌<◌, ◌==◌, vec_len, length, IsTrue, OnOk, OnErr, IfOk, option_copied};
 ghost use Rattle.std.specs.List.{list_any};
 ghost use Rattle.klp_types.specs.Image.{Symbol};
 ghost use Rattle.klp_catalog.specs.Gives.{Gives, Becomes};
 ghost use Rattle.klp_catalog.specs.Parts.{last_of, targets_of, on_last, has_some, with_symbol, with_target, with_function_in};
 ghost use Rattle.klp_catalog.specs.Plan.{PlanTarget as TargetValue};
+ghost use Rattle.klp_catalog.specs.Within.{AreTargetsWithin};
 ghost use Rattle.klp_catalog.specs.Draft.{empty_draft, open_object, placed};
 ghost use Rattle.klp_catalog.specs.Text.{with_line, finished_with};
 
@@ -36,6 +37,7 @@ pub(crate) struct Draft {
 }
 
 impl Model for Draft {
+    ghost use Rattle.klp_catalog.specs.Within.{AreTargetsWithin};
     ghost use Rattle.klp_catalog.specs.Draft.{Draft};
     ghost use Rattle.klp_catalog.specs.Kept.{IsKept};
 
@@ -186,6 +188,7 @@ impl Draft {
                 name,
                 replace,
                 targets: Vec::new(alloc),
+                states: Vec::new(alloc),
             })
             .unwrap();
         self.functions = 0;
@@ -259,7 +262,8 @@ impl Draft {
 
     /// The plan of a whole text.
     pub(crate) fn finish(self) -> Result<Plan, TextFaultKind>
-        ensures { result ≡ finished_with self.handler self }
+        ensures plan { result ≡ finished_with self.handler self }
+        ensures targets { IfOk result (λ plan. AreTargetsWithin (length plan.objects) plan.patches) }
     {
         let Draft {
             handler,
@@ -267,7 +271,7 @@ impl Draft {
             object_names: _,
             symbols: _,
             patches,
-            patch_names: _,
+            patch_names,
             functions: _,
         } = self;
         let Some(handler) = handler else {
@@ -280,6 +284,7 @@ impl Draft {
             handler,
             objects,
             patches,
+            patch_names,
         })
     }
 }

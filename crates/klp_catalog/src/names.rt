@@ -1,4 +1,4 @@
-ghost use Rattle.std.specs.Prelude.{◌≡◌, [], ◌∷◌, ◌++◌, None, OnOk, OnErr, position, bytes_eq};
+ghost use Rattle.std.specs.Prelude.{◌≡◌, [], ◌∷◌, ◌++◌, None, OnOk, OnErr, position, bytes_eq, slice_get, option_map};
 
 use indexmap::IndexSet;
 use std::alloc::{AllocError, Global};
@@ -44,6 +44,14 @@ impl Names {
         ensures { result ≡ position (bytes_eq name.now) self.now }
     {
         self.set.get_index_of(name)
+    }
+
+    /// The name at a place.
+    pub(crate) fn name(&self, number: usize) -> Option<&str>
+        ensures { option_map (λ name. name.now) result ≡ slice_get self.now number }
+    {
+        let name = self.set.get_index(number)?;
+        Some(name.as_str())
     }
 
     /// Adds a name that isn't there.

@@ -1,10 +1,7 @@
-ghost use Rattle.std.specs.Prelude.{◌≡◌, ◌<◌, [], length, OnOk, OnErr, IfOk, IfErr};
+ghost use Rattle.std.specs.Prelude.{◌≡◌, ◌<◌, [], length, OnOk, OnErr};
 ghost use Rattle.klp_catalog.specs.Parts.{with_function, with_target, with_function_in};
-ghost use Rattle.klp_catalog.specs.Text.{plan_of, IsFaultOf};
 
-use crate::draft::Draft;
-use crate::fault::TextFault;
-use crate::lines::Lines;
+use crate::names::Names;
 use klp_types::{ObjId, ObjectText};
 use std::alloc::{AllocError, Global};
 use std::marker::Model;
@@ -57,6 +54,24 @@ impl PlanTarget {
     }
 }
 
+/// A system state that a patch names (system-state): its id, and the version in which the patch
+/// knows it.
+#[derive(Clone, Copy, Debug, PartialEq, Eq)]
+pub(crate) struct SystemState {
+    pub id: u64,
+    pub version: u32,
+}
+
+impl Model for SystemState {
+    ghost use Rattle.klp_types.specs.Compatible.{SystemState};
+
+    ghost Value = { SystemState };
+
+    ghost view = { λ s. record { id = s.id; version = s.version } };
+
+    ghost inverse = { λ s. record { id = s.id; version = s.version } };
+}
+
 /// A patch.
 #[derive(Debug, Drop)]
 pub(crate) struct PlanPatch {
@@ -64,6 +79,8 @@ pub(crate) struct PlanPatch {
     /// Whether the patch is a cumulative one, which replaces all older ones.
     pub replace: bool,
     pub targets: Vec<PlanTarget>,
+    /// The system states that the patch names.
+    pub states: Vec<SystemState>,
 }
 
 impl Model for PlanPatch {
@@ -72,7 +89,7 @@ impl Model for PlanPatch {
 
     ghost Value = { PlanPatch };
 
-    ghost view = { λ p. record { name = string_bytes p.name; replace = p.replace; targets = p.targets.items } };
+    ghost view = { λ p. record { name = string_bytes p.name; replace = p.replace; targets = p.targets.items; states = p.states.items } };
 }
 
 impl PlanPatch {
@@ -100,12 +117,14 @@ impl PlanPatch {
 }
 
 /// What a catalog's text says: the handler, the objects with their symbols, and the patches, in the
-/// order of the text.
-#[derive(Debug, Drop)]
+/// order of the text. [`Catalog::read`](crate::Catalog::read) makes it.
+#[derive(Drop)]
 pub struct Plan {
     pub(crate) handler: u64,
     pub(crate) objects: Vec<ObjectText>,
     pub(crate) patches: Vec<PlanPatch>,
+    /// The names of the patches, by which they are found.
+    pub(crate) patch_names: Names,
 }
 
 impl Model for Plan {
@@ -115,36 +134,12 @@ impl Model for Plan {
 
     ghost view = { λ p. record { handler = p.handler; objects = p.objects.items; patches = p.patches.items } };
 
-    ghost use Rattle.klp_catalog.specs.Limits.{AreFew};
+    ghost use Rattle.klp_catalog.specs.Kept.{IsPlanKept};
 
-    ghost invariant = { λ p. AreFew p.patches.items };
+    ghost invariant = { λ p. IsPlanKept p.patches.items p.patch_names };
 }
 
 impl Plan {
-    /// Reads a whole text, in time that is linear in its length.
-    ///
-    /// A fault is that of the first faulty line. A text without a faulty line that has no handler
-    /// or no object is `Missing`, at line 0. `NoMemory` may stand in place of any of these, at the
-    /// line where memory ran out.
-    pub fn read(alloc: Global, text: &[u8]) -> Result<Plan, TextFault>
-        ensures plan { IfOk result (λ plan. plan_of text.now ≡ Ok plan) }
-        ensures fault { IfErr result (λ fault. IsFaultOf text.now fault.line fault.kind) }
-    {
-        let mut draft = Draft::new(alloc);
-        let mut lines = Lines::new(text);
-        let mut number = 0;
-        while let Some(line) = lines.next() {
-            number += 1;
-            if let Err(kind) = draft.read_line(alloc, line) {
-                return Err(TextFault { line: number, kind });
-            }
-        }
-        match draft.finish() {
-            Ok(plan) => Ok(plan),
-            Err(kind) => Err(TextFault { line: 0, kind }),
-        }
-    }
-
     /// The address that a hooked entry site calls.
     pub fn handler(&self) -> u64
         ensures { result ≡ self.now.handler }

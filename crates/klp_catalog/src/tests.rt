@@ -1,10 +1,10 @@
-use crate::{MAX_LINE, Plan, TextFault, TextFaultKind};
+use crate::{Catalog, MAX_LINE, Plan, TextFault, TextFaultKind};
 use std::alloc::{AllocError, Global};
 use std::fmt;
 use std::fmt::Write;
 use std::test::Fail;
 
-const FIRST: &str = "handler ffffffff81000000
+pub(crate) const FIRST: &str = "handler ffffffff81000000
 object vmlinux
 symbol f ffffffff81001000 e80000000090c3
 patch p
@@ -12,7 +12,8 @@ target vmlinux
 func .klp.sym.vmlinux.f,0 f_p ffffffffc0001000
 ";
 
-const SECOND: &str = "handler ffffffff81000000
+/// The example of `docs/CATALOG.md`.
+pub(crate) const SECOND: &str = "handler ffffffff81000000
 object vmlinux
 symbol f ffffffff81001000 e80000000090c3
 symbol h ffffffff81002000 e800000000c3
@@ -134,7 +135,7 @@ fn full_catalog(alloc: Global) -> Result<String, fmt::Error> {
 
 /// The fault of a text, if it has one.
 fn fault_of(alloc: Global, text: &[u8]) -> Option<TextFault> {
-    Plan::read(alloc, text).err()
+    Catalog::read(alloc, text).err()
 }
 
 /// Which line follows the text.
@@ -145,10 +146,10 @@ fn next_line(text: &str) -> usize {
 #[test]
 fn reads_the_samples(rt: HostRuntime) -> Result<(), Fail> {
     for text in [FIRST, SECOND] {
-        let plan = Plan::read(rt.alloc(), text.as_bytes())?;
+        let plan = Catalog::read(rt.alloc(), text.as_bytes())?;
         assert_eq!(rt; written(rt.alloc(), &plan)?.as_str(), text);
     }
-    let mut plan = Plan::read(rt.alloc(), FIRST.as_bytes())?;
+    let mut plan = Catalog::read(rt.alloc(), FIRST.as_bytes())?;
     assert_eq!(rt; plan.handler(), 0xffff_ffff_8100_0000);
     assert_eq!(rt; plan.take_objects().len(), 1);
     assert_eq!(rt; plan.take_objects().len(), 0);
@@ -167,7 +168,7 @@ fn reads_any_layout(rt: HostRuntime) -> Result<(), Fail> {
         symbol f ffffffff81001000 E80000000090C3\r\npatch p\r\ntarget vmlinux\n\
         func .klp.sym.vmlinux.f,000 f_p ffffffffc0001000",
     )?;
-    let plan = Plan::read(rt.alloc(), &text)?;
+    let plan = Catalog::read(rt.alloc(), &text)?;
     assert_eq!(rt; written(rt.alloc(), &plan)?.as_str(), FIRST);
 
     // A carriage return is dropped only before a line feed.
@@ -182,6 +183,9 @@ fn reads_any_layout(rt: HostRuntime) -> Result<(), Fail> {
 const FAULTS: &str = "none UnknownWord handle 1
 none UnknownWord  # x
 start UnknownWord pre 0
+open UnknownWord post 0 alloc:1:9:5
+open UnknownWord preun 0
+open UnknownWord postun 0
 start UnknownWord state 7 2
 none WrongCount handler
 none WrongCount handler 1 #
@@ -258,7 +262,7 @@ catalog Twice target o3";
 
 /// The fault of a text as it is printed, or nothing.
 fn printed_fault(alloc: Global, text: &[u8]) -> Result<String, AllocError> {
-    match Plan::read(alloc, text) {
+    match Catalog::read(alloc, text) {
         Ok(_) => Ok(String::new(alloc)),
         Err(fault) => fault.to_string(alloc),
     }
@@ -286,14 +290,18 @@ fn tells_each_fault(rt: HostRuntime) -> Result<(), Fail> {
         assert_eq!(rt; told, wanted, "{row}");
 
         // Each of them comes after the two faults of the whole line.
+        let not_ascii = format!(in rt.alloc(); "line {number}: NotAscii")?;
+        text.push(0x80)?;
+        let told = printed_fault(rt.alloc(), &text)?;
+        assert_eq!(rt; told, not_ascii, "{row}");
+        let _ = text.pop();
         text.extend_from_slice(&[b' '; MAX_LINE])?;
         let told = printed_fault(rt.alloc(), &text)?;
         let wanted = format!(in rt.alloc(); "line {number}: LineTooLong")?;
         assert_eq!(rt; told, wanted, "{row}");
         text.push(0x80)?;
         let told = printed_fault(rt.alloc(), &text)?;
-        let wanted = format!(in rt.alloc(); "line {number}: NotAscii")?;
-        assert_eq!(rt; told, wanted, "{row}");
+        assert_eq!(rt; told, not_ascii, "{row}");
     }
     Ok(())
 }
@@ -308,13 +316,7 @@ fn keeps_to_the_limits(rt: HostRuntime) -> Result<(), Fail> {
         ("symbol ", "a", " 1 00", 127, TextFaultKind::BadName),
         ("symbol s ", "0", " 00", 16, TextFaultKind::BadHex),
         ("symbol s 1 ", "00", "", 256, TextFaultKind::TooMany),
-        (
-            "object m",
-            " ",
-            "",
-            MAX_LINE - 8,
-            TextFaultKind::LineTooLong,
-        ),
+        ("object m", " ", "", 2040, TextFaultKind::LineTooLong),
     ];
     for (before, repeated, behind, most, kind) in rows {
         let mut text = Vec::from_slice(rt.alloc(), START.as_bytes())?;
@@ -340,6 +342,7 @@ fn tells_faults_of_whole_texts(rt: HostRuntime) -> Result<(), Fail> {
         ("", "line 0: Missing"),
         ("handler 1", "line 0: Missing"),
         ("object vmlinux", "line 0: Missing"),
+        ("object \u{e9}", "line 1: NotAscii"),
         ("\n# none\nhandler z\n", "line 3: BadHex"),
         // A patch closes the open target.
         (CLOSED, "line 6: OutOfPlace"),
@@ -351,5 +354,31 @@ fn tells_faults_of_whole_texts(rt: HostRuntime) -> Result<(), Fail> {
     let (cut, _) = FIRST.split_once(" f_p").ok_or("cut")?;
     let fault = fault_of(rt.alloc(), cut.as_bytes()).ok_or("read")?;
     assert_eq!(rt; fault.to_string(rt.alloc())?.as_str(), "line 6: WrongCount");
+    Ok(())
+}
+
+#[test]
+fn fault_kind_names(rt: HostRuntime) -> Result<(), Fail> {
+    let kinds = [
+        (TextFaultKind::NotAscii, 1, "NotAscii"),
+        (TextFaultKind::LineTooLong, 2, "LineTooLong"),
+        (TextFaultKind::UnknownWord, 3, "UnknownWord"),
+        (TextFaultKind::WrongCount, 4, "WrongCount"),
+        (TextFaultKind::BadNumber, 5, "BadNumber"),
+        (TextFaultKind::BadHex, 6, "BadHex"),
+        (TextFaultKind::BadName, 7, "BadName"),
+        (TextFaultKind::BadSymbol, 8, "BadSymbol"),
+        (TextFaultKind::BadEdit, 9, "BadEdit"),
+        (TextFaultKind::OutOfPlace, 10, "OutOfPlace"),
+        (TextFaultKind::Twice, 11, "Twice"),
+        (TextFaultKind::UnknownObject, 12, "UnknownObject"),
+        (TextFaultKind::TooMany, 13, "TooMany"),
+        (TextFaultKind::Missing, 14, "Missing"),
+        (TextFaultKind::NoMemory, 15, "NoMemory"),
+    ];
+    for (kind, number, name) in kinds {
+        assert_eq!(rt; kind as u8, number);
+        assert_eq!(rt; kind.to_string(rt.alloc())?.as_str(), name);
+    }
     Ok(())
 }

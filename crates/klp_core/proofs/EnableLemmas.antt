@@ -1,106 +1,40 @@
 -- What enabling a patch keeps.
-use Rattle.std.proofs.Common.{◌≡◌, ℕ, zero, suc, ◌<◌, ◌≤◌, Bool, true, false, ◌&&◌, ◌||◌, List, [], ◌∷◌, ◌++◌, length, get_or, Option, Some, None, is_some, map, refl, sym, ap, subst, ◌∙◌, arith, eqb}
-use Rattle.std.specs.Prelude.{Vec, nat_lt, nat_le, not, ◌==◌, slice_get, slice_index_or, slice_set, replicate, option_map}
-use Rattle.std.specs.declared.alloc.Global.{Global}
-use Rattle.std.specs.List.{IsDistinct, list_any, list_all}
+use Rattle.std.proofs.Common.{◌≡◌, ℕ, zero, suc, ◌<◌, Bool, true, false, ◌&&◌, ◌||◌, List, [], ◌∷◌, ◌++◌, length, Option, Some, None, is_some, map, refl, sym, ap, subst, ◌∙◌, arith, eqb}
+use Rattle.std.specs.Prelude.{not, ◌==◌, slice_get, slice_index_or, replicate, option_map, is_none, IfSome}
+use Rattle.std.specs.List.{All, IsDistinct, list_any}
 use Rattle.std.specs.Cmp.{nat_eq_equiv}
-use Rattle.std.proofs.lemmas.List.{length-append, length-map, append-nil}
+use Rattle.std.proofs.lemmas.List.{length-append, length-map}
+use Rattle.std.proofs.lemmas.List.Elements.{All-weaker}
 use Rattle.std.proofs.lemmas.List.Folds.{list_any-append}
+use Rattle.std.proofs.lemmas.Option.{slice_get-map}
 use Rattle.std.proofs.lemmas.Map.Keys.{IsDistinct-push}
 use Rattle.std.proofs.lemmas.Map.Steps.{length-le_from_distinct_below}
-use Rattle.std.proofs.lemmas.Option.{slice_get-map}
 use Rattle.klp_types.specs.declared.version.Move.{Move}
 use Rattle.klp_types.specs.Image.{Image, Object, symbols_of, object_of}
-use Rattle.klp_types.specs.Setting.{Setting, Function, patch_functions, functions_of, function_for}
-use Rattle.klp_types.specs.State.{State, Installed, bare, is_installed, is_moving}
+use Rattle.klp_types.specs.Setting.{Setting, Patch, PatchObject, Function, patch_objects, functions_of, function_for, is_at, replaces}
+use Rattle.klp_types.specs.State.{State, Installed, bare, is_installed, is_moving, installed_patches}
+use Rattle.klp_types.specs.FirstOf.{first_of}
 use Rattle.klp_types.specs.declared.event.Event.TheVariants.{Enable}
-use Rattle.klp_types.specs.declared.event.Refusal.TheVariants.{NoPatch, Busy, AlreadyThere}
-use Rattle.klp_types.specs.Step.{has_patch, first_of, refusals}
+use Rattle.klp_types.specs.declared.event.Refusal.TheVariants.{NoPatch, Busy, AlreadyThere, Incompatible, NoSymbol}
+use Rattle.klp_types.specs.Step.{has_patch, lacks_symbol, refusals}
 use Rattle.klp_types.specs.Entries.{is_hooked, is_site_loaded, is_object_loaded, patches_site}
 use Rattle.klp_types.proofs.EntryLemmas.{is_hooked-any}
 use Rattle.klp_types.proofs.InstalledLemmas.{patches-bare, any-bare}
-use Rattle.klp_types.proofs.SiteLemmas.{slice_get-get_or}
-use Rattle.klp_text.specs.TextImage.{TextImage}
-use Rattle.klp_core.specs.Boot.{kernel_function, kernel_patch, kernel_sites, fits_kernel, has_site_twice}
-use Rattle.klp_core.specs.Hooks.{hooked_with}
-use Rattle.klp_core.specs.Managed.{Managed}
+use Rattle.klp_text.specs.TextImage.{TextImage, site_count}
+use Rattle.klp_modules.specs.Names.{ObjectNames, ModuleTable, names_of}
+use Rattle.klp_catalog.specs.Plan.{PlanFunction, PlanTarget, PlanPatch}
+use Rattle.klp_catalog.specs.Catalog.{Catalog, CatalogFunction, catalog_functions, functions_of_patch, functions_of_target, targets_of_patch, patch_object, resolved_function, setting_patch, setting_function, site_of}
+use Rattle.klp_catalog.specs.Assembled.{IsInObject, LiesInObject}
+use Rattle.klp_core.specs.Hooks.{due_sites, hooked_with}
+use Rattle.klp_core.specs.Managed.{Managed, setting_of}
 use Rattle.klp_core.specs.Kept.{managed_of, IsKept}
-use Rattle.klp_core.proofs.HookLemmas.{asks_for, all_below, and-left, and-right, length-hooked_with, hooked_with-reads, function_for-any}
-use borrow.Author.Tests.{eqb-true, ne_eqb, ltb-true, lt-ltb}
-
--- which objects are loaded
+use Rattle.klp_core.proofs.HookLemmas.{Agrees, IsBelow, length-hooked_with, hooked_with-reads, function_for-any, due_any, due_sites-below, object_of-named, site_below-named}
+use borrow.Author.Tests.{eqb-true, ltb-true}
 
 pub no_flag : (count object : ℕ) → slice_index_or (replicate count false) object false ≡ false
 no_flag zero object = refl
 no_flag (suc count) zero = refl
 no_flag (suc count) (suc object) = no_flag count object
-
-flag_at : (count object : ℕ) → 0 < count → slice_index_or (slice_set (replicate count false) 0 true) object false ≡ (object == 0)
-flag_at zero object h = absurd (omega arith)
-flag_at (suc count) zero h = refl
-flag_at (suc count) (suc object) h = no_flag count object ∙ sym (ne_eqb (suc object) 0 (λ e. absurd (omega arith)))
-
-pub loaded_is : (text : TextImage) (object : ℕ) → 0 < length text.image.objects → text.loaded ≡ slice_set (replicate (length text.image.objects) false) 0 true
-    → slice_index_or text.loaded object false ≡ (object == 0)
-loaded_is text object kernel loaded = ap (λ (flags : List Bool). slice_index_or flags object false) loaded ∙ flag_at (length text.image.objects) object kernel
-
-kernel_loaded : (text : TextImage) → 0 < length text.image.objects → text.loaded ≡ slice_set (replicate (length text.image.objects) false) 0 true
-    → slice_index_or text.loaded 0 false ≡ true
-kernel_loaded text kernel loaded = loaded_is text 0 kernel loaded
-
--- sites of the kernel
-
-pub kernel_site : (objects : List Object) (site : ℕ) → site < kernel_sites objects → object_of objects site ≡ Some 0
-kernel_site [] site h = absurd (omega arith)
-kernel_site (kernel ∷ modules) site h = rw (lt-ltb site (length kernel.symbols) h) refl
-
-pub kernel_sites-le : (objects : List Object) → kernel_sites objects ≤ length (symbols_of objects)
-kernel_sites-le [] = omega arith
-kernel_sites-le (kernel ∷ modules) = omega (arith, length-append kernel.symbols (symbols_of modules))
-
-asks_step : (hooked sites site : ℕ) (rest same : Bool) → (hooked == site) ≡ same → hooked < sites → (same || rest) ≡ true
-    → (rest ≡ true → site < sites) → site < sites
-asks_step hooked sites site rest true e below asks later = let at : hooked ≡ site = eqb-true hooked site e in omega arith
-asks_step hooked sites site rest false e below asks later = later asks
-
-asks_below : (functions : List (ℕ × ℕ)) (sites site : ℕ) → all_below sites functions ≡ true → asks_for functions site ≡ true → site < sites
-asks_below [] sites site below asks = let no : ⊥ = cc in absurd no
-asks_below (f ∷ functions) sites site below asks =
-    asks_step f.0 sites site (asks_for functions site) (f.0 == site) refl
-    (ltb-true f.0 sites (and-left (nat_lt f.0 sites) (all_below sites functions) below)) asks
-    (asks_below functions sites site (and-right (nat_lt f.0 sites) (all_below sites functions) below))
-
-pub all_below-weaken : (functions : List (ℕ × ℕ)) (few many : ℕ) → few ≤ many → all_below few functions ≡ true → all_below many functions ≡ true
-all_below-weaken [] few many le h = refl
-all_below-weaken (f ∷ functions) few many le h =
-    let first : f.0 < few = ltb-true f.0 few (and-left (nat_lt f.0 few) (all_below few functions) h) in
-    let within : f.0 < many = omega arith in
-    rw (lt-ltb f.0 many within) (all_below-weaken functions few many le (and-right (nat_lt f.0 few) (all_below few functions) h))
-
--- the functions of a patch of the catalog
-
-pub functions_of-kernel : (image : Image) (patches : List (Vec (ℕ × ℕ) Global)) (patch : ℕ) (functions : Vec (ℕ × ℕ) Global)
-    → slice_get patches patch ≡ Some functions
-    → functions_of (record { image = image; patches = map kernel_patch patches }) patch ≡ map kernel_function functions.items
-functions_of-kernel image patches patch functions at =
-    ap patch_functions (slice_get-map kernel_patch patches patch ∙ ap (λ (o : Option (Vec (ℕ × ℕ) Global)). option_map kernel_patch o) at)
-    ∙ append-nil (map kernel_function functions.items)
-
-fits_at : (patches : List (Vec (ℕ × ℕ) Global)) (sites patch : ℕ) (functions : Vec (ℕ × ℕ) Global) → list_all (fits_kernel sites) patches ≡ true
-    → slice_get patches patch ≡ Some functions → fits_kernel sites functions ≡ true
-fits_at [] sites patch functions h at = let no : ⊥ = cc in absurd no
-fits_at (first ∷ patches) sites zero functions h at =
-    let e : first ≡ functions = cc in
-    rw (← e) (and-left (fits_kernel sites first) (list_all (fits_kernel sites) patches) h)
-fits_at (first ∷ patches) sites (suc patch) functions h at =
-    fits_at patches sites patch functions (and-right (fits_kernel sites first) (list_all (fits_kernel sites) patches) h) at
-
-pub below_at : (patches : List (Vec (ℕ × ℕ) Global)) (sites patch : ℕ) (functions : Vec (ℕ × ℕ) Global) → list_all (fits_kernel sites) patches ≡ true
-    → slice_get patches patch ≡ Some functions → all_below sites functions.items ≡ true
-below_at patches sites patch functions h at =
-    let few = nat_le (length functions.items) 64 in
-    let below = all_below sites functions.items in
-    and-right few below (and-left (few && below) (not (has_site_twice functions.items)) (fits_at patches sites patch functions h at))
 
 -- the installed patches with one more
 
@@ -136,69 +70,79 @@ room installed patch many distinct known below apart =
 some_inj : {m n : Move} → Some m ≡ Some n → m ≡ n
 some_inj e = cc
 
+-- where the functions of a patch lie
+
+agrees_own : (setting : Setting) (state : State) (object : ℕ) (own : Option ℕ) (site : ℕ)
+    → IfSome own (λ s. IsInObject (names_of setting.image.objects) object s) → is_at own site ≡ true
+    → slice_index_or state.loaded object false ≡ is_site_loaded setting state site
+agrees_own setting state object None site inside at = let no : ⊥ = cc in absurd no
+agrees_own setting state object (Some s) site inside at =
+    let same : s ≡ site = eqb-true s site at in
+    rw (← same) (ap (is_object_loaded state) (sym (object_of-named setting.image.objects object s inside.from inside.below)))
+
+agrees : (setting : Setting) (state : State) (site : ℕ) (f : CatalogFunction) → LiesInObject (names_of setting.image.objects) f
+    → Agrees (λ object. slice_index_or state.loaded object false) (is_site_loaded setting state site) site f
+agrees setting state site f inside at = agrees_own setting state f.object f.site site inside at
+
+below_own : (objects : List Object) (object : ℕ) (own : Option ℕ) → IfSome own (λ s. IsInObject (names_of objects) object s)
+    → IfSome own (λ s. s < length (symbols_of objects))
+below_own objects object None inside = tt
+below_own objects object (Some s) inside = site_below-named objects object s inside.below
+
+pub each_below : (image : Image) (functions : List CatalogFunction) → All (LiesInObject (names_of image.objects)) functions
+    → All (IsBelow (site_count image)) functions
+each_below image functions inside =
+    All-weaker (LiesInObject (names_of image.objects)) (IsBelow (site_count image)) (λ f. below_own image.objects f.object f.site) functions inside
+
 -- the sites that are hooked once a patch is put last
 
-hooked_more : (loaded before asks : Bool) → (asks ≡ true → loaded ≡ true) → ((loaded && before) || asks) ≡ (loaded && (before || (asks || false)))
-hooked_more true true asks h = refl
-hooked_more true false true h = refl
-hooked_more true false false h = refl
-hooked_more false before true h = let e : false ≡ true = h refl in let no : ⊥ = cc in absurd no
-hooked_more false before false h = refl
+hooked_more : (loaded before own : Bool) → ((loaded && before) || (loaded && own)) ≡ (loaded && (before || (own || false)))
+hooked_more true true own = refl
+hooked_more true false true = refl
+hooked_more true false false = refl
+hooked_more false before own = refl
+
+-- what is known of the functions of a patch
+pub record AreFunctions (setting : Setting) (patch : ℕ) (functions : List CatalogFunction) : Type 0 where
+  pub own : map setting_function functions ≡ functions_of setting patch
+  pub inside : All (LiesInObject (names_of setting.image.objects)) functions
+
+pub hooked_after : (setting : Setting) (old new : State) (patch : ℕ) (functions : List CatalogFunction) (hooked : List Bool)
+    → AreFunctions setting patch functions
+    → length hooked ≡ length (symbols_of setting.image.objects)
+    → ((site : ℕ) → slice_index_or hooked site false ≡ is_hooked setting old site)
+    → new.loaded ≡ old.loaded → installed_patches new ≡ installed_patches old ++ patch ∷ []
+    → (site : ℕ)
+    → slice_index_or (hooked_with (due_sites (λ object. slice_index_or old.loaded object false) functions) hooked) site false ≡ is_hooked setting new site
+hooked_after setting old new patch functions hooked are count before same_loaded one_more site =
+    let flags = λ (object : ℕ). slice_index_or old.loaded object false in
+    let loaded = is_site_loaded setting old site in
+    let others = list_any (patches_site setting site) (installed_patches old) in
+    let asks = list_any (λ (f : CatalogFunction). is_at f.site site) functions in
+    let below = due_sites-below flags functions (length hooked)
+    (subst (λ n. All (IsBelow n) functions) (sym count) (each_below setting.image functions are.inside))
+    in
+    let due = due_any flags loaded functions site
+    (All-weaker (LiesInObject (names_of setting.image.objects)) (Agrees flags loaded site) (agrees setting old site) functions are.inside)
+    in
+    let own : patches_site setting site patch ≡ asks =
+    ap (λ (fs : List Function). is_some (function_for fs site)) (sym are.own) ∙ function_for-any functions site
+    in
+    let still : is_site_loaded setting new site ≡ loaded =
+    ap (λ (l : List Bool). is_object_loaded (record old { loaded = l }) (object_of setting.image.objects site)) same_loaded
+    in
+    hooked_with-reads (due_sites flags functions) hooked site below
+    ∙ ap (λ b. b || list_any (λ t. t == site) (due_sites flags functions)) (before site ∙ is_hooked-any setting old site)
+    ∙ ap (λ b. (loaded && others) || b) due
+    ∙ hooked_more loaded others asks
+    ∙ ap (λ q. loaded && (others || (q || false))) (sym own)
+    ∙ ap (λ b. loaded && b) (sym (list_any-append (patches_site setting site) (installed_patches old) (patch ∷ [])))
+    ∙ ap (λ (ps : List ℕ). loaded && list_any (patches_site setting site) ps) (sym one_more)
+    ∙ ap (λ b. b && list_any (patches_site setting site) (installed_patches new)) (sym still)
+    ∙ sym (is_hooked-any setting new site)
 
 pub enabled_patches : (installed : List ℕ) (patch : ℕ) → map (λ (i : Installed). i.patch) (map bare (installed ++ patch ∷ [])) ≡ installed ++ patch ∷ []
 enabled_patches installed patch = patches-bare (installed ++ patch ∷ [])
-
-pub hooked_after : (text : TextImage) (patches : List (Vec (ℕ × ℕ) Global)) (installed : List ℕ) (moving moved : Option Move) (patch : ℕ) (functions : Vec (ℕ × ℕ) Global)
-    → IsKept text patches installed moving → slice_get patches patch ≡ Some functions → (site : ℕ)
-    → slice_index_or (hooked_with functions.items text.hooked) site false
-    ≡ is_hooked (managed_of text patches (installed ++ patch ∷ []) moved).setting (managed_of text patches (installed ++ patch ∷ []) moved).state site
-hooked_after text patches installed moving moved patch functions kept at site =
-    let old = managed_of text patches installed moving in
-    let new = managed_of text patches (installed ++ patch ∷ []) moved in
-    let sites = kernel_sites text.image.objects in
-    let below = below_at patches sites patch functions kept.allowed.fit at in
-    let flags = kept.text_of_state.sites in
-    let many : sites ≤ length text.hooked = omega (arith, kernel_sites-le text.image.objects) in
-    let asks = asks_for functions.items site in
-    let loaded = is_site_loaded old.setting old.state site in
-    let before = list_any (patches_site old.setting site) installed in
-    let own : patches_site old.setting site patch ≡ asks =
-    ap (λ (fs : List Function). is_some (function_for fs site)) (functions_of-kernel text.image patches patch functions at)
-    ∙ function_for-any functions.items site
-    in
-    let asked_is_loaded : asks ≡ true → loaded ≡ true = λ asked.
-    ap (is_object_loaded old.state) (kernel_site text.image.objects site (asks_below functions.items sites site below asked))
-    ∙ kernel_loaded text kept.allowed.kernel kept.allowed.loaded
-    in
-    hooked_with-reads functions.items text.hooked site (all_below-weaken functions.items sites (length text.hooked) many below)
-    ∙ ap (λ b. b || asks) (kept.text_of_state.hooked site ∙ is_hooked-any old.setting old.state site)
-    ∙ ap (λ (ps : List ℕ). (loaded && list_any (patches_site old.setting site) ps) || asks) (patches-bare installed)
-    ∙ hooked_more loaded before asks asked_is_loaded
-    ∙ ap (λ q. loaded && (before || (q || false))) (sym own)
-    ∙ ap (λ b. loaded && b) (sym (list_any-append (patches_site old.setting site) installed (patch ∷ [])))
-    ∙ ap (λ (ps : List ℕ). loaded && list_any (patches_site old.setting site) ps) (sym (enabled_patches installed patch))
-    ∙ sym (is_hooked-any new.setting new.state site)
-
--- what a manager keeps, once a patch is put last and starts to move
-pub kept_after : (text : TextImage) (patches : List (Vec (ℕ × ℕ) Global)) (installed : List ℕ) (moving : Option Move) (patch : ℕ) (functions : Vec (ℕ × ℕ) Global)
-    → IsKept text patches installed moving → slice_get patches patch ≡ Some functions → patch < length patches
-    → list_any (λ p. p == patch) installed ≡ false
-    → IsKept (record text { hooked = hooked_with functions.items text.hooked }) patches (installed ++ patch ∷ []) (Some (record { patch = patch; target = true }))
-kept_after text patches installed moving patch functions kept at below apart = record {
-  allowed = record {
-    kernel = kept.allowed.kernel;
-    loaded = kept.allowed.loaded;
-    few = kept.allowed.few;
-    fit = kept.allowed.fit;
-    known = known_more installed patch (length patches) kept.allowed.known below;
-    distinct = distinct_more installed patch kept.allowed.distinct apart;
-    forward = λ move is. ap (λ (m : Move). m.target) (sym (some_inj is));
-  };
-  text_of_state = record {
-    sites = length-hooked_with functions.items text.hooked ∙ kept.text_of_state.sites;
-    hooked = hooked_after text patches installed moving (Some (record { patch = patch; target = true })) patch functions kept at;
-  };
-}
 
 -- a patch that nothing refuses
 
@@ -206,56 +150,151 @@ pub record IsEnablable (setting : Setting) (state : State) (patch : ℕ) : Type 
   pub there : patch < length setting.patches
   pub apart : is_installed state patch ≡ false
   pub still : is_moving state ≡ false
+  pub resolved : lacks_symbol setting state patch ≡ false
 
-enablable : (setting : Setting) (state : State) (patch : ℕ) (there installed moving : Bool)
-    → has_patch setting patch ≡ there → is_installed state patch ≡ installed → is_moving state ≡ moving
-    → first_of ((not there, NoPatch) ∷ (installed, AlreadyThere) ∷ (moving, Busy) ∷ []) ≡ None
+enablable : (setting : Setting) (state : State) (patch : ℕ) (there installed moving lacks : Bool)
+    → has_patch setting patch ≡ there → is_installed state patch ≡ installed → is_moving state ≡ moving → lacks_symbol setting state patch ≡ lacks
+    → first_of ((not there, NoPatch) ∷ (installed, AlreadyThere) ∷ (moving, Busy) ∷ (lacks, NoSymbol) ∷ (replaces setting patch, Incompatible) ∷ []) ≡ None
     → IsEnablable setting state patch
-enablable setting state patch false installed moving there_is installed_is moving_is h = let no : ⊥ = cc in absurd no
-enablable setting state patch true true moving there_is installed_is moving_is h = let no : ⊥ = cc in absurd no
-enablable setting state patch true false true there_is installed_is moving_is h = let no : ⊥ = cc in absurd no
-enablable setting state patch true false false there_is installed_is moving_is h = record {
+enablable setting state patch false installed moving lacks there_is installed_is moving_is lacks_is h = let no : ⊥ = cc in absurd no
+enablable setting state patch true true moving lacks there_is installed_is moving_is lacks_is h = let no : ⊥ = cc in absurd no
+enablable setting state patch true false true lacks there_is installed_is moving_is lacks_is h = let no : ⊥ = cc in absurd no
+enablable setting state patch true false false true there_is installed_is moving_is lacks_is h = let no : ⊥ = cc in absurd no
+enablable setting state patch true false false false there_is installed_is moving_is lacks_is h = record {
   there = ltb-true patch (length setting.patches) there_is;
   apart = installed_is;
   still = moving_is;
+  resolved = lacks_is;
 }
 
 pub enablable_from_none : (setting : Setting) (state : State) (patch : ℕ) → first_of (refusals setting state (Enable patch)) ≡ None → IsEnablable setting state patch
 enablable_from_none setting state patch h =
-    enablable setting state patch (has_patch setting patch) (is_installed state patch) (is_moving state) refl refl refl h
+    enablable setting state patch (has_patch setting patch) (is_installed state patch) (is_moving state) (lacks_symbol setting state patch) refl refl refl refl h
 
 -- what is known when a patch is put last
 
-pub record IsInstallable (text : TextImage) (patches : List (Vec (ℕ × ℕ) Global)) (installed : List ℕ) (patch : ℕ) (functions : Vec (ℕ × ℕ) Global) : Type 0 where
-  pub at : slice_get patches patch ≡ Some functions
-  pub below : patch < length patches
+pub record IsInstallable (text : TextImage) (catalog : Catalog) (installed : List ℕ) (moving : Option Move) (patch : ℕ) : Type 0 where
+  pub below : patch < length catalog.patches
   pub apart : list_any (λ p. p == patch) installed ≡ false
-  pub sites : all_below (length (symbols_of text.image.objects)) functions.items ≡ true
-  pub room : length installed < 16
+  pub room : length installed < length catalog.patches
+  pub resolved : lacks_symbol (setting_of (managed_of text catalog installed moving)) (managed_of text catalog installed moving).state patch ≡ false
 
-pub installable : (text : TextImage) (patches : List (Vec (ℕ × ℕ) Global)) (installed : List ℕ) (moving : Option Move) (managed : Managed) (patch : ℕ) (functions : Vec (ℕ × ℕ) Global)
-    → managed_of text patches installed moving ≡ managed → IsKept text patches installed moving
-    → first_of (refusals managed.setting managed.state (Enable patch)) ≡ None
-    → functions ≡ get_or patches patch functions
-    → IsInstallable text patches installed patch functions
-installable text patches installed moving managed patch functions view kept unrefused is =
-    let own = managed_of text patches installed moving in
-    let none : first_of (refusals own.setting own.state (Enable patch)) ≡ None =
-    subst (λ (m : Managed). first_of (refusals m.setting m.state (Enable patch)) ≡ None) (sym view) unrefused
+pub installable : (text : TextImage) (modules : ModuleTable) (catalog : Catalog) (installed : List ℕ) (moving : Option Move) (managed : Managed) (patch : ℕ)
+    → managed_of text catalog installed moving ≡ managed → IsKept text modules catalog installed moving
+    → first_of (refusals (setting_of managed) managed.state (Enable patch)) ≡ None
+    → IsInstallable text catalog installed moving patch
+installable text modules catalog installed moving managed patch view kept unrefused =
+    let own = managed_of text catalog installed moving in
+    let none : first_of (refusals (setting_of own) own.state (Enable patch)) ≡ None =
+    subst (λ (m : Managed). first_of (refusals (setting_of m) m.state (Enable patch)) ≡ None) (sym view) unrefused
     in
-    let free = enablable_from_none own.setting own.state patch none in
+    let free = enablable_from_none (setting_of own) own.state patch none in
     let there = free.there in
-    let below : patch < length patches = omega (arith, length-map patches kernel_patch) in
-    let at : slice_get patches patch ≡ Some functions = slice_get-get_or patches patch functions below ∙ ap Some (sym is) in
-    let sites = kernel_sites text.image.objects in
+    let below : patch < length catalog.patches = omega (arith, length-map catalog.patches (setting_patch catalog.names)) in
     let apart : list_any (λ p. p == patch) installed ≡ false = any-bare patch installed ∙ free.apart in
-    let few = kept.allowed.few in
-    let fits = room installed patch (length patches) kept.allowed.distinct kept.allowed.known below apart in
+    let known = subst (λ (ps : List ℕ). (q : ℕ) → list_any (eqb q) ps ≡ true → q < length catalog.patches) (patches-bare installed) kept.allowed.known in
+    let distinct = subst (λ (ps : List ℕ). IsDistinct eqb ps) (patches-bare installed) kept.allowed.distinct in
     record {
-      at = at;
       below = below;
       apart = apart;
-      sites = all_below-weaken functions.items sites (length (symbols_of text.image.objects)) (kernel_sites-le text.image.objects)
-          (below_at patches sites patch functions kept.allowed.fit at);
-      room = omega arith;
+      room = room installed patch (length catalog.patches) distinct known below apart;
+      resolved = free.resolved;
     }
+
+-- what a manager keeps, once a patch is put last and starts to move
+
+resolved_more : (setting : Setting) (state : State) (installed : List ℕ) (patch : ℕ)
+    → ((q : ℕ) → list_any (eqb q) installed ≡ true → lacks_symbol setting state q ≡ false) → lacks_symbol setting state patch ≡ false
+    → (q : ℕ) → list_any (eqb q) (installed ++ patch ∷ []) ≡ true → lacks_symbol setting state q ≡ false
+resolved_more setting state installed patch before own q among =
+    more (list_any (eqb q) installed) (eqb q patch) refl refl
+    (sym (list_any-append (eqb q) installed (patch ∷ [])) ∙ among)
+  where
+    more : (old same : Bool) → list_any (eqb q) installed ≡ old → eqb q patch ≡ same → (old || (same || false)) ≡ true → lacks_symbol setting state q ≡ false
+    more true same old_is same_is h = before q old_is
+    more false true old_is same_is h = let at : q ≡ patch = eqb-true q patch same_is in rw at own
+    more false false old_is same_is h = let no : ⊥ = cc in absurd no
+
+pub kept_after : (text : TextImage) (modules : ModuleTable) (catalog : Catalog) (installed : List ℕ) (moving : Option Move) (patch : ℕ) (functions : List CatalogFunction)
+    → IsKept text modules catalog installed moving → IsInstallable text catalog installed moving patch
+    → AreFunctions (setting_of (managed_of text catalog installed moving)) patch functions
+    → IsKept (record text { hooked = hooked_with (due_sites (λ object. slice_index_or modules.loaded object false) functions) text.hooked }) modules catalog
+    (installed ++ patch ∷ []) (Some (record { patch = patch; target = true }))
+kept_after text modules catalog installed moving patch functions kept new are =
+    let old = managed_of text catalog installed moving in
+    let moved = Some (record { patch = patch; target = true }) in
+    let next = managed_of text catalog (installed ++ patch ∷ []) moved in
+    let setting = setting_of old in
+    let known = subst (λ (ps : List ℕ). (q : ℕ) → list_any (eqb q) ps ≡ true → q < length catalog.patches) (patches-bare installed) kept.allowed.known in
+    let distinct = subst (λ (ps : List ℕ). IsDistinct eqb ps) (patches-bare installed) kept.allowed.distinct in
+    let resolved = subst (λ (ps : List ℕ). (q : ℕ) → list_any (eqb q) ps ≡ true → lacks_symbol setting old.state q ≡ false) (patches-bare installed) kept.allowed.resolved in
+    let all = sym (enabled_patches installed patch) in
+    let hooked = hooked_after setting old.state next.state patch functions text.hooked are kept.text_of_state.sites kept.text_of_state.hooked refl
+    (enabled_patches installed patch ∙ ap (λ (ps : List ℕ). ps ++ patch ∷ []) (sym (patches-bare installed)))
+    in
+    let flags : modules.loaded ≡ text.loaded = ap (λ (m : ModuleTable). m.loaded) kept.text_of_state.modules_are in
+    record {
+      allowed = record {
+        limits = kept.allowed.limits;
+        loaded = kept.allowed.loaded;
+        known = subst (λ (ps : List ℕ). (q : ℕ) → list_any (eqb q) ps ≡ true → q < length catalog.patches) all
+            (known_more installed patch (length catalog.patches) known new.below);
+        distinct = subst (λ (ps : List ℕ). IsDistinct eqb ps) all (distinct_more installed patch distinct new.apart);
+        resolved = subst (λ (ps : List ℕ). (q : ℕ) → list_any (eqb q) ps ≡ true → lacks_symbol setting old.state q ≡ false) all
+            (resolved_more setting old.state installed patch resolved new.resolved);
+        forward = λ move is. ap (λ (m : Move). m.target) (sym (some_inj is));
+      };
+      text_of_state = record {
+        modules_are = kept.text_of_state.modules_are;
+        catalog_names = kept.text_of_state.catalog_names;
+        sites = length-hooked_with (due_sites (λ object. slice_index_or modules.loaded object false) functions) text.hooked ∙ kept.text_of_state.sites;
+        hooked = λ site.
+            ap (λ (l : List Bool). slice_index_or (hooked_with (due_sites (λ object. slice_index_or l object false) functions) text.hooked) site false) flags
+            ∙ hooked site;
+      };
+    }
+
+-- a patch lacks a symbol where one of its functions, over all objects, is for a loaded object and names no site
+
+and-or : (b x y : Bool) → (b && (x || y)) ≡ ((b && x) || (b && y))
+and-or true x y = refl
+and-or false x y = refl
+
+and-false : (b : Bool) → (b && false) ≡ false
+and-false true = refl
+and-false false = refl
+
+lacks_target : (names : List ObjectNames) (loaded : ℕ → Bool) (object : ℕ) (functions : List PlanFunction)
+    → (loaded object && list_any (λ (f : Function). is_none f.site) (map setting_function (map (resolved_function names object) functions)))
+    ≡ list_any (λ (f : CatalogFunction). loaded f.object && is_none f.site) (map (resolved_function names object) functions)
+lacks_target names loaded object [] = and-false (loaded object)
+lacks_target names loaded object (f ∷ functions) =
+    let own = is_none (site_of names object f) in
+    let later = list_any (λ (g : Function). is_none g.site) (map setting_function (map (resolved_function names object) functions)) in
+    and-or (loaded object) own later ∙ ap (λ b. (loaded object && own) || b) (lacks_target names loaded object functions)
+
+lacks_targets : (names : List ObjectNames) (loaded : ℕ → Bool) (targets : List PlanTarget)
+    → list_any (λ (o : PatchObject). loaded o.object && list_any (λ (f : Function). is_none f.site) o.functions) (map (patch_object names) targets)
+    ≡ list_any (λ (f : CatalogFunction). loaded f.object && is_none f.site) (functions_of_patch names targets)
+lacks_targets names loaded [] = refl
+lacks_targets names loaded (target ∷ targets) =
+    let test = λ (f : CatalogFunction). loaded f.object && is_none f.site in
+    let later = list_any (λ (o : PatchObject). loaded o.object && list_any (λ (f : Function). is_none f.site) o.functions) (map (patch_object names) targets) in
+    ap (λ b. b || later) (lacks_target names loaded target.object target.functions)
+    ∙ ap (λ b. list_any test (functions_of_target names target) || b) (lacks_targets names loaded targets)
+    ∙ sym (list_any-append test (functions_of_target names target) (functions_of_patch names targets))
+
+lacks_found : (names : List ObjectNames) (loaded : ℕ → Bool) (found : Option PlanPatch)
+    → list_any (λ (o : PatchObject). loaded o.object && list_any (λ (f : Function). is_none f.site) o.functions) (patch_objects (option_map (setting_patch names) found))
+    ≡ list_any (λ (f : CatalogFunction). loaded f.object && is_none f.site) (functions_of_patch names (targets_of_patch found))
+lacks_found names loaded None = refl
+lacks_found names loaded (Some patch) = lacks_targets names loaded patch.targets
+
+pub lacks_symbol-any : (managed : Managed) (patch : ℕ)
+    → list_any (λ (f : CatalogFunction). slice_index_or managed.state.loaded f.object false && is_none f.site) (catalog_functions managed.catalog patch)
+    ≡ lacks_symbol (setting_of managed) managed.state patch
+lacks_symbol-any managed patch =
+    let loaded = λ (object : ℕ). slice_index_or managed.state.loaded object false in
+    let lacks = λ (o : PatchObject). loaded o.object && list_any (λ (f : Function). is_none f.site) o.functions in
+    sym (lacks_found managed.catalog.names loaded (slice_get managed.catalog.patches patch))
+    ∙ ap (λ (found : Option Patch). list_any lacks (patch_objects found)) (sym (slice_get-map (setting_patch managed.catalog.names) managed.catalog.patches patch))

@@ -1,20 +1,19 @@
 -- Sites that are hooked one after another, and those that a patch asks for.
-use Rattle.std.proofs.Common.{◌≡◌, ℕ, suc, ◌<◌, ◌≢◌, Bool, true, false, ◌&&◌, ◌||◌, List, [], ◌∷◌, length, Option, Some, None, is_some, map, refl, sym, ap, ◌∙◌}
-use Rattle.std.specs.Prelude.{slice_index_or, slice_set, nat_lt, ◌==◌, option_map}
-use Rattle.std.specs.List.{list_any, list_all}
-use Rattle.std.proofs.lemmas.List.{get_or-set_same, get_or-set_other, length-set}
-use Rattle.klp_types.specs.Setting.{function_for}
-use Rattle.klp_core.specs.Boot.{kernel_function}
-use Rattle.klp_core.specs.Hooks.{hooked_with}
-use borrow.Author.Tests.{eqb-true, eqb-false, ltb-true}
+use Rattle.std.proofs.Common.{◌≡◌, ℕ, zero, suc, ◌+◌, ◌-◌, ◌<◌, ◌≤◌, ◌≢◌, Bool, true, false, ◌&&◌, ◌||◌, List, [], ◌∷◌, ◌++◌, length, Option, Some, None, is_some, map, refl, sym, ap, ◌∙◌, arith}
+use Rattle.std.specs.Prelude.{slice_index_or, slice_set, slice_get, nat_lt, ◌==◌, option_map, IfSome}
+use Rattle.std.specs.List.{All, list_any, list_all}
+use Rattle.std.proofs.lemmas.List.{get_or-set_same, get_or-set_other, length-set, length-map, length-append}
+use Rattle.std.proofs.lemmas.List.Elements.{All-head, All-tail}
+use Rattle.klp_types.specs.Image.{Symbol, Object, symbols_of, object_of}
+use Rattle.klp_types.specs.Setting.{function_for, is_at}
+use Rattle.klp_modules.specs.Names.{names_of, first_site, symbol_names}
+use Rattle.klp_catalog.specs.Catalog.{CatalogFunction, setting_function}
+use Rattle.klp_core.specs.Hooks.{due_site, due_sites, hooked_with}
+use borrow.Author.Tests.{eqb-true, eqb-false, ltb-true, lt-ltb, le-ltb}
 
--- whether a function of the list is for the site
-abbrev pub asks_for : List (ℕ × ℕ) → ℕ → Bool
-asks_for functions site = list_any (λ (f : ℕ × ℕ). f.0 == site) functions
-
--- whether each function is for a site below this number
-abbrev pub all_below : ℕ → List (ℕ × ℕ) → Bool
-all_below sites functions = list_all (λ (f : ℕ × ℕ). nat_lt f.0 sites) functions
+-- whether each site is below this number
+abbrev pub all_below : ℕ → List ℕ → Bool
+all_below count sites = list_all (λ s. nat_lt s count) sites
 
 pub and-left : (a b : Bool) → (a && b) ≡ true → a ≡ true
 and-left true b h = refl
@@ -32,11 +31,11 @@ or-true : (a : Bool) → (a || true) ≡ true
 or-true true = refl
 or-true false = refl
 
-pub length-hooked_with : (functions : List (ℕ × ℕ)) (flags : List Bool) → length (hooked_with functions flags) ≡ length flags
+pub length-hooked_with : (sites : List ℕ) (flags : List Bool) → length (hooked_with sites flags) ≡ length flags
 length-hooked_with [] flags = refl
-length-hooked_with (f ∷ functions) flags = length-hooked_with functions (slice_set flags f.0 true) ∙ length-set flags f.0 true
+length-hooked_with (s ∷ sites) flags = length-hooked_with sites (slice_set flags s true) ∙ length-set flags s true
 
--- the flag of a site after one write, and what the later functions ask for
+-- the flag of a site after one write, and what is hooked later
 after_write : (flags : List Bool) (hooked site : ℕ) (rest same : Bool) → hooked < length flags → (hooked == site) ≡ same
     → (slice_index_or (slice_set flags hooked true) site false || rest) ≡ (slice_index_or flags site false || (same || rest))
 after_write flags hooked site rest true below e =
@@ -46,31 +45,118 @@ after_write flags hooked site rest false below e =
     let apart : site ≢ hooked = λ is. eqb-false hooked site e (sym is) in
     ap (λ b. b || rest) (get_or-set_other flags hooked site true false apart)
 
-all_below-length : (functions : List (ℕ × ℕ)) (a b : ℕ) → a ≡ b → all_below a functions ≡ true → all_below b functions ≡ true
-all_below-length functions a b e h = rw (← e) h
+all_below-length : (sites : List ℕ) (a b : ℕ) → a ≡ b → all_below a sites ≡ true → all_below b sites ≡ true
+all_below-length sites a b e h = rw (← e) h
 
-pub hooked_with-reads : (functions : List (ℕ × ℕ)) (flags : List Bool) (site : ℕ)
-    → all_below (length flags) functions ≡ true
-    → slice_index_or (hooked_with functions flags) site false ≡ (slice_index_or flags site false || asks_for functions site)
+pub hooked_with-reads : (sites : List ℕ) (flags : List Bool) (site : ℕ)
+    → all_below (length flags) sites ≡ true
+    → slice_index_or (hooked_with sites flags) site false ≡ (slice_index_or flags site false || list_any (λ s. s == site) sites)
 hooked_with-reads [] flags site h = sym (or-false (slice_index_or flags site false))
-hooked_with-reads (f ∷ functions) flags site h =
-    let first = and-left (nat_lt f.0 (length flags)) (all_below (length flags) functions) h in
-    let rest = and-right (nat_lt f.0 (length flags)) (all_below (length flags) functions) h in
-    hooked_with-reads functions (slice_set flags f.0 true) site
-    (all_below-length functions (length flags) (length (slice_set flags f.0 true)) (sym (length-set flags f.0 true)) rest)
-    ∙ after_write flags f.0 site (asks_for functions site) (f.0 == site) (ltb-true f.0 (length flags) first) refl
+hooked_with-reads (s ∷ sites) flags site h =
+    let first = and-left (nat_lt s (length flags)) (all_below (length flags) sites) h in
+    let rest = and-right (nat_lt s (length flags)) (all_below (length flags) sites) h in
+    hooked_with-reads sites (slice_set flags s true) site
+    (all_below-length sites (length flags) (length (slice_set flags s true)) (sym (length-set flags s true)) rest)
+    ∙ after_write flags s site (list_any (λ t. t == site) sites) (s == site) (ltb-true s (length flags) first) refl
+
+-- a patch has a function for the sites that its functions name
 
 is_some-map : (o : Option ℕ) → is_some (option_map (λ (n : ℕ). suc n) o) ≡ is_some o
 is_some-map None = refl
 is_some-map (Some n) = refl
 
-found : (functions : List (ℕ × ℕ)) (site : ℕ) (f : ℕ × ℕ) (b : Bool) → (f.0 == site) ≡ b
-    → is_some (function_for (map kernel_function functions) site) ≡ asks_for functions site
-    → is_some (function_for (map kernel_function (f ∷ functions)) site) ≡ asks_for (f ∷ functions) site
+found : (functions : List CatalogFunction) (site : ℕ) (f : CatalogFunction) (b : Bool) → is_at f.site site ≡ b
+    → is_some (function_for (map setting_function functions) site) ≡ list_any (λ (g : CatalogFunction). is_at g.site site) functions
+    → is_some (function_for (map setting_function (f ∷ functions)) site) ≡ list_any (λ (g : CatalogFunction). is_at g.site site) (f ∷ functions)
 found functions site f true e rest = rw e refl
-found functions site f false e rest = rw e (is_some-map (function_for (map kernel_function functions) site) ∙ rest)
+found functions site f false e rest = rw e (is_some-map (function_for (map setting_function functions) site) ∙ rest)
 
--- a patch of the kernel has a function for the sites that it asks for
-pub function_for-any : (functions : List (ℕ × ℕ)) (site : ℕ) → is_some (function_for (map kernel_function functions) site) ≡ asks_for functions site
+pub function_for-any : (functions : List CatalogFunction) (site : ℕ)
+    → is_some (function_for (map setting_function functions) site) ≡ list_any (λ (f : CatalogFunction). is_at f.site site) functions
 function_for-any [] site = refl
-function_for-any (f ∷ functions) site = found functions site f (f.0 == site) refl (function_for-any functions site)
+function_for-any (f ∷ functions) site = found functions site f (is_at f.site site) refl (function_for-any functions site)
+
+-- the sites that a patch asks for are those of its functions in loaded objects
+
+-- the object of a function for the site is loaded just where the site is
+abbrev pub Agrees : (ℕ → Bool) → Bool → ℕ → CatalogFunction → Type 0
+Agrees loaded here site f = is_at f.site site ≡ true → loaded f.object ≡ here
+
+due_same : (loaded here same any : Bool) (s site : ℕ) (due : List ℕ) → (s == site) ≡ same → (same ≡ true → loaded ≡ here)
+    → list_any (λ t. t == site) due ≡ (here && any)
+    → list_any (λ t. t == site) (due_site loaded (Some s) ++ due) ≡ (here && (same || any))
+due_same true true true any s site due e h rest = rw e refl
+due_same true false true any s site due e h rest = let is : true ≡ false = h refl in let no : ⊥ = cc in absurd no
+due_same true here false any s site due e h rest = rw e rest
+due_same false true true any s site due e h rest = let is : false ≡ true = h refl in let no : ⊥ = cc in absurd no
+due_same false true false any s site due e h rest = rest
+due_same false false same any s site due e h rest = rest
+
+due_step : (loaded here any : Bool) (own : Option ℕ) (site : ℕ) (due : List ℕ) → (is_at own site ≡ true → loaded ≡ here)
+    → list_any (λ t. t == site) due ≡ (here && any)
+    → list_any (λ t. t == site) (due_site loaded own ++ due) ≡ (here && (is_at own site || any))
+due_step loaded here any None site due h rest = rest
+due_step loaded here any (Some s) site due h rest = due_same loaded here (s == site) any s site due refl h rest
+
+pub due_any : (loaded : ℕ → Bool) (here : Bool) (functions : List CatalogFunction) (site : ℕ)
+    → All (Agrees loaded here site) functions
+    → list_any (λ t. t == site) (due_sites loaded functions) ≡ (here && list_any (λ (f : CatalogFunction). is_at f.site site) functions)
+due_any loaded true [] site h = refl
+due_any loaded false [] site h = refl
+due_any loaded here (f ∷ functions) site h =
+    due_step (loaded f.object) here (list_any (λ (g : CatalogFunction). is_at g.site site) functions) f.site site (due_sites loaded functions)
+    (All-head (Agrees loaded here site) f functions h) (due_any loaded here functions site (All-tail (Agrees loaded here site) f functions h))
+
+-- and are sites of the image
+
+abbrev pub IsBelow : ℕ → CatalogFunction → Type 0
+IsBelow count f = IfSome f.site (λ s. s < count)
+
+due_below : (loaded : Bool) (own : Option ℕ) (count : ℕ) (due : List ℕ) → IfSome own (λ s. s < count) → all_below count due ≡ true
+    → all_below count (due_site loaded own ++ due) ≡ true
+due_below loaded None count due h rest = rest
+due_below false (Some s) count due h rest = rest
+due_below true (Some s) count due h rest = rw (lt-ltb s count h) rest
+
+pub due_sites-below : (loaded : ℕ → Bool) (functions : List CatalogFunction) (count : ℕ)
+    → All (IsBelow count) functions → all_below count (due_sites loaded functions) ≡ true
+due_sites-below loaded [] count h = refl
+due_sites-below loaded (f ∷ functions) count h =
+    due_below (loaded f.object) f.site count (due_sites loaded functions) (All-head (IsBelow count) f functions h)
+    (due_sites-below loaded functions count (All-tail (IsBelow count) f functions h))
+
+-- a site that lies in an object by the names is a site of that object
+
+pub object_of-named : (objects : List Object) (object site : ℕ)
+    → first_site (names_of objects) object ≤ site
+    → site < first_site (names_of objects) object + length (symbol_names (slice_get (names_of objects) object))
+    → object_of objects site ≡ Some object
+object_of-named [] object site from below = absurd (omega arith)
+object_of-named (x ∷ objects) zero site from below =
+    let inside : site < length x.symbols = omega (arith, length-map x.symbols (λ (s : Symbol). s.name)) in
+    rw (lt-ltb site (length x.symbols) inside)
+object_of-named (x ∷ objects) (suc object) site from below =
+    let behind : length x.symbols ≤ site = omega (arith, length-map x.symbols (λ (s : Symbol). s.name)) in
+    let count = length-map x.symbols (λ (s : Symbol). s.name) in
+    rw (
+      le-ltb site (length x.symbols) behind,
+      object_of-named objects object (site - length x.symbols) (omega (arith, count)) (omega (arith, count)),
+    )
+
+pub site_below-named : (objects : List Object) (object site : ℕ)
+    → site < first_site (names_of objects) object + length (symbol_names (slice_get (names_of objects) object))
+    → site < length (symbols_of objects)
+site_below-named [] object site below = absurd (omega arith)
+site_below-named (x ∷ objects) zero site below =
+    omega (arith, length-map x.symbols (λ (s : Symbol). s.name), length-append x.symbols (symbols_of objects))
+site_below-named (x ∷ objects) (suc object) site below =
+    let count = length-map x.symbols (λ (s : Symbol). s.name) in
+    let rest : site < length x.symbols + length (symbols_of objects) =
+    below_more (length x.symbols) site (first_site (names_of objects) object + length (symbol_names (slice_get (names_of objects) object)))
+    (length (symbols_of objects)) (omega (arith, count)) (site_below-named objects object (site - length x.symbols))
+    in
+    omega (arith, length-append x.symbols (symbols_of objects))
+  where
+    below_more : (own at few many : ℕ) → at < own + few → (at - own < few → at - own < many) → at < own + many
+    below_more own at zero many h more = omega arith
+    below_more own at (suc few) many h more = let next = more (omega arith) in omega arith

@@ -2,3 +2,4 @@ pub mod HookLemmas
 pub mod EnableLemmas
 pub mod BootLemmas
 pub mod ViewLemmas
+pub mod MatchLemmas

@@ -1,8 +1,11 @@
 -- The text of one object, symbol by symbol.
-use Rattle.std.proofs.Common.{◌≡◌, ℕ, suc, ◌+◌, Bool, true, false, List, [], ◌∷◌, length, Option, Some, None, refl, sym, ap, ◌∙◌}
+use Rattle.std.proofs.Common.{◌≡◌, ℕ, zero, suc, ◌+◌, Bool, true, false, List, [], ◌∷◌, length, Option, Some, None, is_some, refl, sym, ap, ◌∙◌, arith}
 use Rattle.std.specs.Prelude.{slice_get, slice_index_or, option_map, option_and_then, if◌then◌else◌}
 use Rattle.klp_types.specs.Image.{Symbol, Object, first_site, given_symbol}
-use Rattle.klp_types.specs.Bytes.{patched, patched_from, text_where}
+use Rattle.klp_types.specs.Bytes.{patched, patched_from, text_where, text_of}
+use Rattle.klp_types.specs.Setting.{Setting}
+use Rattle.klp_types.specs.State.{State}
+use Rattle.klp_types.specs.Entries.{is_hooked}
 use Rattle.klp_types.proofs.TextLemmas.{slice_get-patched_from}
 use Rattle.klp_text.specs.TextImage.{TextImage, is_hooked_at, bytes_at}
 use Rattle.klp_core.specs.View.{or_none, symbols_at}
@@ -68,3 +71,32 @@ symbols_at-body text object number loaded =
 pub nothing_from : {A B : Type 0} (read : A → B) (o : Option A) → None ≡ option_map read o → o ≡ None
 nothing_from read None h = refl
 nothing_from read (Some a) h = let no : ⊥ = cc in absurd no
+
+-- the text of a loaded object is that of the state
+
+same_from : (handler : ℕ) (f g : ℕ → Bool) → ((site : ℕ) → f site ≡ g site) → (site : ℕ) (symbols : List Symbol)
+    → patched_from handler f site symbols ≡ patched_from handler g site symbols
+same_from handler f g h site [] = refl
+same_from handler f g h site (s ∷ symbols) =
+    ap (λ b. patched handler b s ∷ patched_from handler f (suc site) symbols) (h site)
+    ∙ ap (λ rest. patched handler (g site) s ∷ rest) (same_from handler f g h (suc site) symbols)
+
+flag_within : (objects : List Object) (flags : List Bool) (object : ℕ) → length flags ≡ length objects → slice_index_or flags object false ≡ true
+    → is_some (slice_get objects object) ≡ true
+flag_within objects [] object count h = let no : ⊥ = cc in absurd no
+flag_within [] (b ∷ flags) object count h = absurd (omega arith)
+flag_within (o ∷ objects) (b ∷ flags) zero count h = refl
+flag_within (o ∷ objects) (b ∷ flags) (suc object) count h = flag_within objects flags object (omega arith) h
+
+shown_in : (handler first : ℕ) (f g : ℕ → Bool) (found : Option Object) → ((site : ℕ) → f site ≡ g site) → is_some found ≡ true
+    → Some (or_none (option_map (λ (o : Object). patched_from handler f first o.symbols) found)) ≡ option_map (λ (o : Object). patched_from handler g first o.symbols) found
+shown_in handler first f g None h there = let no : ⊥ = cc in absurd no
+shown_in handler first f g (Some o) h there = ap Some (same_from handler f g h first o.symbols)
+
+pub text_shown : (text : TextImage) (setting : Setting) (state : State) (object : ℕ) → setting.image ≡ text.image
+    → ((site : ℕ) → slice_index_or text.hooked site false ≡ is_hooked setting state site)
+    → length state.loaded ≡ length setting.image.objects → slice_index_or state.loaded object false ≡ true
+    → Some (symbols_at text object) ≡ text_of setting state object
+text_shown text setting state object same hooked count loaded =
+    rw (loaded, ← same) (shown_in setting.image.handler (first_site setting.image.objects object) (is_hooked_at text) (is_hooked setting state)
+    (slice_get setting.image.objects object) hooked (flag_within setting.image.objects state.loaded object count loaded))

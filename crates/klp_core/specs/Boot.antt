@@ -1,21 +1,9 @@
 -- What a manager is booted with, and its opening state.
-use Rattle.std.specs.Prelude.{ℕ, Bool, true, false, not, ◌==◌, ◌&&◌, ◌||◌, nat_lt, nat_le, List, [], ◌∷◌, map, length, Some, None, Vec, slice_set, replicate}
-use Rattle.std.specs.declared.alloc.Global.{Global}
-use Rattle.std.specs.List.{list_any, list_all}
+use Rattle.std.specs.Prelude.{◌≡◌, ℕ, true, false, List, [], map, length, None, slice_set, replicate}
 use Rattle.klp_types.specs.Image.{Object, Image}
-use Rattle.klp_types.specs.Setting.{Function, Patch}
 use Rattle.klp_types.specs.State.{State}
-
--- a function for a site of the kernel
-abbrev pub kernel_function : ℕ × ℕ → Function
-kernel_function function = record { site = Some function.0; address = function.1 }
-
--- a patch of `vmlinux` alone
-abbrev pub kernel_patch : Vec (ℕ × ℕ) Global → Patch
-kernel_patch functions = record {
-  replace = false;
-  objects = record { object = 0; functions = map kernel_function functions.items } ∷ [];
-}
+use Rattle.klp_modules.specs.Names.{ObjectNames, ModuleTable, names_of}
+use Rattle.klp_catalog.specs.Catalog.{Catalog}
 
 -- object 0 alone is loaded, and nothing is installed
 abbrev pub opening_state : Image → State
@@ -25,22 +13,20 @@ opening_state image = record {
   moving = None;
 }
 
--- how many sites the kernel has
-abbrev pub kernel_sites : List Object → ℕ
-kernel_sites [] = 0
-kernel_sites (kernel ∷ modules) = length kernel.symbols
+-- how many symbols each object has
+abbrev pub symbol_counts : List Object → List ℕ
+symbol_counts objects = map (λ (o : Object). length o.symbols) objects
 
-abbrev pub has_site_twice : List (ℕ × ℕ) → Bool
-has_site_twice [] = false
-has_site_twice (function ∷ functions) = list_any (λ (other : ℕ × ℕ). other.0 == function.0) functions || has_site_twice functions
+-- the same of objects that are told by their names
+abbrev pub name_counts : List ObjectNames → List ℕ
+name_counts names = map (λ (o : ObjectNames). length o.symbols) names
 
--- at most 64 functions, each for a site of its own of the kernel
-abbrev pub fits_kernel : ℕ → Vec (ℕ × ℕ) Global → Bool
-fits_kernel sites functions =
-    nat_le (length functions.items) 64
-    && list_all (λ (function : ℕ × ℕ). nat_lt function.0 sites) functions.items
-    && not (has_site_twice functions.items)
+-- image, modules and catalog have the same objects as far as numbers of symbols tell
+pub record IsMatch (image : Image) (modules : ModuleTable) (catalog : Catalog) : Type 0 where
+  pub modules_match : name_counts modules.names ≡ symbol_counts image.objects
+  pub catalog_matches : name_counts catalog.names ≡ symbol_counts image.objects
 
--- more than 16 patches, or one that doesn't fit
-abbrev pub is_mismatch : List Object → List (Vec (ℕ × ℕ) Global) → Bool
-is_mismatch objects patches = nat_lt 16 (length patches) || not (list_all (fits_kernel (kernel_sites objects)) patches)
+-- the modules have the image's names in order, and so had the modules that the catalog was assembled over
+pub record AreNamed (image : Image) (modules : ModuleTable) (catalog : Catalog) : Type 0 where
+  pub modules_named : modules.names ≡ names_of image.objects
+  pub catalog_named : catalog.names ≡ names_of image.objects

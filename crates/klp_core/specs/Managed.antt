@@ -1,7 +1,14 @@
 -- What contracts see of a manager: what stays fixed, and the state.
+use Rattle.klp_types.specs.Image.{Image}
 use Rattle.klp_types.specs.Setting.{Setting}
 use Rattle.klp_types.specs.State.{State}
+use Rattle.klp_catalog.specs.Catalog.{Catalog, patches_of}
 
 pub record Managed : Type 0 where
-  pub setting : Setting
+  pub image : Image
+  pub catalog : Catalog
   pub state : State
+
+-- the image, and the catalog's patches with the sites that their functions name
+abbrev pub setting_of : Managed → Setting
+setting_of managed = record { image = managed.image; patches = patches_of managed.catalog }

@@ -3,7 +3,7 @@ use thiserror::Error;
 /// Why a manager can't be booted. The numbers are this project's own, and stay.
 #[derive(Clone, Copy, Debug, PartialEq, Eq, Hash, Error)]
 pub enum BootFault {
-    /// The patches don't fit the image.
+    /// Image, modules and catalog don't have the same number of symbols for each object.
     #[error("Mismatch")]
     Mismatch = 1,
     /// Memory ran out. Nothing that boot takes now asks for any.

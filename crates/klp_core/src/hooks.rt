@@ -1,18 +1,26 @@
-ghost use Rattle.std.specs.Prelude.{◌≡◌, ◌<◌, ℕ, nat_lt, true, length};
-ghost use Rattle.std.specs.List.{list_all};
+ghost use Rattle.std.specs.Prelude.{◌≡◌, ◌<◌, IfSome, slice_index_or, false};
+ghost use Rattle.std.specs.List.{All};
 ghost use Rattle.klp_text.specs.TextImage.{site_count};
-ghost use Rattle.klp_core.specs.Hooks.{hooked_with};
+ghost use Rattle.klp_catalog.specs.Catalog.{CatalogFunction as FunctionOf};
+ghost use Rattle.klp_core.specs.Hooks.{due_sites, hooked_with};
 
+use klp_catalog::CatalogFunction;
+use klp_modules::Modules;
 use klp_text::Image;
-use klp_types::Site;
 
-/// Hooks the sites of these functions, those that are hooked already too: it costs as much as there
-/// are functions.
-pub(crate) fn hook_all(image: &mut Image, functions: &[(Site, u64)])
-    requires { list_all (λ (function : ℕ × ℕ). nat_lt function.0 (site_count image.old.image)) functions.now ≡ true }
-    ensures { image.new ≡ record image.old { hooked = hooked_with functions.now image.old.hooked } }
+/// Hooks the sites of the functions for loaded objects, those that are hooked already too: it costs
+/// as much as there are functions.
+pub(crate) fn hook_all(image: &mut Image, modules: &Modules, functions: &[CatalogFunction])
+    requires { All (λ (f : FunctionOf). IfSome f.site (λ site. site < site_count image.old.image)) functions.now }
+    ensures { image.new ≡ record image.old {
+      hooked = hooked_with (due_sites (λ object. slice_index_or modules.now.loaded object false) functions.now) image.old.hooked;
+    } }
 {
-    for (site, _) in functions {
-        image.hook(*site);
+    for function in functions {
+        if modules.is_loaded(function.object()) {
+            if let Some(site) = function.site() {
+                image.hook(site);
+            }
+        }
     }
 }

@@ -1,31 +1,38 @@
-ghost use Rattle.std.specs.Prelude.{◌≡◌, ◌+◌, ◌==◌, ◌↔◌, true, false, length, map, count_by, is_ok, is_err, Ok, Err, None, IfOk, IfErr, IsOk, Option, option_map};
+ghost use Rattle.std.specs.Prelude.{◌≡◌, ◌+◌, ◌≤◌, ◌==◌, ◌&&◌, true, false, count_by, is_ok, is_err, is_none, Ok, Err, None, IfOk, IfErr, IsErr, slice_index_or, slice_set, replicate, length, map};
 ghost use Rattle.std.specs.List.{list_any};
 ghost use Rattle.klp_types.specs.declared.event.Event.TheVariants.{Enable, Poll};
-ghost use Rattle.klp_types.specs.State.{is_installed, installed_patches};
+ghost use Rattle.klp_types.specs.Setting.{replaces};
+ghost use Rattle.klp_types.specs.State.{is_installed, is_loaded, installed_patches};
 ghost use Rattle.klp_types.specs.Bytes.{text_of};
-ghost use Rattle.klp_types.specs.Step.{first_of, refusals, enabled};
+ghost use Rattle.klp_types.specs.FirstOf.{first_of};
+ghost use Rattle.klp_types.specs.Step.{lacks_symbol, refusals, enabled};
 ghost use Rattle.klp_types.specs.Run.{answer, next, run, answers};
 ghost use Rattle.klp_text.specs.TextImage.{opening, IsWithinLimits};
-ghost use Rattle.klp_core.specs.Boot.{is_mismatch, kernel_patch, opening_state};
+ghost use Rattle.klp_modules.specs.Names.{names_of};
+ghost use Rattle.klp_catalog.specs.Catalog.{CatalogFunction as FunctionOf};
+ghost use Rattle.klp_core.specs.Boot.{IsMatch, AreNamed, opening_state};
+ghost use Rattle.klp_core.specs.Managed.{setting_of};
 ghost use Rattle.klp_core.specs.declared.fault.BootFault.TheVariants.{Mismatch};
 
-use crate::boot::{MAX_PATCHES, is_mismatch};
+use crate::boot::is_match;
 use crate::fault::BootFault;
 use crate::hooks::hook_all;
 use crate::view::TextView;
 use arrayvec::ArrayVec;
+use klp_catalog::{Catalog, CatalogFunction, MAX_PATCHES};
+use klp_modules::Modules;
 use klp_text::Image;
-use klp_types::{Event, Move, ObjId, PatchId, Refusal, Reply, Site};
+use klp_types::{Event, Move, ObjId, PatchId, Refusal, Reply};
 use std::alloc::Global;
 use std::marker::Model;
 
-/// The live patching manager: the image with its text, the catalog's patches, and which of them are
-/// installed and in transition.
-#[derive(Debug, Drop)]
+/// The live patching manager: the image with its text, the catalog with its patches, and which of
+/// them are installed and in transition.
+#[derive(Drop)]
 pub struct Manager {
     image: Image,
-    /// For each patch its functions in `vmlinux`: the site, and the new function's address.
-    patches: Vec<Vec<(Site, u64)>>,
+    modules: Modules,
+    catalog: Catalog,
     /// Oldest first.
     installed: ArrayVec<PatchId, MAX_PATCHES>,
     moving: Option<Move>,
@@ -38,38 +45,43 @@ impl Model for Manager {
 
     ghost use Rattle.klp_core.specs.Kept.{managed_of, IsKept};
 
-    ghost view = { λ m. managed_of m.image m.patches.items m.installed.items m.moving };
+    ghost view = { λ m. managed_of m.image m.catalog m.installed.items m.moving };
 
-    ghost invariant = { λ m. IsKept m.image m.patches.items m.installed.items m.moving };
+    ghost invariant = { λ m. IsKept m.image m.modules m.catalog m.installed.items m.moving };
 }
 
 impl Manager {
-    /// Boots a manager over an image, as it was made, and for each patch its functions in `vmlinux`:
-    /// nothing is installed. Image and patches are kept as they come, so no memory is taken yet.
+    /// Boots a manager over an image, its modules and a catalog, all as they were made: `vmlinux`
+    /// alone is loaded and nothing is installed. The three are kept as they come, so no memory is
+    /// taken yet.
     ///
-    /// The patches don't fit the image where there are more than 16 of them, one has more than 64
-    /// functions, names a site that `vmlinux` doesn't have, or names one twice. Image and patches
-    /// are dropped on a fault.
+    /// They don't match where they differ in how many objects there are or in how many symbols one
+    /// of them has; that their names are the same too is the caller's to know. The three are dropped
+    /// on a fault.
     pub fn boot(
         _alloc: Global,
         image: Image,
-        patches: Vec<Vec<(Site, u64)>>,
+        modules: Modules,
+        catalog: Catalog,
     ) -> Result<Manager, BootFault>
-        requires as_made { image ≡ opening image.image.handler image.image.objects }
+        requires image { image ≡ opening image.image.handler image.image.objects }
         requires limits { IsWithinLimits image.image.objects }
-        ensures ok { IfOk result (λ manager. manager ≡ record {
-          setting = record { image = image.image; patches = map kernel_patch patches.items };
+        requires modules { modules.loaded ≡ slice_set (replicate (length modules.names) false) 0 true }
+        requires names { IsMatch image.image modules catalog → AreNamed image.image modules catalog }
+        ensures ok { IfOk result (λ manager. IsMatch image.image modules catalog × (manager ≡ record {
+          image = image.image;
+          catalog = catalog;
           state = opening_state image.image;
-        }) }
-        ensures fits { IsOk result ↔ (is_mismatch image.image.objects patches.items ≡ false) }
-        ensures fault { IfErr result (λ fault. fault ≡ Mismatch) }
+        })) }
+        ensures fault { IfErr result (λ fault. (IsMatch image.image modules catalog → ⊥) × (fault ≡ Mismatch)) }
     {
-        if is_mismatch(&image, &patches) {
+        if !is_match(&image, &modules, &catalog) {
             return Err(BootFault::Mismatch);
         }
         Ok(Manager {
             image,
-            patches,
+            modules,
+            catalog,
             installed: ArrayVec::new(),
             moving: None,
         })
@@ -77,8 +89,8 @@ impl Manager {
 
     /// Takes one event: one atomic step. It costs as much as the functions of its own patch.
     pub fn apply(&mut self, event: Event) -> Result<Reply, Refusal>
-        ensures answer { result ≡ answer self.old.setting self.old.state event }
-        ensures state { self.new ≡ record self.old { state = next self.old.setting self.old.state event } }
+        ensures answer { result ≡ answer (setting_of self.old) self.old.state event }
+        ensures state { self.new ≡ record self.old { state = next (setting_of self.old) self.old.state event } }
     {
         match event {
             Event::Enable(patch) => self.enable(patch),
@@ -89,9 +101,9 @@ impl Manager {
     /// Takes events in order, and answers how many of them were accepted and how many refused. A
     /// refused event leaves everything as it was, and the next one is taken.
     pub fn run(&mut self, events: &[Event]) -> (u64, u64)
-        ensures accepted { result.0 ≡ count_by is_ok (answers self.old.setting self.old.state events.now) }
-        ensures refused { result.1 ≡ count_by is_err (answers self.old.setting self.old.state events.now) }
-        ensures state { self.new ≡ record self.old { state = run self.old.setting self.old.state events.now } }
+        ensures accepted { result.0 ≡ count_by is_ok (answers (setting_of self.old) self.old.state events.now) }
+        ensures refused { result.1 ≡ count_by is_err (answers (setting_of self.old) self.old.state events.now) }
+        ensures state { self.new ≡ record self.old { state = run (setting_of self.old) self.old.state events.now } }
     {
         let mut accepted = 0;
         let mut refused = 0;
@@ -106,9 +118,9 @@ impl Manager {
 
     /// The text of an object, as a processor would run it: `None` where the object isn't loaded.
     pub fn text(&self, object: ObjId) -> Option<TextView<'_>>
-        ensures { result ≡ text_of self.now.setting self.now.state object }
+        ensures { result ≡ text_of (setting_of self.now) self.now.state object }
     {
-        if object.0 == 0 {
+        if self.modules.is_loaded(object) {
             Some(TextView::new(&self.image, object))
         } else {
             None
@@ -122,22 +134,57 @@ impl Manager {
         copy_of(&self.installed)
     }
 
+    /// The catalog that the manager was booted with.
+    pub fn catalog(&self) -> &Catalog
+        ensures { result.now ≡ self.now.catalog }
+    {
+        &self.catalog
+    }
+
+    /// The names of the image's objects and symbols, and which objects are loaded.
+    pub fn modules(&self) -> &Modules
+        ensures { result.now ≡ record { names = names_of self.now.image.objects; loaded = self.now.state.loaded } }
+    {
+        &self.modules
+    }
+
     fn is_installed(&self, patch: PatchId) -> bool
         ensures { result ≡ is_installed self.now.state patch }
     {
         is_among(&self.installed, patch)
     }
 
+    // Whether a function of the patch for a loaded object names no site.
+    fn lacks_symbol(&self, patch: PatchId) -> bool
+        ensures { result ≡ lacks_symbol (setting_of self.now) self.now.state patch }
+    {
+        lack_symbol(&self.modules, self.catalog.functions(patch))
+    }
+
+    fn replaces(&self, patch: PatchId) -> bool
+        ensures { result ≡ replaces (setting_of self.now) patch }
+    {
+        match self.catalog.replaces(patch) {
+            Some(replaces) => replaces,
+            None => false,
+        }
+    }
+
     // Why the patch isn't enabled, in the order in which it is looked at.
     fn enable_refusal(&self, patch: PatchId) -> Option<Refusal>
-        ensures { result ≡ first_of (refusals self.now.setting self.now.state (Enable patch)) }
+        ensures few { length self.now.catalog.patches ≤ 16 }
+        ensures refusal { result ≡ first_of (refusals (setting_of self.now) self.now.state (Enable patch)) }
     {
-        if usize::from(patch.0) >= self.patches.len() {
+        if patch.0 >= self.catalog.patches() {
             Some(Refusal::NoPatch)
         } else if self.is_installed(patch) {
             Some(Refusal::AlreadyThere)
         } else if self.moving.is_some() {
             Some(Refusal::Busy)
+        } else if self.lacks_symbol(patch) {
+            Some(Refusal::NoSymbol)
+        } else if self.replaces(patch) {
+            Some(Refusal::Incompatible)
         } else {
             None
         }
@@ -145,10 +192,15 @@ impl Manager {
 
     // The patch is put last, its sites are hooked, and it starts to move to the target 1.
     fn install(&mut self, patch: PatchId)
-        requires { first_of (refusals self.old.setting self.old.state (Enable patch)) ≡ None }
+        requires unrefused { first_of (refusals (setting_of self.old) self.old.state (Enable patch)) ≡ None }
+        requires few { length self.old.catalog.patches ≤ 16 }
         ensures { self.new ≡ record self.old { state = (enabled self.old.state patch).1 } }
     {
-        hook_all(&mut self.image, &self.patches[usize::from(patch.0)]);
+        hook_all(
+            &mut self.image,
+            &self.modules,
+            self.catalog.functions(patch),
+        );
         self.installed.push(patch);
         self.moving = Some(Move {
             patch,
@@ -158,8 +210,8 @@ impl Manager {
 
     // livepatch, Livepatch life-cycle, Enabling.
     fn enable(&mut self, patch: PatchId) -> Result<Reply, Refusal>
-        ensures answer { result ≡ answer self.old.setting self.old.state (Enable patch) }
-        ensures state { self.new ≡ record self.old { state = next self.old.setting self.old.state (Enable patch) } }
+        ensures answer { result ≡ answer (setting_of self.old) self.old.state (Enable patch) }
+        ensures state { self.new ≡ record self.old { state = next (setting_of self.old) self.old.state (Enable patch) } }
     {
         match self.enable_refusal(patch) {
             Some(refusal) => Err(refusal),
@@ -172,8 +224,8 @@ impl Manager {
 
     // A transition to the target 1 is complete at once while there are no tasks.
     fn poll(&mut self) -> Result<Reply, Refusal>
-        ensures answer { result ≡ answer self.old.setting self.old.state Poll }
-        ensures state { self.new ≡ record self.old { state = next self.old.setting self.old.state Poll } }
+        ensures answer { result ≡ answer (setting_of self.old) self.old.state Poll }
+        ensures state { self.new ≡ record self.old { state = next (setting_of self.old) self.old.state Poll } }
     {
         match self.moving {
             Some(moving) => {
@@ -183,6 +235,22 @@ impl Manager {
             None => Err(Refusal::NotMoving),
         }
     }
+}
+
+// Whether the function is for a loaded object and names no site.
+fn lacks_site(modules: &Modules, function: &CatalogFunction) -> bool
+    ensures { result ≡ (slice_index_or modules.now.loaded function.now.object false && is_none function.now.site) }
+{
+    modules.is_loaded(function.object()) && function.site().is_none()
+}
+
+// Whether one of these functions is.
+fn lack_symbol(modules: &Modules, functions: &[CatalogFunction]) -> bool
+    ensures { result ≡ list_any (λ (f : FunctionOf). slice_index_or modules.now.loaded f.object false && is_none f.site) functions.now }
+{
+    functions
+        .iter()
+        .any(|function| lacks_site(modules, function))
 }
 
 // Whether the patch is among these.

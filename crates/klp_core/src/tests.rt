@@ -1,161 +1,240 @@
+ghost use Rattle.std.specs.Prelude.{◌≡◌, IfOk};
+ghost use Rattle.klp_text.specs.TextImage.{opening, IsWithinLimits};
+ghost use Rattle.klp_modules.specs.Names.{names_of, opening as opening_table};
+
 use crate::{BootFault, Manager};
-use klp_text::Image;
-use klp_types::{Event, ObjId, ObjectText, PatchId, Refusal, Reply, Site, SymbolText};
+use klp_catalog::{AssembleFault, Catalog, TextFault};
+use klp_modules::Modules;
+use klp_text::{Image, ImageFault};
+use klp_types::{Event, ObjId, PatchId, Refusal, Reply};
 use std::alloc::{AllocError, Global};
-use std::process::Abort;
 use std::test::Fail;
+use thiserror::Error;
 
-const HANDLER: u64 = 0xffff_ffff_8100_0000;
-
-fn symbol(alloc: Global, name: &str, address: u64, body: &[u8]) -> Result<SymbolText, AllocError> {
-    Ok(SymbolText {
-        name: String::from_str(alloc, name)?,
-        address,
-        body: body.to_vec(alloc)?,
-    })
+// A kernel of f, h and twice d, and the modules m and n. Of the patches p changes the kernel and m; q
+// the kernel; c replaces all older ones; s names no symbol alone; u names a symbol that m lacks. It is
+// a function, so that no caller's proof goes through the text.
+fn sample_text() -> &'static str {
+    "\
+handler ffffffff81000000
+object vmlinux
+symbol f ffffffff81001000 e80000000090c3
+symbol h ffffffff81002000 e800000000c3
+symbol d ffffffff81003000 e800000000c3
+symbol d ffffffff81004000 e800000000c3
+object m
+symbol g ffffffffa0000000 e800000000c3
+object n
+symbol k ffffffffa0010000 e800000000c3
+patch p
+target vmlinux
+func .klp.sym.vmlinux.f,0 f_p ffffffffc0001000
+func .klp.sym.vmlinux.h,0 h_p ffffffffc0001100
+target m
+func .klp.sym.m.g,0 g_p ffffffffc0001200
+patch q
+target vmlinux
+func .klp.sym.vmlinux.f,0 f_q ffffffffc0002000
+patch c replace
+target vmlinux
+func .klp.sym.vmlinux.f,0 f_c ffffffffc0003000
+patch s
+target vmlinux
+func .klp.sym.vmlinux.d,0 d_s ffffffffc0007000
+patch u replace
+target vmlinux
+func .klp.sym.vmlinux.d,2 d_u ffffffffc0008000
+target m
+func .klp.sym.m.z,0 z_u ffffffffc0008100
+patch t replace
+target vmlinux
+func .klp.sym.vmlinux.z,0 z_t ffffffffc0009000
+"
 }
 
-// A kernel of f and h, and a module of g.
-fn objects(alloc: Global) -> Result<Vec<ObjectText>, AllocError> {
-    let f = symbol(
-        alloc,
-        "f",
-        0xffff_ffff_8100_1000,
-        &[0xe8, 0, 0, 0, 0, 0x90, 0xc3],
-    )?;
-    let h = symbol(alloc, "h", 0xffff_ffff_8100_2000, &[0xe8, 0, 0, 0, 0, 0xc3])?;
-    let g = symbol(alloc, "g", 0xffff_ffff_a000_0000, &[0xe8, 0, 0, 0, 0, 0xc3])?;
-    let vmlinux = ObjectText {
-        name: String::from_str(alloc, "vmlinux")?,
-        symbols: vec![in alloc; f, h]?,
-    };
-    let m = ObjectText {
-        name: String::from_str(alloc, "m")?,
-        symbols: vec![in alloc; g]?,
-    };
-    Ok(vec![in alloc; vmlinux, m]?)
+fn kernel_text() -> &'static str {
+    "handler 1000\nobject vmlinux\nsymbol f 2000 e800000000c3\n"
 }
 
-// A manager with these patches, each of functions for sites.
-fn booted(alloc: Global, patches: &[&[u16]]) -> Result<Result<Manager, BootFault>, Fail> {
-    let mut tables = Vec::new(alloc);
-    for sites in patches {
-        let mut functions = Vec::new(alloc);
-        for site in *sites {
-            functions.push((Site(*site), 0xffff_ffff_c000_1000))?;
-        }
-        tables.push(functions)?;
+#[derive(Clone, Copy, Debug, PartialEq, Eq, Error)]
+enum Fault {
+    #[error("NoMemory")]
+    NoMemory,
+    #[error(transparent)]
+    Text(#[from] TextFault),
+    #[error(transparent)]
+    Image(#[from] ImageFault),
+    #[error(transparent)]
+    Assemble(#[from] AssembleFault),
+    #[error(transparent)]
+    Boot(#[from] BootFault),
+}
+
+impl From<AllocError> for Fault {
+    fn from(_error: AllocError) -> Fault {
+        Fault::NoMemory
     }
-    let image = Image::new(alloc, objects(alloc)?, HANDLER)?;
-    Ok(Manager::boot(alloc, image, tables))
 }
 
-// The bytes of a symbol of `vmlinux`.
-fn body(
-    rt: &impl Abort,
+// The image of a text's objects, its modules, and the catalog of its patches over them.
+fn parts(alloc: Global, text: &str) -> Result<(Image, Modules, Catalog), Fault>
+    ensures image { IfOk result (λ parts. parts.0 ≡ opening parts.0.image.handler parts.0.image.objects) }
+    ensures limits { IfOk result (λ parts. IsWithinLimits parts.0.image.objects) }
+    ensures modules { IfOk result (λ parts. parts.1 ≡ opening_table parts.0.image.objects) }
+    ensures catalog { IfOk result (λ parts. parts.2.names ≡ names_of parts.0.image.objects) }
+{
+    let mut plan = Catalog::read(alloc, text.as_bytes())?;
+    let objects = plan.take_objects();
+    let image = Image::new(alloc, objects, plan.handler())?;
+    let modules = Modules::new(alloc, &image)?;
+    let catalog = Catalog::assemble(alloc, &modules, plan)?;
+    Ok((image, modules, catalog))
+}
+
+fn booted(alloc: Global, text: &str) -> Result<Manager, Fault> {
+    let (image, modules, catalog) = parts(alloc, text)?;
+    Ok(Manager::boot(alloc, image, modules, catalog)?)
+}
+
+fn sample(alloc: Global) -> Result<Manager, Fail> {
+    Ok(booted(alloc, sample_text())?)
+}
+
+// What each event answers, in order. It says nothing of the manager afterwards, so that what the proof
+// of a test goes through stays small.
+fn answers(
     alloc: Global,
-    manager: &Manager,
-    number: u16,
-) -> Result<Vec<u8>, AllocError> {
-    let text = manager.text(ObjId(0)).expect(rt, "vmlinux is loaded");
-    let (_, _, bytes) = text.get(number).expect(rt, "the symbol is there");
-    bytes.to_vec(alloc)
+    manager: &mut Manager,
+    events: &[Event],
+) -> Result<Vec<Result<Reply, Refusal>>, AllocError> {
+    let mut answers = Vec::new(alloc);
+    for event in events {
+        answers.push(manager.apply(*event))?;
+    }
+    Ok(answers)
+}
+
+// How many events are accepted and refused, likewise.
+fn counted(manager: &mut Manager, events: &[Event]) -> (u64, u64) {
+    manager.run(events)
 }
 
 #[test]
 fn a_patch_is_enabled_and_completed(rt: HostRuntime) -> Result<(), Fail> {
     let alloc = rt.alloc();
-    let mut manager = booted(alloc, &[&[0], &[1]])??;
-    assert_eq!(rt;
-        body(&rt, alloc, &manager, 0)?.as_slice(),
-        [0x0f, 0x1f, 0x44, 0, 0, 0x90, 0xc3].as_slice()
-    );
-    assert_eq!(rt;
-        manager.apply(Event::Enable(PatchId(0))),
-        Ok(Reply::Started)
-    );
-    assert_eq!(rt;
-        body(&rt, alloc, &manager, 0)?.as_slice(),
-        [0xe8, 0xfb, 0xef, 0xff, 0xff, 0x90, 0xc3].as_slice()
-    );
-    assert_eq!(rt;
-        body(&rt, alloc, &manager, 1)?.as_slice(),
-        [0x0f, 0x1f, 0x44, 0, 0, 0xc3].as_slice()
-    );
-    assert_eq!(rt; manager.apply(Event::Poll), Ok(Reply::Completed(true)));
-    assert_eq!(rt;
-        manager.apply(Event::Enable(PatchId(1))),
-        Ok(Reply::Started)
-    );
-    assert_eq!(rt;
-        body(&rt, alloc, &manager, 1)?.as_slice(),
-        [0xe8, 0xfb, 0xdf, 0xff, 0xff, 0xc3].as_slice()
-    );
+    let mut manager = sample(alloc)?;
+    let events = [Event::Enable(PatchId(1)), Event::Poll];
+    let got = answers(alloc, &mut manager, &events)?;
+    let want = [Ok(Reply::Started), Ok(Reply::Completed(true))];
+    assert_eq!(rt; got.as_slice(), want.as_slice());
+    let text = manager.text(ObjId(0)).expect(&rt, "vmlinux is loaded");
+    let (_, _, f) = text.get(0).expect(&rt, "f is there");
+    assert_eq!(rt; f, [0xe8, 0xfb, 0xef, 0xff, 0xff, 0x90, 0xc3].as_slice());
+    let (_, _, h) = text.get(1).expect(&rt, "h is there");
+    assert_eq!(rt; h, [0x0f, 0x1f, 0x44, 0, 0, 0xc3].as_slice());
+    Ok(())
+}
+
+#[test]
+fn the_newest_patch_stands_last(rt: HostRuntime) -> Result<(), Fail> {
+    let mut manager = sample(rt.alloc())?;
+    let events = [
+        Event::Poll,
+        Event::Enable(PatchId(1)),
+        Event::Enable(PatchId(1)),
+        Event::Poll,
+        Event::Enable(PatchId(0)),
+    ];
+    let counts = counted(&mut manager, &events);
+    assert_eq!(rt; counts, (3, 2));
     assert_eq!(rt;
         manager.installed().as_slice(),
-        [PatchId(0), PatchId(1)].as_slice()
+        [PatchId(1), PatchId(0)].as_slice()
     );
     Ok(())
 }
 
 #[test]
 fn shows_loaded_objects_alone(rt: HostRuntime) -> Result<(), Fail> {
-    let manager = booted(rt.alloc(), &[&[0]])??;
+    let manager = sample(rt.alloc())?;
     assert!(rt; manager.text(ObjId(1)).is_none());
-    assert!(rt; manager.text(ObjId(2)).is_none());
+    assert!(rt; manager.text(ObjId(3)).is_none());
     let text = manager.text(ObjId(0)).expect(&rt, "vmlinux is loaded");
-    assert_eq!(rt; text.len(), 2);
+    assert_eq!(rt; text.len(), 4);
     let (name, address, _) = text.get(1).expect(&rt, "h is there");
     assert_eq!(rt; name, "h");
     assert_eq!(rt; address, 0xffff_ffff_8100_2000);
-    assert!(rt; text.get(2).is_none());
+    assert!(rt; text.get(4).is_none());
+    assert_eq!(rt; manager.catalog().patch("q"), Some(PatchId(1)));
+    assert_eq!(rt; manager.modules().object("n"), Some(ObjId(2)));
+    assert!(rt; !manager.modules().is_loaded(ObjId(2)));
     Ok(())
 }
 
 #[test]
 fn events_are_refused_in_order(rt: HostRuntime) -> Result<(), Fail> {
-    let mut manager = booted(rt.alloc(), &[&[0], &[0, 1]])??;
+    let alloc = rt.alloc();
+    let mut manager = sample(alloc)?;
     let events = [
         Event::Poll,
+        Event::Enable(PatchId(6)),
+        Event::Enable(PatchId(3)),
         Event::Enable(PatchId(2)),
+        // its symbol is missing in a module that isn't loaded
+        Event::Enable(PatchId(4)),
+        Event::Enable(PatchId(5)),
         Event::Enable(PatchId(0)),
         Event::Enable(PatchId(0)),
-        Event::Enable(PatchId(1)),
+        Event::Enable(PatchId(3)),
         Event::Poll,
+        Event::Enable(PatchId(3)),
     ];
     let want = [
         Err(Refusal::NotMoving),
         Err(Refusal::NoPatch),
+        Err(Refusal::NoSymbol),
+        Err(Refusal::Incompatible),
+        Err(Refusal::Incompatible),
+        Err(Refusal::NoSymbol),
         Ok(Reply::Started),
         Err(Refusal::AlreadyThere),
         Err(Refusal::Busy),
         Ok(Reply::Completed(true)),
+        Err(Refusal::NoSymbol),
     ];
-    for (event, want) in events.iter().zip(want) {
-        assert_eq!(rt; manager.apply(*event), want);
-    }
-    let mut again = booted(rt.alloc(), &[&[0], &[0, 1]])??;
-    assert_eq!(rt; again.run(&events), (2, 4));
+    let got = answers(alloc, &mut manager, &events)?;
+    assert_eq!(rt; got.as_slice(), want.as_slice());
     Ok(())
 }
 
 #[test]
-fn patches_that_do_not_fit_are_refused(rt: HostRuntime) -> Result<(), Fail> {
+fn modules_of_another_image_dont_match(rt: HostRuntime) -> Result<(), Fail> {
     let alloc = rt.alloc();
-    let none: &[u16] = &[];
-    let cases: [(&[&[u16]], bool); 5] = [
-        (&[&[0, 1]], true),
-        (&[&[2]], false),
-        (&[&[1], &[0, 1, 0]], false),
-        (&[none; 16], true),
-        (&[none; 17], false),
-    ];
-    for (patches, fits) in cases {
-        let manager = booted(alloc, patches)?;
-        assert_eq!(rt; manager.is_ok(), fits);
-        if let Err(fault) = manager {
-            assert_eq!(rt; fault, BootFault::Mismatch);
-        }
-    }
+    let (image, _modules, catalog) = parts(alloc, kernel_text())?;
+    let (other, modules, _catalog) = parts(alloc, sample_text())?;
+    let few = image.objects();
+    let many = other.objects();
+    let fault = if few == many {
+        None
+    } else {
+        Manager::boot(alloc, image, modules, catalog).err()
+    };
+    assert_eq!(rt; fault, Some(BootFault::Mismatch));
+    Ok(())
+}
+
+#[test]
+fn a_catalog_over_another_image_doesnt_match(rt: HostRuntime) -> Result<(), Fail> {
+    let alloc = rt.alloc();
+    let (image, modules, _catalog) = parts(alloc, kernel_text())?;
+    let (other, _modules, catalog) = parts(alloc, sample_text())?;
+    let few = image.objects();
+    let many = other.objects();
+    let fault = if few == many {
+        None
+    } else {
+        Manager::boot(alloc, image, modules, catalog).err()
+    };
+    assert_eq!(rt; fault, Some(BootFault::Mismatch));
     Ok(())
 }

@@ -1,13 +1,13 @@
 -- Laws of names and their numbers.
-use Rattle.std.proofs.Common.{◌≡◌, ℕ, zero, suc, ◌+◌, ◌-◌, ◌<◌, ◌≤◌, List, [], ◌∷◌, ◌++◌, length, get_or, map, take, drop, Bool, true, false, cond, Option, Some, None, refl, ap, sym, ◌∙◌, subst, arith, length-append, inl, inr}
+use Rattle.std.proofs.Common.{◌≡◌, ℕ, zero, suc, ◌+◌, ◌<◌, ◌≤◌, List, [], ◌∷◌, ◌++◌, length, get_or, map, take, Bool, true, false, cond, Option, Some, None, refl, ap, sym, ◌∙◌, subst, arith, length-append, inl, inr}
 use Rattle.std.specs.Prelude.{option_map, bytes_eq, ◌==◌, string_bytes, String, not, slice_get, count_by, position, MatchOption, IfSome, option_and_then, ⊤, Err}
 use Rattle.std.specs.declared.alloc.Global.{Global}
 use Rattle.std.specs.List.{All, fold, position_or_len, list_any}
-use Rattle.std.proofs.lemmas.List.{take_more, drop_more, take-map, map_more, map-append, length-map, get_or_append_left, get_or_at}
+use Rattle.std.proofs.lemmas.List.{take_more, take-map, map_more, map-append, length-map, get_or_append_left, get_or_at}
 use Rattle.std.proofs.lemmas.List.Elements.{All-from_get_or, All-weaker, All-take, All-push, All-cons, All-nil, All-head, All-tail}
 use Rattle.std.proofs.lemmas.List.Quantifiers.{position-Some}
-use Rattle.std.proofs.lemmas.Option.{slice_get-map, slice_get-get_or, slice_get_read, slice_get_within, slice_get_past, get_or_from_slice_get}
-use Rattle.std.proofs.lemmas.Bool.{ltb-false, lt-ltb, le-ltb, cases_lt}
+use Rattle.std.proofs.lemmas.Option.{slice_get-map, slice_get-get_or, slice_get_within, slice_get_past, get_or_from_slice_get}
+use Rattle.std.proofs.lemmas.Bool.{ltb-false, le-ltb, cases_lt}
 use Rattle.std.proofs.lemmas.Bool.Decides.{Decides-eqb}
 use Rattle.std.specs.Bool.{one_answer}
 use Rattle.std.proofs.lemmas.List.Folds.{list_any_none}
@@ -15,7 +15,7 @@ use Rattle.std.proofs.lemmas.List.Sums.{fails_before_first, prefix_len-le-length
 use Rattle.std.proofs.lemmas.Slice.Eq.{bytes_eq-Decides}
 use Rattle.klp_types.specs.Image.{Symbol, Object, symbols_of}
 use Rattle.klp_types.proofs.SiteLemmas.{symbols_of-take}
-use Rattle.klp_modules.specs.Names.{ObjectNames, Named, named_at, symbol_from, sites_where, first_site, symbol_names, picked, resolved, object_named, names_of, names_of_object}
+use Rattle.klp_modules.specs.Names.{ObjectNames, named_at, sites_where, first_site, symbol_names, picked, resolved, object_named, names_of, names_of_object}
 use Rattle.klp_modules.specs.declared.fault.SymbolFault.TheVariants.{Missing}
 use Rattle.klp_modules.specs.Kept.{texts_of, text_at, object_names, names_from, symbol_count, numbered_first_site, HasTexts, IsApart, Extends, AddsName, AddsNames, AddsObject}
 use Rattle.klp_modules.specs.declared.numbered.NumberedObject.{NumberedObject}
@@ -414,7 +414,7 @@ count_same : (name : List ℕ) (texts : List (List ℕ)) (number : ℕ) (numbers
     count_by (bytes_eq name) (map (text_at texts) numbers) ≡ count_by (λ other. other == number) numbers
 count_same name texts number numbers apart there text below = fold_same name texts number 0 numbers apart there text below
 
-named_is : (texts : List (List ℕ)) (object : NumberedObject) (o place number : ℕ) →
+pub named_is : (texts : List (List ℕ)) (object : NumberedObject) (o place number : ℕ) →
     HasTexts texts object → IsApart texts → slice_get object.symbols.items place ≡ Some number →
     named_at o (map (text_at texts) object.symbols.items) place
     ≡ Some (record { object = o; name = text_at texts number; position = count_by (λ other. other == number) (take (place + 1) object.symbols.items) })
@@ -431,28 +431,3 @@ named_is texts object o place number there apart at =
     ∙ count_same (text_at texts number) texts number (take (place + 1) numbers) apart inside refl
     (All-take (λ n. n < length texts) (place + 1) numbers there.symbols) in
     rw (found, counted)
-
--- the site lies in this object
-pub symbol_here : (texts : List (List ℕ)) (objects : List NumberedObject) (o place number : ℕ) (object : NumberedObject) (whole : Option Named) →
-    symbol_from o (names_from texts (drop o objects)) place ≡ whole → All (HasTexts texts) objects → IsApart texts →
-    o < length objects → object ≡ get_or objects o object → slice_get object.symbols.items place ≡ Some number →
-    Some (record { object = o; name = text_at texts number; position = count_by (λ other. other == number) (take (place + 1) object.symbols.items) }) ≡ whole
-symbol_here texts objects o place number object whole h all apart below is at =
-    let rest : drop o objects ≡ object ∷ drop (o + 1) objects = drop_more objects o object below ∙ ap (λ x. x ∷ drop (o + 1) objects) (sym is) in
-    let there = texts_there texts objects o object all (slice_get_read objects _ o object refl below is) in
-    let inside : place < length (map (text_at texts) object.symbols.items) =
-    omega (arith, slice_get_within object.symbols.items place number at, length-map object.symbols.items (text_at texts)) in
-    let first = rw (rest, lt-ltb place (length (map (text_at texts) object.symbols.items)) inside) at h in
-    sym (named_is texts object o place number there apart at) ∙ first
-
--- it lies behind this object
-pub symbol_behind : (texts : List (List ℕ)) (objects : List NumberedObject) (o place : ℕ) (object : NumberedObject) (whole : Option Named) →
-    symbol_from o (names_from texts (drop o objects)) place ≡ whole →
-    o < length objects → object ≡ get_or objects o object → length object.symbols.items ≤ place →
-    symbol_from (o + 1) (names_from texts (drop (o + 1) objects)) (place - length object.symbols.items) ≡ whole
-symbol_behind texts objects o place object whole h below is past =
-    let rest : drop o objects ≡ object ∷ drop (o + 1) objects = drop_more objects o object below ∙ ap (λ x. x ∷ drop (o + 1) objects) (sym is) in
-    let same : length (map (text_at texts) object.symbols.items) ≡ length object.symbols.items = length-map object.symbols.items (text_at texts) in
-    let behind : length (map (text_at texts) object.symbols.items) ≤ place = omega (arith, same) in
-    let next : o + 1 ≡ suc o = omega arith in
-    rw (next) (rw (rest, le-ltb place (length (map (text_at texts) object.symbols.items)) behind, same, next) at h)

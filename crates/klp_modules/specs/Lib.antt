@@ -1,2 +1,4 @@
 pub mod Names
 pub mod Kept
+pub mod Undo
+pub mod Tables

@@ -7,8 +7,10 @@
 #![tactic(auto)]
 
 mod fault;
+pub mod laws;
 mod modules;
 mod numbered;
+mod tables;
 #[cfg(test)]
 mod tests;
 

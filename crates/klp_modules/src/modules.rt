@@ -1,19 +1,22 @@
-ghost use Rattle.std.specs.Prelude.{◌≡◌, ◌+◌, ◌≤◌, ◌<◌, ◌==◌, length, slice_set, slice_get, slice_index_or, false, option_map, count_by, position, IfOk, IfSome};
-ghost use Rattle.klp_modules.specs.Names.{ObjectNames, names_of_object, Named, opening, object_named, picked, resolved, sites_where, symbol_at_site};
-ghost use Rattle.klp_modules.specs.Kept.{symbol_count, numbered_first_site, texts_of, text_at, AddsName, AddsObject};
-ghost use Rattle.klp_modules.specs.declared.numbered.NumberedObject.{NumberedObject};
+ghost use Rattle.std.specs.Prelude.{◌≡◌, ◌<◌, length, slice_set, slice_get, slice_index_or, false, option_map, IfOk, IfSome};
+ghost use Rattle.klp_modules.specs.Names.{ObjectNames, names_of_object, Named, opening, object_named, picked, resolved, symbol_at_site};
+ghost use Rattle.klp_modules.specs.Kept.{texts_of, text_at, AddsName, AddsObject};
+ghost use Rattle.klp_modules.specs.Undo.{put_back};
 
 use crate::fault::SymbolFault;
-use crate::numbered::NumberedObject;
-use indexmap::IndexSet;
+use crate::numbered::{NumberedObject, NumberedSymbol};
+use crate::tables::{objects_by_name, sites_by_object, symbols_by_site};
+use indexmap::{IndexMap, IndexSet};
 use klp_text::Image;
-use klp_types::{ObjId, Site};
+use klp_types::{ObjId, Record, Site};
 use std::alloc::{AllocError, Global};
 use std::marker::Model;
+use std::mem::replace;
 
 /// The names of all objects and symbols, loaded or not, and which objects are loaded.
 ///
-/// Names are kept once, and compared by their numbers. No call but `new` takes memory.
+/// Names are kept once, and each look-up goes by a table: its cost doesn't grow with the objects or
+/// the symbols. No call but `new` takes memory.
 #[derive(Drop)]
 pub struct Modules {
     /// Every name of an object or a symbol.
@@ -21,11 +24,18 @@ pub struct Modules {
     objects: Vec<NumberedObject>,
     /// By object, whether it is loaded.
     loaded: Vec<bool>,
+    /// By the number of a name, the first object of that name.
+    named: IndexMap<usize, ObjId>,
+    /// By object, the sites of its symbols by the numbers of their names, in order.
+    sites: Vec<IndexMap<usize, Vec<Site>>>,
+    /// By site, the symbol.
+    symbols: Vec<NumberedSymbol>,
 }
 
 impl Model for Modules {
     ghost use Rattle.klp_modules.specs.Names.{ModuleTable};
-    ghost use Rattle.klp_modules.specs.Kept.{IsKept, names_from, texts_of};
+    ghost use Rattle.klp_modules.specs.Kept.{names_from, texts_of};
+    ghost use Rattle.klp_modules.specs.Tables.{IsTabled};
 
     ghost Value = { ModuleTable };
 
@@ -34,11 +44,13 @@ impl Model for Modules {
       loaded = m.loaded.items;
     } };
 
-    ghost invariant = { λ m. IsKept (texts_of m.names.keys) m.objects.items m.loaded.items };
+    ghost invariant = { λ m. IsTabled (texts_of m.names.keys) m.objects.items m.loaded.items m.named m.sites.items m.symbols.items };
 }
 
 impl Modules {
-    /// The names of an image. Object 0 alone is loaded.
+    /// The names of an image. Object 0 alone is loaded. An error is want of memory.
+    ///
+    /// Makes all tables, and compares each symbol with those before it in its object.
     pub fn new(alloc: Global, image: &Image) -> Result<Modules, AllocError>
         ensures { IfOk result (λ modules. modules ≡ opening image.now.image.objects) }
     {
@@ -49,22 +61,27 @@ impl Modules {
         for number in 0..image.objects() {
             objects.push(numbered(alloc, &mut names, image, ObjId(number))?)?;
         }
+        let named = objects_by_name(alloc, &objects)?;
+        let sites = sites_by_object(alloc, &objects)?;
+        let symbols = symbols_by_site(alloc, &objects)?;
         Ok(Modules {
             names,
             objects,
             loaded,
+            named,
+            sites,
+            symbols,
         })
     }
 
-    /// The number of the object of this name. Takes one look-up and goes over the objects.
+    /// The number of the object of this name, the first where several have it. Takes two look-ups.
     pub fn object(&self, name: &str) -> Option<ObjId>
         ensures { result ≡ object_named self.now.names name.now }
     {
         let Some(number) = self.names.get_index_of(name) else {
             return None;
         };
-        let object = object_numbered(&self.objects, number)?;
-        Some(ObjId(object as u8))
+        self.named.get(&number).copied()
     }
 
     /// The name of an object.
@@ -94,67 +111,64 @@ impl Modules {
             .unwrap_or(false)
     }
 
-    /// Notes that an object is loaded, or that it isn't.
-    pub fn set_loaded(&mut self, object: ObjId, loaded: bool)
+    /// Notes that an object is loaded, or that it isn't. The record tells whether it was before: to
+    /// put it back undoes the change.
+    pub fn set_loaded(&mut self, object: ObjId, loaded: bool) -> Record
         requires { object < length self.old.loaded }
-        ensures { self.new ≡ record self.old { loaded = slice_set self.old.loaded object loaded } }
+        ensures flag { self.new ≡ record self.old { loaded = slice_set self.old.loaded object loaded } }
+        ensures was { result ≡ Record.LoadedFlag object (slice_index_or self.old.loaded object false) }
+        ensures undo { put_back self.new result ≡ self.old }
     {
-        self.loaded[usize::from(object.0)] = loaded;
+        let was = replace(&mut self.loaded[usize::from(object.0)], loaded);
+        Record::LoadedFlag { object, was }
+    }
+
+    /// Makes an object loaded, or not, as a record tells. A record of another kind, or of an object
+    /// that isn't there, changes nothing.
+    pub fn put_back(&mut self, row: Record)
+        ensures { self.new ≡ put_back self.old row }
+    {
+        if let Record::LoadedFlag { object, was } = row {
+            if let Some(loaded) = self.loaded.get_mut(usize::from(object.0)) {
+                *loaded = was;
+            }
+        }
     }
 
     /// The site of the symbol that a name and a position pick among an object's symbols, loaded or
     /// not: position 0 asks for the only one of that name, and n for the n-th in the object's
     /// order (livepatch, Metadata). An object that isn't there has no symbols.
     ///
-    /// Takes one look-up and goes over the symbols of the object.
+    /// Takes two look-ups, and no walk over the symbols.
     pub fn resolve(&self, object: ObjId, name: &str, position: u32) -> Result<Site, SymbolFault>
         ensures { result ≡ resolved self.now.names object name.now position }
     {
         let Some(number) = self.names.get_index_of(name) else {
             return Err(SymbolFault::Missing);
         };
-        let Some(found) = self.objects.get(usize::from(object.0)) else {
+        let Some(table) = self.sites.get(usize::from(object.0)) else {
             return Err(SymbolFault::Missing);
         };
-        let first = first_site(&self.objects, usize::from(object.0));
-        pick(first, &found.symbols, number, position)
+        let Some(sites) = table.get(&number) else {
+            return Err(SymbolFault::Missing);
+        };
+        pick(sites, position)
     }
 
     /// The symbol of a site: its object, its name, and its position from 1 among the symbols of
-    /// that name in the object.
+    /// that name in the object. Takes no look-up: a table has it by the site.
     pub fn symbol(&self, site: Site) -> Option<(ObjId, &str, u32)>
         ensures object { option_map (λ found. found.0) result ≡ option_map (λ (s : Named). s.object) (symbol_at_site self.now.names site) }
         ensures name { option_map (λ found. found.1.now) result ≡ option_map (λ (s : Named). s.name) (symbol_at_site self.now.names site) }
         ensures position { option_map (λ found. found.2) result ≡ option_map (λ (s : Named). s.position) (symbol_at_site self.now.names site) }
     {
-        let mut place = usize::from(site.0);
-        for (number, object) in self.objects.iter().enumerate() {
-            if let Some(name) = object.symbols.get(place) {
-                let position = count(&object.symbols[..place + 1], *name);
-                return Some((
-                    ObjId(number as u8),
-                    text(&self.names, *name),
-                    position as u32,
-                ));
-            }
-            place -= object.symbols.len();
-        }
-        None
+        let symbol = self.symbols.get(usize::from(site.0))?;
+        Some((
+            symbol.object,
+            text(&self.names, symbol.name),
+            symbol.position,
+        ))
     }
-}
-
-/// The place of the object whose name has this number.
-fn object_numbered(objects: &[NumberedObject], number: usize) -> Option<usize>
-    ensures { result ≡ position (λ (object : NumberedObject). object.name == number) objects.now }
-{
-    objects.iter().position(|object| object.name == number)
-}
-
-/// How many of the symbols have the name of this number.
-fn count(symbols: &[usize], number: usize) -> usize
-    ensures { result ≡ count_by (λ other. other == number) symbols.now }
-{
-    symbols.iter().filter(|other| **other == number).count()
 }
 
 /// The text of a number.
@@ -165,51 +179,23 @@ fn text(names: &IndexSet<String>, number: usize) -> &str
     names.as_slice()[number].as_str()
 }
 
-/// The site of an object's first symbol.
-fn first_site(objects: &[NumberedObject], object: usize) -> u16
-    requires { symbol_count objects.now ≤ 256 }
-    ensures { result ≡ numbered_first_site objects.now object }
+/// The one of the sites that a position picks.
+fn pick(sites: &[Site], position: u32) -> Result<Site, SymbolFault>
+    ensures { result ≡ picked sites.now position }
 {
-    let mut site = 0;
-    for (number, other) in objects.iter().enumerate() {
-        if number == object {
-            return site;
-        }
-        site += other.symbols.len() as u16;
-    }
-    site
-}
-
-/// The site that a position picks among the symbols of one name, where the first symbol's is this.
-fn pick(first: u16, symbols: &[usize], number: usize, position: u32) -> Result<Site, SymbolFault>
-    requires { first + length symbols.now ≤ 256 }
-    ensures { result ≡ picked (sites_where (λ other. other == number) first symbols.now) position }
-{
-    let site = nth(first, symbols, number, 0).ok_or(SymbolFault::Missing)?;
+    let Some(first) = sites.first() else {
+        return Err(SymbolFault::Missing);
+    };
     if position > 0 {
-        return nth(first, symbols, number, position - 1).ok_or(SymbolFault::NoPosition);
+        return match sites.get(position as usize - 1) {
+            Some(site) => Ok(*site),
+            None => Err(SymbolFault::NoPosition),
+        };
     }
-    match nth(first, symbols, number, 1) {
-        Some(_) => Err(SymbolFault::Ambiguous),
-        None => Ok(site),
+    if sites.len() > 1 {
+        return Err(SymbolFault::Ambiguous);
     }
-}
-
-/// The site of the n-th of them, counted from 0.
-fn nth(first: u16, symbols: &[usize], number: usize, n: u32) -> Option<Site>
-    requires { first + length symbols.now ≤ 256 }
-    ensures { result ≡ slice_get (sites_where (λ other. other == number) first symbols.now) n }
-{
-    let mut left = n;
-    for (place, symbol) in symbols.iter().enumerate() {
-        if *symbol == number {
-            if left == 0 {
-                return Some(Site(first + place as u16));
-            }
-            left -= 1;
-        }
-    }
-    None
+    Ok(*first)
 }
 
 /// An object by the numbers of its names, which are kept from now on.

@@ -2,7 +2,7 @@ ghost use Rattle.std.specs.Prelude.{◌≡◌, IfOk, length};
 
 use crate::{Modules, SymbolFault};
 use klp_text::Image;
-use klp_types::{ObjId, ObjectText, Site, SymbolText};
+use klp_types::{ObjId, ObjectText, Record, Site, SymbolText};
 use std::alloc::{AllocError, Global};
 use std::test::Fail;
 
@@ -42,7 +42,7 @@ fn objects(alloc: Global) -> Result<Vec<ObjectText>, AllocError>
 #[test]
 fn names_and_positions(rt: HostRuntime) -> Result<(), Fail> {
     let image = Image::new(rt.alloc(), objects(rt.alloc())?, 0x1000)?;
-    let mut modules = Modules::new(rt.alloc(), &image)?;
+    let modules = Modules::new(rt.alloc(), &image)?;
     let (kernel, module) = (ObjId(0), ObjId(1));
     let cases = [
         (kernel, "d", 0, Err(SymbolFault::Ambiguous)),
@@ -90,8 +90,25 @@ fn names_and_positions(rt: HostRuntime) -> Result<(), Fail> {
     assert!(rt;
         modules.is_loaded(kernel) && !modules.is_loaded(module) && !modules.is_loaded(ObjId(2))
     );
-    modules.set_loaded(module, true);
+    Ok(())
+}
+
+#[test]
+fn a_flag_and_its_record(rt: HostRuntime) -> Result<(), Fail> {
+    let image = Image::new(rt.alloc(), objects(rt.alloc())?, 0x1000)?;
+    let mut modules = Modules::new(rt.alloc(), &image)?;
+    let (kernel, module) = (ObjId(0), ObjId(1));
+    let row = modules.set_loaded(module, true);
+    assert_eq!(rt;
+        row,
+        Record::LoadedFlag {
+            object: module,
+            was: false
+        }
+    );
     assert!(rt; modules.is_loaded(kernel) && modules.is_loaded(module));
+    modules.put_back(row);
+    assert!(rt; modules.is_loaded(kernel) && !modules.is_loaded(module));
     Ok(())
 }
 

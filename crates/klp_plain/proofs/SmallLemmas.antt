@@ -3,7 +3,7 @@ use Rattle.std.proofs.Common.{◌≡◌, ℕ, zero, suc, ◌+◌, ◌<◌, Bool,
 use Rattle.std.specs.Prelude.{slice_get, ◌&&◌, IfSome, nat_lt}
 use Rattle.std.specs.List.{list_all}
 use Rattle.klp_types.specs.Image.{Symbol, symbols_of}
-use Rattle.klp_types.specs.Setting.{Setting, Patch, patch_functions}
+use Rattle.klp_types.specs.Setting.{Setting, Patch, all_functions, patch_objects}
 use Rattle.klp_plain.specs.Plain.{IsSmall, has_few_functions, has_room_behind, is_small}
 use borrow.Author.Tests.{ltb-true}
 
@@ -15,7 +15,7 @@ and-second : (a b : Bool) → (a && b) ≡ true → b ≡ true
 and-second true b h = h
 and-second false b h = let no : ⊥ = cc in absurd no
 
-few : (patches : List Patch) (patch : ℕ) → list_all has_few_functions patches ≡ true → length (patch_functions (slice_get patches patch)) < 65536
+few : (patches : List Patch) (patch : ℕ) → list_all has_few_functions patches ≡ true → length (all_functions (patch_objects (slice_get patches patch))) < 65536
 few [] patch h = lit< tt
 few (p ∷ patches) zero h = let e = and-first (has_few_functions p) (list_all has_few_functions patches) h in omega (arith, ltb-true)
 few (p ∷ patches) (suc patch) h = few patches patch (and-second (has_few_functions p) (list_all has_few_functions patches) h)

@@ -1,7 +1,7 @@
 ghost use Rattle.std.specs.declared.alloc.Global.{Global as TheGlobal};
 ghost use Rattle.std.specs.Prelude.{Vec, ◌≡◌, ◌<◌, length, IfOk, IfSome, option_map, reverse};
 ghost use Rattle.klp_types.specs.Image.{object_of};
-ghost use Rattle.klp_types.specs.Setting.{all_functions, functions_of, function_for, replaces};
+ghost use Rattle.klp_types.specs.Setting.{all_functions, functions_of, function_for};
 ghost use Rattle.klp_types.specs.Entries.{entries_from, is_site_loaded};
 ghost use Rattle.klp_plain.specs.Plain.{IsSmall, entries_at};
 
@@ -28,10 +28,7 @@ pub(crate) fn functions(
 ) -> Result<Vec<Function>, AllocError>
     ensures { IfOk result (λ functions. functions.items ≡ functions_of setting.now patch) }
 {
-    match setting.patches.get(usize::from(patch.0)) {
-        Some(patch) => all_functions(alloc, &patch.objects),
-        None => Ok(Vec::new(alloc)),
-    }
+    all_functions(alloc, setting.objects_of(patch))
 }
 
 // Which function stands in for the site's, counted from 0.
@@ -45,16 +42,6 @@ fn function_for(functions: &[Function], site: Site) -> Option<usize>
         }
     }
     None
-}
-
-// Whether the catalog has the patch and it replaces all older ones.
-fn replaces(setting: &Setting, patch: PatchId) -> bool
-    ensures { result ≡ replaces setting.now patch }
-{
-    match setting.patches.get(usize::from(patch.0)) {
-        Some(patch) => patch.replace,
-        None => false,
-    }
 }
 
 // The object that a site lies in.
@@ -104,7 +91,7 @@ pub(crate) fn entries_over(
                 has_function = true;
             }
             None => {
-                if has_function && replaces(setting, *patch) {
+                if has_function && setting.replaces(*patch) {
                     entries.push(Entry {
                         patch: *patch,
                         func: None,

@@ -1,11 +1,29 @@
-ghost use Rattle.std.specs.Prelude.{◌≡◌, IfOk, OnOk, OnErr, Some};
-ghost use Rattle.klp_types.specs.Step.{first_of, refusals, enabled, completed};
+ghost use Rattle.std.specs.Prelude.{◌≡◌, IfOk, OnOk, OnErr, Some, is_none};
+ghost use Rattle.std.specs.List.{list_any};
+ghost use Rattle.klp_types.specs.FirstOf.{first_of};
+ghost use Rattle.klp_types.specs.Setting.{Function as FunctionOf};
+ghost use Rattle.klp_types.specs.Step.{lacks_symbol, refusals, enabled, completed};
 ghost use Rattle.klp_types.specs.declared.event.Event.TheVariants.{Enable};
 ghost use Rattle.klp_types.specs.Run.{answer, next};
 
-use crate::setting::{Setting, State};
+use crate::setting::{Function, Setting, State};
 use klp_types::{Event, Move, PatchId, Refusal, Reply};
 use std::alloc::{AllocError, Global};
+
+// Whether a function names no site.
+fn lacks_site(functions: &[Function]) -> bool
+    ensures { result ≡ list_any (λ (f : FunctionOf). is_none f.site) functions.now }
+{
+    functions.iter().any(|function| function.site.is_none())
+}
+
+// Whether a function for a loaded object names no site.
+fn lacks_symbol(setting: &Setting, state: &State, patch: PatchId) -> bool
+    ensures { result ≡ lacks_symbol setting.now state.now patch }
+{
+    setting.objects_of(patch).iter().any(|o| state.is_loaded(usize::from(o.object.0))
+        && lacks_site(&o.functions))
+}
 
 // Why the patch can't be enabled.
 fn enable_refusal(setting: &Setting, state: &State, patch: PatchId) -> Option<Refusal>
@@ -17,6 +35,10 @@ fn enable_refusal(setting: &Setting, state: &State, patch: PatchId) -> Option<Re
         Some(Refusal::AlreadyThere)
     } else if state.moving.is_some() {
         Some(Refusal::Busy)
+    } else if lacks_symbol(setting, state, patch) {
+        Some(Refusal::NoSymbol)
+    } else if setting.replaces(patch) {
+        Some(Refusal::Incompatible)
     } else {
         None
     }

@@ -97,6 +97,7 @@ impl Model for State {
 
 impl Setting {
     ghost use Rattle.std.specs.Prelude.{◌≡◌, IsTrue};
+    ghost use Rattle.klp_types.specs.Setting.{objects_of, replaces};
     ghost use Rattle.klp_plain.specs.Plain.{IsSmall, is_small};
 
     /// Whether the tables are small enough for a plain machine.
@@ -105,6 +106,26 @@ impl Setting {
         ensures small { IsTrue result → IsSmall self.now }
     {
         self.passes()
+    }
+
+    /// The objects of a patch in order: none where the catalog has no such patch.
+    pub(crate) fn objects_of(&self, patch: PatchId) -> &[PatchObject]
+        ensures { result.now ≡ objects_of self.now patch }
+    {
+        match self.patches.get(usize::from(patch.0)) {
+            Some(patch) => &patch.objects,
+            None => &[],
+        }
+    }
+
+    /// Whether the catalog has the patch and it replaces all older ones.
+    pub(crate) fn replaces(&self, patch: PatchId) -> bool
+        ensures { result ≡ replaces self.now patch }
+    {
+        match self.patches.get(usize::from(patch.0)) {
+            Some(patch) => patch.replace,
+            None => false,
+        }
     }
 
     fn passes(&self) -> bool

@@ -135,6 +135,49 @@ fn events_are_refused_in_order(rt: HostRuntime) -> Result<(), Fail> {
         (Event::Poll, Ok(Reply::Completed(true))),
         (Event::Poll, Err(Refusal::NotMoving)),
         (Event::Enable(PatchId(0)), Err(Refusal::AlreadyThere)),
+        // c is a cumulative patch
+        (Event::Enable(PatchId(1)), Err(Refusal::Incompatible)),
+    ];
+    for (event, want) in events {
+        assert_eq!(rt;
+            step(alloc, &setting, &mut state, event)?,
+            want,
+            "{event:?}"
+        );
+    }
+    Ok(())
+}
+
+// A function that names no site.
+fn lacking(alloc: Global, object: u8) -> Result<PatchObject, AllocError> {
+    Ok(PatchObject {
+        object: ObjId(object),
+        functions: vec![in alloc;
+            Function {
+                site: None,
+                address: 0
+            },
+        ]?,
+    })
+}
+
+#[test]
+fn a_function_without_a_site_is_refused_in_a_loaded_object(rt: HostRuntime) -> Result<(), Fail> {
+    let alloc = rt.alloc();
+    let mut setting = setting(alloc)?;
+    for (replace, object) in [(false, 0), (true, 0), (false, 1)] {
+        let patch = Patch {
+            replace,
+            objects: vec![in alloc; lacking(alloc, object)?]?,
+        };
+        setting.patches.push(patch)?;
+    }
+    let mut state = opening(alloc)?;
+    let events = [
+        (Event::Enable(PatchId(2)), Err(Refusal::NoSymbol)),
+        (Event::Enable(PatchId(3)), Err(Refusal::NoSymbol)),
+        (Event::Enable(PatchId(4)), Ok(Reply::Started)),
+        (Event::Enable(PatchId(2)), Err(Refusal::Busy)),
     ];
     for (event, want) in events {
         assert_eq!(rt;

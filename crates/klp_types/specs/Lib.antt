@@ -4,8 +4,10 @@ pub mod State
 pub mod Entries
 pub mod Bytes
 pub mod Pick
+pub mod FirstOf
 pub mod Step
 pub mod Run
 pub mod Records
 pub mod World
 pub mod Script
+pub mod Compatible

@@ -26,13 +26,17 @@ abbrev pub all_functions : List PatchObject → List Function
 all_functions [] = []
 all_functions (object ∷ objects) = object.functions ++ all_functions objects
 
-abbrev pub patch_functions : Option Patch → List Function
-patch_functions None = []
-patch_functions (Some patch) = all_functions patch.objects
+abbrev pub patch_objects : Option Patch → List PatchObject
+patch_objects None = []
+patch_objects (Some patch) = patch.objects
 
--- the functions of a patch of the catalog, counted from 0 over its objects in order; a patch that isn't there has none
+-- the objects of a patch of the catalog, in order; a patch that isn't there has none
+abbrev pub objects_of : Setting → ℕ → List PatchObject
+objects_of setting patch = patch_objects (slice_get setting.patches patch)
+
+-- the functions of a patch of the catalog, counted from 0 over its objects in order
 abbrev pub functions_of : Setting → ℕ → List Function
-functions_of setting patch = patch_functions (slice_get setting.patches patch)
+functions_of setting patch = all_functions (objects_of setting patch)
 
 abbrev pub patch_replaces : Option Patch → Bool
 patch_replaces None = false

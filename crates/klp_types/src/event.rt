@@ -31,6 +31,13 @@ pub enum Refusal {
     /// The patch is installed already.
     #[error("AlreadyThere")]
     AlreadyThere = 3,
+    /// The patch isn't compatible with the installed ones. So far this is every cumulative patch:
+    /// none can be enabled yet.
+    #[error("Incompatible")]
+    Incompatible = 5,
+    /// A function of the patch for a loaded object names no symbol of it, or not one alone.
+    #[error("NoSymbol")]
+    NoSymbol = 6,
     /// No patch is in transition.
     #[error("NotMoving")]
     NotMoving = 15,

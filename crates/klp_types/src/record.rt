@@ -1,7 +1,7 @@
 ghost use Rattle.std.specs.Prelude.{◌≡◌, ◌<◌, [], ◌∷◌, ◌++◌, IfOk, IfSome, IfNone};
 ghost use Rattle.klp_types.specs.Records.{spare_of};
 
-use crate::number::PatchId;
+use crate::number::{ObjId, PatchId};
 use crate::shadow::ShadowKey;
 use std::alloc::{AllocError, Global};
 use std::marker::Model;
@@ -31,6 +31,11 @@ pub enum Record {
     InstalledPatch {
         patch: PatchId,
         place: Option<u8>,
+    },
+    /// Whether an object was loaded.
+    LoadedFlag {
+        object: ObjId,
+        was: bool,
     },
 }
 

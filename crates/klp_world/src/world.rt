@@ -269,8 +269,9 @@ impl World {
         }
     }
 
-    /// Gives one row what the record tells. A row for which there is no room stays away; none is
-    /// met where the records of changes are put back newest first.
+    /// Gives one row what the record tells; a row that isn't the world's changes nothing. A row for
+    /// which there is no room stays away; none is met where the records of changes are put back
+    /// newest first.
     pub fn put_back(&mut self, row: Record)
         ensures { self.new ≡ put_back self.old row }
     {
@@ -281,6 +282,7 @@ impl World {
             }
             Record::StateRow { patch, id, was } => self.put_state(patch, id, was),
             Record::InstalledPatch { patch, place } => self.put_patch(patch, place),
+            Record::LoadedFlag { .. } => {}
         }
     }
 

@@ -1,6 +1,6 @@
-use Rattle.std.proofs.Common.{length, ap, arith}
+use Rattle.std.proofs.Common.{length, ap, sym, arith}
 use Rattle.klp_catalog.specs.Parts.{last_of, targets_of}
-use Rattle.klp_catalog.proofs.DraftLemmas.{kept-target}
+use Rattle.klp_catalog.proofs.DraftLemmas.{kept-target, found_within}
 use Rattle.klp_catalog.proofs.LineLemmas.{positive}
 use Rattle.klp_catalog.proofs.draft.Draft.place_target.Goals as goal
 
@@ -9,4 +9,5 @@ invariant_of-self-2 c =
     let some = positive _ c.if-is_empty.ensures in
     let same = ap length c.open_targets-targets.ensures in
     let plain = ap (λ patches. length (targets_of (last_of patches))) c.deref.ensures.value in
-    kept-target c.self.invariant c.in-Some.number c.push_target.new.patches.items (omega arith) (omega (arith, same, plain)) c.in_ok-push_target.ensures.ok
+    let there = found_within c.self.inside.objects.items _ _ c.in-Some.number c.self.invariant.objects_by_name (sym c.in-Some.ensures) in
+    kept-target c.self.invariant c.in-Some.number c.push_target.new.patches.items there (omega arith) (omega (arith, same, plain)) c.in_ok-push_target.ensures.ok

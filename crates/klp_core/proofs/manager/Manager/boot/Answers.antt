@@ -1,8 +1,8 @@
-use Rattle.std.proofs.Common.{sym, ◌∙◌}
+use Rattle.std.proofs.Common.{refl}
 use Rattle.klp_core.proofs.BootLemmas.{kept_at_boot}
 use Rattle.klp_core.proofs.manager.Manager.boot.Goals as goal
 
 pub invariant_of-result : goal.invariant_of-result
 invariant_of-result c =
-    let fit = sym c.is_mismatch.ensures ∙ c.if-is_mismatch.false in
-    rw c.new.ensures (kept_at_boot c.args.image c.args.patches.items c.requires.as_made c.requires.limits (rw c.deref.ensures.value at fit))
+    let named = c.requires.names (c.if-not-is_match.ensures.matches refl) in
+    rw c.new.ensures (kept_at_boot c.args.image c.args.modules c.args.catalog c.requires.image c.requires.limits c.requires.modules named)

@@ -9,20 +9,11 @@ pub returns-in_default : goal.returns-in_default
 returns-in_default c =
     let none : position (bytes_eq c.args.name.now) (texts_of c.self.inside.names.keys) ≡ None =
     sym (position-texts (bytes_eq c.args.name.now) c.self.inside.names.keys) ∙ sym c.in_default.ensures.index in
-    rw (← c.self.view_is) (sym (object_named-absent _ c.self.inside.objects.items c.args.name.now c.self.invariant.numbered none))
-
-pub returns-in_err-object : goal.returns-in_err-object
-returns-in_err-object c =
-    let some : position (bytes_eq c.args.name.now) (texts_of c.self.inside.names.keys) ≡ Some c.in-Some.number =
-    sym (position-texts (bytes_eq c.args.name.now) c.self.inside.names.keys) ∙ sym c.in-Some.ensures.index in
-    let is = object_named-number _ c.self.inside.objects.items c.args.name.now c.in-Some.number c.self.invariant.numbered c.self.invariant.apart some in
-    let place = rw (c.deref.ensures.value) at c.in_err-object.ensures in
-    rw (c.from_residual.ensures, ← c.self.view_is) (place ∙ sym is)
+    rw (← c.self.view_is) (sym (object_named-absent _ c.self.inside.objects.items c.args.name.now c.self.invariant.kept.numbered none))
 
 pub returns : goal.returns
 returns c =
     let some : position (bytes_eq c.args.name.now) (texts_of c.self.inside.names.keys) ≡ Some c.in-Some.number =
     sym (position-texts (bytes_eq c.args.name.now) c.self.inside.names.keys) ∙ sym c.in-Some.ensures.index in
-    let is = object_named-number _ c.self.inside.objects.items c.args.name.now c.in-Some.number c.self.invariant.numbered c.self.invariant.apart some in
-    let place = rw (c.deref.ensures.value) at c.in_ok-object.ensures in
-    rw (← c.self.view_is) (place ∙ sym is)
+    let is = object_named-number _ c.self.inside.objects.items c.args.name.now c.in-Some.number c.self.invariant.kept.numbered c.self.invariant.kept.apart some in
+    rw (← c.self.view_is) (c.copied.ensures ∙ c.get.ensures.value ∙ (c.self.invariant.by_name c.in-Some.number ∙ sym is))

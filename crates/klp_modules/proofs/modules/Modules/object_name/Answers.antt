@@ -11,7 +11,7 @@ pub text-requires : goal.text-requires
 text-requires c =
     let read = c.in_ok-object.ensures.lookup in
     let found = rw (c.deref.ensures.value) at (slice_get_read c.deref.result.now _ c.from.result c.in_ok-object.object.now refl read.3.0 read.1) in
-    let there = texts_there _ _ _ _ c.self.invariant.numbered found in
+    let there = texts_there _ _ _ _ c.self.invariant.kept.numbered found in
     omega (arith, there.name, length-map c.self.inside.names.keys string_bytes)
 
 pub returns : goal.returns

@@ -20,7 +20,7 @@ counted c = c.len.ensures ∙ c.in_ok-object.object.now.symbols.ok.0
 pub overflow_cast-result : goal.overflow_cast-result
 overflow_cast-result c =
     let few = first_site-count c.self.inside.objects.items c.args.object c.in_ok-object.object.now (found c) in
-    omega (arith, few, counted c, c.self.invariant.few_symbols)
+    omega (arith, few, counted c, c.self.invariant.kept.few_symbols)
 
 pub returns : goal.returns
 returns c =

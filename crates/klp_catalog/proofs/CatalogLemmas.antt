@@ -1,0 +1,201 @@
+-- What a catalog keeps is what its plan and its modules give.
+use Rattle.std.proofs.Common.{◌≡◌, ℕ, zero, suc, ◌+◌, ◌<◌, ◌≤◌, Bool, true, false, ◌||◌, List, [], ◌∷◌, ◌++◌, length, map, slice_get, option_map, find, reverse, Some, None, Option, refl, sym, ap, ◌∙◌, arith, length-append, if◌then◌else◌}
+use Rattle.std.specs.Prelude.{IfSome, is_some, take, ok_or}
+use Rattle.std.specs.List.{All, AllByRecursion, list_all}
+use Rattle.std.specs.Result.{result_ok}
+use Rattle.std.proofs.lemmas.List.{length-map, map-append}
+use Rattle.std.proofs.lemmas.List.Elements.{All-append, All-cons, All-nil}
+use Rattle.std.proofs.lemmas.List.Sums.{sum_by-cons}
+use Rattle.std.proofs.lemmas.List.Folds.{list_all-map}
+use Rattle.std.proofs.lemmas.Option.{slice_get-map}
+use Rattle.klp_types.specs.Compatible.{SystemState, version_among, can_live_with}
+use Rattle.klp_types.specs.Setting.{all_functions, patch_objects}
+use Rattle.klp_modules.specs.Names.{ObjectNames, first_site, symbol_names, sites_where, picked}
+use Rattle.klp_modules.specs.declared.fault.SymbolFault.TheVariants.{NoPosition}
+use Rattle.klp_catalog.specs.Plan.{PlanFunction, PlanTarget, PlanPatch}
+use Rattle.klp_catalog.specs.Parts.{function_count}
+use Rattle.klp_catalog.specs.Limits.{IsSmall}
+use Rattle.klp_catalog.specs.Catalog.{site_of, resolved_function, functions_of_target, functions_of_patch, targets_of_patch, setting_function, patch_object, setting_patch, has_same_site, some_same_site}
+use Rattle.klp_catalog.specs.States as states
+use Rattle.klp_catalog.specs.Assembled.{IsInObject, LiesInObject}
+use Rattle.klp_catalog.specs.Stored.{StoredPatch, stored_patch, stored_functions, stored_states, stored_replaces, states_at, can_live_with_patch, newest_naming, symbol_count, IsStored}
+
+-- ---- lists
+
+list_all-same : {A : Type 0} (p q : A → Bool) → ((x : A) → p x ≡ q x) → (xs : List A) → list_all p xs ≡ list_all q xs
+list_all-same p q same [] = refl
+list_all-same p q same (x ∷ xs) = rw (same x, list_all-same p q same xs)
+
+find-same : {A : Type 0} (p q : A → Bool) → ((x : A) → p x ≡ q x) → (xs : List A) → find p xs ≡ find q xs
+find-same p q same [] = refl
+find-same p q same (x ∷ xs) = rw (same x, find-same p q same xs)
+
+-- ---- the sites of a name lie in its object
+
+-- each of them is a place of the list
+sites_where-within : {A : Type 0} (test : A → Bool) (first : ℕ) (xs : List A) (site n : ℕ) → slice_get (sites_where test first xs) n ≡ Some site
+    → (first ≤ site) × (site < first + length xs)
+sites_where-within test first [] site n h = let no : ⊥ = cc in absurd no
+sites_where-within test first (x ∷ xs) site n h = by (test x) n (λ m e. sites_where-within test (suc first) xs site m e) h
+  where
+    by : (b : Bool) (n : ℕ) → ((m : ℕ) → slice_get (sites_where test (suc first) xs) m ≡ Some site → (suc first ≤ site) × (site < suc first + length xs))
+        → slice_get (if b then first ∷ sites_where test (suc first) xs else sites_where test (suc first) xs) n ≡ Some site
+        → (first ≤ site) × (site < first + length (x ∷ xs))
+    by true zero later e = let same : first ≡ site = cc in (omega arith, omega arith)
+    by true (suc m) later e = let rest = later m e in (omega (arith, rest.0), omega (arith, rest.1))
+    by false m later e = let rest = later m e in (omega (arith, rest.0), omega (arith, rest.1))
+
+-- what is picked is one of the sites
+picked-among : (sites : List ℕ) (position site : ℕ) → result_ok (picked sites position) ≡ Some site → (n : ℕ) × (slice_get sites n ≡ Some site)
+picked-among [] position site h = let no : ⊥ = cc in absurd no
+picked-among (s ∷ []) zero site h = (0, h)
+picked-among (s ∷ other ∷ sites) zero site h = let no : ⊥ = cc in absurd no
+picked-among (s ∷ sites) (suc n) site h = (n, there (slice_get (s ∷ sites) n) h)
+  where
+    there : (found : Option ℕ) → result_ok (ok_or found NoPosition) ≡ Some site → found ≡ Some site
+    there (Some x) e = e
+    there None e = let no : ⊥ = cc in absurd no
+
+site_in_object : (names : List ObjectNames) (object : ℕ) (function : PlanFunction) (site : ℕ) → site_of names object function ≡ Some site → IsInObject names object site
+site_in_object names object function site h =
+    let among = picked-among _ function.sympos site h in
+    let within = sites_where-within _ (first_site names object) (symbol_names (slice_get names object)) site among.0 among.1 in
+    record { from = within.0; below = within.1 }
+
+lies_in_object : (names : List ObjectNames) (object : ℕ) (function : PlanFunction) → LiesInObject names (resolved_function names object function)
+lies_in_object names object function = by (site_of names object function) (λ site h. site_in_object names object function site h)
+  where
+    by : (found : Option ℕ) → ((site : ℕ) → found ≡ Some site → IsInObject names object site) → IfSome found (λ site. IsInObject names object site)
+    by None h = tt
+    by (Some site) h = h site refl
+
+-- ---- the functions of a patch
+
+target_in_object : (names : List ObjectNames) (object : ℕ) (functions : List PlanFunction) → All (LiesInObject names) (map (resolved_function names object) functions)
+target_in_object names object [] = All-nil (LiesInObject names)
+target_in_object names object (function ∷ functions) =
+    All-cons (LiesInObject names) (resolved_function names object function) (map (resolved_function names object) functions) (lies_in_object names object function) (target_in_object names object functions)
+
+pub patch_in_object : (names : List ObjectNames) (targets : List PlanTarget) → All (LiesInObject names) (functions_of_patch names targets)
+patch_in_object names [] = All-nil (LiesInObject names)
+patch_in_object names (target ∷ targets) =
+    All-append (LiesInObject names) (functions_of_target names target) (functions_of_patch names targets) (target_in_object names target.object target.functions) (patch_in_object names targets)
+
+pub setting-functions : (names : List ObjectNames) (targets : List PlanTarget) → map setting_function (functions_of_patch names targets) ≡ all_functions (map (patch_object names) targets)
+setting-functions names [] = refl
+setting-functions names (target ∷ targets) =
+    map-append setting_function (functions_of_target names target) (functions_of_patch names targets)
+    ∙ ap (λ fs. map setting_function (functions_of_target names target) ++ fs) (setting-functions names targets)
+
+pub length-functions : (names : List ObjectNames) (targets : List PlanTarget) → length (functions_of_patch names targets) ≡ function_count targets
+length-functions names [] = refl
+length-functions names (target ∷ targets) =
+    omega (
+      arith,
+      length-append (functions_of_target names target) (functions_of_patch names targets),
+      length-map target.functions (resolved_function names target.object),
+      length-functions names targets,
+      sum_by-cons (λ (t : PlanTarget). length t.functions) target targets,
+    )
+
+-- ---- a patch that is there, or isn't
+
+few_in_patch : (patches : List PlanPatch) (p : ℕ) → AllByRecursion IsSmall patches → function_count (targets_of_patch (slice_get patches p)) ≤ 64
+few_in_patch [] p small = omega arith
+few_in_patch (patch ∷ patches) zero small = small.0.few_functions
+few_in_patch (patch ∷ patches) (suc p) small = few_in_patch patches p small.1
+
+apart_in_patch : (names : List ObjectNames) (patches : List PlanPatch) (p : ℕ) → some_same_site names patches ≡ false
+    → has_same_site (functions_of_patch names (targets_of_patch (slice_get patches p))) ≡ false
+apart_in_patch names [] p h = refl
+apart_in_patch names (patch ∷ patches) p h = by (has_same_site (functions_of_patch names patch.targets)) refl h p (λ q rest. apart_in_patch names patches q rest)
+  where
+    by : (b : Bool) → has_same_site (functions_of_patch names patch.targets) ≡ b → (b || some_same_site names patches) ≡ false → (p : ℕ)
+        → ((q : ℕ) → some_same_site names patches ≡ false → has_same_site (functions_of_patch names (targets_of_patch (slice_get patches q))) ≡ false)
+        → has_same_site (functions_of_patch names (targets_of_patch (slice_get (patch ∷ patches) p))) ≡ false
+    by true e wrong p later = let false_is_true : ⊥ = cc in absurd false_is_true
+    by false e rest zero later = e
+    by false e rest (suc p) later = later p rest
+
+objects_in_patch : (names : List ObjectNames) (found : Option PlanPatch) → patch_objects (option_map (setting_patch names) found) ≡ map (patch_object names) (targets_of_patch found)
+objects_in_patch names None = refl
+objects_in_patch names (Some patch) = refl
+
+module _ {names : List ObjectNames} {patches : List PlanPatch} {symbols : List ℕ} {patch_names : List (List ℕ)} {stored : List StoredPatch}
+    (kept : IsStored names patches symbols patch_names stored) where
+  slice_get-stored : (p : ℕ) → slice_get stored p ≡ option_map (stored_patch names) (slice_get patches p)
+  slice_get-stored p = ap (λ xs. slice_get xs p) kept.resolved ∙ slice_get-map (stored_patch names) patches p
+
+  pub functions_are : (p : ℕ) → stored_functions (slice_get stored p) ≡ functions_of_patch names (targets_of_patch (slice_get patches p))
+  functions_are p = ap stored_functions (slice_get-stored p) ∙ by (slice_get patches p)
+    where
+      by : (found : Option PlanPatch) → stored_functions (option_map (stored_patch names) found) ≡ functions_of_patch names (targets_of_patch found)
+      by None = refl
+      by (Some patch) = refl
+
+  pub states_are : (p : ℕ) → states_at stored p ≡ states.states_of_patch (slice_get patches p)
+  states_are p = ap stored_states (slice_get-stored p) ∙ by (slice_get patches p)
+    where
+      by : (found : Option PlanPatch) → stored_states (option_map (stored_patch names) found) ≡ states.states_of_patch found
+      by None = refl
+      by (Some patch) = refl
+
+  pub replaces_is : (p : ℕ) → stored_replaces (slice_get stored p) ≡ states.is_cumulative (slice_get patches p)
+  replaces_is p = ap stored_replaces (slice_get-stored p) ∙ by (slice_get patches p)
+    where
+      by : (found : Option PlanPatch) → stored_replaces (option_map (stored_patch names) found) ≡ states.is_cumulative found
+      by None = refl
+      by (Some patch) = refl
+
+  pub in_setting : (p : ℕ) → map setting_function (functions_of_patch names (targets_of_patch (slice_get patches p)))
+      ≡ all_functions (patch_objects (slice_get (map (setting_patch names) patches) p))
+  in_setting p =
+      setting-functions names (targets_of_patch (slice_get patches p))
+      ∙ ap all_functions (sym (ap patch_objects (slice_get-map (setting_patch names) patches p) ∙ objects_in_patch names (slice_get patches p)))
+
+  pub few_functions : (p : ℕ) → length (functions_of_patch names (targets_of_patch (slice_get patches p))) ≤ 64
+  few_functions p = omega (arith, length-functions names (targets_of_patch (slice_get patches p)), few_in_patch patches p kept.few.each_small)
+
+  pub apart_functions : (p : ℕ) → has_same_site (functions_of_patch names (targets_of_patch (slice_get patches p))) ≡ false
+  apart_functions p = apart_in_patch names patches p kept.apart
+
+  live_with-same : (p other : ℕ) → can_live_with_patch stored p other
+      ≡ list_all (λ (s : SystemState). can_live_with (states.is_cumulative (slice_get patches p)) s (version_among s.id (states.states_of_patch (slice_get patches p))))
+      (states.states_of_patch (slice_get patches other))
+  live_with-same p other = rw (replaces_is p, states_are p, states_are other) refl
+
+  pub compatible-same : (p : ℕ) (installed : List ℕ) → list_all (can_live_with_patch stored p) installed
+      ≡ states.is_compatible (record { names = names; patches = patches }) p installed
+  compatible-same p installed =
+      list_all-same (can_live_with_patch stored p) _ (live_with-same p) installed
+      ∙ sym (list_all-map (list_all (λ (s : SystemState). can_live_with (states.is_cumulative (slice_get patches p)) s (version_among s.id (states.states_of_patch (slice_get patches p)))))
+      (λ other. states.states_of_patch (slice_get patches other)) installed)
+
+  pub newest-same : (id : ℕ) (before : List ℕ) → newest_naming stored id before
+      ≡ find (states.names_state (record { names = names; patches = patches }) id) (reverse before)
+  newest-same id before = find-same _ _ (λ p. ap (λ s. is_some (version_among id s)) (states_are p)) (reverse before)
+
+-- ---- counts of symbols
+
+-- one item more from the front
+pub take-next : {A : Type 0} (xs : List A) (n : ℕ) (x : A) → slice_get xs n ≡ Some x → take (suc n) xs ≡ take n xs ++ x ∷ []
+take-next [] n x h = let no : ⊥ = cc in absurd no
+take-next (y ∷ xs) zero x h = let same : y ≡ x = cc in ap (λ z. z ∷ []) same
+take-next (y ∷ xs) (suc n) x h = ap (λ zs. y ∷ zs) (take-next xs n x h)
+
+slice_get-front : {A : Type 0} (xs : List A) (n k : ℕ) → k < n → slice_get (take n xs) k ≡ slice_get xs k
+slice_get-front xs zero k h = absurd (omega arith)
+slice_get-front [] (suc n) k h = refl
+slice_get-front (x ∷ xs) (suc n) zero h = refl
+slice_get-front (x ∷ xs) (suc n) (suc k) h = slice_get-front xs n k (omega arith)
+
+pub none_past : {A : Type 0} (xs : List A) (n : ℕ) → slice_get xs n ≡ None → length xs ≤ n
+none_past [] n h = omega arith
+none_past (x ∷ xs) zero h = let no : ⊥ = cc in absurd no
+none_past (x ∷ xs) (suc n) h = omega (arith, none_past xs n h)
+
+-- counts of the objects that an `ObjId` can name
+pub symbols-at : (counts : List ℕ) (names : List ObjectNames) (object : ℕ) → counts ≡ take 256 (map symbol_count names) → object < 256
+    → slice_get counts object ≡ option_map symbol_count (slice_get names object)
+symbols-at counts names object is small =
+    ap (λ xs. slice_get xs object) is ∙ slice_get-front (map symbol_count names) 256 object small ∙ slice_get-map symbol_count names object

@@ -1,0 +1,11 @@
+use Rattle.std.proofs.Common.{ap, ◌∙◌}
+use Rattle.std.specs.List.{list_all}
+use Rattle.klp_catalog.specs.Stored.{can_live_with_patch}
+use Rattle.klp_catalog.proofs.CatalogLemmas.{compatible-same}
+use Rattle.klp_catalog.proofs.catalog.Catalog.is_compatible.Goals as goal
+
+pub returns : goal.returns
+returns c =
+    rw (← c.self.view_is)
+    (c.is_compatible.ensures ∙ ap (λ stored. list_all (can_live_with_patch stored c.args.patch) c.args.installed.now) c.deref.ensures.value
+    ∙ compatible-same c.self.invariant c.args.patch c.args.installed.now)

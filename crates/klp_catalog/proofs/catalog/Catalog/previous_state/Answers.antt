@@ -1,0 +1,11 @@
+use Rattle.std.proofs.Common.{ap, ◌∙◌}
+use Rattle.klp_catalog.specs.States.{installed_before}
+use Rattle.klp_catalog.specs.Stored.{newest_naming}
+use Rattle.klp_catalog.proofs.CatalogLemmas.{newest-same}
+use Rattle.klp_catalog.proofs.catalog.Catalog.previous_state.Goals as goal
+
+pub returns : goal.returns
+returns c =
+    rw (← c.self.view_is)
+    (c.previous_state.ensures ∙ ap (λ stored. newest_naming stored c.args.id (installed_before c.args.patch c.args.installed.now)) c.deref.ensures.value
+    ∙ newest-same c.self.invariant c.args.id (installed_before c.args.patch c.args.installed.now))

@@ -1,0 +1,81 @@
+-- A catalog: patches over the names of the objects that it was assembled over.
+use Rattle.std.specs.Prelude.{ℕ, ◌||◌, Bool, false, List, [], ◌∷◌, ◌++◌, map, slice_get, Option, Some, None}
+use Rattle.std.specs.List.{list_any}
+use Rattle.std.specs.Result.{result_ok}
+use Rattle.klp_types.specs.Setting.{Function, PatchObject, Patch, is_at}
+use Rattle.klp_modules.specs.Names.{ObjectNames, resolved}
+use Rattle.klp_catalog.specs.Plan.{PlanFunction, PlanTarget, PlanPatch}
+
+-- a new function of a catalog: the object it lies in, the symbol it stands in for, by name and position, the site that
+-- this symbol is, and its own name and address
+pub record CatalogFunction : Type 0 where
+  pub object : ℕ
+  pub symbol : List ℕ
+  pub sympos : ℕ
+  pub site : Option ℕ
+  pub new_name : List ℕ
+  pub address : ℕ
+
+-- what contracts see of a catalog: the names of the objects and symbols that it was assembled over, and the patches of its plan
+pub record Catalog : Type 0 where
+  pub names : List ObjectNames
+  pub patches : List PlanPatch
+
+-- the site that a function's name and position pick in an object, if they pick one
+abbrev pub site_of : List ObjectNames → ℕ → PlanFunction → Option ℕ
+site_of names object function = result_ok (resolved names object function.symbol function.sympos)
+
+abbrev pub resolved_function : List ObjectNames → ℕ → PlanFunction → CatalogFunction
+resolved_function names object function = record {
+  object = object;
+  symbol = function.symbol;
+  sympos = function.sympos;
+  site = site_of names object function;
+  new_name = function.new_name;
+  address = function.address;
+}
+
+abbrev pub functions_of_target : List ObjectNames → PlanTarget → List CatalogFunction
+functions_of_target names target = map (resolved_function names target.object) target.functions
+
+-- the functions of a patch, over its targets in order
+abbrev pub functions_of_patch : List ObjectNames → List PlanTarget → List CatalogFunction
+functions_of_patch names [] = []
+functions_of_patch names (target ∷ targets) = functions_of_target names target ++ functions_of_patch names targets
+
+abbrev pub targets_of_patch : Option PlanPatch → List PlanTarget
+targets_of_patch None = []
+targets_of_patch (Some patch) = patch.targets
+
+-- the functions of a patch of the catalog; a patch that isn't there has none
+abbrev pub catalog_functions : Catalog → ℕ → List CatalogFunction
+catalog_functions catalog patch = functions_of_patch catalog.names (targets_of_patch (slice_get catalog.patches patch))
+
+-- what the manager needs of a function
+abbrev pub setting_function : CatalogFunction → Function
+setting_function function = record { site = function.site; address = function.address }
+
+abbrev pub patch_object : List ObjectNames → PlanTarget → PatchObject
+patch_object names target = record { object = target.object; functions = map setting_function (functions_of_target names target) }
+
+abbrev pub setting_patch : List ObjectNames → PlanPatch → Patch
+setting_patch names patch = record { replace = patch.replace; objects = map (patch_object names) patch.targets }
+
+-- the patches as the manager has them
+abbrev pub patches_of : Catalog → List Patch
+patches_of catalog = map (setting_patch catalog.names) catalog.patches
+
+-- whether two functions name one site; a function whose symbol isn't resolved names none
+abbrev pub is_same_site : Option ℕ → Option ℕ → Bool
+is_same_site None other = false
+is_same_site (Some site) other = is_at other site
+
+-- whether a list of functions has two for one site
+abbrev pub has_same_site : List CatalogFunction → Bool
+has_same_site [] = false
+has_same_site (function ∷ functions) =
+    list_any (λ (later : CatalogFunction). is_same_site function.site later.site) functions || has_same_site functions
+
+-- whether some patch has two functions for one site
+abbrev pub some_same_site : List ObjectNames → List PlanPatch → Bool
+some_same_site names patches = list_any (λ (p : PlanPatch). has_same_site (functions_of_patch names p.targets)) patches

@@ -1,0 +1,103 @@
+//! The tables that look-ups go by. Each is made once.
+
+ghost use Rattle.std.specs.Prelude.{◌≡◌, ◌+◌, ◌≤◌, ◌++◌, ◌==◌, length, count_by, IfOk, OnOk};
+ghost use Rattle.klp_modules.specs.Kept.{symbol_count};
+ghost use Rattle.klp_modules.specs.Tables.{HasObjects, IsSiteTable, HasSites, placed, placed_symbols};
+
+use crate::numbered::{NumberedObject, NumberedSymbol};
+use indexmap::IndexMap;
+use klp_types::{ObjId, Site};
+use std::alloc::{AllocError, Global};
+
+/// By the number of a name, the first object of that name.
+pub fn objects_by_name(
+    alloc: Global,
+    objects: &[NumberedObject],
+) -> Result<IndexMap<usize, ObjId>, AllocError>
+    requires { length objects.now ≤ 17 }
+    ensures { IfOk result (HasObjects objects.now) }
+{
+    let mut table = IndexMap::new(alloc);
+    for (place, object) in objects.iter().enumerate() {
+        table.entry(object.name)?.or_insert(ObjId(place as u8));
+    }
+    Ok(table)
+}
+
+/// By object, the sites of its symbols by the numbers of their names.
+pub fn sites_by_object(
+    alloc: Global,
+    objects: &[NumberedObject],
+) -> Result<Vec<IndexMap<usize, Vec<Site>>>, AllocError>
+    requires { symbol_count objects.now ≤ 256 }
+    ensures { IfOk result (λ tables. HasSites objects.now tables.items) }
+{
+    let mut tables = Vec::new(alloc);
+    let mut first = 0;
+    for object in objects {
+        tables.push(sites_by_name(alloc, first, &object.symbols)?)?;
+        first += object.symbols.len() as u16;
+    }
+    Ok(tables)
+}
+
+/// By the number of a name, the sites of the symbols of that name, where the first symbol's is
+/// this.
+fn sites_by_name(
+    alloc: Global,
+    first: u16,
+    symbols: &[usize],
+) -> Result<IndexMap<usize, Vec<Site>>, AllocError>
+    requires { first + length symbols.now ≤ 256 }
+    ensures { IfOk result (IsSiteTable first symbols.now) }
+{
+    let mut table = IndexMap::new(alloc);
+    for (place, name) in symbols.iter().enumerate() {
+        let sites = table.entry(*name)?.or_insert(Vec::new(alloc));
+        sites.push(Site(first + place as u16))?;
+    }
+    Ok(table)
+}
+
+/// By site, the symbol.
+pub fn symbols_by_site(
+    alloc: Global,
+    objects: &[NumberedObject],
+) -> Result<Vec<NumberedSymbol>, AllocError>
+    requires few_objects { length objects.now ≤ 17 }
+    requires few_symbols { symbol_count objects.now ≤ 256 }
+    ensures { IfOk result (λ table. table.items ≡ placed_symbols 0 objects.now) }
+{
+    let mut table = Vec::new(alloc);
+    for (place, object) in objects.iter().enumerate() {
+        add_symbols(&mut table, ObjId(place as u8), &object.symbols)?;
+    }
+    Ok(table)
+}
+
+/// Adds the symbols of an object.
+fn add_symbols(
+    table: &mut Vec<NumberedSymbol>,
+    object: ObjId,
+    symbols: &[usize],
+) -> Result<(), AllocError>
+    requires { length symbols.now ≤ 256 }
+    ensures { OnOk result (table.new.items ≡ table.old.items ++ placed object 0 symbols.now symbols.now) }
+{
+    for (place, name) in symbols.iter().enumerate() {
+        let position = count(&symbols[..place + 1], *name) as u32;
+        table.push(NumberedSymbol {
+            object,
+            name: *name,
+            position,
+        })?;
+    }
+    Ok(())
+}
+
+/// How many of the symbols have the name of this number.
+fn count(symbols: &[usize], number: usize) -> usize
+    ensures { result ≡ count_by (λ other. other == number) symbols.now }
+{
+    symbols.iter().filter(|other| **other == number).count()
+}

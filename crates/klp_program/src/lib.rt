@@ -1,0 +1,21 @@
+//! What the program does, apart from the process: it reads its words, boots a manager over a
+//! catalog's text, and serves console lines.
+#![tactic(auto)]
+
+mod arguments;
+mod booted;
+mod command;
+mod fault;
+mod sample;
+mod serve;
+mod wanted;
+
+pub use arguments::{refused, told, words};
+pub use booted::boot;
+pub use fault::Fault;
+pub use sample::CATALOG;
+pub use serve::console;
+pub use wanted::Words;
+
+#[cfg(test)]
+mod tests;

@@ -1,0 +1,6 @@
+/// What the words of the program ask for.
+#[derive(Debug, Drop, PartialEq, Eq)]
+pub enum Words {
+    /// To serve standard input over the catalog in this file, or over the built-in one.
+    Console(Option<String>),
+}
