@@ -15,7 +15,7 @@ use Rattle.std.proofs.lemmas.Bool.{eqb-true, eq-eqb}
 use Rattle.klp_types.specs.Records.{RecordList, spare_of}
 use Rattle.klp_types.specs.World.{World}
 use Rattle.klp_types.specs.Script.{Script, is_alloc, alloc_count, edited, edited_by}
-use Rattle.klp_world.specs.declared.limits.TheConstants.{MAX_VARIABLES}
+use Rattle.klp_types.specs.declared.limits.TheConstants.{MAX_VARIABLES}
 use Rattle.klp_world.specs.Noted.{noting, rows_of_edit, rows_of_edits}
 use Rattle.klp_world.proofs.ScriptLemmas.{edit_room}
 use Rattle.std.proofs.lemmas.List.Recursion.{is_count_by}

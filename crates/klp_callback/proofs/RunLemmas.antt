@@ -4,7 +4,7 @@ use Rattle.std.specs.FinMap as finite
 use Rattle.klp_types.specs.Records.{RecordList, spare_of}
 use Rattle.klp_types.specs.World.{World}
 use Rattle.klp_types.specs.Script.{effect, alloc_count}
-use Rattle.klp_world.specs.declared.limits.TheConstants.{MAX_VARIABLES}
+use Rattle.klp_types.specs.declared.limits.TheConstants.{MAX_VARIABLES}
 use Rattle.klp_world.specs.Noted.{noting, rows_of_script}
 use Rattle.klp_world.proofs.ScriptLemmas.{script_room, few_script_records}
 use Rattle.klp_callback.specs.Told.{Told, after_run, effects, rows_of_all, allocs_of_all}

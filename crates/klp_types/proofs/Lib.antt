@@ -2,4 +2,3 @@ pub mod EntryLemmas
 pub mod RunLemmas
 pub mod TextLemmas
 pub mod SiteLemmas
-pub mod InstalledLemmas

@@ -1,5 +1,7 @@
 pub mod Image
 pub mod Setting
+pub mod World
+pub mod Script
 pub mod State
 pub mod Entries
 pub mod Bytes
@@ -8,6 +10,4 @@ pub mod FirstOf
 pub mod Step
 pub mod Run
 pub mod Records
-pub mod World
-pub mod Script
 pub mod Compatible

@@ -1,22 +1,14 @@
--- The state: what is loaded, what is installed, and what moves. Everything else is derived from it.
-use Rattle.std.specs.Prelude.{ℕ, Bool, false, ◌==◌, List, [], map, Option, is_some, slice_index_or}
+-- The state: what is loaded, what is installed, the shadow variables, and what moves. Everything else is derived from it.
+use Rattle.std.specs.Prelude.{ℕ, Bool, false, ◌==◌, List, map, Option, is_some, slice_index_or}
 use Rattle.std.specs.List.{list_any}
 use Rattle.klp_types.specs.declared.version.Move.{Move}
-
--- an installed patch, and the values of its system states by their ids: none while patches name no states
-pub record Installed : Type 0 where
-  pub patch : ℕ
-  pub values : List (ℕ × ℕ)
-
--- an installed patch without system states
-abbrev pub bare : ℕ → Installed
-bare patch = record { patch = patch; values = [] }
+use Rattle.klp_types.specs.World.{Installed, World}
 
 pub record State : Type 0 where
   -- for each object of the image, whether it is loaded
   pub loaded : List Bool
-  -- the installed patches, oldest first
-  pub installed : List Installed
+  -- the installed patches with the values of their system states, and the shadow variables
+  pub world : World
   -- the patch in transition, if there is one
   pub moving : Option Move
 
@@ -26,10 +18,14 @@ is_loaded state object = slice_index_or state.loaded object false
 
 -- the numbers of the installed patches, oldest first
 abbrev pub installed_patches : State → List ℕ
-installed_patches state = map (λ (i : Installed). i.patch) state.installed
+installed_patches state = map (λ (i : Installed). i.patch) state.world.installed
 
 abbrev pub is_installed : State → ℕ → Bool
-is_installed state patch = list_any (λ (i : Installed). i.patch == patch) state.installed
+is_installed state patch = list_any (λ (i : Installed). i.patch == patch) state.world.installed
 
 abbrev pub is_moving : State → Bool
 is_moving state = is_some state.moving
+
+-- the same state with another world
+abbrev pub with_world : State → World → State
+with_world state world = record state { world = world }

@@ -4,7 +4,11 @@ use Rattle.std.specs.declared.cmp.Ordering.{Ordering}
 use Rattle.std.specs.Ordering.{nat_cmp, ordering_then}
 use Rattle.std.specs.FinMap as finite
 use Rattle.klp_types.specs.declared.shadow.ShadowKey.{ShadowKey}
-use Rattle.klp_types.specs.State.{Installed}
+
+-- an installed patch, and the values of its system states by their ids
+pub record Installed : Type 0 where
+  pub patch : ℕ
+  pub values : List (ℕ × ℕ)
 
 -- the order of keys: by the parent object, then by the id
 abbrev pub key_cmp : ShadowKey → ShadowKey → Ordering

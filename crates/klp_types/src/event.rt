@@ -1,4 +1,5 @@
 use crate::number::PatchId;
+use crate::shadow::ShadowKey;
 use thiserror::Error;
 
 /// What may happen to the manager. One event is one atomic step.
@@ -8,15 +9,31 @@ pub enum Event {
     Enable(PatchId),
     /// The transition is tried once more, and completed where nothing holds it up.
     Poll,
+    /// A shadow variable is added with this value (`klp_shadow_alloc`).
+    ShadowAlloc(ShadowKey, u64),
+    /// The value of a shadow variable is asked for; where it isn't there it is added with this value
+    /// (`klp_shadow_get_or_alloc`).
+    ShadowGetOrAlloc(ShadowKey, u64),
+    /// A shadow variable is removed (`klp_shadow_free`).
+    ShadowFree(ShadowKey),
+    /// The shadow variables of this id are removed, whatever their parent objects
+    /// (`klp_shadow_free_all`).
+    ShadowFreeAll(u64),
 }
 
 /// What an accepted event answers.
 #[derive(Clone, Copy, Debug, PartialEq, Eq, Hash)]
 pub enum Reply {
+    /// The event did what it says.
+    Done,
     /// A transition started.
     Started,
     /// The transition to this target is complete.
     Completed(bool),
+    /// The value of the shadow variable.
+    Value(u64),
+    /// How many shadow variables were removed.
+    Freed(u16),
 }
 
 /// Why an event is refused. The numbers are this project's own, and stay.
@@ -38,7 +55,13 @@ pub enum Refusal {
     /// A function of the patch for a loaded object names no symbol of it, or not one alone.
     #[error("NoSymbol")]
     NoSymbol = 6,
+    /// There is no room for another shadow variable.
+    #[error("Full")]
+    Full = 13,
     /// No patch is in transition.
     #[error("NotMoving")]
     NotMoving = 15,
+    /// The shadow variable is there already.
+    #[error("Exists")]
+    Exists = 16,
 }

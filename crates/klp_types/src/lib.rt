@@ -8,6 +8,7 @@
 mod edit;
 mod event;
 pub mod laws;
+mod limits;
 mod number;
 mod record;
 mod shadow;
@@ -16,6 +17,7 @@ mod version;
 
 pub use edit::Edit;
 pub use event::{Event, Refusal, Reply};
+pub use limits::{MAX_EDITS, MAX_PATCHES, MAX_STATES, MAX_VARIABLES};
 pub use number::{ObjId, PatchId, Site};
 pub use record::{Record, Records};
 pub use shadow::ShadowKey;

@@ -3,7 +3,7 @@ use Rattle.std.proofs.Common.{◌≡◌, ℕ, zero, suc, Bool, cond, List, [], �
 use Rattle.std.specs.Bool.{◌==◌}
 use Rattle.std.specs.Option.{option_map}
 use Rattle.std.specs.List.{remove, position}
-use Rattle.klp_types.specs.State.{Installed}
+use Rattle.klp_types.specs.World.{Installed}
 use Rattle.klp_types.specs.World.{World, Shadow, states_of, state_value, value_among, change_states, taken_out}
 use Rattle.klp_types.specs.declared.record.Record.TheVariants.{InstalledPatch}
 use Rattle.klp_world.specs.Noted.{place_of, state_row, rows_if_dropped, rows_of_drop}

@@ -13,10 +13,10 @@ use Rattle.klp_types.specs.declared.shadow.ShadowKey.{ShadowKey}
 use Rattle.klp_types.specs.declared.edit.Edit.{Edit}
 use Rattle.klp_types.specs.declared.record.Record.TheVariants.{StateValue}
 use Rattle.klp_types.specs.declared.edit.Edit.TheVariants.{Alloc, Free, FreeAll, SetData, TakePrev}
-use Rattle.klp_types.specs.State.{Installed}
+use Rattle.klp_types.specs.World.{Installed}
 use Rattle.klp_types.specs.World.{World, Shadow, key_cmp, variable, state_value, previous_value, states_of, set_among, change_states}
 use Rattle.klp_types.specs.Script.{Script, is_success, alloc_count, is_key, allocated, value_taken, edited, edited_at, edited_by, edits_made, effect, edit_touches, touches}
-use Rattle.klp_world.specs.declared.limits.TheConstants.{MAX_VARIABLES}
+use Rattle.klp_types.specs.declared.limits.TheConstants.{MAX_VARIABLES}
 use Rattle.klp_world.specs.Undo.{undone}
 use Rattle.klp_world.specs.Noted.{rows_of_edit, rows_of_edits, rows_of_take, row_if_set, row_if_added, row_if_removed, rows_of_script}
 use Rattle.klp_world.proofs.SortedLemmas.{key_total, key_antisymmetric}

@@ -5,7 +5,7 @@ use Rattle.std.specs.List.{remove, position, refill}
 use Rattle.std.proofs.lemmas.Bool.{eqb-true}
 use Rattle.klp_types.specs.World.{value_among, set_among}
 use Rattle.klp_world.specs.Undo.{state_taken}
-use Rattle.klp_types.specs.State.{Installed}
+use Rattle.klp_types.specs.World.{Installed}
 use Rattle.klp_world.proofs.First.{FirstAt, Nowhere, first_place}
 
 abbrev pub States : Type 0

@@ -13,10 +13,10 @@ use Rattle.std.specs.FinMap.Entries.{where_key, find-where_key}
 use Rattle.klp_types.specs.declared.shadow.ShadowKey.{ShadowKey}
 use Rattle.klp_types.specs.declared.record.Record.{Record}
 use Rattle.klp_types.specs.declared.record.Record.TheVariants.{StateValue, StateRow, InstalledPatch}
-use Rattle.klp_types.specs.State.{Installed}
+use Rattle.klp_types.specs.World.{Installed}
 use Rattle.klp_types.specs.World.{World, Shadow, key_cmp, variable, state_value, states_of, value_among, set_among, change_states, taken_out, with_variable, without_variable, without_id, with_value, with_patch, without_patch}
 use Rattle.klp_types.specs.Script.{allocated}
-use Rattle.klp_world.specs.declared.limits.TheConstants.{MAX_VARIABLES, MAX_PATCHES, MAX_STATES}
+use Rattle.klp_types.specs.declared.limits.TheConstants.{MAX_VARIABLES, MAX_PATCHES, MAX_STATES}
 use Rattle.klp_world.specs.Undo.{put_back, put_state, put_variable, state_taken, undone}
 use Rattle.klp_world.specs.Noted.{row_if_added, rows_of_alloc, row_if_removed, rows_of_free, variable_row, variable_rows, rows_of_free_all, row_if_set, rows_of_set, rows_of_add, state_row, rows_if_dropped, rows_of_drop}
 use Rattle.klp_world.proofs.First.{FirstAt}

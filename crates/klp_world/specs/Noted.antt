@@ -7,7 +7,7 @@ use Rattle.klp_types.specs.declared.record.Record.TheVariants.{ShadowVariable, S
 use Rattle.klp_types.specs.declared.edit.Edit.{Edit}
 use Rattle.klp_types.specs.declared.edit.Edit.TheVariants.{Alloc, Free, FreeAll, SetData, TakePrev}
 use Rattle.klp_types.specs.Records.{RecordList}
-use Rattle.klp_types.specs.State.{Installed}
+use Rattle.klp_types.specs.World.{Installed}
 use Rattle.klp_types.specs.World.{World, variable, state_value, states_of, previous_value}
 use Rattle.klp_types.specs.Script.{Script, edited, edits_made}
 

@@ -4,9 +4,9 @@ use Rattle.std.specs.FinMap as finite
 use Rattle.klp_types.specs.declared.shadow.ShadowKey.{ShadowKey}
 use Rattle.klp_types.specs.declared.record.Record.{Record}
 use Rattle.klp_types.specs.declared.record.Record.TheVariants.{ShadowVariable, StateValue, StateRow, InstalledPatch, LoadedFlag}
-use Rattle.klp_types.specs.State.{Installed}
+use Rattle.klp_types.specs.World.{Installed}
 use Rattle.klp_types.specs.World.{World, with_variable, without_variable, with_value, change_states, taken_out}
-use Rattle.klp_world.specs.declared.limits.TheConstants.{MAX_VARIABLES, MAX_PATCHES, MAX_STATES}
+use Rattle.klp_types.specs.declared.limits.TheConstants.{MAX_VARIABLES, MAX_PATCHES, MAX_STATES}
 
 -- a variable is taken out again, or set where there is room for it
 abbrev pub put_variable : World → ShadowKey → Option ℕ → World

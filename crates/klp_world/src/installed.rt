@@ -13,7 +13,7 @@ pub struct InstalledPatches<'a> {
 
 impl<'a> Model for InstalledPatches<'a> {
     ghost use Rattle.std.specs.Prelude.{ℕ, List, map};
-    ghost use Rattle.klp_types.specs.State.{Installed};
+    ghost use Rattle.klp_types.specs.World.{Installed};
 
     ghost Value = { List ℕ };
 
@@ -22,7 +22,7 @@ impl<'a> Model for InstalledPatches<'a> {
 
 impl<'a> InstalledPatches<'a> {
     ghost use Rattle.std.specs.Prelude.{map};
-    ghost use Rattle.klp_types.specs.State.{Installed};
+    ghost use Rattle.klp_types.specs.World.{Installed};
 
     pub(crate) fn new(rest: &'a [InstalledPatch]) -> Self
         ensures { result ≡ map (λ (p : Installed). p.patch) rest.now }

@@ -4,13 +4,13 @@ ghost use Rattle.std.specs.Prelude.{◌≡◌, ℕ, ◌+◌, ◌*◌, ◌≤◌,
 ghost use Rattle.std.specs.FinMap as finite;
 ghost use Rattle.klp_types.specs.declared.shadow.ShadowKey.{ShadowKey};
 ghost use Rattle.klp_types.specs.declared.edit.Edit.{Edit};
-ghost use Rattle.klp_types.specs.State.{Installed};
+ghost use Rattle.klp_types.specs.World.{Installed};
 ghost use Rattle.klp_types.specs.World.{World, variable, states_of};
 ghost use Rattle.klp_types.specs.Script.{Script, alloc_count, edited, edited_at, effect, touches};
 ghost use Rattle.klp_world.specs.Noted.{rows_of_script};
 ghost use Rattle.klp_world.specs.Undo.{undone};
 
-use crate::limits::{MAX_EDITS, MAX_PATCHES, MAX_STATES, MAX_VARIABLES};
+use klp_types::{MAX_EDITS, MAX_PATCHES, MAX_STATES, MAX_VARIABLES};
 
 /// An edit changes each shadow variable by itself.
 pub fn edits_go_key_by_key()

@@ -4,15 +4,13 @@
 
 mod installed;
 pub mod laws;
-mod limits;
 mod patch;
 mod script;
 mod shadow;
 mod world;
 
 pub use installed::InstalledPatches;
-pub use klp_types::Edit;
-pub use limits::{MAX_EDITS, MAX_PATCHES, MAX_STATES, MAX_VARIABLES};
+pub use klp_types::{Edit, MAX_EDITS, MAX_PATCHES, MAX_STATES, MAX_VARIABLES};
 pub use script::Script;
 pub use world::World;
 

@@ -1,11 +1,10 @@
 ghost use Rattle.std.specs.Prelude.{◌≡◌, ℕ, ◌<◌, ◌≤◌, ◌==◌, [], ◌∷◌, ◌++◌, length, position};
-ghost use Rattle.klp_types.specs.State.{Installed};
+ghost use Rattle.klp_types.specs.World.{Installed};
 ghost use Rattle.klp_types.specs.World.{value_among, set_among};
 ghost use Rattle.klp_world.specs.Undo.{state_taken, put_state};
 
-use crate::limits::MAX_STATES;
 use arrayvec::ArrayVec;
-use klp_types::PatchId;
+use klp_types::{MAX_STATES, PatchId};
 use std::marker::Model;
 
 /// A system state of an installed patch.
@@ -33,7 +32,7 @@ pub(crate) struct InstalledPatch {
 }
 
 impl Model for InstalledPatch {
-    ghost use Rattle.klp_types.specs.State.{Installed};
+    ghost use Rattle.klp_types.specs.World.{Installed};
     ghost use Rattle.klp_world.specs.Coded.{installed_code};
 
     ghost Value = { Installed };

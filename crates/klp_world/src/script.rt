@@ -1,6 +1,5 @@
-use crate::limits::MAX_EDITS;
 use arrayvec::ArrayVec;
-use klp_types::Edit;
+use klp_types::{Edit, MAX_EDITS};
 use std::marker::Model;
 
 /// What a callback does and answers: edits of the world in order, and a status. A script with a

@@ -2,17 +2,18 @@ ghost use Rattle.std.specs.Prelude.{◌≡◌, ℕ, ◌+◌, ◌<◌, ◌≤◌,
 ghost use Rattle.std.specs.List.{list_any};
 ghost use Rattle.std.specs.FinMap as finite;
 ghost use Rattle.klp_types.specs.Records.{spare_of};
-ghost use Rattle.klp_types.specs.State.{Installed};
+ghost use Rattle.klp_types.specs.World.{Installed};
 ghost use Rattle.klp_types.specs.World.{variable, state_value, previous_patch, newest_naming, installed_before, change_states, without_variable, without_id, with_value, with_patch, without_patch};
 ghost use Rattle.klp_types.specs.Script.{allocated};
 ghost use Rattle.klp_world.specs.Undo.{put_variable, put_state, put_patch, put_back, undone};
 ghost use Rattle.klp_world.specs.Noted.{noting, rows_of_alloc, rows_of_free, rows_of_free_all, variable_rows, state_row, rows_of_set, rows_of_add, rows_of_drop};
 
 use crate::installed::InstalledPatches;
-use crate::limits::{MAX_PATCHES, MAX_STATES, MAX_VARIABLES};
 use crate::patch::{InstalledPatch, SystemState, place_of_patch};
 use crate::shadow::ShadowMap;
-use klp_types::{PatchId, Record, Records, ShadowKey};
+use klp_types::{
+    MAX_PATCHES, MAX_STATES, MAX_VARIABLES, PatchId, Record, Records, ShadowKey,
+};
 use std::alloc::{AllocError, Global};
 use std::marker::Model;
 
@@ -37,7 +38,7 @@ impl Model for World {
 
     ghost coded = { world_code };
 
-    ghost use Rattle.klp_world.specs.declared.limits.TheConstants.{MAX_PATCHES};
+    ghost use Rattle.klp_types.specs.declared.limits.TheConstants.{MAX_PATCHES};
 
     ghost view = { λ w. record { installed = w.patches.items; shadow = w.shadow } };
 

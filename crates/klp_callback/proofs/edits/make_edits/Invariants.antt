@@ -2,7 +2,7 @@ use Rattle.std.proofs.Common.{◌≡◌, ◌+◌, ◌≤◌, ◌++◌, length, d
 use Rattle.std.specs.FinMap as finite
 use Rattle.klp_types.specs.Records.{spare_of}
 use Rattle.klp_types.specs.Script.{alloc_count, edited_by}
-use Rattle.klp_world.specs.declared.limits.TheConstants.{MAX_VARIABLES}
+use Rattle.klp_types.specs.declared.limits.TheConstants.{MAX_VARIABLES}
 use Rattle.klp_world.specs.Noted.{rows_of_edits}
 use Rattle.klp_callback.proofs.edits.make_edits.Given as goal
 

@@ -1,7 +1,7 @@
 use Rattle.std.proofs.Common.{◌≡◌, ◌+◌, ◌≤◌, ◌++◌, length, map, take, drop}
 use Rattle.std.specs.FinMap as finite
 use Rattle.klp_types.specs.Records.{spare_of}
-use Rattle.klp_world.specs.declared.limits.TheConstants.{MAX_VARIABLES}
+use Rattle.klp_types.specs.declared.limits.TheConstants.{MAX_VARIABLES}
 use Rattle.klp_callback.specs.Told.{after_run, effects, rows_of_all, allocs_of_all}
 use Rattle.klp_callback.proofs.tests.run_all.Given as goal
 

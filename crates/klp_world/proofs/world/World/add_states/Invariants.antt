@@ -1,6 +1,6 @@
 use Rattle.std.proofs.Common.{◌≡◌, ◌++◌, map, take, drop, None}
 use Rattle.klp_types.specs.declared.record.Record.TheVariants.{StateRow}
-use Rattle.klp_types.specs.State.{Installed}
+use Rattle.klp_types.specs.World.{Installed}
 use Rattle.klp_world.proofs.world.World.add_states.Given as goal
 
 -- what is noted and what is left are all; the states so far are at 0

@@ -3,7 +3,7 @@ use Rattle.klp_types.specs.World.{World}
 use Rattle.klp_types.specs.declared.record.Record.{Record}
 use Rattle.klp_types.specs.declared.record.Record.TheVariants.{InstalledPatch}
 use Rattle.klp_types.specs.Records.{RecordList}
-use Rattle.klp_world.specs.declared.limits.TheConstants.{MAX_PATCHES}
+use Rattle.klp_types.specs.declared.limits.TheConstants.{MAX_PATCHES}
 use Rattle.klp_world.proofs.NotedLemmas.{length-states, length-dropped}
 use Rattle.klp_world.specs.Undo.{undone}
 use Rattle.klp_world.specs.Noted.{noting, state_row, rows_of_drop}

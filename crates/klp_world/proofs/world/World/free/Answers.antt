@@ -3,7 +3,7 @@ use Rattle.std.specs.FinMap as finite
 use Rattle.klp_types.specs.World.{World, Shadow, without_variable}
 use Rattle.klp_world.specs.Undo.{undone}
 use Rattle.klp_world.specs.Noted.{rows_of_free}
-use Rattle.klp_world.specs.declared.limits.TheConstants.{MAX_VARIABLES}
+use Rattle.klp_types.specs.declared.limits.TheConstants.{MAX_VARIABLES}
 use Rattle.klp_world.proofs.UndoLemmas.{undone_free}
 use Rattle.klp_world.proofs.world.World.free.Goals as goal
 
