@@ -3,7 +3,6 @@ use Rattle.std.specs.Prelude.{ℕ, ◌-◌, Bool, true, false, not, ◌&&◌, is
 use Rattle.std.specs.List.{list_any}
 use Rattle.std.specs.FinMap as finite
 use Rattle.klp_types.specs.declared.limits.TheConstants.{MAX_VARIABLES}
-use Rattle.klp_types.specs.declared.shadow.ShadowKey.{ShadowKey}
 use Rattle.klp_types.specs.declared.event.Event.{Event}
 use Rattle.klp_types.specs.declared.event.Event.TheVariants.{Enable, Poll, ShadowAlloc, ShadowGetOrAlloc, ShadowFree, ShadowFreeAll}
 use Rattle.klp_types.specs.declared.event.Reply.{Reply}

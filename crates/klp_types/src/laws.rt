@@ -10,6 +10,8 @@ ghost use Rattle.klp_types.specs.Entries.{is_site_loaded, patches_site, is_hooke
 ghost use Rattle.klp_types.specs.Bytes.{symbol_in, patched, resting, text_of};
 ghost use Rattle.klp_types.specs.Run.{answer, next, run, answers};
 
+use crate::limits::{MAX_EDITS, MAX_PATCHES, MAX_STATES, MAX_VARIABLES};
+
 /// A site has an entry exactly where its object is loaded and an installed patch has a function for
 /// it: a nop never stands alone.
 pub fn entry_where_patched()
@@ -50,4 +52,12 @@ pub fn run_and_one_step()
         → run setting state (events ++ event ∷ []) ≡ next setting (run setting state events) event }
     ensures answered { (setting : Setting) (state : State) (events : List AnyEvent) (event : AnyEvent)
         → answers setting state (events ++ event ∷ []) ≡ answers setting state events ++ answer setting (run setting state events) event ∷ [] }
+{}
+
+/// How much a world holds, and a script.
+pub fn limits_are_these()
+    ensures variables { MAX_VARIABLES ≡ 512 }
+    ensures patches { MAX_PATCHES ≡ 16 }
+    ensures states { MAX_STATES ≡ 16 }
+    ensures edits { MAX_EDITS ≡ 16 }
 {}

@@ -93,4 +93,11 @@ impl Records {
     {
         self.noted.pop()
     }
+
+    /// Takes all records out. The room stays.
+    pub fn clear(&mut self)
+        ensures { self.new ≡ record self.old { noted = [] } }
+    {
+        self.noted.clear();
+    }
 }

@@ -10,7 +10,7 @@ ghost use Rattle.klp_types.specs.Script.{Script, alloc_count, edited, edited_at,
 ghost use Rattle.klp_world.specs.Noted.{rows_of_script};
 ghost use Rattle.klp_world.specs.Undo.{undone};
 
-use klp_types::{MAX_EDITS, MAX_PATCHES, MAX_STATES, MAX_VARIABLES};
+use klp_types::MAX_VARIABLES;
 
 /// An edit changes each shadow variable by itself.
 pub fn edits_go_key_by_key()
@@ -51,12 +51,4 @@ pub fn records_are_few()
 pub fn scripts_are_undone()
     ensures { (patch : ℕ) (world : World) (script : Script) → finite.len world.shadow + alloc_count script.edits ≤ MAX_VARIABLES
         → undone (effect patch world script) (rows_of_script patch world script) ≡ world }
-{}
-
-/// How much a world holds, and a script.
-pub fn limits_are_these()
-    ensures variables { MAX_VARIABLES ≡ 512 }
-    ensures patches { MAX_PATCHES ≡ 16 }
-    ensures states { MAX_STATES ≡ 16 }
-    ensures edits { MAX_EDITS ≡ 16 }
 {}
