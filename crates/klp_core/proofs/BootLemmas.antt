@@ -6,7 +6,9 @@ use Rattle.std.specs.Cmp.{nat_eq_equiv}
 use Rattle.std.specs.List.{IsDistinct}
 use Rattle.std.proofs.lemmas.List.{length-map}
 use Rattle.std.proofs.lemmas.Option.{slice_get-map}
+use Rattle.std.specs.FinMap as finite
 use Rattle.klp_types.specs.Image.{Object, symbols_of}
+use Rattle.klp_types.specs.World.{World, key_cmp}
 use Rattle.klp_types.specs.Entries.{is_site_loaded}
 use Rattle.klp_types.proofs.EntryLemmas.{is_hooked-any}
 use Rattle.klp_text.specs.TextImage.{TextImage, opening, IsWithinLimits}
@@ -30,11 +32,14 @@ distinct_none : IsDistinct eqb []
 unfolding IsDistinct
 distinct_none = tt
 
+abbrev pub empty_world : World
+empty_world = record { installed = []; shadow = finite.empty }
+
 pub kept_at_boot : (text : TextImage) (modules : ModuleTable) (catalog : Catalog) → text ≡ opening text.image.handler text.image.objects
     → IsWithinLimits text.image.objects → modules.loaded ≡ slice_set (replicate (length modules.names) false) 0 true
-    → AreNamed text.image modules catalog → IsKept text modules catalog [] None
+    → AreNamed text.image modules catalog → IsKept text modules catalog empty_world None
 kept_at_boot text modules catalog made limits flags named =
-    let fresh = managed_of text catalog [] None in
+    let fresh = managed_of text catalog empty_world None in
     let hooked = ap (λ (t : TextImage). t.hooked) made in
     let loaded = ap (λ (t : TextImage). t.loaded) made in
     let count : length modules.names ≡ length text.image.objects = ap length named.modules_named ∙ length-map text.image.objects names_of_object in
@@ -46,6 +51,8 @@ kept_at_boot text modules catalog made limits flags named =
         distinct = distinct_none;
         resolved = λ patch among. let no : ⊥ = cc in absurd no;
         forward = λ move is. let no : ⊥ = cc in absurd no;
+        moving_there = λ move is. let no : ⊥ = cc in absurd no;
+        variables = omega (arith, finite.len-empty key_cmp ℕ);
       };
       text_of_state = record {
         modules_are = same_table modules (names_of text.image.objects) text.loaded named.modules_named

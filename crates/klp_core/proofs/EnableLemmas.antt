@@ -3,7 +3,7 @@ use Rattle.std.proofs.Common.{◌≡◌, ℕ, zero, suc, ◌<◌, Bool, true, fa
 use Rattle.std.specs.Prelude.{not, ◌==◌, slice_get, slice_index_or, replicate, option_map, is_none, IfSome}
 use Rattle.std.specs.List.{All, IsDistinct, list_any}
 use Rattle.std.specs.Cmp.{nat_eq_equiv}
-use Rattle.std.proofs.lemmas.List.{length-append, length-map}
+use Rattle.std.proofs.lemmas.List.{length-append, length-map, map-append}
 use Rattle.std.proofs.lemmas.List.Elements.{All-weaker}
 use Rattle.std.proofs.lemmas.List.Folds.{list_any-append}
 use Rattle.std.proofs.lemmas.Option.{slice_get-map}
@@ -12,14 +12,14 @@ use Rattle.std.proofs.lemmas.Map.Steps.{length-le_from_distinct_below}
 use Rattle.klp_types.specs.declared.version.Move.{Move}
 use Rattle.klp_types.specs.Image.{Image, Object, symbols_of, object_of}
 use Rattle.klp_types.specs.Setting.{Setting, Patch, PatchObject, Function, patch_objects, functions_of, function_for, is_at, replaces}
-use Rattle.klp_types.specs.State.{State, Installed, bare, is_installed, is_moving, installed_patches}
+use Rattle.klp_types.specs.World.{Installed, World, with_patch}
+use Rattle.klp_types.specs.State.{State, is_installed, is_moving, installed_patches}
 use Rattle.klp_types.specs.FirstOf.{first_of}
 use Rattle.klp_types.specs.declared.event.Event.TheVariants.{Enable}
 use Rattle.klp_types.specs.declared.event.Refusal.TheVariants.{NoPatch, Busy, AlreadyThere, Incompatible, NoSymbol}
 use Rattle.klp_types.specs.Step.{has_patch, lacks_symbol, refusals}
 use Rattle.klp_types.specs.Entries.{is_hooked, is_site_loaded, is_object_loaded, patches_site}
 use Rattle.klp_types.proofs.EntryLemmas.{is_hooked-any}
-use Rattle.klp_types.proofs.InstalledLemmas.{patches-bare, any-bare}
 use Rattle.klp_text.specs.TextImage.{TextImage, site_count}
 use Rattle.klp_modules.specs.Names.{ObjectNames, ModuleTable, names_of}
 use Rattle.klp_catalog.specs.Plan.{PlanFunction, PlanTarget, PlanPatch}
@@ -141,8 +141,19 @@ hooked_after setting old new patch functions hooked are count before same_loaded
     ∙ ap (λ b. b && list_any (patches_site setting site) (installed_patches new)) (sym still)
     ∙ sym (is_hooked-any setting new site)
 
-pub enabled_patches : (installed : List ℕ) (patch : ℕ) → map (λ (i : Installed). i.patch) (map bare (installed ++ patch ∷ [])) ≡ installed ++ patch ∷ []
-enabled_patches installed patch = patches-bare (installed ++ patch ∷ [])
+-- the numbers of installed patches
+
+abbrev pub numbers_of : World → List ℕ
+numbers_of world = map (λ (i : Installed). i.patch) world.installed
+
+pub any-numbers : (patch : ℕ) (installed : List Installed)
+    → list_any (λ p. p == patch) (map (λ (i : Installed). i.patch) installed) ≡ list_any (λ (i : Installed). i.patch == patch) installed
+any-numbers patch [] = refl
+any-numbers patch (i ∷ installed) = ap (λ any. (i.patch == patch) || any) (any-numbers patch installed)
+
+pub enabled_patches : (world : World) (patch : ℕ) (ids : List ℕ)
+    → map (λ (i : Installed). i.patch) (with_patch world patch ids).installed ≡ map (λ (i : Installed). i.patch) world.installed ++ patch ∷ []
+enabled_patches world patch ids = map-append (λ (i : Installed). i.patch) world.installed (record { patch = patch; values = map (λ id. (id, 0)) ids } ∷ [])
 
 -- a patch that nothing refuses
 
@@ -173,31 +184,30 @@ enablable_from_none setting state patch h =
 
 -- what is known when a patch is put last
 
-pub record IsInstallable (text : TextImage) (catalog : Catalog) (installed : List ℕ) (moving : Option Move) (patch : ℕ) : Type 0 where
+pub record IsInstallable (text : TextImage) (catalog : Catalog) (world : World) (moving : Option Move) (patch : ℕ) : Type 0 where
   pub below : patch < length catalog.patches
-  pub apart : list_any (λ p. p == patch) installed ≡ false
-  pub room : length installed < length catalog.patches
-  pub resolved : lacks_symbol (setting_of (managed_of text catalog installed moving)) (managed_of text catalog installed moving).state patch ≡ false
+  pub apart : list_any (λ (i : Installed). i.patch == patch) world.installed ≡ false
+  pub room : length world.installed < length catalog.patches
+  pub resolved : lacks_symbol (setting_of (managed_of text catalog world moving)) (managed_of text catalog world moving).state patch ≡ false
 
-pub installable : (text : TextImage) (modules : ModuleTable) (catalog : Catalog) (installed : List ℕ) (moving : Option Move) (managed : Managed) (patch : ℕ)
-    → managed_of text catalog installed moving ≡ managed → IsKept text modules catalog installed moving
+pub installable : (text : TextImage) (modules : ModuleTable) (catalog : Catalog) (world : World) (moving : Option Move) (managed : Managed) (patch : ℕ)
+    → managed_of text catalog world moving ≡ managed → IsKept text modules catalog world moving
     → first_of (refusals (setting_of managed) managed.state (Enable patch)) ≡ None
-    → IsInstallable text catalog installed moving patch
-installable text modules catalog installed moving managed patch view kept unrefused =
-    let own = managed_of text catalog installed moving in
+    → IsInstallable text catalog world moving patch
+installable text modules catalog world moving managed patch view kept unrefused =
+    let own = managed_of text catalog world moving in
     let none : first_of (refusals (setting_of own) own.state (Enable patch)) ≡ None =
     subst (λ (m : Managed). first_of (refusals (setting_of m) m.state (Enable patch)) ≡ None) (sym view) unrefused
     in
     let free = enablable_from_none (setting_of own) own.state patch none in
     let there = free.there in
     let below : patch < length catalog.patches = omega (arith, length-map catalog.patches (setting_patch catalog.names)) in
-    let apart : list_any (λ p. p == patch) installed ≡ false = any-bare patch installed ∙ free.apart in
-    let known = subst (λ (ps : List ℕ). (q : ℕ) → list_any (eqb q) ps ≡ true → q < length catalog.patches) (patches-bare installed) kept.allowed.known in
-    let distinct = subst (λ (ps : List ℕ). IsDistinct eqb ps) (patches-bare installed) kept.allowed.distinct in
+    let apart : list_any (λ p. p == patch) (numbers_of world) ≡ false = any-numbers patch world.installed ∙ free.apart in
+    let few = room (numbers_of world) patch (length catalog.patches) kept.allowed.distinct kept.allowed.known below apart in
     record {
       below = below;
-      apart = apart;
-      room = room installed patch (length catalog.patches) distinct known below apart;
+      apart = free.apart;
+      room = omega (arith, length-map world.installed (λ (i : Installed). i.patch));
       resolved = free.resolved;
     }
 
@@ -215,34 +225,42 @@ resolved_more setting state installed patch before own q among =
     more false true old_is same_is h = let at : q ≡ patch = eqb-true q patch same_is in rw at own
     more false false old_is same_is h = let no : ⊥ = cc in absurd no
 
-pub kept_after : (text : TextImage) (modules : ModuleTable) (catalog : Catalog) (installed : List ℕ) (moving : Option Move) (patch : ℕ) (functions : List CatalogFunction)
-    → IsKept text modules catalog installed moving → IsInstallable text catalog installed moving patch
-    → AreFunctions (setting_of (managed_of text catalog installed moving)) patch functions
+or-last : (old same : Bool) → same ≡ true → (old || (same || false)) ≡ true
+or-last true same h = refl
+or-last false same h = ap (λ b. b || false) h
+
+pub kept_after : (text : TextImage) (modules : ModuleTable) (catalog : Catalog) (world : World) (moving : Option Move) (patch : ℕ) (ids : List ℕ) (functions : List CatalogFunction)
+    → IsKept text modules catalog world moving → IsInstallable text catalog world moving patch
+    → AreFunctions (setting_of (managed_of text catalog world moving)) patch functions
     → IsKept (record text { hooked = hooked_with (due_sites (λ object. slice_index_or modules.loaded object false) functions) text.hooked }) modules catalog
-    (installed ++ patch ∷ []) (Some (record { patch = patch; target = true }))
-kept_after text modules catalog installed moving patch functions kept new are =
-    let old = managed_of text catalog installed moving in
-    let moved = Some (record { patch = patch; target = true }) in
-    let next = managed_of text catalog (installed ++ patch ∷ []) moved in
+    (with_patch world patch ids) (Some (record { patch = patch; target = true }))
+kept_after text modules catalog world moving patch ids functions kept new are =
+    let old = managed_of text catalog world moving in
+    let move : Move = record { patch = patch; target = true } in
+    let next = managed_of text catalog (with_patch world patch ids) (Some move) in
     let setting = setting_of old in
-    let known = subst (λ (ps : List ℕ). (q : ℕ) → list_any (eqb q) ps ≡ true → q < length catalog.patches) (patches-bare installed) kept.allowed.known in
-    let distinct = subst (λ (ps : List ℕ). IsDistinct eqb ps) (patches-bare installed) kept.allowed.distinct in
-    let resolved = subst (λ (ps : List ℕ). (q : ℕ) → list_any (eqb q) ps ≡ true → lacks_symbol setting old.state q ≡ false) (patches-bare installed) kept.allowed.resolved in
-    let all = sym (enabled_patches installed patch) in
-    let hooked = hooked_after setting old.state next.state patch functions text.hooked are kept.text_of_state.sites kept.text_of_state.hooked refl
-    (enabled_patches installed patch ∙ ap (λ (ps : List ℕ). ps ++ patch ∷ []) (sym (patches-bare installed)))
-    in
+    let installed = numbers_of world in
+    let more = enabled_patches world patch ids in
+    let all = sym more in
+    let apart : list_any (λ p. p == patch) installed ≡ false = any-numbers patch world.installed ∙ new.apart in
+    let hooked = hooked_after setting old.state next.state patch functions text.hooked are kept.text_of_state.sites kept.text_of_state.hooked refl more in
     let flags : modules.loaded ≡ text.loaded = ap (λ (m : ModuleTable). m.loaded) kept.text_of_state.modules_are in
+    let last : list_any (eqb patch) (installed ++ patch ∷ []) ≡ true =
+    list_any-append (eqb patch) installed (patch ∷ []) ∙ or-last (list_any (eqb patch) installed) (eqb patch patch) (nat_eq_equiv.refl patch)
+    in
     record {
       allowed = record {
         limits = kept.allowed.limits;
         loaded = kept.allowed.loaded;
         known = subst (λ (ps : List ℕ). (q : ℕ) → list_any (eqb q) ps ≡ true → q < length catalog.patches) all
-            (known_more installed patch (length catalog.patches) known new.below);
-        distinct = subst (λ (ps : List ℕ). IsDistinct eqb ps) all (distinct_more installed patch distinct new.apart);
+            (known_more installed patch (length catalog.patches) kept.allowed.known new.below);
+        distinct = subst (λ (ps : List ℕ). IsDistinct eqb ps) all (distinct_more installed patch kept.allowed.distinct apart);
         resolved = subst (λ (ps : List ℕ). (q : ℕ) → list_any (eqb q) ps ≡ true → lacks_symbol setting old.state q ≡ false) all
-            (resolved_more setting old.state installed patch resolved new.resolved);
-        forward = λ move is. ap (λ (m : Move). m.target) (sym (some_inj is));
+            (resolved_more setting old.state installed patch kept.allowed.resolved new.resolved);
+        forward = λ m is. ap (λ (m : Move). m.target) (sym (some_inj is));
+        moving_there = λ m is. subst (λ (m : Move). list_any (eqb m.patch) (numbers_of (with_patch world patch ids)) ≡ true) (some_inj is)
+            (subst (λ (ps : List ℕ). list_any (eqb patch) ps ≡ true) all last);
+        variables = kept.allowed.variables;
       };
       text_of_state = record {
         modules_are = kept.text_of_state.modules_are;

@@ -1,15 +1,16 @@
 -- What a manager is booted with, and its opening state.
 use Rattle.std.specs.Prelude.{◌≡◌, ℕ, true, false, List, [], map, length, None, slice_set, replicate}
+use Rattle.std.specs.FinMap as finite
 use Rattle.klp_types.specs.Image.{Object, Image}
 use Rattle.klp_types.specs.State.{State}
 use Rattle.klp_modules.specs.Names.{ObjectNames, ModuleTable, names_of}
 use Rattle.klp_catalog.specs.Catalog.{Catalog}
 
--- object 0 alone is loaded, and nothing is installed
+-- object 0 alone is loaded, nothing is installed, and there is no shadow variable
 abbrev pub opening_state : Image → State
 opening_state image = record {
   loaded = slice_set (replicate (length image.objects) false) 0 true;
-  installed = [];
+  world = record { installed = []; shadow = finite.empty };
   moving = None;
 }
 

@@ -1,10 +1,13 @@
 -- What a manager keeps.
-use Rattle.std.specs.Prelude.{◌≡◌, ℕ, ◌<◌, true, false, List, length, map, Option, Some, slice_index_or, slice_set, replicate}
+use Rattle.std.specs.Prelude.{◌≡◌, ℕ, ◌<◌, ◌≤◌, true, false, length, Option, Some, slice_index_or, slice_set, replicate}
 use Rattle.std.specs.List.{IsDistinct, list_any}
+use Rattle.std.specs.FinMap as finite
 use Rattle.std.proofs.Common.{eqb}
+use Rattle.klp_types.specs.declared.limits.TheConstants.{MAX_VARIABLES}
 use Rattle.klp_types.specs.declared.version.Move.{Move}
 use Rattle.klp_types.specs.Image.{symbols_of}
-use Rattle.klp_types.specs.State.{bare, installed_patches}
+use Rattle.klp_types.specs.World.{World}
+use Rattle.klp_types.specs.State.{installed_patches}
 use Rattle.klp_types.specs.Entries.{is_hooked}
 use Rattle.klp_types.specs.Step.{lacks_symbol}
 use Rattle.klp_text.specs.TextImage.{TextImage, IsWithinLimits}
@@ -13,11 +16,11 @@ use Rattle.klp_catalog.specs.Catalog.{Catalog}
 use Rattle.klp_core.specs.Managed.{Managed, setting_of}
 
 -- what the fields of a manager stand for
-abbrev pub managed_of : TextImage → Catalog → List ℕ → Option Move → Managed
-managed_of text catalog installed moving = record {
+abbrev pub managed_of : TextImage → Catalog → World → Option Move → Managed
+managed_of text catalog world moving = record {
   image = text.image;
   catalog = catalog;
-  state = record { loaded = text.loaded; installed = map bare installed; moving = moving };
+  state = record { loaded = text.loaded; world = world; moving = moving };
 }
 
 -- the state is one that events can lead to
@@ -29,8 +32,10 @@ pub record IsAllowed (managed : Managed) : Type 0 where
   pub distinct : IsDistinct eqb (installed_patches managed.state)
   -- each function of an installed patch for a loaded object names a site
   pub resolved : (patch : ℕ) → list_any (eqb patch) (installed_patches managed.state) ≡ true → lacks_symbol (setting_of managed) managed.state patch ≡ false
-  -- the only transitions are to the target 1
+  -- the only transitions are to the target 1, of installed patches
   pub forward : (move : Move) → managed.state.moving ≡ Some move → move.target ≡ true
+  pub moving_there : (move : Move) → managed.state.moving ≡ Some move → list_any (eqb move.patch) (installed_patches managed.state) ≡ true
+  pub variables : finite.len managed.state.world.shadow ≤ MAX_VARIABLES
 
 -- the names are the image's, and the text is that of the state
 pub record IsText (text : TextImage) (modules : ModuleTable) (managed : Managed) : Type 0 where
@@ -40,6 +45,6 @@ pub record IsText (text : TextImage) (modules : ModuleTable) (managed : Managed)
   pub hooked : (site : ℕ) → slice_index_or text.hooked site false ≡ is_hooked (setting_of managed) managed.state site
 
 -- both
-pub record IsKept (text : TextImage) (modules : ModuleTable) (catalog : Catalog) (installed : List ℕ) (moving : Option Move) : Type 0 where
-  pub allowed : IsAllowed (managed_of text catalog installed moving)
-  pub text_of_state : IsText text modules (managed_of text catalog installed moving)
+pub record IsKept (text : TextImage) (modules : ModuleTable) (catalog : Catalog) (world : World) (moving : Option Move) : Type 0 where
+  pub allowed : IsAllowed (managed_of text catalog world moving)
+  pub text_of_state : IsText text modules (managed_of text catalog world moving)

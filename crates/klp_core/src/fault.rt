@@ -1,3 +1,7 @@
+ghost use Rattle.std.specs.Prelude.{◌≡◌};
+ghost use Rattle.klp_core.specs.declared.fault.BootFault.TheVariants.{NoMemory};
+
+use std::alloc::AllocError;
 use thiserror::Error;
 
 /// Why a manager can't be booted. The numbers are this project's own, and stay.
@@ -6,7 +10,15 @@ pub enum BootFault {
     /// Image, modules and catalog don't have the same number of symbols for each object.
     #[error("Mismatch")]
     Mismatch = 1,
-    /// Memory ran out. Nothing that boot takes now asks for any.
+    /// Memory ran out.
     #[error("NoMemory")]
     NoMemory = 2,
+}
+
+impl From<AllocError> for BootFault {
+    ghost from_gives = { λ _ fault. fault ≡ NoMemory };
+
+    fn from(_: AllocError) -> BootFault {
+        BootFault::NoMemory
+    }
 }

@@ -5,6 +5,7 @@ mod boot;
 mod fault;
 mod hooks;
 mod manager;
+mod shadow;
 mod view;
 
 pub use fault::BootFault;

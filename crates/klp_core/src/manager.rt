@@ -1,7 +1,9 @@
-ghost use Rattle.std.specs.Prelude.{◌≡◌, ◌+◌, ◌≤◌, ◌==◌, ◌&&◌, true, false, count_by, is_ok, is_err, is_none, Ok, Err, None, IfOk, IfErr, IsErr, slice_index_or, slice_set, replicate, length, map};
+ghost use Rattle.std.specs.Prelude.{◌≡◌, ◌+◌, ◌≤◌, ◌==◌, ◌&&◌, ◌⊎◌, true, false, count_by, is_ok, is_err, is_none, Ok, Err, None, IfOk, IfErr, IsErr, slice_index_or, slice_set, replicate, length, map};
 ghost use Rattle.std.specs.List.{list_any};
 ghost use Rattle.klp_types.specs.declared.event.Event.TheVariants.{Enable, Poll};
+ghost use Rattle.klp_types.specs.declared.limits.TheConstants.{MAX_PATCHES};
 ghost use Rattle.klp_types.specs.Setting.{replaces};
+ghost use Rattle.klp_types.specs.World.{variable, state_value};
 ghost use Rattle.klp_types.specs.State.{is_installed, is_loaded, installed_patches};
 ghost use Rattle.klp_types.specs.Bytes.{text_of};
 ghost use Rattle.klp_types.specs.FirstOf.{first_of};
@@ -12,54 +14,66 @@ ghost use Rattle.klp_modules.specs.Names.{names_of};
 ghost use Rattle.klp_catalog.specs.Catalog.{CatalogFunction as FunctionOf};
 ghost use Rattle.klp_core.specs.Boot.{IsMatch, AreNamed, opening_state};
 ghost use Rattle.klp_core.specs.Managed.{setting_of};
-ghost use Rattle.klp_core.specs.declared.fault.BootFault.TheVariants.{Mismatch};
+ghost use Rattle.klp_core.specs.declared.fault.BootFault.TheVariants.{Mismatch, NoMemory};
 
 use crate::boot::is_match;
 use crate::fault::BootFault;
 use crate::hooks::hook_all;
 use crate::view::TextView;
 use arrayvec::ArrayVec;
-use klp_catalog::{Catalog, CatalogFunction, MAX_PATCHES};
+use klp_catalog::{Catalog, CatalogFunction};
 use klp_modules::Modules;
 use klp_text::Image;
-use klp_types::{Event, Move, ObjId, PatchId, Refusal, Reply};
-use std::alloc::Global;
+use klp_types::{Event, MAX_PATCHES, Move, ObjId, PatchId, Records, Refusal, Reply, ShadowKey};
+use klp_world::{InstalledPatches, World};
+use std::alloc::{AllocError, Global};
 use std::marker::Model;
 
-/// The live patching manager: the image with its text, the catalog with its patches, and which of
-/// them are installed and in transition.
+/// How many records one event may note.
+const MAX_RECORDS: usize = 4096;
+
+/// The live patching manager: the image with its text, the catalog with its patches, which of them
+/// are installed and in transition, and the shadow variables.
 #[derive(Drop)]
 pub struct Manager {
     image: Image,
     modules: Modules,
     catalog: Catalog,
-    /// Oldest first.
-    installed: ArrayVec<PatchId, MAX_PATCHES>,
+    pub(crate) world: World,
     moving: Option<Move>,
+    /// What the event at hand changed in the world, for as long as it may have to be taken back.
+    pub(crate) log: Records,
 }
 
 impl Model for Manager {
     ghost use Rattle.klp_core.specs.Managed.{Managed};
 
+    ghost use Rattle.std.specs.Coded.{codes};
+    ghost use Rattle.klp_world.specs.Coded.{world_code};
+
     ghost Value = { Managed };
 
+    ghost coded = { Prim.hlevel (codes, world_code) };
+
+    ghost use Rattle.std.specs.Prelude.{◌≡◌};
     ghost use Rattle.klp_core.specs.Kept.{managed_of, IsKept};
+    ghost use Rattle.klp_core.specs.declared.manager.TheConstants.{MAX_RECORDS};
 
-    ghost view = { λ m. managed_of m.image m.catalog m.installed.items m.moving };
+    ghost view = { λ m. managed_of m.image m.catalog m.world m.moving };
 
-    ghost invariant = { λ m. IsKept m.image m.modules m.catalog m.installed.items m.moving };
+    ghost invariant = { λ m. IsKept m.image m.modules m.catalog m.world m.moving × (m.log.room ≡ MAX_RECORDS) };
 }
 
 impl Manager {
     /// Boots a manager over an image, its modules and a catalog, all as they were made: `vmlinux`
-    /// alone is loaded and nothing is installed. The three are kept as they come, so no memory is
-    /// taken yet.
+    /// alone is loaded, nothing is installed, and there is no shadow variable. The three are kept as
+    /// they come. All room that events need is taken here.
     ///
     /// They don't match where they differ in how many objects there are or in how many symbols one
     /// of them has; that their names are the same too is the caller's to know. The three are dropped
     /// on a fault.
     pub fn boot(
-        _alloc: Global,
+        alloc: Global,
         image: Image,
         modules: Modules,
         catalog: Catalog,
@@ -73,17 +87,20 @@ impl Manager {
           catalog = catalog;
           state = opening_state image.image;
         })) }
-        ensures fault { IfErr result (λ fault. (IsMatch image.image modules catalog → ⊥) × (fault ≡ Mismatch)) }
+        ensures fault { IfErr result (λ fault. ((IsMatch image.image modules catalog → ⊥) × (fault ≡ Mismatch)) ⊎ (IsMatch image.image modules catalog × (fault ≡ NoMemory))) }
     {
         if !is_match(&image, &modules, &catalog) {
             return Err(BootFault::Mismatch);
         }
+        let world = World::new(alloc)?;
+        let log = Records::new(alloc, MAX_RECORDS)?;
         Ok(Manager {
             image,
             modules,
             catalog,
-            installed: ArrayVec::new(),
+            world,
             moving: None,
+            log,
         })
     }
 
@@ -95,6 +112,10 @@ impl Manager {
         match event {
             Event::Enable(patch) => self.enable(patch),
             Event::Poll => self.poll(),
+            Event::ShadowAlloc(key, value) => self.shadow_alloc(key, value),
+            Event::ShadowGetOrAlloc(key, value) => self.shadow_get_or_alloc(key, value),
+            Event::ShadowFree(key) => self.shadow_free(key),
+            Event::ShadowFreeAll(id) => self.shadow_free_all(id),
         }
     }
 
@@ -131,7 +152,22 @@ impl Manager {
     pub fn installed(&self) -> ArrayVec<PatchId, MAX_PATCHES>
         ensures { result.items ≡ installed_patches self.now.state }
     {
-        copy_of(&self.installed)
+        copy_of(self.world.installed())
+    }
+
+    /// The value of a shadow variable, if it is there.
+    pub fn shadow_get(&self, key: ShadowKey) -> Option<u64>
+        ensures { result ≡ variable self.now.state.world key }
+    {
+        self.world.get(key)
+    }
+
+    /// The value of a system state of an installed patch. `None` where the patch isn't installed or
+    /// doesn't name the state.
+    pub fn state_of(&self, patch: PatchId, id: u64) -> Option<u64>
+        ensures { result ≡ state_value self.now.state.world patch id }
+    {
+        self.world.value(patch, id)
     }
 
     /// The catalog that the manager was booted with.
@@ -151,7 +187,7 @@ impl Manager {
     fn is_installed(&self, patch: PatchId) -> bool
         ensures { result ≡ is_installed self.now.state patch }
     {
-        is_among(&self.installed, patch)
+        is_among(self.world.installed(), patch)
     }
 
     // Whether a function of the patch for a loaded object names no site.
@@ -201,7 +237,8 @@ impl Manager {
             &self.modules,
             self.catalog.functions(patch),
         );
-        self.installed.push(patch);
+        self.log.clear();
+        self.world.add_states(patch, &[], &mut self.log);
         self.moving = Some(Move {
             patch,
             target: true,
@@ -254,14 +291,19 @@ fn lack_symbol(modules: &Modules, functions: &[CatalogFunction]) -> bool
 }
 
 // Whether the patch is among these.
-fn is_among(patches: &[PatchId], patch: PatchId) -> bool
-    ensures { result ≡ list_any (λ other. other == patch) patches.now }
+fn is_among(mut patches: InstalledPatches<'_>, patch: PatchId) -> bool
+    ensures { result ≡ list_any (λ other. other == patch) patches.entry }
 {
-    patches.iter().any(|other| *other == patch)
+    patches.any(|other| other == patch)
 }
 
-fn copy_of(patches: &ArrayVec<PatchId, MAX_PATCHES>) -> ArrayVec<PatchId, MAX_PATCHES>
-    ensures { result.items ≡ patches.now.items }
+fn copy_of(patches: InstalledPatches<'_>) -> ArrayVec<PatchId, MAX_PATCHES>
+    requires { length patches ≤ MAX_PATCHES }
+    ensures { result.items ≡ patches.entry }
 {
-    ArrayVec::try_from(patches.as_slice()).unwrap()
+    let mut copy = ArrayVec::new();
+    for patch in patches {
+        copy.push(patch);
+    }
+    copy
 }

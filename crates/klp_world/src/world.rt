@@ -120,7 +120,8 @@ impl World {
 
     /// The installed patches, oldest first.
     pub fn installed(&self) -> InstalledPatches<'_>
-        ensures { result ≡ map (λ (i : Installed). i.patch) self.now.installed }
+        ensures value { result ≡ map (λ (i : Installed). i.patch) self.now.installed }
+        ensures limit { length result ≤ MAX_PATCHES }
     {
         InstalledPatches::new(&self.patches)
     }

@@ -11,9 +11,9 @@ use Rattle.klp_core.proofs.manager.Manager.lacks_symbol.Goals as goal
 
 pub returns : goal.returns
 returns c =
-    let own = managed_of c.self.inside.image c.self.inside.catalog c.self.inside.installed.items c.self.inside.moving in
+    let own = managed_of c.self.inside.image c.self.inside.catalog c.self.inside.world c.self.inside.moving in
     c.lack_symbol.ensures
-    ∙ ap (λ (m : ModuleTable). list_any (λ (f : CatalogFunction). slice_index_or m.loaded f.object false && is_none f.site) c.functions.result.now) c.self.invariant.text_of_state.modules_are
+    ∙ ap (λ (m : ModuleTable). list_any (λ (f : CatalogFunction). slice_index_or m.loaded f.object false && is_none f.site) c.functions.result.now) c.self.invariant.0.text_of_state.modules_are
     ∙ ap (λ (fs : List CatalogFunction). list_any (λ (f : CatalogFunction). slice_index_or own.state.loaded f.object false && is_none f.site) fs) c.functions.ensures.functions
     ∙ lacks_symbol-any own c.args.patch
     ∙ ap (λ (m : Managed). lacks_symbol (setting_of m) m.state c.args.patch) c.self.view_is
