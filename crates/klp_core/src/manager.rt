@@ -41,7 +41,8 @@ pub struct Manager {
     catalog: Catalog,
     pub(crate) world: World,
     moving: Option<Move>,
-    /// What the event at hand changed in the world, for as long as it may have to be taken back.
+    /// The rows that an event changed, as they were: emptied before each event that changes some.
+    /// Nothing takes them back yet.
     pub(crate) log: Records,
 }
 

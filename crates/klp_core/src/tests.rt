@@ -6,7 +6,7 @@ use crate::{BootFault, Manager};
 use klp_catalog::{AssembleFault, Catalog, TextFault};
 use klp_modules::Modules;
 use klp_text::{Image, ImageFault};
-use klp_types::{Event, ObjId, PatchId, Refusal, Reply};
+use klp_types::{Event, ObjId, PatchId, Refusal, Reply, ShadowKey};
 use std::alloc::{AllocError, Global};
 use std::test::Fail;
 use thiserror::Error;
@@ -236,5 +236,123 @@ fn a_catalog_over_another_image_doesnt_match(rt: HostRuntime) -> Result<(), Fail
         Manager::boot(alloc, image, modules, catalog).err()
     };
     assert_eq!(rt; fault, Some(BootFault::Mismatch));
+    Ok(())
+}
+
+fn key(obj: u64, id: u64) -> ShadowKey {
+    ShadowKey { obj, id }
+}
+
+// Adds the variables (8, 0), (8, 1) and so on, each with its id as its value, and answers how many
+// were added.
+fn fill(manager: &mut Manager, count: u64) -> u64 {
+    let mut added = 0;
+    for id in 0..count {
+        if manager.apply(Event::ShadowAlloc(key(8, id), id)) == Ok(Reply::Done) {
+            added += 1;
+        }
+    }
+    added
+}
+
+#[test]
+fn shadow_variables_come_and_go(rt: HostRuntime) -> Result<(), Fail> {
+    let alloc = rt.alloc();
+    let mut manager = sample(alloc)?;
+    let events = [
+        Event::ShadowAlloc(key(1, 9), 5),
+        Event::ShadowAlloc(key(1, 9), 7),
+        Event::ShadowGetOrAlloc(key(1, 9), 8),
+        Event::ShadowGetOrAlloc(key(2, 9), 6),
+        Event::ShadowAlloc(key(1, 10), 4),
+        Event::ShadowFree(key(9, 1)),
+        Event::ShadowFree(key(1, 9)),
+        Event::ShadowFree(key(1, 9)),
+        Event::ShadowFreeAll(8),
+        Event::ShadowAlloc(key(3, 9), 1),
+        Event::ShadowFreeAll(9),
+    ];
+    let want = [
+        Ok(Reply::Done),
+        Err(Refusal::Exists),
+        Ok(Reply::Value(5)),
+        Ok(Reply::Value(6)),
+        Ok(Reply::Done),
+        Ok(Reply::Freed(0)),
+        Ok(Reply::Freed(1)),
+        Ok(Reply::Freed(0)),
+        Ok(Reply::Freed(0)),
+        Ok(Reply::Done),
+        Ok(Reply::Freed(2)),
+    ];
+    let got = answers(alloc, &mut manager, &events)?;
+    assert_eq!(rt; got.as_slice(), want.as_slice());
+    assert_eq!(rt; manager.shadow_get(key(1, 10)), Some(4));
+    assert_eq!(rt; manager.shadow_get(key(2, 9)), None);
+    Ok(())
+}
+
+#[test]
+fn there_are_512_shadow_variables_at_most(rt: HostRuntime) -> Result<(), Fail> {
+    let alloc = rt.alloc();
+    let mut manager = sample(alloc)?;
+    assert_eq!(rt; fill(&mut manager, 520), 512);
+    let events = [
+        Event::ShadowAlloc(key(9, 9), 1),
+        Event::ShadowAlloc(key(8, 3), 1),
+        Event::ShadowGetOrAlloc(key(8, 3), 0),
+        Event::ShadowGetOrAlloc(key(9, 9), 1),
+        Event::ShadowFree(key(8, 511)),
+        Event::ShadowGetOrAlloc(key(9, 9), 1),
+        Event::ShadowAlloc(key(9, 8), 1),
+        Event::ShadowFreeAll(9),
+        Event::ShadowAlloc(key(9, 8), 1),
+    ];
+    let want = [
+        Err(Refusal::Full),
+        Err(Refusal::Exists),
+        Ok(Reply::Value(3)),
+        Err(Refusal::Full),
+        Ok(Reply::Freed(1)),
+        Ok(Reply::Value(1)),
+        Err(Refusal::Full),
+        Ok(Reply::Freed(2)),
+        Ok(Reply::Done),
+    ];
+    let got = answers(alloc, &mut manager, &events)?;
+    assert_eq!(rt; got.as_slice(), want.as_slice());
+    Ok(())
+}
+
+#[test]
+fn patches_and_shadow_variables_stand_apart(rt: HostRuntime) -> Result<(), Fail> {
+    let alloc = rt.alloc();
+    let mut manager = sample(alloc)?;
+    let events = [
+        Event::ShadowAlloc(key(1, 1), 5),
+        Event::Enable(PatchId(1)),
+        Event::ShadowAlloc(key(1, 2), 6),
+        Event::Poll,
+        Event::ShadowFree(key(1, 2)),
+    ];
+    let counts = counted(&mut manager, &events);
+    assert_eq!(rt; counts, (5, 0));
+    assert_eq!(rt; manager.shadow_get(key(1, 1)), Some(5));
+    assert_eq!(rt; manager.shadow_get(key(1, 2)), None);
+    assert_eq!(rt; manager.state_of(PatchId(1), 0), None, "q names no state");
+    assert_eq!(rt; manager.installed().as_slice(), [PatchId(1)].as_slice());
+    Ok(())
+}
+
+/// With one allocation refused (`rt try --test --fail-alloc N`) this test passes too.
+#[test]
+fn a_refused_boot_can_be_done_again(rt: HostRuntime) -> Result<(), Fail> {
+    let alloc = rt.alloc();
+    let manager = match booted(alloc, kernel_text()) {
+        Ok(manager) => manager,
+        Err(_) => booted(alloc, kernel_text())?,
+    };
+    assert_eq!(rt; manager.shadow_get(key(1, 1)), None);
+    assert!(rt; manager.installed().is_empty());
     Ok(())
 }
