@@ -188,7 +188,7 @@ impl Manager {
     fn is_installed(&self, patch: PatchId) -> bool
         ensures { result ≡ is_installed self.now.state patch }
     {
-        is_among(self.world.installed(), patch)
+        self.world.is_installed(patch)
     }
 
     // Whether a function of the patch for a loaded object names no site.
@@ -289,13 +289,6 @@ fn lack_symbol(modules: &Modules, functions: &[CatalogFunction]) -> bool
     functions
         .iter()
         .any(|function| lacks_site(modules, function))
-}
-
-// Whether the patch is among these.
-fn is_among(mut patches: InstalledPatches<'_>, patch: PatchId) -> bool
-    ensures { result ≡ list_any (λ other. other == patch) patches.entry }
-{
-    patches.any(|other| other == patch)
 }
 
 fn copy_of(patches: InstalledPatches<'_>) -> ArrayVec<PatchId, MAX_PATCHES>

@@ -126,6 +126,15 @@ impl World {
         InstalledPatches::new(&self.patches)
     }
 
+    /// Whether the patch is installed.
+    pub fn is_installed(&self, patch: PatchId) -> bool
+        ensures { result ≡ list_any (λ (i : Installed). i.patch == patch) self.now.installed }
+    {
+        self.patches
+            .iter()
+            .any(|installed| installed.patch() == patch)
+    }
+
     /// The value of a system state of an installed patch. `None` where the patch isn't installed or
     /// doesn't name the state.
     pub fn value(&self, patch: PatchId, id: u64) -> Option<u64>
