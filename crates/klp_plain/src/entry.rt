@@ -119,7 +119,7 @@ pub fn entries(
         None => Ok(None),
         Some(object) => {
             if state.is_loaded(object) {
-                Ok(Some(entries_over(alloc, setting, state.installed(), site)?))
+                Ok(Some(entries_over(alloc, setting, &state.installed(alloc)?, site)?))
             } else {
                 Ok(Some(Vec::new(alloc)))
             }

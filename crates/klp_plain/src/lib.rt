@@ -7,6 +7,7 @@ mod bytes;
 mod entry;
 mod event;
 mod setting;
+mod shadow;
 mod version;
 
 pub use bytes::text;

@@ -1,10 +1,11 @@
-ghost use Rattle.std.specs.Prelude.{◌≡◌, ◌==◌, not, filter, length, IfOk};
+ghost use Rattle.std.specs.Prelude.{◌≡◌, length};
 ghost use Rattle.klp_types.specs.Image.{symbols_of};
 ghost use Rattle.klp_types.specs.Setting.{all_functions};
 ghost use Rattle.klp_plain.specs.Plain.{has_few_functions, has_room_behind};
-ghost use Rattle.std.specs.List.{list_any, list_all};
+ghost use Rattle.std.specs.List.{list_all};
 
 use klp_types::{Move, ObjId, ObjectText, PatchId, Site, SymbolText};
+use klp_world::World;
 use std::alloc::{AllocError, Global};
 use std::marker::Model;
 
@@ -81,18 +82,21 @@ impl Model for Setting {
 pub struct State {
     /// For each object, whether it is loaded.
     pub loaded: Vec<bool>,
-    /// Oldest first.
-    pub installed: Vec<PatchId>,
+    /// The installed patches and the shadow variables.
+    pub world: World,
     pub moving: Option<Move>,
 }
 
 impl Model for State {
-    ghost use Rattle.std.specs.Prelude.{map};
-    ghost use Rattle.klp_types.specs.State.{State as StateOf, bare};
+    ghost use Rattle.std.specs.Coded.{codes};
+    ghost use Rattle.klp_types.specs.State.{State as StateOf};
+    ghost use Rattle.klp_world.specs.Coded.{world_code};
 
     ghost Value = { StateOf };
 
-    ghost view = { λ s. record { loaded = s.loaded.items; installed = map bare s.installed.items; moving = s.moving } };
+    ghost coded = { Prim.hlevel (codes, world_code) };
+
+    ghost view = { λ s. record { loaded = s.loaded.items; world = s.world; moving = s.moving } };
 }
 
 impl Setting {
@@ -138,9 +142,8 @@ impl Setting {
 }
 
 impl State {
-    ghost use Rattle.std.specs.Prelude.{◌≡◌, map, IfOk};
-    ghost use Rattle.klp_types.specs.Step.{without};
-    ghost use Rattle.klp_types.specs.State.{bare, is_loaded, is_installed, installed_patches};
+    ghost use Rattle.std.specs.Prelude.{◌≡◌, IfOk};
+    ghost use Rattle.klp_types.specs.State.{is_loaded, is_installed, installed_patches};
 
     /// Whether there is such an object and it is loaded.
     pub(crate) fn is_loaded(&self, object: usize) -> bool
@@ -150,44 +153,18 @@ impl State {
     }
 
     /// The installed patches, oldest first.
-    pub(crate) fn installed(&self) -> &[PatchId]
-        ensures { result.now ≡ installed_patches self.now }
+    pub(crate) fn installed(&self, alloc: Global) -> Result<Vec<PatchId>, AllocError>
+        ensures { IfOk result (λ patches. patches.items ≡ installed_patches self.now) }
     {
-        &self.installed
+        self.world.installed().collect(alloc)
     }
 
     /// Whether the patch is installed.
     pub(crate) fn is_installed(&self, patch: PatchId) -> bool
         ensures { result ≡ is_installed self.now patch }
     {
-        contains(&self.installed, patch)
+        self.world.is_installed(patch)
     }
-
-    /// The installed patches but this one.
-    pub(crate) fn without(&self, alloc: Global, patch: PatchId) -> Result<Vec<PatchId>, AllocError>
-        ensures { IfOk result (λ rest. map bare rest.items ≡ without patch self.now.installed) }
-    {
-        let rest = others(alloc, &self.installed, patch)?;
-        Ok(rest)
-    }
-}
-
-// The patches but this one.
-fn others(alloc: Global, patches: &[PatchId], patch: PatchId) -> Result<Vec<PatchId>, AllocError>
-    ensures { IfOk result (λ rest. rest.items ≡ filter (λ other. not (other == patch)) patches.now) }
-{
-    patches
-        .iter()
-        .copied()
-        .filter(|other| *other != patch)
-        .collect(alloc)
-}
-
-// Whether the patch is among these.
-fn contains(patches: &[PatchId], patch: PatchId) -> bool
-    ensures { result ≡ list_any (λ other. other == patch) patches.now }
-{
-    patches.iter().any(|other| *other == patch)
 }
 
 // How many symbols all objects have.

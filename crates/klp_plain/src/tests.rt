@@ -1,8 +1,9 @@
 use crate::{Function, Patch, PatchObject, Setting, State, entries, pick, step, text};
 use klp_types::{
-    Entry, Event, Move, ObjId, ObjectText, PatchId, Refusal, Reply, Site, SymbolText, Target,
-    Version,
+    Entry, Event, Move, ObjId, ObjectText, PatchId, Record, Refusal, Reply, ShadowKey, Site,
+    SymbolText, Target, Version,
 };
+use klp_world::World;
 use std::alloc::{AllocError, Global};
 use std::test::Fail;
 
@@ -62,9 +63,21 @@ fn setting(alloc: Global) -> Result<Setting, AllocError> {
 }
 
 fn opening(alloc: Global) -> Result<State, AllocError> {
+    with_installed(alloc, 0)
+}
+
+// The first patches of the setting, so many of them, are installed.
+fn with_installed(alloc: Global, count: u8) -> Result<State, AllocError> {
+    let mut world = World::new(alloc)?;
+    for patch in 0..count {
+        world.put_back(Record::InstalledPatch {
+            patch: PatchId(patch),
+            place: Some(patch),
+        });
+    }
     Ok(State {
         loaded: vec![in alloc; true, false]?,
-        installed: Vec::new(alloc),
+        world,
         moving: None,
     })
 }
@@ -193,9 +206,7 @@ fn a_function_without_a_site_is_refused_in_a_loaded_object(rt: HostRuntime) -> R
 fn a_patch_that_is_withdrawn_leaves_the_list(rt: HostRuntime) -> Result<(), Fail> {
     let alloc = rt.alloc();
     let setting = setting(alloc)?;
-    let mut state = opening(alloc)?;
-    state.installed.push(PatchId(0))?;
-    state.installed.push(PatchId(1))?;
+    let mut state = with_installed(alloc, 2)?;
     state.moving = Some(Move {
         patch: PatchId(1),
         target: false,
@@ -204,7 +215,7 @@ fn a_patch_that_is_withdrawn_leaves_the_list(rt: HostRuntime) -> Result<(), Fail
         step(alloc, &setting, &mut state, Event::Poll)?,
         Ok(Reply::Completed(false))
     );
-    assert_eq!(rt; state.installed.as_slice(), [PatchId(0)].as_slice());
+    assert_eq!(rt; state.installed(alloc)?.as_slice(), [PatchId(0)].as_slice());
     assert_eq!(rt; state.moving, None);
     Ok(())
 }
@@ -214,9 +225,7 @@ fn a_cumulative_patch_puts_a_nop_over_an_older_function(rt: HostRuntime) -> Resu
     let alloc = rt.alloc();
     let setting = setting(alloc)?;
     assert!(rt; setting.is_small());
-    let mut state = opening(alloc)?;
-    state.installed.push(PatchId(0))?;
-    state.installed.push(PatchId(1))?;
+    let mut state = with_installed(alloc, 2)?;
     state.moving = Some(Move {
         patch: PatchId(1),
         target: true,
@@ -283,8 +292,7 @@ fn single(alloc: Global, address: u64) -> Result<Setting, AllocError> {
 #[test]
 fn a_handler_out_of_reach_has_no_text(rt: HostRuntime) -> Result<(), Fail> {
     let alloc = rt.alloc();
-    let mut hooked = opening(alloc)?;
-    hooked.installed.push(PatchId(0))?;
+    let hooked = with_installed(alloc, 1)?;
     let near = single(alloc, 0xffff_ffff_00ff_fffc)?;
     assert!(rt; near.is_small());
     let found = text(alloc, &near, &hooked, ObjId(0))?;
@@ -295,5 +303,77 @@ fn a_handler_out_of_reach_has_no_text(rt: HostRuntime) -> Result<(), Fail> {
     let far = single(alloc, 0xffff_ffff_00ff_fffb)?;
     assert!(rt; far.is_small());
     assert!(rt; text(alloc, &far, &hooked, ObjId(0))?.is_none());
+    Ok(())
+}
+
+fn key(obj: u64, id: u64) -> ShadowKey {
+    ShadowKey { obj, id }
+}
+
+#[test]
+fn shadow_variables_come_and_go(rt: HostRuntime) -> Result<(), Fail> {
+    let alloc = rt.alloc();
+    let setting = setting(alloc)?;
+    let mut state = opening(alloc)?;
+    let events = [
+        (Event::ShadowAlloc(key(1, 9), 5), Ok(Reply::Done)),
+        (Event::ShadowAlloc(key(1, 9), 7), Err(Refusal::Exists)),
+        (Event::ShadowGetOrAlloc(key(1, 9), 8), Ok(Reply::Value(5))),
+        (Event::ShadowGetOrAlloc(key(2, 9), 6), Ok(Reply::Value(6))),
+        (Event::ShadowFree(key(9, 1)), Ok(Reply::Freed(0))),
+        (Event::ShadowFree(key(1, 9)), Ok(Reply::Freed(1))),
+        (Event::ShadowAlloc(key(3, 9), 1), Ok(Reply::Done)),
+        (Event::ShadowFreeAll(8), Ok(Reply::Freed(0))),
+        (Event::ShadowFreeAll(9), Ok(Reply::Freed(2))),
+    ];
+    for (event, want) in events {
+        assert_eq!(rt;
+            step(alloc, &setting, &mut state, event)?,
+            want,
+            "{event:?}"
+        );
+    }
+    assert_eq!(rt; state.world.count(), 0);
+    Ok(())
+}
+
+// Takes the events in order, and answers what the last one answered.
+fn last_answer(
+    alloc: Global,
+    setting: &Setting,
+    state: &mut State,
+    events: &[Event],
+) -> Result<Option<Result<Reply, Refusal>>, AllocError> {
+    let mut last = None;
+    for event in events {
+        last = Some(step(alloc, setting, state, *event)?);
+    }
+    Ok(last)
+}
+
+#[test]
+fn there_are_512_shadow_variables_at_most(rt: HostRuntime) -> Result<(), Fail> {
+    let alloc = rt.alloc();
+    let setting = setting(alloc)?;
+    let mut state = opening(alloc)?;
+    let mut events = Vec::new(alloc);
+    for id in 0..512 {
+        events.push(Event::ShadowAlloc(key(8, id), id))?;
+    }
+    let last = last_answer(alloc, &setting, &mut state, &events)?;
+    assert_eq!(rt; last, Some(Ok(Reply::Done)));
+    let over = [
+        (Event::ShadowAlloc(key(9, 9), 1), Err(Refusal::Full)),
+        (Event::ShadowAlloc(key(8, 3), 1), Err(Refusal::Exists)),
+        (Event::ShadowGetOrAlloc(key(9, 9), 1), Err(Refusal::Full)),
+        (Event::ShadowGetOrAlloc(key(8, 3), 1), Ok(Reply::Value(3))),
+    ];
+    for (event, want) in over {
+        assert_eq!(rt;
+            step(alloc, &setting, &mut state, event)?,
+            want,
+            "{event:?}"
+        );
+    }
     Ok(())
 }

@@ -127,7 +127,7 @@ pub fn pick(
     if !is_site_loaded(setting, state, site) {
         return Ok(None);
     }
-    let entries = entries_over(alloc, setting, state.installed(), site)?;
+    let entries = entries_over(alloc, setting, &state.installed(alloc)?, site)?;
     target_of(
         alloc,
         setting,
