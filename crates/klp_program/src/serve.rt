@@ -13,16 +13,23 @@ use std::io::{BufRead, Write};
 fn number(refusal: Refusal) -> u8 {
     match refusal {
         Refusal::NoPatch => 2,
+        Refusal::Full => 12,
         Refusal::Busy => 16,
-        Refusal::AlreadyThere | Refusal::Incompatible | Refusal::NoSymbol | Refusal::NotMoving =>
-            22,
+        Refusal::AlreadyThere
+        | Refusal::Incompatible
+        | Refusal::NoSymbol
+        | Refusal::NotMoving
+        | Refusal::Exists => 22,
     }
 }
 
 fn write_event<W: Write>(manager: &mut Manager, event: Event, output: &mut W) -> Result<(), Fault> {
     let written = match manager.apply(event) {
+        Ok(Reply::Done) => writeln!(output, "ok"),
         Ok(Reply::Started) => writeln!(output, "started"),
         Ok(Reply::Completed(target)) => writeln!(output, "completed {}", u8::from(target)),
+        Ok(Reply::Value(value)) => writeln!(output, "value {value}"),
+        Ok(Reply::Freed(count)) => writeln!(output, "freed {count}"),
         Err(refusal) => writeln!(output, "error {} {refusal}", number(refusal)),
     };
     written.map_err(|_| Fault::Write)
@@ -66,7 +73,11 @@ fn answer<W: Write>(
             Some(patch) => write_event(manager, Event::Enable(patch), output),
             None => writeln!(output, "error 2 NoPatch").map_err(|_| Fault::Write),
         },
-        Line::Command(Command::Poll) => write_event(manager, Event::Poll, output),
+        Line::Command(Command::ShadowGet(key)) => match manager.shadow_get(key) {
+            Some(value) => writeln!(output, "value {value}").map_err(|_| Fault::Write),
+            None => writeln!(output, "none").map_err(|_| Fault::Write),
+        },
+        Line::Command(Command::Event(event)) => write_event(manager, event, output),
     }
 }
 

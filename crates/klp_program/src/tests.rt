@@ -135,6 +135,64 @@ fn answers_each_line(rt: HostRuntime) -> Result<(), Fail> {
 }
 
 #[test]
+fn shadow_lines_are_answered(rt: HostRuntime) -> Result<(), Fail> {
+    let cases: [(&[u8], &[u8]); 6] = [
+        (
+            b"shadow getalloc 1 1 5\nshadow getalloc 1 1 6\nshadow freeall 1\nshadow free 1 1\n",
+            b"value 5\nvalue 5\nfreed 1\nfreed 0\n",
+        ),
+        (
+            b"shadow alloc 1 2 3\nshadow alloc 1 2 4\nshadow get 1 2\nshadow free 1 2\nshadow get 1 2\n",
+            b"ok\nerror 22 Exists\nvalue 3\nfreed 1\nnone\n",
+        ),
+        (
+            b"shadow alloc 18446744073709551615 0 007\nshadow get 18446744073709551615 0\n",
+            b"ok\nvalue 7\n",
+        ),
+        (
+            b"shadow alloc 18446744073709551616 0 7\nshadow get +1 0\nshadow get 1 -0\nshadow get 1 x\n",
+            b"error 22 BadLine\nerror 22 BadLine\nerror 22 BadLine\nerror 22 BadLine\n",
+        ),
+        (
+            b"shadow\nshadow get 1\nshadow get 1 2 3\nshadow freeall 1 2\n",
+            b"error 22 BadLine\nerror 22 BadLine\nerror 22 BadLine\nerror 22 BadLine\n",
+        ),
+        (
+            b"shadow alloc 1 2\nshadow alloc 1 2 3 4\nshadow put 1 2 3\npoll 1 2 3\n",
+            b"error 22 BadLine\nerror 22 BadLine\nerror 22 BadLine\nerror 22 BadLine\n",
+        ),
+    ];
+    for (lines, want) in cases {
+        let ran = ran(rt.alloc(), KERNEL.as_bytes(), lines)?;
+        assert_eq!(rt; ran.status, 0);
+        assert_eq!(rt; ran.out.as_slice(), want);
+        assert!(rt; ran.err.is_empty());
+    }
+    Ok(())
+}
+
+// Lines that add the variables (8, 0), (8, 1) and so on.
+fn allocs(alloc: Global, count: u64) -> io::Result<Vec<u8>> {
+    let mut lines = Vec::new(alloc);
+    for id in 0..count {
+        writeln!(lines, "shadow alloc 8 {id} 1")?;
+    }
+    Ok(lines)
+}
+
+#[test]
+fn a_513th_shadow_variable_has_no_room(rt: HostRuntime) -> Result<(), Fail> {
+    let alloc = rt.alloc();
+    let lines = allocs(alloc, 513)?;
+    let ran = ran(alloc, KERNEL.as_bytes(), &lines)?;
+    assert_eq!(rt; ran.status, 0);
+    let answers = ran.out.as_slice();
+    assert_eq!(rt; answers.len(), 512 * 3 + 14);
+    assert!(rt; answers.ends_with(b"ok\nerror 12 Full\n"));
+    Ok(())
+}
+
+#[test]
 fn the_sample_is_patched(rt: HostRuntime) -> Result<(), Fail> {
     let lines = b"text vmlinux\nload p\ntext vmlinux\npoll\n";
     let ran = ran(rt.alloc(), CATALOG, lines)?;
