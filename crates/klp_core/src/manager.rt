@@ -48,7 +48,6 @@ pub struct Manager {
 
 impl Model for Manager {
     ghost use Rattle.klp_core.specs.Managed.{Managed};
-
     ghost use Rattle.std.specs.Coded.{codes};
     ghost use Rattle.klp_world.specs.Coded.{world_code};
 

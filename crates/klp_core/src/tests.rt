@@ -115,10 +115,7 @@ fn answers(
 }
 
 // The same from boot, for a test that doesn't look at the manager.
-fn answers_from_boot(
-    alloc: Global,
-    events: &[Event],
-) -> Result<Vec<Result<Reply, Refusal>>, Fail> {
+fn answers_from_boot(alloc: Global, events: &[Event]) -> Result<Vec<Result<Reply, Refusal>>, Fail> {
     let mut manager = sample(alloc)?;
     Ok(answers(alloc, &mut manager, events)?)
 }

@@ -11,9 +11,7 @@ ghost use Rattle.klp_world.specs.Noted.{noting, rows_of_alloc, rows_of_free, row
 use crate::installed::InstalledPatches;
 use crate::patch::{InstalledPatch, SystemState, place_of_patch};
 use crate::shadow::ShadowMap;
-use klp_types::{
-    MAX_PATCHES, MAX_STATES, MAX_VARIABLES, PatchId, Record, Records, ShadowKey,
-};
+use klp_types::{MAX_PATCHES, MAX_STATES, MAX_VARIABLES, PatchId, Record, Records, ShadowKey};
 use std::alloc::{AllocError, Global};
 use std::marker::Model;
 

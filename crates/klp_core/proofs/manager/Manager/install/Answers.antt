@@ -30,8 +30,7 @@ pub invariant_of-self : goal.invariant_of-self
 invariant_of-self c =
     let facts = installable c.self.inside.image c.self.inside.modules c.self.inside.catalog c.self.inside.world c.self.inside.moving
     c.args.self.now c.args.patch c.self.view_is c.self.invariant.0 c.requires.unrefused in
-    let inside = subst (λ (names : List ObjectNames). All (LiesInObject names) c.functions.result.now) c.self.invariant.0.text_of_state.catalog_names c.functions.ensures.in_object in
-    (
+    let inside = subst (λ (names : List ObjectNames). All (LiesInObject names) c.functions.result.now) c.self.invariant.0.text_of_state.catalog_names c.functions.ensures.in_object in (
       rw (c.hook_all.ensures, c.add_states.ensures.world)
           (kept_after c.self.inside.image c.self.inside.modules c.self.inside.catalog c.self.inside.world c.self.inside.moving
           c.args.patch [] c.functions.result.now c.self.invariant.0 facts (record { own = c.functions.ensures.setting; inside = inside })),

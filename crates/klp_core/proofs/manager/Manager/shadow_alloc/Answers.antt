@@ -12,8 +12,7 @@ use borrow.Author.Tests.{leb-false}
 pub invariant_of-self : goal.invariant_of-self
 invariant_of-self c =
     let world = c.self.inside.world in
-    let room = leb-false MAX_VARIABLES (finite.len world.shadow) (ap (λ (m : Managed). is_full m.state.world) c.self.view_is ∙ sym c.if-is_full.ensures) in
-    (
+    let room = leb-false MAX_VARIABLES (finite.len world.shadow) (ap (λ (m : Managed). is_full m.state.world) c.self.view_is ∙ sym c.if-is_full.ensures) in (
       rw c.alloc.ensures.world
           (kept_allocated c.self.inside.image c.self.inside.modules c.self.inside.catalog world c.self.inside.moving c.args.key c.args.value
           (variable world c.args.key) c.self.invariant.0 (λ none. room)),
