@@ -23,3 +23,6 @@ pub use record::{Record, Records};
 pub use shadow::ShadowKey;
 pub use text::{ObjectText, SymbolText};
 pub use version::{Entry, Move, Target, Version};
+
+#[cfg(test)]
+mod tests;
