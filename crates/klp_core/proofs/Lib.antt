@@ -3,4 +3,4 @@ pub mod EnableLemmas
 pub mod BootLemmas
 pub mod ViewLemmas
 pub mod MatchLemmas
-pub mod ShadowLemmas
+pub mod WorldLemmas

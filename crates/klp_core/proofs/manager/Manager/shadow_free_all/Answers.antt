@@ -1,5 +1,5 @@
 use Rattle.std.proofs.Common.{arith}
-use Rattle.klp_core.proofs.ShadowLemmas.{few_freed}
+use Rattle.klp_core.proofs.WorldLemmas.{few_freed}
 use Rattle.klp_core.proofs.manager.Manager.shadow_free_all.Goals as goal
 
 pub free_all-freed-requires : goal.free_all-freed-requires

@@ -5,7 +5,7 @@ use Rattle.klp_types.specs.Records.{RecordList}
 use Rattle.klp_types.specs.World.{variable}
 use Rattle.klp_types.specs.Step.{is_full}
 use Rattle.klp_core.specs.Managed.{Managed}
-use Rattle.klp_core.proofs.ShadowLemmas.{kept_allocated}
+use Rattle.klp_core.proofs.WorldLemmas.{kept_allocated}
 use Rattle.klp_core.proofs.manager.Manager.shadow_get_or_alloc.Goals as goal
 use Rattle.klp_core.proofs.manager.Manager.shadow_get_or_alloc.Goals.{else-is_none-via-then-is_none+else-is_full, else-is_none-via-else-is_none}
 use borrow.Author.Tests.{leb-false, clash}
