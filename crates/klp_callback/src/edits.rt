@@ -56,13 +56,8 @@ fn make_edits(edits: &[Edit], patch: PatchId, world: &mut World, log: &mut Recor
     }
 }
 
-/// Runs a script for the patch, and answers its status.
-pub(crate) fn run_script(
-    script: &Script,
-    patch: PatchId,
-    world: &mut World,
-    log: &mut Records,
-) -> i32
+/// Runs a script for the patch, and answers its status, as [`crate::Callback::run`] does.
+pub fn run_script(script: &Script, patch: PatchId, world: &mut World, log: &mut Records) -> i32
     requires room { finite.len world.old.shadow + alloc_count script.now.edits ≤ MAX_VARIABLES }
     requires records { length (rows_of_script patch world.old script.now) ≤ spare_of log.old }
     ensures status { result ≡ script.now.status }
@@ -87,7 +82,7 @@ fn change_world(script: &Script, patch: PatchId, world: &mut World, log: &mut Re
 }
 
 /// How many edits of the script add a shadow variable.
-pub(crate) fn allocs_of(script: &Script) -> u16
+pub fn allocs_of(script: &Script) -> u16
     ensures value { result ≡ alloc_count script.now.edits }
     ensures limit { length script.now.edits ≤ MAX_EDITS }
 {

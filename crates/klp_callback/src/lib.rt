@@ -9,6 +9,7 @@ mod kinds;
 
 pub use boxed::Boxed;
 pub use callback::Callback;
+pub use edits::{allocs_of, run_script};
 pub use kinds::{Quiet, Refusing, Scripted};
 
 #[cfg(test)]

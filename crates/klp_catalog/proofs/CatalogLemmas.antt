@@ -9,16 +9,15 @@ use Rattle.std.proofs.lemmas.List.Sums.{sum_by-cons}
 use Rattle.std.proofs.lemmas.List.Folds.{list_all-map}
 use Rattle.std.proofs.lemmas.Option.{slice_get-map}
 use Rattle.klp_types.specs.Compatible.{SystemState, version_among, can_live_with}
-use Rattle.klp_types.specs.Setting.{all_functions, patch_objects}
+use Rattle.klp_types.specs.Setting.{all_functions, patch_objects, patch_states, patch_replaces}
 use Rattle.klp_modules.specs.Names.{ObjectNames, first_site, symbol_names, sites_where, picked}
 use Rattle.klp_modules.specs.declared.fault.SymbolFault.TheVariants.{NoPosition}
-use Rattle.klp_catalog.specs.Plan.{PlanFunction, PlanTarget, PlanPatch}
-use Rattle.klp_catalog.specs.Parts.{function_count}
-use Rattle.klp_catalog.specs.Limits.{IsSmall}
-use Rattle.klp_catalog.specs.Catalog.{site_of, resolved_function, functions_of_target, functions_of_patch, targets_of_patch, setting_function, patch_object, setting_patch, has_same_site, some_same_site}
+use Rattle.klp_plan.specs.Plan.{PlanFunction, PlanTarget, PlanPatch}
+use Rattle.klp_plan.specs.Parts.{function_count}
+use Rattle.klp_catalog.specs.Catalog.{Catalog, site_of, resolved_function, functions_of_target, functions_of_patch, targets_of_patch, setting_function, patch_object, setting_patch, has_same_site, some_same_site}
 use Rattle.klp_catalog.specs.States as states
 use Rattle.klp_catalog.specs.Assembled.{IsInObject, LiesInObject}
-use Rattle.klp_catalog.specs.Stored.{StoredPatch, stored_patch, stored_functions, stored_states, stored_replaces, states_at, can_live_with_patch, newest_naming, symbol_count, IsStored}
+use Rattle.klp_catalog.specs.Stored.{IsWithin, StoredPatch, patches_in, patch_counts_in, functions_in, functions_of_plan, stored_functions, stored_states, stored_replaces, states_at, can_live_with_patch, newest_naming, symbol_count, IsStored}
 
 -- ---- lists
 
@@ -100,7 +99,7 @@ length-functions names (target ∷ targets) =
 
 -- ---- a patch that is there, or isn't
 
-few_in_patch : (patches : List PlanPatch) (p : ℕ) → AllByRecursion IsSmall patches → function_count (targets_of_patch (slice_get patches p)) ≤ 64
+few_in_patch : (patches : List PlanPatch) (p : ℕ) → AllByRecursion IsWithin patches → function_count (targets_of_patch (slice_get patches p)) ≤ 64
 few_in_patch [] p small = omega arith
 few_in_patch (patch ∷ patches) zero small = small.0.few_functions
 few_in_patch (patch ∷ patches) (suc p) small = few_in_patch patches p small.1
@@ -121,59 +120,75 @@ objects_in_patch : (names : List ObjectNames) (found : Option PlanPatch) → pat
 objects_in_patch names None = refl
 objects_in_patch names (Some patch) = refl
 
-module _ {names : List ObjectNames} {patches : List PlanPatch} {symbols : List ℕ} {patch_names : List (List ℕ)} {stored : List StoredPatch}
-    (kept : IsStored names patches symbols patch_names stored) where
-  slice_get-stored : (p : ℕ) → slice_get stored p ≡ option_map (stored_patch names) (slice_get patches p)
-  slice_get-stored p = ap (λ xs. slice_get xs p) kept.resolved ∙ slice_get-map (stored_patch names) patches p
+-- what contracts see of the patches that are kept
+abbrev pub catalog_of : List ObjectNames → List StoredPatch → Catalog
+catalog_of names stored = record { names = names; patches = patches_in stored; runs = patch_counts_in stored }
 
-  pub functions_are : (p : ℕ) → stored_functions (slice_get stored p) ≡ functions_of_patch names (targets_of_patch (slice_get patches p))
-  functions_are p = ap stored_functions (slice_get-stored p) ∙ by (slice_get patches p)
+-- a patch as the manager has it
+pub setting_at : (names : List ObjectNames) (stored : List StoredPatch) (p : ℕ)
+    → slice_get (map (setting_patch names) (patches_in stored)) p ≡ option_map (setting_patch names) (option_map (λ (s : StoredPatch). s.plan) (slice_get stored p))
+setting_at names stored p =
+    slice_get-map (setting_patch names) (patches_in stored) p ∙ ap (option_map (setting_patch names)) (slice_get-map (λ (s : StoredPatch). s.plan) stored p)
+
+pub states_are : (names : List ObjectNames) (stored : List StoredPatch) (p : ℕ) → states_at stored p ≡ states.states_of (catalog_of names stored) p
+states_are names stored p = by (slice_get stored p) ∙ sym (ap patch_states (setting_at names stored p))
+  where
+    by : (found : Option StoredPatch) → stored_states found ≡ patch_states (option_map (setting_patch names) (option_map (λ (s : StoredPatch). s.plan) found))
+    by None = refl
+    by (Some patch) = refl
+
+pub replaces_is : (names : List ObjectNames) (stored : List StoredPatch) (p : ℕ) → stored_replaces (slice_get stored p) ≡ states.is_cumulative (catalog_of names stored) p
+replaces_is names stored p = by (slice_get stored p) ∙ sym (ap patch_replaces (setting_at names stored p))
+  where
+    by : (found : Option StoredPatch) → stored_replaces found ≡ patch_replaces (option_map (setting_patch names) (option_map (λ (s : StoredPatch). s.plan) found))
+    by None = refl
+    by (Some patch) = refl
+
+live_with-same : (names : List ObjectNames) (stored : List StoredPatch) (p other : ℕ) → can_live_with_patch stored p other
+    ≡ list_all (λ (s : SystemState). can_live_with (states.is_cumulative (catalog_of names stored) p) s (version_among s.id (states.states_of (catalog_of names stored) p)))
+    (states.states_of (catalog_of names stored) other)
+live_with-same names stored p other =
+    ap (λ b. list_all (λ (s : SystemState). can_live_with b s (version_among s.id (states_at stored p))) (states_at stored other)) (replaces_is names stored p)
+    ∙ ap (λ own. list_all (λ (s : SystemState). can_live_with (states.is_cumulative (catalog_of names stored) p) s (version_among s.id own)) (states_at stored other)) (states_are names stored p)
+    ∙ ap (list_all (λ (s : SystemState). can_live_with (states.is_cumulative (catalog_of names stored) p) s (version_among s.id (states.states_of (catalog_of names stored) p)))) (states_are names stored other)
+
+pub compatible-same : (names : List ObjectNames) (stored : List StoredPatch) (p : ℕ) (installed : List ℕ) → list_all (can_live_with_patch stored p) installed
+    ≡ states.is_compatible (catalog_of names stored) p installed
+compatible-same names stored p installed =
+    list_all-same (can_live_with_patch stored p) _ (live_with-same names stored p) installed
+    ∙ sym (list_all-map (list_all (λ (s : SystemState). can_live_with (states.is_cumulative (catalog_of names stored) p) s (version_among s.id (states.states_of (catalog_of names stored) p))))
+    (states.states_of (catalog_of names stored)) installed)
+
+pub newest-same : (names : List ObjectNames) (stored : List StoredPatch) (id : ℕ) (before : List ℕ) → newest_naming stored id before
+    ≡ find (states.names_state (catalog_of names stored) id) (reverse before)
+newest-same names stored id before = find-same _ _ (λ p. ap (λ s. is_some (version_among id s)) (states_are names stored p)) (reverse before)
+
+pub in_setting : (names : List ObjectNames) (patches : List PlanPatch) (p : ℕ) → map setting_function (functions_of_patch names (targets_of_patch (slice_get patches p)))
+    ≡ all_functions (patch_objects (slice_get (map (setting_patch names) patches) p))
+in_setting names patches p =
+    setting-functions names (targets_of_patch (slice_get patches p))
+    ∙ ap all_functions (sym (ap patch_objects (slice_get-map (setting_patch names) patches p) ∙ objects_in_patch names (slice_get patches p)))
+
+module _ {names : List ObjectNames} {symbols : List ℕ} {patch_names : List (List ℕ)} (stored : List StoredPatch)
+    (kept : IsStored names symbols patch_names (patches_in stored) (functions_in stored)) where
+  pub functions_are : (p : ℕ) → stored_functions (slice_get stored p) ≡ functions_of_patch names (targets_of_patch (slice_get (patches_in stored) p))
+  functions_are p =
+      by (slice_get stored p) (slice_get (patches_in stored) p)
+      (sym (slice_get-map (λ (s : StoredPatch). s.functions) stored p) ∙ ap (λ xs. slice_get xs p) kept.resolved
+      ∙ slice_get-map (functions_of_plan names) (patches_in stored) p)
     where
-      by : (found : Option PlanPatch) → stored_functions (option_map (stored_patch names) found) ≡ functions_of_patch names (targets_of_patch found)
-      by None = refl
-      by (Some patch) = refl
+      by : (s : Option StoredPatch) (q : Option PlanPatch) → option_map (λ (s : StoredPatch). s.functions) s ≡ option_map (functions_of_plan names) q
+          → stored_functions s ≡ functions_of_patch names (targets_of_patch q)
+      by None None e = refl
+      by None (Some q) e = cc
+      by (Some s) None e = cc
+      by (Some s) (Some q) e = cc
 
-  pub states_are : (p : ℕ) → states_at stored p ≡ states.states_of_patch (slice_get patches p)
-  states_are p = ap stored_states (slice_get-stored p) ∙ by (slice_get patches p)
-    where
-      by : (found : Option PlanPatch) → stored_states (option_map (stored_patch names) found) ≡ states.states_of_patch found
-      by None = refl
-      by (Some patch) = refl
+  pub few_functions : (p : ℕ) → length (functions_of_patch names (targets_of_patch (slice_get (patches_in stored) p))) ≤ 64
+  few_functions p = omega (arith, length-functions names (targets_of_patch (slice_get (patches_in stored) p)), few_in_patch (patches_in stored) p kept.few.each_within)
 
-  pub replaces_is : (p : ℕ) → stored_replaces (slice_get stored p) ≡ states.is_cumulative (slice_get patches p)
-  replaces_is p = ap stored_replaces (slice_get-stored p) ∙ by (slice_get patches p)
-    where
-      by : (found : Option PlanPatch) → stored_replaces (option_map (stored_patch names) found) ≡ states.is_cumulative found
-      by None = refl
-      by (Some patch) = refl
-
-  pub in_setting : (p : ℕ) → map setting_function (functions_of_patch names (targets_of_patch (slice_get patches p)))
-      ≡ all_functions (patch_objects (slice_get (map (setting_patch names) patches) p))
-  in_setting p =
-      setting-functions names (targets_of_patch (slice_get patches p))
-      ∙ ap all_functions (sym (ap patch_objects (slice_get-map (setting_patch names) patches p) ∙ objects_in_patch names (slice_get patches p)))
-
-  pub few_functions : (p : ℕ) → length (functions_of_patch names (targets_of_patch (slice_get patches p))) ≤ 64
-  few_functions p = omega (arith, length-functions names (targets_of_patch (slice_get patches p)), few_in_patch patches p kept.few.each_small)
-
-  pub apart_functions : (p : ℕ) → has_same_site (functions_of_patch names (targets_of_patch (slice_get patches p))) ≡ false
-  apart_functions p = apart_in_patch names patches p kept.apart
-
-  live_with-same : (p other : ℕ) → can_live_with_patch stored p other
-      ≡ list_all (λ (s : SystemState). can_live_with (states.is_cumulative (slice_get patches p)) s (version_among s.id (states.states_of_patch (slice_get patches p))))
-      (states.states_of_patch (slice_get patches other))
-  live_with-same p other = rw (replaces_is p, states_are p, states_are other) refl
-
-  pub compatible-same : (p : ℕ) (installed : List ℕ) → list_all (can_live_with_patch stored p) installed
-      ≡ states.is_compatible (record { names = names; patches = patches }) p installed
-  compatible-same p installed =
-      list_all-same (can_live_with_patch stored p) _ (live_with-same p) installed
-      ∙ sym (list_all-map (list_all (λ (s : SystemState). can_live_with (states.is_cumulative (slice_get patches p)) s (version_among s.id (states.states_of_patch (slice_get patches p)))))
-      (λ other. states.states_of_patch (slice_get patches other)) installed)
-
-  pub newest-same : (id : ℕ) (before : List ℕ) → newest_naming stored id before
-      ≡ find (states.names_state (record { names = names; patches = patches }) id) (reverse before)
-  newest-same id before = find-same _ _ (λ p. ap (λ s. is_some (version_among id s)) (states_are p)) (reverse before)
+  pub apart_functions : (p : ℕ) → has_same_site (functions_of_patch names (targets_of_patch (slice_get (patches_in stored) p))) ≡ false
+  apart_functions p = apart_in_patch names (patches_in stored) p kept.apart
 
 -- ---- counts of symbols
 

@@ -1,7 +1,3 @@
-pub mod WordLemmas
-pub mod NumberLemmas
-pub mod LineLemmas
-pub mod ListLemmas
-pub mod DraftLemmas
-pub mod TextLemmas
 pub mod CatalogLemmas
+pub mod RunLemmas
+pub mod AssembleLemmas

@@ -1,15 +1,54 @@
 -- When a plan becomes a catalog, and where the functions of a catalog lie.
-use Rattle.std.specs.Prelude.{◌≡◌, ℕ, ◌+◌, ◌<◌, ◌≤◌, true, List, length, slice_get, IfSome}
+use Rattle.std.specs.Prelude.{◌≡◌, ℕ, ◌+◌, ◌<◌, ◌≤◌, ◌≢◌, pos, true, List, [], ◌∷◌, ◌++◌, length, map, slice_get, IfSome}
 use Rattle.klp_modules.specs.Names.{ObjectNames, first_site, symbol_names}
 use Rattle.klp_catalog.specs.declared.assemble.AssembleFault.{AssembleFault}
-use Rattle.klp_catalog.specs.declared.assemble.AssembleFault.TheVariants.{SameSite, NoMemory}
-use Rattle.klp_catalog.specs.Plan.{PlanPatch}
+use Rattle.klp_catalog.specs.declared.assemble.AssembleFault.TheVariants.{WrongCallbacks, SameSite, NoMemory}
+use Rattle.klp_types.specs.Setting.{Callback}
+use Rattle.klp_types.specs.Script.{Script}
+use Rattle.klp_callback.specs.Told.{Told}
+use Rattle.klp_plan.specs.Plan.{PlanTarget, PlanPatch}
+use Rattle.klp_plan.specs.Scripts.{scripts_of}
 use Rattle.klp_catalog.specs.Catalog.{CatalogFunction, some_same_site}
 
--- why a plan is refused: want of memory may stand in place of the other fault
-abbrev pub IsAssembleFault : List ObjectNames → List PlanPatch → AssembleFault → Type 0
-IsAssembleFault names patches SameSite = some_same_site names patches ≡ true
-IsAssembleFault names patches NoMemory = Unit {0}
+-- a callback, an object and a patch without what the scripts say: with the empty script in place of each
+abbrev pub without_script : Callback → Callback
+without_script callback = record callback { script = record { edits = []; status = pos 0 } }
+
+abbrev pub target_without_scripts : PlanTarget → PlanTarget
+target_without_scripts target = record target { callbacks = map without_script target.callbacks }
+
+abbrev pub without_scripts : PlanPatch → PlanPatch
+without_scripts patch = record patch { targets = map target_without_scripts patch.targets }
+
+-- the counts of a patch's callbacks, over its objects in order
+abbrev pub counts_of_patch : List (List ℕ) → List ℕ
+counts_of_patch [] = []
+counts_of_patch (runs ∷ others) = runs ++ counts_of_patch others
+
+-- the counts of all callbacks, in the order of the text
+abbrev pub counts_of : List (List (List ℕ)) → List ℕ
+counts_of [] = []
+counts_of (runs ∷ others) = counts_of_patch runs ++ counts_of others
+
+-- the scripts and the counts that callbacks tell
+abbrev pub scripts_told : List Told → List Script
+scripts_told callbacks = map (λ (t : Told). t.script) callbacks
+
+abbrev pub counts_told : List Told → List ℕ
+counts_told callbacks = map (λ (t : Told). t.runs) callbacks
+
+-- why a plan is refused, with so many callbacks: there isn't one for each script; else two functions are for one site; want
+-- of memory may stand in place of the others
+abbrev pub IsAssembleFault : List ObjectNames → List PlanPatch → ℕ → AssembleFault → Type 0
+IsAssembleFault names patches callbacks WrongCallbacks = length (scripts_of patches) ≢ callbacks
+IsAssembleFault names patches callbacks SameSite = (length (scripts_of patches) ≡ callbacks) × (some_same_site names patches ≡ true)
+IsAssembleFault names patches callbacks NoMemory = Unit {0}
+
+-- why callbacks aren't given out: there are fewer of them than scripts
+abbrev pub IsShort : ℕ → ℕ → AssembleFault → Type 0
+IsShort scripts callbacks WrongCallbacks = callbacks < scripts
+IsShort scripts callbacks SameSite = ⊥
+IsShort scripts callbacks NoMemory = Unit {0}
 
 -- the site is that of one of the object's symbols
 pub record IsInObject (names : List ObjectNames) (object site : ℕ) : Type 0 where

@@ -4,7 +4,7 @@ use Rattle.std.specs.List.{list_any}
 use Rattle.std.specs.Result.{result_ok}
 use Rattle.klp_types.specs.Setting.{Function, PatchObject, Patch, is_at}
 use Rattle.klp_modules.specs.Names.{ObjectNames, resolved}
-use Rattle.klp_catalog.specs.Plan.{PlanFunction, PlanTarget, PlanPatch}
+use Rattle.klp_plan.specs.Plan.{PlanFunction, PlanTarget, PlanPatch}
 
 -- a new function of a catalog: the object it lies in, the symbol it stands in for, by name and position, the site that
 -- this symbol is, and its own name and address
@@ -16,10 +16,13 @@ pub record CatalogFunction : Type 0 where
   pub new_name : List ℕ
   pub address : ℕ
 
--- what contracts see of a catalog: the names of the objects and symbols that it was assembled over, and the patches of its plan
+-- what contracts see of a catalog: the names of the objects and symbols that it was assembled over, the patches of its plan
+-- with the scripts of the callbacks that were handed in, and for each patch, each of its objects and each of its callbacks
+-- how often it ran
 pub record Catalog : Type 0 where
   pub names : List ObjectNames
   pub patches : List PlanPatch
+  pub runs : List (List (List ℕ))
 
 -- the site that a function's name and position pick in an object, if they pick one
 abbrev pub site_of : List ObjectNames → ℕ → PlanFunction → Option ℕ
@@ -56,10 +59,10 @@ abbrev pub setting_function : CatalogFunction → Function
 setting_function function = record { site = function.site; address = function.address }
 
 abbrev pub patch_object : List ObjectNames → PlanTarget → PatchObject
-patch_object names target = record { object = target.object; functions = map setting_function (functions_of_target names target) }
+patch_object names target = record { object = target.object; functions = map setting_function (functions_of_target names target); callbacks = target.callbacks }
 
 abbrev pub setting_patch : List ObjectNames → PlanPatch → Patch
-setting_patch names patch = record { replace = patch.replace; objects = map (patch_object names) patch.targets }
+setting_patch names patch = record { replace = patch.replace; objects = map (patch_object names) patch.targets; states = patch.states }
 
 -- the patches as the manager has them
 abbrev pub patches_of : Catalog → List Patch

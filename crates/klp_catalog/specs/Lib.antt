@@ -1,14 +1,5 @@
-pub mod Plan
-pub mod Parts
-pub mod Limits
-pub mod Words
-pub mod Gives
-pub mod Lines
-pub mod Draft
-pub mod Within
-pub mod Kept
-pub mod Text
 pub mod Catalog
 pub mod States
+pub mod Runs
 pub mod Assembled
 pub mod Stored

@@ -1,26 +1,26 @@
 -- The system states that the patches of a catalog name.
-use Rattle.std.specs.Prelude.{ℕ, ◌==◌, Bool, false, List, [], ◌∷◌, map, find, reverse, slice_get, Option, Some, None, is_some, if◌then◌else◌}
+use Rattle.std.specs.Prelude.{ℕ, ◌==◌, Bool, List, [], ◌∷◌, map, find, reverse, slice_get, Option, is_some, if◌then◌else◌}
 use Rattle.klp_types.specs.Compatible as compatible
 use Rattle.klp_types.specs.Compatible.{SystemState, version_among}
-use Rattle.klp_catalog.specs.Plan.{PlanPatch}
-use Rattle.klp_catalog.specs.Catalog.{Catalog}
-
-abbrev pub states_of_patch : Option PlanPatch → List SystemState
-states_of_patch None = []
-states_of_patch (Some patch) = patch.states
+use Rattle.klp_types.specs.Setting.{patch_states, patch_replaces}
+use Rattle.klp_catalog.specs.Catalog.{Catalog, patches_of}
 
 -- the system states that a patch of the catalog names
 abbrev pub states_of : Catalog → ℕ → List SystemState
-states_of catalog patch = states_of_patch (slice_get catalog.patches patch)
+states_of catalog patch = patch_states (slice_get (patches_of catalog) patch)
 
-abbrev pub is_cumulative : Option PlanPatch → Bool
-is_cumulative None = false
-is_cumulative (Some patch) = patch.replace
+-- their ids, in order
+abbrev pub state_ids : Catalog → ℕ → List ℕ
+state_ids catalog patch = map (λ (s : SystemState). s.id) (states_of catalog patch)
+
+-- whether a patch of the catalog is a cumulative one
+abbrev pub is_cumulative : Catalog → ℕ → Bool
+is_cumulative catalog patch = patch_replaces (slice_get (patches_of catalog) patch)
 
 -- whether a patch of the catalog can be installed beside these
 abbrev pub is_compatible : Catalog → ℕ → List ℕ → Bool
 is_compatible catalog patch installed =
-    compatible.is_compatible (is_cumulative (slice_get catalog.patches patch)) (states_of catalog patch) (map (states_of catalog) installed)
+    compatible.is_compatible (is_cumulative catalog patch) (states_of catalog patch) (map (states_of catalog) installed)
 
 -- the patches that were installed before this one, oldest first; all of them where it isn't among them
 abbrev pub installed_before : ℕ → List ℕ → List ℕ

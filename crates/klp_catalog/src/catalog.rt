@@ -1,27 +1,36 @@
-ghost use Rattle.std.specs.Prelude.{◌≡◌, ℕ, ◌<◌, ◌≤◌, false, List, Option, length, map, position, bytes_eq, slice_get, option_map, IfOk, IfErr};
+ghost use Rattle.std.specs.Prelude.{◌≡◌, ℕ, ◌<◌, ◌≤◌, false, List, Option, length, map, position, bytes_eq, slice_get, option_map, ◌+◌, IfOk, IfErr, IfSome};
 ghost use Rattle.std.specs.List.{All};
 ghost use Rattle.klp_types.specs.Setting.{all_functions, patch_objects};
 ghost use Rattle.klp_modules.specs.Names.{ObjectNames};
-ghost use Rattle.klp_catalog.specs.Plan.{PlanPatch as PatchValue, PlanTarget as TargetValue};
-ghost use Rattle.klp_catalog.specs.Text.{plan_of, IsFaultOf};
-ghost use Rattle.klp_catalog.specs.Within.{AreTargetsWithin};
-ghost use Rattle.klp_catalog.specs.Draft.{patch_names_of};
-ghost use Rattle.klp_catalog.specs.Catalog.{CatalogFunction as FunctionValue, catalog_functions, setting_function, patches_of, targets_of_patch, has_same_site, some_same_site};
+ghost use Rattle.klp_types.specs.Setting.{PatchObject};
+ghost use Rattle.klp_types.specs.Records.{spare_of};
+ghost use Rattle.klp_types.specs.Callbacks.{call_of, after_calls};
+ghost use Rattle.klp_types.specs.Script.{Script as ScriptOfEdits, alloc_count};
+ghost use Rattle.klp_world.specs.Undo.{undone};
+ghost use Rattle.klp_world.specs.Noted.{noting, rows_of_script};
+ghost use Rattle.klp_plan.specs.Plan.{PlanPatch as PatchValue};
+ghost use Rattle.klp_plan.specs.Text.{plan_of, IsFaultOf};
+ghost use Rattle.klp_plan.specs.Within.{AreTargetsWithin};
+ghost use Rattle.klp_plan.specs.Draft.{patch_names_of};
+ghost use Rattle.klp_catalog.specs.Catalog.{CatalogFunction as FunctionValue, catalog_functions, setting_function, patches_of, has_same_site, some_same_site};
 ghost use Rattle.klp_catalog.specs.States as states;
-ghost use Rattle.klp_catalog.specs.Assembled.{IsAssembleFault, LiesInObject};
+ghost use Rattle.klp_catalog.specs.Runs.{objects_at, script_at, allocs_if, rows_if, after_run, callback_runs};
+ghost use Rattle.klp_plan.specs.Scripts.{scripts_of};
+ghost use Rattle.std.specs.FinMap as finite;
+ghost use Rattle.klp_catalog.specs.Assembled.{IsAssembleFault, LiesInObject, without_scripts, counts_of, scripts_told, counts_told};
 
 use crate::assemble::{AssembleFault, assemble_patches, symbol_counts};
-use crate::draft::Draft;
-use crate::fault::TextFault;
 use crate::function::CatalogFunction;
-use crate::limit::{MAX_FUNCTIONS, MAX_PATCHES};
-use crate::lines::Lines;
-use crate::names::Names;
 use crate::patch;
 use crate::patch::CatalogPatch;
-use crate::plan::{Plan, PlanPatch};
+use arrayvec::ArrayVec;
+use klp_callback::Boxed;
 use klp_modules::Modules;
-use klp_types::{ObjId, PatchId, Site};
+use klp_plan::{MAX_FUNCTIONS, MAX_TARGETS, Names, Plan, TextFault};
+use klp_types::{
+    MAX_EDITS, MAX_PATCHES, MAX_STATES, MAX_VARIABLES, ObjId, PatchId, Records, Site, Which,
+};
+use klp_world::World;
 use std::alloc::Global;
 use std::marker::Model;
 use std::snapshot::Snapshot;
@@ -35,8 +44,6 @@ use std::snapshot::Snapshot;
 pub struct Catalog {
     /// The modules that it was assembled over, as they were then.
     over: Snapshot<Modules>,
-    /// The patches of its plan.
-    given: Snapshot<Vec<PlanPatch>>,
     /// By object, how many symbols it has.
     symbols: Vec<u16>,
     names: Names,
@@ -45,13 +52,13 @@ pub struct Catalog {
 
 impl Model for Catalog {
     ghost use Rattle.klp_catalog.specs.Catalog.{Catalog};
-    ghost use Rattle.klp_catalog.specs.Stored.{IsStored};
+    ghost use Rattle.klp_catalog.specs.Stored.{IsStored, patches_in, functions_in, patch_counts_in};
 
     ghost Value = { Catalog };
 
-    ghost view = { λ c. record { names = c.over.value.names; patches = c.given.value.items } };
+    ghost view = { λ c. record { names = c.over.value.names; patches = patches_in c.patches.items; runs = patch_counts_in c.patches.items } };
 
-    ghost invariant = { λ c. IsStored c.over.value.names c.given.value.items c.symbols.items c.names c.patches.items };
+    ghost invariant = { λ c. IsStored c.over.value.names c.symbols.items c.names (patches_in c.patches.items) (functions_in c.patches.items) };
 }
 
 impl Catalog {
@@ -66,19 +73,7 @@ impl Catalog {
         ensures targets { IfOk result (λ plan. AreTargetsWithin (length plan.objects) plan.patches) }
         ensures fault { IfErr result (λ fault. IsFaultOf text.now fault.line fault.kind) }
     {
-        let mut draft = Draft::new(alloc);
-        let mut lines = Lines::new(text);
-        let mut number = 0;
-        while let Some(line) = lines.next() {
-            number += 1;
-            if let Err(kind) = draft.read_line(alloc, line) {
-                return Err(TextFault { line: number, kind });
-            }
-        }
-        match draft.finish() {
-            Ok(plan) => Ok(plan),
-            Err(kind) => Err(TextFault { line: 0, kind }),
-        }
+        klp_plan::read(alloc, text)
     }
 
     /// Makes a catalog of a plan, over the modules of the image that its objects make. The handler
@@ -86,27 +81,32 @@ impl Catalog {
     ///
     /// Each function is resolved once, and compared with the others of its patch. A function whose
     /// symbol isn't resolved is for no site, and is no fault.
-    pub fn assemble(alloc: Global, modules: &Modules, plan: Plan) -> Result<Catalog, AssembleFault>
+    ///
+    /// Each script of the plan wants one callback, in the order of the text. The callbacks' own
+    /// scripts count, and not those of the text.
+    pub fn assemble(
+        alloc: Global,
+        modules: &Modules,
+        plan: Plan,
+        callbacks: Vec<Boxed>,
+    ) -> Result<Catalog, AssembleFault>
         requires targets { AreTargetsWithin (length modules.now.names) plan.patches }
-        ensures ok { IfOk result (λ catalog. catalog ≡ record { names = modules.now.names; patches = plan.patches }) }
+        ensures names { IfOk result (λ catalog. catalog.names ≡ modules.now.names) }
+        ensures patches { IfOk result (λ catalog. map without_scripts catalog.patches ≡ map without_scripts plan.patches) }
+        ensures scripts { IfOk result (λ catalog. scripts_of catalog.patches ≡ scripts_told callbacks.items) }
+        ensures counts { IfOk result (λ catalog. counts_of catalog.runs ≡ counts_told callbacks.items) }
+        ensures number { IfOk result (λ catalog. length (scripts_of plan.patches) ≡ length callbacks.items) }
         ensures distinct { IfOk result (λ catalog. some_same_site modules.now.names plan.patches ≡ false) }
-        ensures fault { IfErr result (λ fault. IsAssembleFault modules.now.names plan.patches fault) }
+        ensures fault { IfErr result (λ fault. IsAssembleFault modules.now.names plan.patches (length callbacks.items) fault) }
     {
         let symbols = symbol_counts(alloc, modules)?;
         let over = Snapshot::of(modules);
-        let given = Snapshot::of(&plan.patches);
-        let Plan {
-            handler: _,
-            objects: _,
-            patches,
-            patch_names: names,
-        } = plan;
+        let (patches, names) = plan.into_patches();
         Ok(Catalog {
             over,
-            given,
             symbols,
             names,
-            patches: assemble_patches(alloc, modules, patches)?,
+            patches: assemble_patches(alloc, modules, patches, callbacks)?,
         })
     }
 
@@ -171,13 +171,77 @@ impl Catalog {
         Some(patch.replace)
     }
 
+    /// How many objects a patch changes, at most [`MAX_TARGETS`](crate::MAX_TARGETS). A patch that
+    /// isn't there changes none.
+    pub fn targets(&self, patch: PatchId) -> u8
+        ensures count { result ≡ length (objects_at self.now patch) }
+        ensures limit { result ≤ MAX_TARGETS }
+    {
+        patch::targets_of(&self.patches, patch).len() as u8
+    }
+
     /// The object that a patch changes, by its place among those of the patch from 0.
     pub fn target(&self, patch: PatchId, number: u8) -> Option<ObjId>
-        ensures { result ≡ option_map (λ (found : TargetValue). found.object)
-            (slice_get (targets_of_patch (slice_get self.now.patches patch)) number) }
+        ensures { result ≡ option_map (λ (found : PatchObject). found.object) (slice_get (objects_at self.now patch) number) }
+    {
+        let target = patch::targets_of(&self.patches, patch).get(usize::from(number))?;
+        Some(target.object)
+    }
+
+    /// The ids of the system states that a patch names, in the order of the text (system-state). A
+    /// patch that isn't there names none.
+    pub fn state_ids(&self, patch: PatchId) -> ArrayVec<u64, MAX_STATES>
+        ensures { result.items ≡ states.state_ids self.now patch }
+    {
+        patch::ids_of(patch::states_of(&self.patches, patch))
+    }
+
+    /// Runs a callback of a patch for one of its objects, by the object's place in the patch from 0,
+    /// and answers its status. `None` where the patch has no such callback. It takes no memory
+    /// (callbacks).
+    pub fn run(
+        &mut self,
+        patch: PatchId,
+        place: u8,
+        which: Which,
+        world: &mut World,
+        log: &mut Records,
+    ) -> Option<i32>
+        requires room { IfSome (script_at self.old patch place which) (λ script. finite.len world.old.shadow + alloc_count script.edits ≤ MAX_VARIABLES) }
+        requires records { IfSome (script_at self.old patch place which) (λ script. length (rows_of_script patch world.old script) ≤ spare_of log.old) }
+        ensures status { result ≡ option_map (λ (s : ScriptOfEdits). s.status) (script_at self.old patch place which) }
+        ensures catalog { self.new ≡ after_run self.old patch place which }
+        ensures world { world.new ≡ after_calls world.old (call_of patch place which (script_at self.old patch place which)) }
+        ensures noted { log.new ≡ noting log.old (rows_if patch world.old (script_at self.old patch place which)) }
+        ensures undo { undone world.new (rows_if patch world.old (script_at self.old patch place which)) ≡ world.old }
+    {
+        let number = usize::from(patch.0);
+        if self.patches.len() <= number {
+            return None;
+        }
+        self.patches[number].run(patch, place, which, world, log)
+    }
+
+    /// How many shadow variables such a run adds at most. 0 where there is no such callback.
+    pub fn allocs(&self, patch: PatchId, place: u8, which: Which) -> u16
+        ensures value { result ≡ allocs_if (script_at self.now patch place which) }
+        ensures limit { result ≤ MAX_EDITS }
+        // so a run notes few rows
+        ensures edits { IfSome (script_at self.now patch place which) (λ script. length script.edits ≤ MAX_EDITS) }
+    {
+        match self.patches.get(usize::from(patch.0)) {
+            Some(patch) => patch.allocs(place, which),
+            None => 0,
+        }
+    }
+
+    /// How often the callback of a kind for this object ran, up to the greatest number. `None` where
+    /// the patch has no such callback.
+    pub fn callback_runs(&self, patch: PatchId, object: ObjId, which: Which) -> Option<u64>
+        ensures { result ≡ callback_runs self.now patch object which }
     {
         let patch = self.patches.get(usize::from(patch.0))?;
-        patch.targets.get(usize::from(number)).copied()
+        patch.callback_runs(object, which)
     }
 
     /// The new functions of a patch, over its objects in order. A patch that isn't there has none.

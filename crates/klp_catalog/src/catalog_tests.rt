@@ -1,12 +1,62 @@
 use crate::patch::CatalogPatch;
-use crate::plan::SystemState;
-use crate::tests::{FIRST, SECOND};
 use crate::{AssembleFault, Catalog, CatalogFunction, patch};
+use klp_callback::{Boxed, Quiet};
 use klp_modules::Modules;
+use klp_plan::SystemState;
 use klp_text::Image;
 use klp_types::{ObjId, PatchId, Site};
 use std::alloc::{AllocError, Global};
+use std::snapshot::Snapshot;
 use std::test::Fail;
+
+const FIRST: &str = "handler ffffffff81000000
+object vmlinux
+symbol f ffffffff81001000 e80000000090c3
+patch p
+target vmlinux
+func .klp.sym.vmlinux.f,0 f_p ffffffffc0001000
+";
+
+/// The example of `docs/CATALOG.md`, which `klp_plan` reads too.
+const SECOND: &str = "handler ffffffff81000000
+object vmlinux
+symbol f ffffffff81001000 e80000000090c3
+symbol h ffffffff81002000 e800000000c3
+symbol d ffffffff81003000 e800000000c3
+symbol d ffffffff81004000 e800000000c3
+object m
+symbol g ffffffffa0000000 e800000000c3
+object n
+symbol k ffffffffa0010000 e800000000c3
+patch p
+target vmlinux
+func .klp.sym.vmlinux.f,0 f_p ffffffffc0001000
+func .klp.sym.vmlinux.h,0 h_p ffffffffc0001100
+target m
+func .klp.sym.m.g,0 g_p ffffffffc0001200
+patch q
+target vmlinux
+func .klp.sym.vmlinux.f,0 f_q ffffffffc0002000
+patch c replace
+target vmlinux
+func .klp.sym.vmlinux.f,0 f_c ffffffffc0003000
+patch x replace
+target vmlinux
+func .klp.sym.vmlinux.f,0 f_x ffffffffc0004000
+patch y
+target vmlinux
+func .klp.sym.vmlinux.h,0 h_y ffffffffc0005000
+patch r
+target vmlinux
+func .klp.sym.vmlinux.h,0 h_r ffffffffc0006000
+target m
+func .klp.sym.m.g,0 g_r ffffffffc0006100
+target n
+func .klp.sym.n.k,0 k_r ffffffffc0006200
+patch s
+target vmlinux
+func .klp.sym.vmlinux.d,0 d_s ffffffffc0007000
+";
 
 /// What stands before the patches of the texts below.
 const OBJECTS: &str = "handler ffffffff81000000
@@ -22,11 +72,19 @@ target vmlinux
 
 /// Reads and assembles a text that has no other fault.
 fn assembled(alloc: Global, text: &str) -> Result<Result<Catalog, AssembleFault>, Fail> {
+    assembled_with(alloc, text, Vec::new(alloc))
+}
+
+fn assembled_with(
+    alloc: Global,
+    text: &str,
+    callbacks: Vec<Boxed>,
+) -> Result<Result<Catalog, AssembleFault>, Fail> {
     let mut plan = Catalog::read(alloc, text.as_bytes())?;
     let objects = plan.take_objects();
     let image = Image::new(alloc, objects, plan.handler())?;
     let modules = Modules::new(alloc, &image)?;
-    Ok(Catalog::assemble(alloc, &modules, plan))
+    Ok(Catalog::assemble(alloc, &modules, plan, callbacks))
 }
 
 #[test]
@@ -156,8 +214,21 @@ fn tells_a_site_of_two_functions(rt: HostRuntime) -> Result<(), Fail> {
 }
 
 #[test]
+fn a_callback_too_many_is_told_first(rt: HostRuntime) -> Result<(), Fail> {
+    for (functions, _) in SAME_SITE {
+        let text = format!(in rt.alloc(); "{OBJECTS}{functions}")?;
+        let mut callbacks = Vec::new(rt.alloc());
+        callbacks.push(Boxed::new(Box::new(rt.alloc(), Quiet::new())?))?;
+        let fault = assembled_with(rt.alloc(), text.as_str(), callbacks)?.err();
+        assert_eq!(rt; fault, Some(AssembleFault::WrongCallbacks), "{functions}");
+    }
+    Ok(())
+}
+
+#[test]
 fn assemble_fault_names(rt: HostRuntime) -> Result<(), Fail> {
     let faults = [
+        (AssembleFault::WrongCallbacks, 1, "WrongCallbacks"),
         (AssembleFault::SameSite, 2, "SameSite"),
         (AssembleFault::NoMemory, 3, "NoMemory"),
     ];
@@ -174,6 +245,7 @@ fn with_states(
     states: &[SystemState],
 ) -> Result<CatalogPatch, AllocError> {
     Ok(CatalogPatch {
+        name: Snapshot::of(&String::new(alloc)),
         replace,
         targets: Vec::new(alloc),
         functions: Vec::new(alloc),

@@ -1,5 +1,5 @@
 -- What enabling a patch keeps.
-use Rattle.std.proofs.Common.{◌≡◌, ℕ, zero, suc, ◌<◌, Bool, true, false, ◌&&◌, ◌||◌, List, [], ◌∷◌, ◌++◌, length, Option, Some, None, is_some, map, refl, sym, ap, subst, ◌∙◌, arith, eqb}
+use Rattle.std.proofs.Common.{◌≡◌, ℕ, zero, suc, ◌<◌, ◌≤◌, Bool, cond, true, false, ◌&&◌, ◌||◌, List, [], ◌∷◌, ◌++◌, reverse, length, Option, Some, None, is_some, map, refl, sym, ap, subst, ◌∙◌, arith, eqb}
 use Rattle.std.specs.Prelude.{not, ◌==◌, slice_get, slice_index_or, replicate, option_map, is_none, IfSome}
 use Rattle.std.specs.List.{All, IsDistinct, list_any}
 use Rattle.std.specs.Cmp.{nat_eq_equiv}
@@ -12,17 +12,20 @@ use Rattle.std.proofs.lemmas.Map.Steps.{length-le_from_distinct_below}
 use Rattle.klp_types.specs.declared.version.Move.{Move}
 use Rattle.klp_types.specs.Image.{Image, Object, symbols_of, object_of}
 use Rattle.klp_types.specs.Setting.{Setting, Patch, PatchObject, Function, patch_objects, functions_of, function_for, is_at, replaces}
-use Rattle.klp_types.specs.World.{Installed, World, with_patch}
+use Rattle.std.specs.FinMap as finite
+use Rattle.klp_types.specs.declared.limits.TheConstants.{MAX_VARIABLES}
+use Rattle.klp_types.specs.World.{Installed, World, with_patch, without_patch, taken_out}
 use Rattle.klp_types.specs.State.{State, is_installed, is_moving, installed_patches}
 use Rattle.klp_types.specs.FirstOf.{first_of}
 use Rattle.klp_types.specs.declared.event.Event.TheVariants.{Enable}
-use Rattle.klp_types.specs.declared.event.Refusal.TheVariants.{NoPatch, Busy, AlreadyThere, Incompatible, NoSymbol}
-use Rattle.klp_types.specs.Step.{has_patch, lacks_symbol, refusals}
-use Rattle.klp_types.specs.Entries.{is_hooked, is_site_loaded, is_object_loaded, patches_site}
+use Rattle.klp_types.specs.declared.event.Refusal.TheVariants.{NoPatch, Busy, AlreadyThere, Incompatible, NoSymbol, Full}
+use Rattle.klp_types.specs.Callbacks.{lacks_room}
+use Rattle.klp_types.specs.Step.{has_patch, lacks_symbol, is_compatible, refusals}
+use Rattle.klp_types.specs.Entries.{is_hooked, is_empty, entries_from, is_site_loaded, is_object_loaded, patches_site}
 use Rattle.klp_types.proofs.EntryLemmas.{is_hooked-any}
 use Rattle.klp_text.specs.TextImage.{TextImage, site_count}
 use Rattle.klp_modules.specs.Names.{ObjectNames, ModuleTable, names_of}
-use Rattle.klp_catalog.specs.Plan.{PlanFunction, PlanTarget, PlanPatch}
+use Rattle.klp_plan.specs.Plan.{PlanFunction, PlanTarget, PlanPatch}
 use Rattle.klp_catalog.specs.Catalog.{Catalog, CatalogFunction, catalog_functions, functions_of_patch, functions_of_target, targets_of_patch, patch_object, resolved_function, setting_patch, setting_function, site_of}
 use Rattle.klp_catalog.specs.Assembled.{IsInObject, LiesInObject}
 use Rattle.klp_core.specs.Hooks.{due_sites, hooked_with}
@@ -162,25 +165,31 @@ pub record IsEnablable (setting : Setting) (state : State) (patch : ℕ) : Type 
   pub apart : is_installed state patch ≡ false
   pub still : is_moving state ≡ false
   pub resolved : lacks_symbol setting state patch ≡ false
+  pub room : lacks_room setting state (Enable patch) ≡ false
 
-enablable : (setting : Setting) (state : State) (patch : ℕ) (there installed moving lacks : Bool)
+enablable : (setting : Setting) (state : State) (patch : ℕ) (there installed moving fits lacks full : Bool)
     → has_patch setting patch ≡ there → is_installed state patch ≡ installed → is_moving state ≡ moving → lacks_symbol setting state patch ≡ lacks
-    → first_of ((not there, NoPatch) ∷ (installed, AlreadyThere) ∷ (moving, Busy) ∷ (lacks, NoSymbol) ∷ (replaces setting patch, Incompatible) ∷ []) ≡ None
+    → lacks_room setting state (Enable patch) ≡ full
+    → first_of ((not there, NoPatch) ∷ (installed, AlreadyThere) ∷ (moving, Busy) ∷ (not fits, Incompatible) ∷ (lacks, NoSymbol) ∷ (full, Full) ∷ (replaces setting patch, Incompatible) ∷ []) ≡ None
     → IsEnablable setting state patch
-enablable setting state patch false installed moving lacks there_is installed_is moving_is lacks_is h = let no : ⊥ = cc in absurd no
-enablable setting state patch true true moving lacks there_is installed_is moving_is lacks_is h = let no : ⊥ = cc in absurd no
-enablable setting state patch true false true lacks there_is installed_is moving_is lacks_is h = let no : ⊥ = cc in absurd no
-enablable setting state patch true false false true there_is installed_is moving_is lacks_is h = let no : ⊥ = cc in absurd no
-enablable setting state patch true false false false there_is installed_is moving_is lacks_is h = record {
+enablable setting state patch false installed moving fits lacks full there_is installed_is moving_is lacks_is full_is h = let no : ⊥ = cc in absurd no
+enablable setting state patch true true moving fits lacks full there_is installed_is moving_is lacks_is full_is h = let no : ⊥ = cc in absurd no
+enablable setting state patch true false true fits lacks full there_is installed_is moving_is lacks_is full_is h = let no : ⊥ = cc in absurd no
+enablable setting state patch true false false false lacks full there_is installed_is moving_is lacks_is full_is h = let no : ⊥ = cc in absurd no
+enablable setting state patch true false false true true full there_is installed_is moving_is lacks_is full_is h = let no : ⊥ = cc in absurd no
+enablable setting state patch true false false true false true there_is installed_is moving_is lacks_is full_is h = let no : ⊥ = cc in absurd no
+enablable setting state patch true false false true false false there_is installed_is moving_is lacks_is full_is h = record {
   there = ltb-true patch (length setting.patches) there_is;
   apart = installed_is;
   still = moving_is;
   resolved = lacks_is;
+  room = full_is;
 }
 
 pub enablable_from_none : (setting : Setting) (state : State) (patch : ℕ) → first_of (refusals setting state (Enable patch)) ≡ None → IsEnablable setting state patch
 enablable_from_none setting state patch h =
-    enablable setting state patch (has_patch setting patch) (is_installed state patch) (is_moving state) (lacks_symbol setting state patch) refl refl refl refl h
+    enablable setting state patch (has_patch setting patch) (is_installed state patch) (is_moving state) (is_compatible setting state patch) (lacks_symbol setting state patch)
+    (lacks_room setting state (Enable patch)) refl refl refl refl refl h
 
 -- what is known when a patch is put last
 
@@ -189,6 +198,8 @@ pub record IsInstallable (text : TextImage) (catalog : Catalog) (world : World) 
   pub apart : list_any (λ (i : Installed). i.patch == patch) world.installed ≡ false
   pub room : length world.installed < length catalog.patches
   pub resolved : lacks_symbol (setting_of (managed_of text catalog world moving)) (managed_of text catalog world moving).state patch ≡ false
+  pub still : is_some moving ≡ false
+  pub enough : lacks_room (setting_of (managed_of text catalog world moving)) (managed_of text catalog world moving).state (Enable patch) ≡ false
 
 pub installable : (text : TextImage) (modules : ModuleTable) (catalog : Catalog) (world : World) (moving : Option Move) (managed : Managed) (patch : ℕ)
     → managed_of text catalog world moving ≡ managed → IsKept text modules catalog world moving
@@ -209,6 +220,8 @@ installable text modules catalog world moving managed patch view kept unrefused 
       apart = free.apart;
       room = omega (arith, length-map world.installed (λ (i : Installed). i.patch));
       resolved = free.resolved;
+      still = free.still;
+      enough = free.room;
     }
 
 -- what a manager keeps, once a patch is put last and starts to move
@@ -229,18 +242,18 @@ or-last : (old same : Bool) → same ≡ true → (old || (same || false)) ≡ t
 or-last true same h = refl
 or-last false same h = ap (λ b. b || false) h
 
-pub kept_after : (text : TextImage) (modules : ModuleTable) (catalog : Catalog) (world : World) (moving : Option Move) (patch : ℕ) (ids : List ℕ) (functions : List CatalogFunction)
+pub kept_after : (text : TextImage) (modules : ModuleTable) (catalog : Catalog) (world after : World) (moving : Option Move) (runs : List (List (List ℕ))) (patch : ℕ) (functions : List CatalogFunction)
     → IsKept text modules catalog world moving → IsInstallable text catalog world moving patch
     → AreFunctions (setting_of (managed_of text catalog world moving)) patch functions
-    → IsKept (record text { hooked = hooked_with (due_sites (λ object. slice_index_or modules.loaded object false) functions) text.hooked }) modules catalog
-    (with_patch world patch ids) (Some (record { patch = patch; target = true }))
-kept_after text modules catalog world moving patch ids functions kept new are =
+    → numbers_of after ≡ numbers_of world ++ patch ∷ [] → finite.len after.shadow ≤ MAX_VARIABLES
+    → IsKept (record text { hooked = hooked_with (due_sites (λ object. slice_index_or modules.loaded object false) functions) text.hooked }) modules (record catalog { runs = runs })
+    after (Some (record { patch = patch; target = true }))
+kept_after text modules catalog world after moving runs patch functions kept new are more few =
     let old = managed_of text catalog world moving in
     let move : Move = record { patch = patch; target = true } in
-    let next = managed_of text catalog (with_patch world patch ids) (Some move) in
+    let next = managed_of text catalog after (Some move) in
     let setting = setting_of old in
     let installed = numbers_of world in
-    let more = enabled_patches world patch ids in
     let all = sym more in
     let apart : list_any (λ p. p == patch) installed ≡ false = any-numbers patch world.installed ∙ new.apart in
     let hooked = hooked_after setting old.state next.state patch functions text.hooked are kept.text_of_state.sites kept.text_of_state.hooked refl more in
@@ -258,9 +271,9 @@ kept_after text modules catalog world moving patch ids functions kept new are =
         resolved = subst (λ (ps : List ℕ). (q : ℕ) → list_any (eqb q) ps ≡ true → lacks_symbol setting old.state q ≡ false) all
             (resolved_more setting old.state installed patch kept.allowed.resolved new.resolved);
         forward = λ m is. ap (λ (m : Move). m.target) (sym (some_inj is));
-        moving_there = λ m is. subst (λ (m : Move). list_any (eqb m.patch) (numbers_of (with_patch world patch ids)) ≡ true) (some_inj is)
+        moving_there = λ m is. subst (λ (m : Move). list_any (eqb m.patch) (numbers_of after) ≡ true) (some_inj is)
             (subst (λ (ps : List ℕ). list_any (eqb patch) ps ≡ true) all last);
-        variables = kept.allowed.variables;
+        variables = few;
       };
       text_of_state = record {
         modules_are = kept.text_of_state.modules_are;
@@ -271,6 +284,65 @@ kept_after text modules catalog world moving patch ids functions kept new are =
             ∙ hooked site;
       };
     }
+
+none-moves : {P : Type 0} (m : Move) → None ≡ Some m → P
+none-moves m is = let no : ⊥ = cc in absurd no
+
+-- the same patches are installed, and nothing moves
+pub kept_at_rest : (text : TextImage) (modules : ModuleTable) (catalog : Catalog) (world after : World) (moving : Option Move) (runs : List (List (List ℕ)))
+    → IsKept text modules catalog world moving → numbers_of after ≡ numbers_of world → finite.len after.shadow ≤ MAX_VARIABLES
+    → IsKept text modules (record catalog { runs = runs }) after None
+kept_at_rest text modules catalog world after moving runs kept same few =
+    let old = managed_of text catalog world moving in
+    let setting = setting_of old in
+    let back = sym same in
+    record {
+      allowed = record {
+        limits = kept.allowed.limits;
+        loaded = kept.allowed.loaded;
+        known = subst (λ (ps : List ℕ). (q : ℕ) → list_any (eqb q) ps ≡ true → q < length catalog.patches) back kept.allowed.known;
+        distinct = subst (λ (ps : List ℕ). IsDistinct eqb ps) back kept.allowed.distinct;
+        resolved = subst (λ (ps : List ℕ). (q : ℕ) → list_any (eqb q) ps ≡ true → lacks_symbol setting old.state q ≡ false) back kept.allowed.resolved;
+        forward = λ m is. none-moves m is;
+        moving_there = λ m is. none-moves m is;
+        variables = few;
+      };
+      text_of_state = record {
+        modules_are = kept.text_of_state.modules_are;
+        catalog_names = kept.text_of_state.catalog_names;
+        sites = kept.text_of_state.sites;
+        hooked = λ site. kept.text_of_state.hooked site
+            ∙ ap (λ (ps : List ℕ). not (is_empty (cond (is_site_loaded setting old.state site) (entries_from setting site (reverse ps)) []))) back;
+      };
+    }
+
+-- a patch that was put last is taken out again
+
+abbrev taken_number : ℕ → List ℕ → List ℕ
+taken_number patch [] = []
+taken_number patch (first ∷ newer) = cond (first == patch) newer (first ∷ taken_number patch newer)
+
+numbers-taken : (patch : ℕ) (installed : List Installed)
+    → map (λ (i : Installed). i.patch) (taken_out patch installed) ≡ taken_number patch (map (λ (i : Installed). i.patch) installed)
+numbers-taken patch [] = refl
+numbers-taken patch (first ∷ newer) =
+    elim (first.patch == patch) as (λ b. map (λ (i : Installed). i.patch) (cond b newer (first ∷ taken_out patch newer))
+    ≡ cond b (map (λ (i : Installed). i.patch) newer) (first.patch ∷ taken_number patch (map (λ (i : Installed). i.patch) newer))) [
+      | true ↦ refl
+      | false ↦ ap (λ rest. first.patch ∷ rest) (numbers-taken patch newer)
+    ]
+
+taken-last : (patch : ℕ) (before : List ℕ) → list_any (λ p. p == patch) before ≡ false → taken_number patch (before ++ patch ∷ []) ≡ before
+taken-last patch [] apart = ap (λ b. cond b [] (patch ∷ [])) (nat_eq_equiv.refl patch)
+taken-last patch (p ∷ before) apart =
+    elim (p == patch) as (λ b. (b || list_any (λ p. p == patch) before) ≡ false → cond b (before ++ patch ∷ []) (p ∷ taken_number patch (before ++ patch ∷ [])) ≡ p ∷ before) [
+      | true ↦ λ no. let never : ⊥ = cc in absurd never
+      | false ↦ λ others. ap (λ rest. p ∷ rest) (taken-last patch before others)
+    ] apart
+
+pub gone-again : (patch : ℕ) (world : World) (before : List ℕ) → numbers_of world ≡ before ++ patch ∷ [] → list_any (λ p. p == patch) before ≡ false
+    → numbers_of (without_patch world patch) ≡ before
+gone-again patch world before last apart = numbers-taken patch world.installed ∙ ap (taken_number patch) last ∙ taken-last patch before apart
 
 -- a patch lacks a symbol where one of its functions, over all objects, is for a loaded object and names no site
 

@@ -4,3 +4,9 @@ pub mod BootLemmas
 pub mod ViewLemmas
 pub mod MatchLemmas
 pub mod WorldLemmas
+pub mod CallLemmas
+pub mod LoopLemmas
+pub mod RoomLemmas
+pub mod InstallLemmas
+pub mod RunLemmas
+pub mod EventLemmas

@@ -1,5 +1,6 @@
 pub mod Managed
 pub mod Boot
 pub mod Hooks
+pub mod Due
 pub mod Kept
 pub mod View

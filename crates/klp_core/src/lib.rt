@@ -2,15 +2,15 @@
 #![tactic(auto)]
 
 mod boot;
+mod callbacks;
 mod fault;
 mod hooks;
 mod manager;
 mod shadow;
+#[cfg(test)]
+mod tests;
 mod view;
 
 pub use fault::BootFault;
 pub use manager::Manager;
 pub use view::TextView;
-
-#[cfg(test)]
-mod tests;

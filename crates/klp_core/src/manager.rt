@@ -1,22 +1,25 @@
-ghost use Rattle.std.specs.Prelude.{◌≡◌, ◌+◌, ◌≤◌, ◌==◌, ◌&&◌, ◌⊎◌, true, false, count_by, is_ok, is_err, is_none, Ok, Err, None, IfOk, IfErr, IsErr, slice_index_or, slice_set, replicate, length, map};
+ghost use Rattle.std.specs.Prelude.{◌≡◌, ◌+◌, ◌<◌, ◌≤◌, Some, ◌==◌, ◌&&◌, ◌⊎◌, true, false, count_by, is_ok, is_err, is_none, Ok, Err, None, IfOk, IfErr, IsErr, slice_index_or, slice_set, replicate, length, map};
 ghost use Rattle.std.specs.List.{list_any};
 ghost use Rattle.klp_types.specs.declared.event.Event.TheVariants.{Enable, Poll};
+ghost use Rattle.klp_types.specs.Callbacks.{calls, lacks_room};
 ghost use Rattle.klp_types.specs.declared.limits.TheConstants.{MAX_PATCHES};
 ghost use Rattle.klp_types.specs.Setting.{replaces};
 ghost use Rattle.klp_types.specs.World.{variable, state_value};
 ghost use Rattle.klp_types.specs.State.{is_installed, is_loaded, installed_patches};
 ghost use Rattle.klp_types.specs.Bytes.{text_of};
 ghost use Rattle.klp_types.specs.FirstOf.{first_of};
-ghost use Rattle.klp_types.specs.Step.{lacks_symbol, refusals, enabled};
-ghost use Rattle.klp_types.specs.Run.{answer, next, run, answers};
+ghost use Rattle.klp_types.specs.Step.{is_compatible, lacks_symbol, refusals, enabled, completed, callbacks_of};
+ghost use Rattle.klp_types.specs.Run.{answer, next, run, answers, callbacks_of_run};
 ghost use Rattle.klp_text.specs.TextImage.{opening, IsWithinLimits};
 ghost use Rattle.klp_modules.specs.Names.{names_of};
 ghost use Rattle.klp_catalog.specs.Catalog.{CatalogFunction as FunctionOf};
+ghost use Rattle.klp_catalog.specs.Runs.{after_runs, callback_runs};
 ghost use Rattle.klp_core.specs.Boot.{IsMatch, AreNamed, opening_state};
 ghost use Rattle.klp_core.specs.Managed.{setting_of};
 ghost use Rattle.klp_core.specs.declared.fault.BootFault.TheVariants.{Mismatch, NoMemory};
 
 use crate::boot::is_match;
+use crate::callbacks::{allocs, pre_patch, run_callbacks, take_out};
 use crate::fault::BootFault;
 use crate::hooks::hook_all;
 use crate::view::TextView;
@@ -24,13 +27,16 @@ use arrayvec::ArrayVec;
 use klp_catalog::{Catalog, CatalogFunction};
 use klp_modules::Modules;
 use klp_text::Image;
-use klp_types::{Event, MAX_PATCHES, Move, ObjId, PatchId, Records, Refusal, Reply, ShadowKey};
+use klp_types::{
+    Event, MAX_PATCHES, MAX_VARIABLES, Move, ObjId, PatchId, Records, Refusal, Reply, ShadowKey,
+    Which,
+};
 use klp_world::{InstalledPatches, World};
 use std::alloc::{AllocError, Global};
 use std::marker::Model;
 
 /// How many records one event may note.
-const MAX_RECORDS: usize = 4096;
+pub(crate) const MAX_RECORDS: usize = 4096;
 
 /// The live patching manager: the image with its text, the catalog with its patches, which of them
 /// are installed and in transition, and the shadow variables.
@@ -104,10 +110,16 @@ impl Manager {
         })
     }
 
-    /// Takes one event: one atomic step. It costs as much as the functions of its own patch.
+    /// Takes one event: one atomic step. It costs as much as the functions and callbacks of its own
+    /// patch, or as a change of the shadow variables.
     pub fn apply(&mut self, event: Event) -> Result<Reply, Refusal>
         ensures answer { result ≡ answer (setting_of self.old) self.old.state event }
-        ensures state { self.new ≡ record self.old { state = next (setting_of self.old) self.old.state event } }
+        ensures state { self.new ≡ record self.old {
+          catalog = after_runs self.old.catalog (callbacks_of (setting_of self.old) self.old.state event);
+          state = next (setting_of self.old) self.old.state event;
+        } }
+        // runs of callbacks change no more than their counts
+        ensures setting { setting_of self.new ≡ setting_of self.old }
     {
         match event {
             Event::Enable(patch) => self.enable(patch),
@@ -124,7 +136,10 @@ impl Manager {
     pub fn run(&mut self, events: &[Event]) -> (u64, u64)
         ensures accepted { result.0 ≡ count_by is_ok (answers (setting_of self.old) self.old.state events.now) }
         ensures refused { result.1 ≡ count_by is_err (answers (setting_of self.old) self.old.state events.now) }
-        ensures state { self.new ≡ record self.old { state = run (setting_of self.old) self.old.state events.now } }
+        ensures state { self.new ≡ record self.old {
+          catalog = after_runs self.old.catalog (callbacks_of_run (setting_of self.old) self.old.state events.now);
+          state = run (setting_of self.old) self.old.state events.now;
+        } }
     {
         let mut accepted = 0;
         let mut refused = 0;
@@ -170,7 +185,15 @@ impl Manager {
         self.world.value(patch, id)
     }
 
-    /// The catalog that the manager was booted with.
+    /// How often a callback ran: that of a patch for an object, of a kind. `None` where the patch
+    /// has none. The greatest number stays.
+    pub fn callback_runs(&self, patch: PatchId, object: ObjId, which: Which) -> Option<u64>
+        ensures { result ≡ callback_runs self.now.catalog patch object which }
+    {
+        self.catalog.callback_runs(patch, object, which)
+    }
+
+    /// The catalog that the manager was booted with. Its callbacks have run since.
     pub fn catalog(&self) -> &Catalog
         ensures { result.now ≡ self.now.catalog }
     {
@@ -206,6 +229,34 @@ impl Manager {
         }
     }
 
+    // Whether the patch can live with the system states of all installed ones.
+    fn is_compatible(&self, patch: PatchId) -> bool
+        requires { patch < length self.now.catalog.patches }
+        ensures { result ≡ is_compatible (setting_of self.now) self.now.state patch }
+    {
+        self.catalog.is_compatible(patch, &self.installed())
+    }
+
+    // Whether there is no room for what the callbacks that enabling may run add.
+    fn lacks_room_to_enable(&self, patch: PatchId) -> bool
+        ensures { result ≡ lacks_room (setting_of self.now) self.now.state (Enable patch) }
+    {
+        let pre = allocs(&self.catalog, &self.modules, patch, Which::Pre);
+        let post_un = allocs(&self.catalog, &self.modules, patch, Which::PostUn);
+        usize::from(self.world.count()) + pre + post_un > MAX_VARIABLES
+    }
+
+    // Whether there is no room for what the post-patch callbacks of the moving patch add.
+    fn lacks_room_to_complete(&self) -> bool
+        ensures { result ≡ lacks_room (setting_of self.now) self.now.state Poll }
+    {
+        let post = match self.moving {
+            Some(moving) => allocs(&self.catalog, &self.modules, moving.patch, Which::Post),
+            None => 0,
+        };
+        usize::from(self.world.count()) + post > MAX_VARIABLES
+    }
+
     // Why the patch isn't enabled, in the order in which it is looked at.
     fn enable_refusal(&self, patch: PatchId) -> Option<Refusal>
         ensures few { length self.now.catalog.patches ≤ 16 }
@@ -217,8 +268,12 @@ impl Manager {
             Some(Refusal::AlreadyThere)
         } else if self.moving.is_some() {
             Some(Refusal::Busy)
+        } else if !self.is_compatible(patch) {
+            Some(Refusal::Incompatible)
         } else if self.lacks_symbol(patch) {
             Some(Refusal::NoSymbol)
+        } else if self.lacks_room_to_enable(patch) {
+            Some(Refusal::Full)
         } else if self.replaces(patch) {
             Some(Refusal::Incompatible)
         } else {
@@ -226,51 +281,106 @@ impl Manager {
         }
     }
 
-    // The patch is put last, its sites are hooked, and it starts to move to the target 1.
-    fn install(&mut self, patch: PatchId)
+    // The patch is put last, and pre-patch runs object by object. Where none refuses, the sites are
+    // hooked and the patch starts to move to the target 1; else it is taken out again.
+    fn install(&mut self, patch: PatchId) -> Reply
         requires unrefused { first_of (refusals (setting_of self.old) self.old.state (Enable patch)) ≡ None }
         requires few { length self.old.catalog.patches ≤ 16 }
-        ensures { self.new ≡ record self.old { state = (enabled self.old.state patch).1 } }
+        ensures answer { result ≡ (enabled (setting_of self.old) self.old.state patch).0 }
+        ensures state { self.new ≡ record self.old {
+          catalog = after_runs self.old.catalog (calls (setting_of self.old) self.old.state (Enable patch));
+          state = (enabled (setting_of self.old) self.old.state patch).1;
+        } }
     {
-        hook_all(
-            &mut self.image,
-            &self.modules,
-            self.catalog.functions(patch),
-        );
         self.log.clear();
-        self.world.add_states(patch, &[], &mut self.log);
-        self.moving = Some(Move {
+        let ids = self.catalog.state_ids(patch);
+        self.world.add_states(patch, &ids, &mut self.log);
+        match pre_patch(
+            &mut self.catalog,
+            &self.modules,
             patch,
-            target: true,
-        });
+            &mut self.world,
+            &mut self.log,
+        ) {
+            None => {
+                hook_all(
+                    &mut self.image,
+                    &self.modules,
+                    self.catalog.functions(patch),
+                );
+                self.moving = Some(Move {
+                    patch,
+                    target: true,
+                });
+                Reply::Started
+            }
+            Some((place, status)) => take_out(
+                &mut self.catalog,
+                &self.modules,
+                patch,
+                place,
+                status,
+                &mut self.world,
+                &mut self.log,
+            ),
+        }
     }
 
     // livepatch, Livepatch life-cycle, Enabling.
     fn enable(&mut self, patch: PatchId) -> Result<Reply, Refusal>
         ensures answer { result ≡ answer (setting_of self.old) self.old.state (Enable patch) }
-        ensures state { self.new ≡ record self.old { state = next (setting_of self.old) self.old.state (Enable patch) } }
+        ensures state { self.new ≡ record self.old {
+          catalog = after_runs self.old.catalog (callbacks_of (setting_of self.old) self.old.state (Enable patch));
+          state = next (setting_of self.old) self.old.state (Enable patch);
+        } }
     {
         match self.enable_refusal(patch) {
             Some(refusal) => Err(refusal),
-            None => {
-                self.install(patch);
-                Ok(Reply::Started)
-            }
+            None => Ok(self.install(patch)),
         }
+    }
+
+    // The transition ends: post-patch runs object by object.
+    fn complete(&mut self) -> Reply
+        requires room { lacks_room (setting_of self.old) self.old.state Poll ≡ false }
+        ensures answer { result ≡ (completed (setting_of self.old) self.old.state).0 }
+        ensures state { self.new ≡ record self.old {
+          catalog = after_runs self.old.catalog (calls (setting_of self.old) self.old.state Poll);
+          state = (completed (setting_of self.old) self.old.state).1;
+        } }
+    {
+        let Some(moving) = self.moving else {
+            return Reply::Completed(false);
+        };
+        let end = self.catalog.targets(moving.patch);
+        run_callbacks(
+            &mut self.catalog,
+            &self.modules,
+            moving.patch,
+            Which::Post,
+            end,
+            &mut self.world,
+            &mut self.log,
+        );
+        self.moving = None;
+        Reply::Completed(moving.target)
     }
 
     // A transition to the target 1 is complete at once while there are no tasks.
     fn poll(&mut self) -> Result<Reply, Refusal>
         ensures answer { result ≡ answer (setting_of self.old) self.old.state Poll }
-        ensures state { self.new ≡ record self.old { state = next (setting_of self.old) self.old.state Poll } }
+        ensures state { self.new ≡ record self.old {
+          catalog = after_runs self.old.catalog (callbacks_of (setting_of self.old) self.old.state Poll);
+          state = next (setting_of self.old) self.old.state Poll;
+        } }
     {
-        match self.moving {
-            Some(moving) => {
-                self.moving = None;
-                Ok(Reply::Completed(moving.target))
-            }
-            None => Err(Refusal::NotMoving),
+        if self.moving.is_none() {
+            return Err(Refusal::NotMoving);
         }
+        if self.lacks_room_to_complete() {
+            return Err(Refusal::Full);
+        }
+        Ok(self.complete())
     }
 }
 

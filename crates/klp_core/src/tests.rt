@@ -2,11 +2,17 @@ ghost use Rattle.std.specs.Prelude.{◌≡◌, IfOk};
 ghost use Rattle.klp_text.specs.TextImage.{opening, IsWithinLimits};
 ghost use Rattle.klp_modules.specs.Names.{names_of, opening as opening_table};
 
+mod callbacks;
+
 use crate::{BootFault, Manager};
+use arrayvec::ArrayVec;
+use klp_callback::{Boxed, Scripted};
 use klp_catalog::{AssembleFault, Catalog, TextFault};
 use klp_modules::Modules;
+use klp_plan::Plan;
 use klp_text::{Image, ImageFault};
 use klp_types::{Event, ObjId, PatchId, Refusal, Reply, ShadowKey};
+use klp_world::Script;
 use std::alloc::{AllocError, Global};
 use std::test::Fail;
 use thiserror::Error;
@@ -52,6 +58,9 @@ func .klp.sym.vmlinux.z,0 z_t ffffffffc0009000
 "
 }
 
+/// More scripts than a text of these tests has.
+const MAX_SCRIPTS: usize = 64;
+
 fn kernel_text() -> &'static str {
     "handler 1000\nobject vmlinux\nsymbol f 2000 e800000000c3\n"
 }
@@ -76,6 +85,28 @@ impl From<AllocError> for Fault {
     }
 }
 
+// A callback for each script of the plan, in the order of the text.
+fn boxes(alloc: Global, plan: &Plan) -> Result<Vec<Boxed>, AllocError> {
+    let mut callbacks = Vec::new(alloc);
+    for number in 0..MAX_SCRIPTS {
+        let Some(script) = plan.script(number) else {
+            break;
+        };
+        let callback = Scripted::new(copy_of(script));
+        callbacks.push(Boxed::new(Box::new(alloc, callback)?))?;
+    }
+    Ok(callbacks)
+}
+
+fn copy_of(script: &Script) -> Script {
+    let mut edits = ArrayVec::new();
+    let _ = edits.try_extend_from_slice(script.edits.as_slice());
+    Script {
+        edits,
+        status: script.status,
+    }
+}
+
 // The image of a text's objects, its modules, and the catalog of its patches over them.
 fn parts(alloc: Global, text: &str) -> Result<(Image, Modules, Catalog), Fault>
     ensures image { IfOk result (λ parts. parts.0 ≡ opening parts.0.image.handler parts.0.image.objects) }
@@ -87,7 +118,8 @@ fn parts(alloc: Global, text: &str) -> Result<(Image, Modules, Catalog), Fault>
     let objects = plan.take_objects();
     let image = Image::new(alloc, objects, plan.handler())?;
     let modules = Modules::new(alloc, &image)?;
-    let catalog = Catalog::assemble(alloc, &modules, plan)?;
+    let callbacks = boxes(alloc, &plan)?;
+    let catalog = Catalog::assemble(alloc, &modules, plan, callbacks)?;
     Ok((image, modules, catalog))
 }
 

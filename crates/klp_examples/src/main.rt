@@ -8,7 +8,7 @@ use std::rt::Files;
 use std::{fs, io};
 
 /// The examples, each of which is three files: `NAME.catalog`, `NAME.script` and `NAME.output`.
-const EXAMPLES: [&str; 3] = ["k1", "k", "fix"];
+const EXAMPLES: [&str; 4] = ["k1", "k", "fix", "callbacks"];
 
 // Whether the example prints what it is to print.
 fn holds<R: Files + AllocGlobal>(rt: &R, name: &str) -> io::Result<bool> {

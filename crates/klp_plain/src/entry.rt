@@ -5,7 +5,8 @@ ghost use Rattle.klp_types.specs.Setting.{all_functions, functions_of, function_
 ghost use Rattle.klp_types.specs.Entries.{entries_from, is_site_loaded};
 ghost use Rattle.klp_plain.specs.Plain.{IsSmall, entries_at};
 
-use crate::setting::{Function, PatchObject, Setting, State};
+use crate::patch::{Function, PatchObject};
+use crate::setting::{Setting, State};
 use klp_types::{Entry, ObjectText, PatchId, Site};
 use std::alloc::{AllocError, Global};
 

@@ -4,8 +4,11 @@
 #![tactic(auto)]
 
 mod bytes;
+mod calls;
+mod compatible;
 mod entry;
 mod event;
+mod patch;
 mod setting;
 mod shadow;
 mod version;
@@ -13,8 +16,13 @@ mod version;
 pub use bytes::text;
 pub use entry::entries;
 pub use event::step;
-pub use setting::{Function, Patch, PatchObject, Setting, State};
+pub use patch::{Callback, Function, Patch, PatchObject, SystemState};
+pub use setting::{Setting, State};
 pub use version::pick;
 
+#[cfg(test)]
+mod callback_tests;
+#[cfg(test)]
+mod state_tests;
 #[cfg(test)]
 mod tests;

@@ -1,62 +1,14 @@
-ghost use Rattle.std.specs.Prelude.{◌≡◌, length};
+ghost use Rattle.std.specs.Prelude.{◌≡◌, ◌≤◌, length};
 ghost use Rattle.klp_types.specs.Image.{symbols_of};
 ghost use Rattle.klp_types.specs.Setting.{all_functions};
-ghost use Rattle.klp_plain.specs.Plain.{has_few_functions, has_room_behind};
+ghost use Rattle.klp_plain.specs.Plain.{has_few_functions, has_few_states, has_room_behind};
 ghost use Rattle.std.specs.List.{list_all};
 
-use klp_types::{Move, ObjId, ObjectText, PatchId, Site, SymbolText};
+use crate::patch::{Patch, PatchObject, SystemState};
+use klp_types::{MAX_STATES, Move, ObjectText, PatchId, SymbolText};
 use klp_world::World;
 use std::alloc::{AllocError, Global};
 use std::marker::Model;
-
-/// A new function of a patch.
-#[derive(Clone, Copy, Debug)]
-pub struct Function {
-    /// The site whose function it stands in for, where the image has it.
-    pub site: Option<Site>,
-    pub address: u64,
-}
-
-impl Model for Function {
-    ghost use Rattle.klp_types.specs.Setting.{Function as FunctionOf};
-
-    ghost Value = { FunctionOf };
-
-    ghost view = { λ f. record { site = f.site; address = f.address } };
-
-    ghost inverse = { λ f. record { site = f.site; address = f.address } };
-}
-
-/// What a patch does to one object.
-#[derive(Debug, Drop)]
-pub struct PatchObject {
-    pub object: ObjId,
-    pub functions: Vec<Function>,
-}
-
-impl Model for PatchObject {
-    ghost use Rattle.klp_types.specs.Setting.{PatchObject as PatchObjectOf};
-
-    ghost Value = { PatchObjectOf };
-
-    ghost view = { λ o. record { object = o.object; functions = o.functions.items } };
-}
-
-/// A patch of the catalog.
-#[derive(Debug, Drop)]
-pub struct Patch {
-    /// Whether it replaces all older patches.
-    pub replace: bool,
-    pub objects: Vec<PatchObject>,
-}
-
-impl Model for Patch {
-    ghost use Rattle.klp_types.specs.Setting.{Patch as PatchOf};
-
-    ghost Value = { PatchOf };
-
-    ghost view = { λ p. record { replace = p.replace; objects = p.objects.items } };
-}
 
 /// The image and the catalog's patches.
 #[derive(Debug, Drop)]
@@ -101,7 +53,7 @@ impl Model for State {
 
 impl Setting {
     ghost use Rattle.std.specs.Prelude.{◌≡◌, IsTrue};
-    ghost use Rattle.klp_types.specs.Setting.{objects_of, replaces};
+    ghost use Rattle.klp_types.specs.Setting.{objects_of, replaces, named_states};
     ghost use Rattle.klp_plain.specs.Plain.{IsSmall, is_small};
 
     /// Whether the tables are small enough for a plain machine.
@@ -132,11 +84,22 @@ impl Setting {
         }
     }
 
+    /// The system states that a patch names: none where the catalog has no such patch.
+    pub(crate) fn named_states(&self, patch: PatchId) -> &[SystemState]
+        ensures { result.now ≡ named_states self.now patch }
+    {
+        match self.patches.get(usize::from(patch.0)) {
+            Some(patch) => &patch.states,
+            None => &[],
+        }
+    }
+
     fn passes(&self) -> bool
         ensures { result ≡ is_small self.now }
     {
         symbol_count(&self.objects) < 65536
             && each_has_few(&self.patches)
+            && each_names_few(&self.patches)
             && each_has_room(&self.objects)
     }
 }
@@ -195,6 +158,12 @@ fn each_has_few(patches: &[Patch]) -> bool
     patches
         .iter()
         .all(|patch| function_count(&patch.objects) < 65536)
+}
+
+fn each_names_few(patches: &[Patch]) -> bool
+    ensures { result ≡ list_all has_few_states patches.now }
+{
+    patches.iter().all(|patch| patch.states.len() <= MAX_STATES)
 }
 
 fn all_have_room(symbols: &[SymbolText]) -> bool

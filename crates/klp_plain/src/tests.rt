@@ -1,3 +1,5 @@
+ghost use Rattle.klp_plain.specs.Plain.{IsSmall};
+
 use crate::{Function, Patch, PatchObject, Setting, State, entries, pick, step, text};
 use klp_types::{
     Entry, Event, Move, ObjId, ObjectText, PatchId, Record, Refusal, Reply, ShadowKey, Site,
@@ -28,10 +30,12 @@ fn patch(alloc: Global, replace: bool, sites: &[u16], address: u64) -> Result<Pa
     let object = PatchObject {
         object: ObjId(0),
         functions,
+        callbacks: Vec::new(alloc),
     };
     Ok(Patch {
         replace,
         objects: vec![in alloc; object]?,
+        states: Vec::new(alloc),
     })
 }
 
@@ -137,6 +141,7 @@ fn a_patch_is_enabled_and_completed(rt: HostRuntime) -> Result<(), Fail> {
 fn events_are_refused_in_order(rt: HostRuntime) -> Result<(), Fail> {
     let alloc = rt.alloc();
     let setting = setting(alloc)?;
+    assert!(rt; setting.is_small());
     let mut state = opening(alloc)?;
     let events = [
         (Event::Poll, Err(Refusal::NotMoving)),
@@ -171,6 +176,7 @@ fn lacking(alloc: Global, object: u8) -> Result<PatchObject, AllocError> {
                 address: 0
             },
         ]?,
+        callbacks: Vec::new(alloc),
     })
 }
 
@@ -182,9 +188,11 @@ fn a_function_without_a_site_is_refused_in_a_loaded_object(rt: HostRuntime) -> R
         let patch = Patch {
             replace,
             objects: vec![in alloc; lacking(alloc, object)?]?,
+            states: Vec::new(alloc),
         };
         setting.patches.push(patch)?;
     }
+    assert!(rt; setting.is_small());
     let mut state = opening(alloc)?;
     let events = [
         (Event::Enable(PatchId(2)), Err(Refusal::NoSymbol)),
@@ -206,6 +214,7 @@ fn a_function_without_a_site_is_refused_in_a_loaded_object(rt: HostRuntime) -> R
 fn a_patch_that_is_withdrawn_leaves_the_list(rt: HostRuntime) -> Result<(), Fail> {
     let alloc = rt.alloc();
     let setting = setting(alloc)?;
+    assert!(rt; setting.is_small());
     let mut state = with_installed(alloc, 2)?;
     state.moving = Some(Move {
         patch: PatchId(1),
@@ -314,6 +323,7 @@ fn key(obj: u64, id: u64) -> ShadowKey {
 fn shadow_variables_come_and_go(rt: HostRuntime) -> Result<(), Fail> {
     let alloc = rt.alloc();
     let setting = setting(alloc)?;
+    assert!(rt; setting.is_small());
     let mut state = opening(alloc)?;
     let events = [
         (Event::ShadowAlloc(key(1, 9), 5), Ok(Reply::Done)),
@@ -343,7 +353,9 @@ fn last_answer(
     setting: &Setting,
     state: &mut State,
     events: &[Event],
-) -> Result<Option<Result<Reply, Refusal>>, AllocError> {
+) -> Result<Option<Result<Reply, Refusal>>, AllocError>
+    requires { IsSmall setting.now }
+{
     let mut last = None;
     for event in events {
         last = Some(step(alloc, setting, state, *event)?);
@@ -355,6 +367,7 @@ fn last_answer(
 fn there_are_512_shadow_variables_at_most(rt: HostRuntime) -> Result<(), Fail> {
     let alloc = rt.alloc();
     let setting = setting(alloc)?;
+    assert!(rt; setting.is_small());
     let mut state = opening(alloc)?;
     let mut events = Vec::new(alloc);
     for id in 0..512 {

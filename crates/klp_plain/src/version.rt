@@ -8,7 +8,8 @@ ghost use Rattle.klp_types.specs.Pick.{moves, entries_for, newest_version, targe
 ghost use Rattle.klp_plain.specs.Plain.{IsSmall};
 
 use crate::entry::{entries_over, functions, is_site_loaded};
-use crate::setting::{Function, Setting, State};
+use crate::patch::Function;
+use crate::setting::{Setting, State};
 use klp_types::{Entry, Move, ObjectText, PatchId, Site, SymbolText, Target, Version};
 use std::alloc::{AllocError, Global};
 

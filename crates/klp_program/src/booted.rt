@@ -1,24 +1,31 @@
-ghost use Rattle.std.specs.Prelude.{◌≡◌, Ok, IfOk};
-ghost use Rattle.klp_catalog.specs.Text.{plan_of};
-ghost use Rattle.klp_program.specs.Booted.{IsBootedOver};
+ghost use Rattle.std.specs.Prelude.{◌≡◌, length, map, IfOk};
+ghost use Rattle.klp_plan.specs.Scripts.{scripts_of};
+ghost use Rattle.klp_plan.specs.Within.{AreTargetsWithin};
+ghost use Rattle.klp_program.specs.Booted.{IsBootedOver, never_ran};
 
 use crate::fault::Fault;
+use klp_callback::Boxed;
 use klp_catalog::Catalog;
 use klp_core::Manager;
 use klp_modules::Modules;
+use klp_plan::Plan;
 use klp_text::Image;
 use std::alloc::Global;
 
-/// Boots a manager over the plan that a catalog's text means: over the image of the plan's objects,
-/// and the plan's patches with the names of that image. Nothing is installed. Faults are found in this order: the text's own, those of
-/// the image, of the catalog, and of the manager.
-pub fn boot(alloc: Global, text: &[u8]) -> Result<Manager, Fault>
-    ensures { IfOk result (λ manager. IsBootedOver text.now manager) }
+/// Boots a manager over a plan: over the image of the plan's objects, and the plan's patches with
+/// the names of that image. Nothing is installed. Faults are found in this order: those of the
+/// image, of the catalog, and of the manager.
+///
+/// The caller makes the callbacks, one for each script of the plan in the order of the text: what a
+/// function makes for a box that leaves with its result, the check can't follow.
+pub fn boot(alloc: Global, mut plan: Plan, callbacks: Vec<Boxed>) -> Result<Manager, Fault>
+    requires targets { AreTargetsWithin (length plan.objects) plan.patches }
+    requires callbacks { callbacks.items ≡ map never_ran (scripts_of plan.patches) }
+    ensures { IfOk result (λ manager. IsBootedOver plan manager) }
 {
-    let mut plan = Catalog::read(alloc, text)?;
     let objects = plan.take_objects();
     let image = Image::new(alloc, objects, plan.handler())?;
     let modules = Modules::new(alloc, &image)?;
-    let catalog = Catalog::assemble(alloc, &modules, plan)?;
+    let catalog = Catalog::assemble(alloc, &modules, plan, callbacks)?;
     Ok(Manager::boot(alloc, image, modules, catalog)?)
 }

@@ -7,6 +7,8 @@ pub(crate) enum Command<'a> {
     Text(&'a str),
     /// To enable a patch.
     Load(&'a str),
+    /// How often the callbacks of a patch for an object ran.
+    Runs(&'a str, &'a str),
     /// The value of a shadow variable.
     ShadowGet(ShadowKey),
     /// An event that names nothing of the catalog.
@@ -83,6 +85,9 @@ pub(crate) fn read(line: &[u8]) -> Line<'_> {
     let asked = match (first, second, third) {
         ("text", Some(object), None) => Some(Command::Text(object)),
         ("load", Some(patch), None) => Some(Command::Load(patch)),
+        ("runs", Some(patch), Some(object)) if fourth.is_none() => {
+            Some(Command::Runs(patch, object))
+        }
         ("poll", None, None) => Some(Command::Event(Event::Poll)),
         ("shadow", Some(verb), _) => shadow(verb, third, fourth, fifth),
         _ => None,

@@ -1,7 +1,7 @@
 use klp_catalog::{AssembleFault, TextFault};
 use klp_core::BootFault;
 use klp_text::ImageFault;
-use std::alloc::AllocError;
+use std::alloc::{AllocError, AllocFailed};
 use thiserror::Error;
 
 /// Why the program ends before its input does.
@@ -31,6 +31,12 @@ pub enum Fault {
 
 impl From<AllocError> for Fault {
     fn from(_error: AllocError) -> Fault {
+        Fault::NoMemory
+    }
+}
+
+impl<T: Drop> From<AllocFailed<T>> for Fault {
+    fn from(_error: AllocFailed<T>) -> Fault {
         Fault::NoMemory
     }
 }

@@ -1,11 +1,17 @@
-ghost use Rattle.std.specs.Prelude.{◌≡◌, ◌⊎◌};
+ghost use Rattle.std.specs.Prelude.{◌≡◌, ◌⊎◌, slice_get};
+ghost use Rattle.klp_plan.specs.Scripts.{scripts_of};
 
 use crate::arguments::told;
 use crate::booted::boot;
 use crate::command::{Command, Line, read};
 use crate::fault::Fault;
+use arrayvec::ArrayVec;
+use klp_callback::{Boxed, Quiet, Refusing, Scripted};
+use klp_catalog::Catalog;
 use klp_core::Manager;
-use klp_types::{Event, Refusal, Reply};
+use klp_plan::Plan;
+use klp_types::{Event, ObjId, PatchId, Refusal, Reply, Which};
+use klp_world::Script;
 use std::alloc::Global;
 use std::io::{BufRead, Write};
 
@@ -23,16 +29,45 @@ fn number(refusal: Refusal) -> u8 {
     }
 }
 
-fn write_event<W: Write>(manager: &mut Manager, event: Event, output: &mut W) -> Result<(), Fault> {
-    let written = match manager.apply(event) {
-        Ok(Reply::Done) => writeln!(output, "ok"),
-        Ok(Reply::Started) => writeln!(output, "started"),
-        Ok(Reply::Completed(target)) => writeln!(output, "completed {}", u8::from(target)),
-        Ok(Reply::Value(value)) => writeln!(output, "value {value}"),
-        Ok(Reply::Freed(count)) => writeln!(output, "freed {count}"),
-        Err(refusal) => writeln!(output, "error {} {refusal}", number(refusal)),
+// That the pre-patch callback of a patch for an object answered a status. Both are the catalog's.
+fn write_failed<W: Write>(
+    manager: &Manager,
+    patch: PatchId,
+    object: ObjId,
+    status: i32,
+    output: &mut W,
+) -> Result<(), Fault> {
+    let patch = manager.catalog().patch_name(patch).unwrap_or("");
+    let object = manager.modules().object_name(object).unwrap_or("");
+    writeln!(output, "prefailed {patch} {object} {status}").map_err(|_| Fault::Write)
+}
+
+fn write_reply<W: Write>(manager: &Manager, reply: Reply, output: &mut W) -> Result<(), Fault> {
+    let written = match reply {
+        Reply::Done => writeln!(output, "ok"),
+        Reply::Started => writeln!(output, "started"),
+        Reply::Completed(target) => writeln!(output, "completed {}", u8::from(target)),
+        Reply::PreFailed(patch, object, status) => {
+            return write_failed(manager, patch, object, status, output);
+        }
+        Reply::Value(value) => writeln!(output, "value {value}"),
+        Reply::Freed(count) => writeln!(output, "freed {count}"),
     };
     written.map_err(|_| Fault::Write)
+}
+
+// What an event answered.
+fn write_answer<W: Write>(
+    manager: &Manager,
+    answer: Result<Reply, Refusal>,
+    output: &mut W,
+) -> Result<(), Fault> {
+    match answer {
+        Ok(reply) => write_reply(manager, reply, output),
+        Err(refusal) => {
+            writeln!(output, "error {} {refusal}", number(refusal)).map_err(|_| Fault::Write)
+        }
+    }
 }
 
 // A line for each symbol of a loaded object: its name, its address and its bytes.
@@ -58,57 +93,144 @@ fn write_text<W: Write>(
     Ok(())
 }
 
-// Answers one line.
-fn answer<W: Write>(
-    alloc: Global,
-    manager: &mut Manager,
-    line: &[u8],
+// Whether the patch changes the object.
+fn is_target(catalog: &Catalog, patch: PatchId, object: ObjId) -> bool {
+    (0..catalog.targets(patch)).any(|place| catalog.target(patch, place) == Some(object))
+}
+
+// How often each callback of a patch for an object ran.
+fn write_counts<W: Write>(
+    manager: &Manager,
+    patch: PatchId,
+    object: ObjId,
     output: &mut W,
 ) -> Result<(), Fault> {
-    match read(line) {
-        Line::Empty => Ok(()),
-        Line::Bad => writeln!(output, "error 22 BadLine").map_err(|_| Fault::Write),
+    write!(output, "runs").map_err(|_| Fault::Write)?;
+    for which in [Which::Pre, Which::Post, Which::PreUn, Which::PostUn] {
+        let written = match manager.callback_runs(patch, object, which) {
+            Some(count) => write!(output, " {count}"),
+            None => write!(output, " -"),
+        };
+        written.map_err(|_| Fault::Write)?;
+    }
+    writeln!(output).map_err(|_| Fault::Write)
+}
+
+// The counts of the callbacks of a patch for an object, both given by name.
+fn write_runs<W: Write>(
+    manager: &Manager,
+    patch: &str,
+    object: &str,
+    output: &mut W,
+) -> Result<(), Fault> {
+    let Some(patch) = manager.catalog().patch(patch) else {
+        return writeln!(output, "error 2 NoPatch").map_err(|_| Fault::Write);
+    };
+    let Some(object) = manager.modules().object(object) else {
+        return writeln!(output, "error 2 NoModule").map_err(|_| Fault::Write);
+    };
+    if !is_target(manager.catalog(), patch, object) {
+        return writeln!(output, "error 2 NotFound").map_err(|_| Fault::Write);
+    }
+    write_counts(manager, patch, object, output)
+}
+
+// The event that a line asks for, where it asks for one and its names are known.
+fn event_of(catalog: &Catalog, line: &Line<'_>) -> Option<Event> {
+    match line {
+        Line::Command(Command::Load(patch)) => Some(Event::Enable(catalog.patch(patch)?)),
+        Line::Command(Command::Event(event)) => Some(*event),
+        _ => None,
+    }
+}
+
+// Answers a line that asks for no event.
+fn write_look<W: Write>(
+    alloc: Global,
+    manager: &Manager,
+    line: &Line<'_>,
+    output: &mut W,
+) -> Result<(), Fault> {
+    match line {
         Line::Command(Command::Text(object)) => write_text(alloc, manager, object, output),
-        Line::Command(Command::Load(patch)) => match manager.catalog().patch(patch) {
-            Some(patch) => write_event(manager, Event::Enable(patch), output),
-            None => writeln!(output, "error 2 NoPatch").map_err(|_| Fault::Write),
-        },
-        Line::Command(Command::ShadowGet(key)) => match manager.shadow_get(key) {
+        Line::Command(Command::Runs(patch, object)) => write_runs(manager, patch, object, output),
+        Line::Command(Command::Load(_)) => {
+            writeln!(output, "error 2 NoPatch").map_err(|_| Fault::Write)
+        }
+        Line::Command(Command::ShadowGet(key)) => match manager.shadow_get(*key) {
             Some(value) => writeln!(output, "value {value}").map_err(|_| Fault::Write),
             None => writeln!(output, "none").map_err(|_| Fault::Write),
         },
-        Line::Command(Command::Event(event)) => write_event(manager, event, output),
+        Line::Bad => writeln!(output, "error 22 BadLine").map_err(|_| Fault::Write),
+        Line::Empty | Line::Command(Command::Event(_)) => Ok(()),
     }
 }
 
-/// Answers line after line until the input ends. A line ends with a line feed, or with the input.
-fn serve<R: BufRead, W: Write>(
-    alloc: Global,
-    manager: &mut Manager,
-    input: &mut R,
-    out: &mut W,
-) -> Result<(), Fault> {
-    let mut line = Vec::new(alloc);
-    for _ in 0..u64::MAX {
-        line.clear();
-        if input.read_until(b'\n', &mut line).map_err(|_| Fault::Read)? == 0 {
-            break;
-        }
-        let words = line.strip_suffix(b"\n").unwrap_or(&line);
-        answer(alloc, manager, words, out)?;
-        out.flush().map_err(|_| Fault::Write)?;
-    }
-    Ok(())
+// Reads the next line, with its line feed if it has one. Nothing is read at the end of the input.
+fn read_line<R: BufRead>(input: &mut R, line: &mut Vec<u8>) -> Result<usize, Fault> {
+    line.clear();
+    input.read_until(b'\n', line).map_err(|_| Fault::Read)
 }
 
+fn copy_of(script: &Script) -> Script
+    ensures { result ≡ script.now }
+{
+    let mut edits = ArrayVec::new();
+    let _ = edits.try_extend_from_slice(&script.edits);
+    Script {
+        edits,
+        status: script.status,
+    }
+}
+
+// The script of this number, in the order of the text.
+fn script_at(plan: &Plan, number: usize) -> Option<Script>
+    ensures { result ≡ slice_get (scripts_of plan.now.patches) number }
+{
+    let script = plan.script(number)?;
+    Some(copy_of(script))
+}
+
+// Answers line after line until the input ends.
+//
+// Each script of the text gets a callback of the simplest kind that means it. The boxes are made
+// here, and the manager lives here, since a function that hands out a box which it made hides what
+// is proved of boxes.
 fn served<R: BufRead, W: Write>(
     alloc: Global,
     catalog: &[u8],
     input: &mut R,
     out: &mut W,
 ) -> Result<(), Fault> {
-    let mut manager = boot(alloc, catalog)?;
-    serve(alloc, &mut manager, input, out)
+    let plan = Catalog::read(alloc, catalog)?;
+    let mut callbacks = Vec::new(alloc);
+    while let Some(script) = script_at(&plan, callbacks.len()) {
+        let callback = if !script.edits.is_empty() {
+            Boxed::new(Box::new(alloc, Scripted::new(script))?)
+        } else if script.status != 0 {
+            Boxed::new(Box::new(alloc, Refusing::new(script.status))?)
+        } else {
+            Boxed::new(Box::new(alloc, Quiet::new())?)
+        };
+        callbacks.push(callback)?;
+    }
+    let mut manager = boot(alloc, plan, callbacks)?;
+    let mut line = Vec::new(alloc);
+    for _ in 0..u64::MAX {
+        if read_line(input, &mut line)? == 0 {
+            break;
+        }
+        let asked = read(line.strip_suffix(b"\n").unwrap_or(&line));
+        match event_of(manager.catalog(), &asked) {
+            Some(event) => {
+                let answer = manager.apply(event);
+                write_answer(&manager, answer, out)?;
+            }
+            None => write_look(alloc, &manager, &asked, out)?,
+        }
+        out.flush().map_err(|_| Fault::Write)?;
+    }
+    Ok(())
 }
 
 /// Serves the input over a catalog's text, until it ends. The answer is the exit status: 0, or 1

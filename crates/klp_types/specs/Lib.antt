@@ -1,13 +1,14 @@
 pub mod Image
-pub mod Setting
 pub mod World
 pub mod Script
+pub mod Compatible
+pub mod Setting
 pub mod State
 pub mod Entries
 pub mod Bytes
 pub mod Pick
 pub mod FirstOf
+pub mod Callbacks
 pub mod Step
 pub mod Run
 pub mod Records
-pub mod Compatible

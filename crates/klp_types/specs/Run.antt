@@ -1,11 +1,12 @@
 -- Events in order: a refused event leaves the state.
-use Rattle.std.specs.Prelude.{List, [], ◌∷◌, Result, Ok, Err}
+use Rattle.std.specs.Prelude.{List, [], ◌∷◌, ◌++◌, Result, Ok, Err}
 use Rattle.klp_types.specs.declared.event.Event.{Event}
 use Rattle.klp_types.specs.declared.event.Reply.{Reply}
 use Rattle.klp_types.specs.declared.event.Refusal.{Refusal}
 use Rattle.klp_types.specs.Setting.{Setting}
 use Rattle.klp_types.specs.State.{State}
-use Rattle.klp_types.specs.Step.{step}
+use Rattle.klp_types.specs.Callbacks.{Call}
+use Rattle.klp_types.specs.Step.{step, callbacks_of}
 
 -- what a step answers
 abbrev pub answer_of : Result (Reply × State) Refusal → Result Reply Refusal
@@ -33,3 +34,8 @@ run setting state (event ∷ events) = run setting (next setting state event) ev
 abbrev pub answers : Setting → State → List Event → List (Result Reply Refusal)
 answers setting state [] = []
 answers setting state (event ∷ events) = answer setting state event ∷ answers setting (next setting state event) events
+
+-- the callbacks that all events run, in order
+abbrev pub callbacks_of_run : Setting → State → List Event → List Call
+callbacks_of_run setting state [] = []
+callbacks_of_run setting state (event ∷ events) = callbacks_of setting state event ++ callbacks_of_run setting (next setting state event) events

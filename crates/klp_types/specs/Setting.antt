@@ -1,21 +1,31 @@
 -- What stays fixed while the manager runs: the image and the catalog's patches.
-use Rattle.std.specs.Prelude.{ℕ, suc, Bool, false, ◌==◌, List, [], ◌∷◌, ◌++◌, Option, Some, None, option_map, if◌then◌else◌, slice_get}
+use Rattle.std.specs.Prelude.{ℕ, suc, Bool, false, ◌==◌, List, [], ◌∷◌, ◌++◌, Option, Some, None, option_map, map, if◌then◌else◌, slice_get}
+use Rattle.klp_types.specs.declared.callback.Which.{Which}
 use Rattle.klp_types.specs.Image.{Image}
+use Rattle.klp_types.specs.Script.{Script}
+use Rattle.klp_types.specs.Compatible.{SystemState}
 
 -- a new function: the site whose function it stands in for, where the image has it, and its own address
 pub record Function : Type 0 where
   pub site : Option ℕ
   pub address : ℕ
 
--- what a patch does to one object
+-- a callback: when it runs, and its script
+pub record Callback : Type 0 where
+  pub which : Which
+  pub script : Script
+
+-- what a patch does to one object; of each kind it has at most one callback
 pub record PatchObject : Type 0 where
   pub object : ℕ
   pub functions : List Function
+  pub callbacks : List Callback
 
--- a patch: whether it replaces all older ones (a cumulative patch), and its objects in order
+-- a patch: whether it replaces all older ones (a cumulative patch), its objects in order, and the system states that it names
 pub record Patch : Type 0 where
   pub replace : Bool
   pub objects : List PatchObject
+  pub states : List SystemState
 
 pub record Setting : Type 0 where
   pub image : Image
@@ -45,6 +55,17 @@ patch_replaces (Some patch) = patch.replace
 -- whether a patch of the catalog is a cumulative one
 abbrev pub replaces : Setting → ℕ → Bool
 replaces setting patch = patch_replaces (slice_get setting.patches patch)
+
+abbrev pub patch_states : Option Patch → List SystemState
+patch_states None = []
+patch_states (Some patch) = patch.states
+
+-- the system states that a patch of the catalog names; a patch that isn't there names none
+abbrev pub named_states : Setting → ℕ → List SystemState
+named_states setting patch = patch_states (slice_get setting.patches patch)
+
+abbrev pub state_ids : Setting → ℕ → List ℕ
+state_ids setting patch = map (λ (s : SystemState). s.id) (named_states setting patch)
 
 abbrev pub is_at : Option ℕ → ℕ → Bool
 is_at None site = false

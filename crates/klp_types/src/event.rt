@@ -1,4 +1,4 @@
-use crate::number::PatchId;
+use crate::number::{ObjId, PatchId};
 use crate::shadow::ShadowKey;
 use thiserror::Error;
 
@@ -30,6 +30,9 @@ pub enum Reply {
     Started,
     /// The transition to this target is complete.
     Completed(bool),
+    /// The pre-patch callback of this patch for this object answered the status, which isn't 0: the
+    /// patch isn't installed.
+    PreFailed(PatchId, ObjId, i32),
     /// The value of the shadow variable.
     Value(u64),
     /// How many shadow variables were removed.
@@ -48,14 +51,15 @@ pub enum Refusal {
     /// The patch is installed already.
     #[error("AlreadyThere")]
     AlreadyThere = 3,
-    /// The patch isn't compatible with the installed ones. So far this is every cumulative patch:
-    /// none can be enabled yet.
+    /// The patch isn't compatible with the system states of the installed ones. So far this is every
+    /// cumulative patch, too: none can be enabled yet.
     #[error("Incompatible")]
     Incompatible = 5,
     /// A function of the patch for a loaded object names no symbol of it, or not one alone.
     #[error("NoSymbol")]
     NoSymbol = 6,
-    /// There is no room for another shadow variable.
+    /// There is no room for another shadow variable, or for all those that the callbacks which the
+    /// event may run add.
     #[error("Full")]
     Full = 13,
     /// No patch is in transition.

@@ -5,6 +5,7 @@
 //! runs, and the step. `laws` has what is proved of the definitions themselves.
 #![tactic(auto)]
 
+mod callback;
 mod edit;
 mod event;
 pub mod laws;
@@ -15,6 +16,7 @@ mod shadow;
 mod text;
 mod version;
 
+pub use callback::Which;
 pub use edit::Edit;
 pub use event::{Event, Refusal, Reply};
 pub use limits::{MAX_EDITS, MAX_PATCHES, MAX_STATES, MAX_VARIABLES};

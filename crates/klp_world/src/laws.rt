@@ -46,6 +46,12 @@ pub fn records_are_few()
         → length (rows_of_script patch world script) + finite.len (effect patch world script).shadow ≤ finite.len world.shadow + 2 * length script.edits }
 {}
 
+/// A script adds no more shadow variables than it has edits that add one.
+pub fn variables_are_few()
+    ensures { (patch : ℕ) (world : World) (script : Script)
+        → finite.len (effect patch world script).shadow ≤ finite.len world.shadow + alloc_count script.edits }
+{}
+
 /// The records of a script give back the world before it, where that has room for all that the
 /// script adds.
 pub fn scripts_are_undone()

@@ -263,6 +263,18 @@ impl World {
         });
     }
 
+    /// How many records [`World::drop_states`] notes: none where the patch isn't installed, else one
+    /// for each of its system states and one for itself.
+    pub fn drop_records(&self, patch: PatchId) -> usize
+        ensures value { result ≡ length (rows_of_drop self.now patch) }
+        ensures limit { result ≤ MAX_STATES + 1 }
+    {
+        match place_of_patch(&self.patches, patch) {
+            Some(place) => self.patches[place].states().len() + 1,
+            None => 0,
+        }
+    }
+
     /// Gives a system state of an installed patch the value. Nothing changes where the patch isn't
     /// installed or doesn't name the state.
     pub fn set_value(&mut self, patch: PatchId, id: u64, value: u64, log: &mut Records)

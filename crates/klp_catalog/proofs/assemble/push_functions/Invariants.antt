@@ -1,9 +1,9 @@
 use Rattle.std.proofs.Common.{◌≡◌, ◌++◌, map}
-use Rattle.klp_catalog.specs.Catalog.{resolved_function, functions_of_target}
+use Rattle.klp_catalog.specs.Catalog.{resolved_function}
 use Rattle.klp_catalog.proofs.assemble.push_functions.Given as goal
 
 -- with the functions that are left these are all
 abbrev pub invariant-loop-function : goal.invariant-loop-function
 invariant-loop-function l =
     l.functions.items ++ map (resolved_function l.modules.names l.object) l.function-iterator.rest.items
-    ≡ l.fn.functions.items ++ functions_of_target l.fn.modules.names l.fn.target
+    ≡ l.fn.functions.items ++ map (resolved_function l.fn.modules.names l.fn.object) l.fn.given.items

@@ -5,7 +5,7 @@ use Rattle.klp_core.proofs.boot.is_match.Goals as goal
 use Rattle.klp_core.proofs.boot.is_match.Goals.{then-ne-via-then-ne, then-ne-via-else-ne+then-ne-2}
 
 pub loop-number-preserved : goal.loop-number-preserved
-loop-number-preserved c =
+loop-number-preserved g c =
     let n = c.loop-number.number in
     let objects = c.args.image.now.image.objects in
     let of_modules = same_at c.args.modules.now.names objects n c.symbols.result c.symbols-symbols.result c.symbols.ensures c.symbols-symbols.ensures c.if-ne.ensures in
@@ -15,7 +15,7 @@ loop-number-preserved c =
     )
 
 pub returns-then-ne-clause-differs : goal.returns-then-ne-clause-differs
-returns-then-ne-clause-differs c is same =
+returns-then-ne-clause-differs g c is same =
     let n = c.loop-number.number in
     let objects = c.args.image.now.image.objects in
     elim c.then-ne.branch [
@@ -26,7 +26,7 @@ returns-then-ne-clause-differs c is same =
     ]
 
 pub returns-clause-matches : goal.returns-clause-matches
-returns-clause-matches c is =
+returns-clause-matches g c is =
     let n = c.loop-number.number in
     let objects = c.args.image.now.image.objects in
     let past = c.loop-number-test.false in

@@ -4,6 +4,6 @@ use Rattle.klp_core.proofs.boot.is_match.Given as goal
 
 -- the objects so far have the same numbers of symbols
 abbrev pub invariant-loop-number : goal.invariant-loop-number
-invariant-loop-number l =
+invariant-loop-number g l =
     Agree l.number (name_counts l.modules.names) (symbol_counts l.image.image.objects)
     × Agree l.number (name_counts l.catalog.names) (symbol_counts l.image.image.objects)

@@ -3,12 +3,12 @@ use Rattle.std.proofs.Common.{◌≡◌, length, ap, sym, subst, ◌∙◌}
 use Rattle.std.proofs.lemmas.List.{length-map}
 use Rattle.klp_text.specs.TextImage.{TextImage}
 use Rattle.klp_modules.specs.Names.{ModuleTable, names_of_object}
-use Rattle.klp_catalog.specs.Plan.{Plan}
-use Rattle.klp_catalog.specs.Within.{AreTargetsWithin}
+use Rattle.klp_plan.specs.Plan.{Plan}
+use Rattle.klp_plan.specs.Within.{AreTargetsWithin}
 use Rattle.klp_core.proofs.tests.parts.Goals as goal
 
 pub assemble-requires : goal.assemble-requires
-assemble-requires c =
+assemble-requires g c =
     let left = ap (λ (p : Plan). p.patches) c.take_objects-objects.ensures.rest in
     let names : length c.in_ok-modules.modules.names ≡ length c.in_ok-plan.plan.objects =
     ap (λ (t : ModuleTable). length t.names) c.in_ok-modules.ensures ∙ length-map c.in_ok-image.image.image.objects names_of_object

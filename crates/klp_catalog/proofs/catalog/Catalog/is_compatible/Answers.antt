@@ -5,7 +5,7 @@ use Rattle.klp_catalog.proofs.CatalogLemmas.{compatible-same}
 use Rattle.klp_catalog.proofs.catalog.Catalog.is_compatible.Goals as goal
 
 pub returns : goal.returns
-returns c =
+returns g c =
     rw (← c.self.view_is)
     (c.is_compatible.ensures ∙ ap (λ stored. list_all (can_live_with_patch stored c.args.patch) c.args.installed.now) c.deref.ensures.value
-    ∙ compatible-same c.self.invariant c.args.patch c.args.installed.now)
+    ∙ compatible-same c.self.inside.over.value.names c.self.inside.patches.items c.args.patch c.args.installed.now)

@@ -5,7 +5,7 @@ use Rattle.klp_catalog.proofs.CatalogLemmas.{newest-same}
 use Rattle.klp_catalog.proofs.catalog.Catalog.previous_state.Goals as goal
 
 pub returns : goal.returns
-returns c =
+returns g c =
     rw (← c.self.view_is)
     (c.previous_state.ensures ∙ ap (λ stored. newest_naming stored c.args.id (installed_before c.args.patch c.args.installed.now)) c.deref.ensures.value
-    ∙ newest-same c.self.invariant c.args.id (installed_before c.args.patch c.args.installed.now))
+    ∙ newest-same c.self.inside.over.value.names c.self.inside.patches.items c.args.id (installed_before c.args.patch c.args.installed.now))

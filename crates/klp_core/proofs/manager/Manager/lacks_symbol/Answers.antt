@@ -10,7 +10,7 @@ use Rattle.klp_core.proofs.EnableLemmas.{lacks_symbol-any}
 use Rattle.klp_core.proofs.manager.Manager.lacks_symbol.Goals as goal
 
 pub returns : goal.returns
-returns c =
+returns g c =
     let own = managed_of c.self.inside.image c.self.inside.catalog c.self.inside.world c.self.inside.moving in
     c.lack_symbol.ensures
     ∙ ap (λ (m : ModuleTable). list_any (λ (f : CatalogFunction). slice_index_or m.loaded f.object false && is_none f.site) c.functions.result.now) c.self.invariant.0.text_of_state.modules_are

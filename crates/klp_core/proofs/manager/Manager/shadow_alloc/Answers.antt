@@ -10,7 +10,7 @@ use Rattle.klp_core.proofs.manager.Manager.shadow_alloc.Goals as goal
 use borrow.Author.Tests.{leb-false}
 
 pub invariant_of-self : goal.invariant_of-self
-invariant_of-self c =
+invariant_of-self g c =
     let world = c.self.inside.world in
     let room = leb-false MAX_VARIABLES (finite.len world.shadow) (ap (λ (m : Managed). is_full m.state.world) c.self.view_is ∙ sym c.if-is_full.ensures) in (
       rw c.alloc.ensures.world

@@ -11,7 +11,7 @@ use Rattle.klp_core.proofs.manager.Manager.shadow_get_or_alloc.Goals.{else-is_no
 use borrow.Author.Tests.{leb-false, clash}
 
 pub invariant_of-self : goal.invariant_of-self
-invariant_of-self c =
+invariant_of-self g c =
     let world = c.self.inside.world in
     let room : variable world c.args.key ≡ None → finite.len world.shadow < MAX_VARIABLES =
     elim c.else-is_none.branch [

@@ -9,7 +9,7 @@ use Rattle.klp_core.proofs.ViewLemmas.{text_shown}
 use Rattle.klp_core.proofs.manager.Manager.text.Goals as goal
 
 pub returns-then-is_loaded : goal.returns-then-is_loaded
-returns-then-is_loaded c =
+returns-then-is_loaded g c =
     let own = managed_of c.self.inside.image c.self.inside.catalog c.self.inside.world c.self.inside.moving in
     let objects = length c.self.inside.image.image.objects in
     let loaded = sym (ap (λ (m : ModuleTable). slice_index_or m.loaded c.args.object false) c.self.invariant.0.text_of_state.modules_are) ∙ sym c.if-is_loaded.ensures in

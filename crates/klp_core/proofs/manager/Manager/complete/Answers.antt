@@ -1,0 +1,26 @@
+use Rattle.std.proofs.Common.{◌≡◌, ◌+◌, ◌≤◌, ◌∙◌, None, sym, subst, arith}
+use Rattle.std.specs.FinMap as finite
+use Rattle.klp_types.specs.declared.limits.TheConstants.{MAX_VARIABLES}
+use Rattle.klp_types.specs.declared.callback.Which.TheVariants.{Post}
+use Rattle.klp_types.specs.Callbacks.{allocs_of}
+use Rattle.klp_catalog.specs.Catalog.{Catalog}
+use Rattle.klp_catalog.specs.Runs.{after_runs}
+use Rattle.klp_core.specs.Due.{due_calls}
+use Rattle.klp_core.specs.Kept.{IsKept}
+use Rattle.klp_core.proofs.LoopLemmas.{after_runs-keeps}
+use Rattle.klp_core.proofs.RoomLemmas.{room_to_complete}
+use Rattle.klp_core.proofs.EnableLemmas.{kept_at_rest}
+use Rattle.klp_core.proofs.manager.Manager.complete.Goals as goal
+
+pub invariant_of-self : goal.invariant_of-self
+invariant_of-self g c =
+    let due = due_calls c.self.inside.catalog c.self.inside.modules c.in-Some.moving.patch Post c.targets-end.result in
+    let room : finite.len c.self.inside.world.shadow + allocs_of due ≤ MAX_VARIABLES = room_to_complete c.self.inside.image c.self.inside.modules c.self.inside.catalog c.self.inside.world c.self.inside.moving c.args.self.now
+    c.in-Some.moving c.targets-end.result c.self.view_is c.self.invariant.0 c.in-Some.is c.targets-end.ensures.count c.requires.room
+    in
+    let kept = kept_at_rest c.self.inside.image c.self.inside.modules c.self.inside.catalog c.self.inside.world c.run_callbacks.new.world c.self.inside.moving
+    (after_runs c.self.inside.catalog due).runs c.self.invariant.0 c.run_callbacks.ensures.installed (omega (arith, room, c.run_callbacks.ensures.few))
+    in (
+      subst (λ (k : Catalog). IsKept c.self.inside.image c.self.inside.modules k c.run_callbacks.new.world None) (sym (c.run_callbacks.ensures.catalog ∙ after_runs-keeps c.self.inside.catalog due)) kept,
+      c.run_callbacks.ensures.log,
+    )

@@ -1,0 +1,188 @@
+//! The callbacks of a patch, object by object (callbacks, "Callbacks").
+ghost use Rattle.std.specs.Prelude.{◌≡◌, ℕ, ◌+◌, ◌≤◌, ◌==◌, false, List, [], ◌∷◌, ◌++◌, length, slice_get, find, take, drop, Some, None, MatchOption, IsSomeAnd};
+ghost use Rattle.std.specs.FinMap as finite;
+ghost use Rattle.klp_types.specs.declared.callback.Which.TheVariants.{Pre, PostUn};
+ghost use Rattle.klp_types.specs.declared.event.Reply.TheVariants.{PreFailed};
+ghost use Rattle.klp_types.specs.World.{without_patch};
+ghost use Rattle.std.specs.List.{before_first, list_any};
+ghost use Rattle.klp_types.specs.Setting.{PatchObject as ObjectOf};
+ghost use Rattle.klp_types.specs.Callbacks.{script_for, calls_of, refuses, allocs_of, after_calls};
+ghost use Rattle.klp_types.specs.Step.{status_of};
+ghost use Rattle.klp_catalog.specs.Runs.{after_runs, objects_at};
+ghost use Rattle.klp_core.specs.Due.{is_loaded_in, patches_in, due_from, due_calls, due_call, due_status, refusal_of, pre_calls};
+
+use crate::manager::MAX_RECORDS;
+use klp_catalog::Catalog;
+use klp_modules::Modules;
+use klp_types::{MAX_VARIABLES, PatchId, Records, Reply, Which};
+use klp_world::World;
+use klp_world::laws::{installed_patches_stay, records_are_few, variables_are_few};
+
+/// How many shadow variables the callback of one object adds at most, where the object is loaded.
+fn due_allocs(catalog: &Catalog, modules: &Modules, patch: PatchId, which: Which, place: u8) -> u16
+    ensures value { result ≡ allocs_of (due_call catalog.now modules.now patch which place) }
+    ensures limit { result ≤ 16 }
+{
+    match catalog.target(patch, place) {
+        Some(object) if modules.is_loaded(object) => catalog.allocs(patch, place, which),
+        _ => 0,
+    }
+}
+
+/// How many shadow variables the callbacks of a kind for the loaded objects of a patch add at most.
+pub(crate) fn allocs(catalog: &Catalog, modules: &Modules, patch: PatchId, which: Which) -> usize
+    ensures value { result ≡ allocs_of (calls_of patch which (due_from (is_loaded_in modules.now) 0 (objects_at catalog.now patch))) }
+    ensures limit { result ≤ 128 }
+{
+    let mut sum = 0;
+    for place in 0..catalog.targets(patch) {
+        sum += usize::from(due_allocs(catalog, modules, patch, which, place));
+    }
+    sum
+}
+
+/// Runs the callback of one object, where the object is loaded, and answers its status: 0 where
+/// there is none. What it notes isn't kept.
+fn run_due(
+    catalog: &mut Catalog,
+    modules: &Modules,
+    patch: PatchId,
+    which: Which,
+    place: u8,
+    world: &mut World,
+    log: &mut Records,
+) -> i32
+    requires room { finite.len world.old.shadow + allocs_of (due_call catalog.old modules.now patch which place) ≤ MAX_VARIABLES }
+    requires log { log.old.room ≡ MAX_RECORDS }
+    ensures status { result ≡ due_status catalog.old modules.now patch which place }
+    ensures catalog { catalog.new ≡ after_runs catalog.old (due_call catalog.old modules.now patch which place) }
+    ensures world { world.new ≡ after_calls world.old (due_call catalog.old modules.now patch which place) }
+    ensures installed { patches_in world.new ≡ patches_in world.old }
+    ensures few { finite.len world.new.shadow ≤ finite.len world.old.shadow + allocs_of (due_call catalog.old modules.now patch which place) }
+    ensures log { log.new.room ≡ MAX_RECORDS }
+{
+    variables_are_few();
+    records_are_few();
+    installed_patches_stay();
+    match catalog.target(patch, place) {
+        Some(object) if modules.is_loaded(object) => {
+            log.clear();
+            // Its few edits note no more than there is room for.
+            prove!(catalog.allocs(patch, place, which) <= 16);
+            catalog.run(patch, place, which, world, log).unwrap_or(0)
+        }
+        _ => 0,
+    }
+}
+
+/// Runs the callbacks of a kind for the loaded ones of the patch's first `end` objects, in order.
+pub(crate) fn run_callbacks(
+    catalog: &mut Catalog,
+    modules: &Modules,
+    patch: PatchId,
+    which: Which,
+    end: u8,
+    world: &mut World,
+    log: &mut Records,
+)
+    requires end { end ≤ length (objects_at catalog.old patch) }
+    requires room { finite.len world.old.shadow + allocs_of (due_calls catalog.old modules.now patch which end) ≤ MAX_VARIABLES }
+    requires log { log.old.room ≡ MAX_RECORDS }
+    ensures catalog { catalog.new ≡ after_runs catalog.old (due_calls catalog.old modules.now patch which end) }
+    ensures world { world.new ≡ after_calls world.old (due_calls catalog.old modules.now patch which end) }
+    ensures installed { patches_in world.new ≡ patches_in world.old }
+    ensures few { finite.len world.new.shadow ≤ finite.len world.old.shadow + allocs_of (due_calls catalog.old modules.now patch which end) }
+    ensures log { log.new.room ≡ MAX_RECORDS }
+{
+    for place in 0..end {
+        run_due(catalog, modules, patch, which, place, world, log);
+    }
+}
+
+/// Runs pre-patch for one object, where the object is loaded, and answers its status if it refuses.
+fn run_pre(
+    catalog: &mut Catalog,
+    modules: &Modules,
+    patch: PatchId,
+    place: u8,
+    world: &mut World,
+    log: &mut Records,
+) -> Option<i32>
+    requires room { finite.len world.old.shadow + allocs_of (due_call catalog.old modules.now patch Pre place) ≤ MAX_VARIABLES }
+    requires log { log.old.room ≡ MAX_RECORDS }
+    ensures status { result ≡ refusal_of (due_status catalog.old modules.now patch Pre place) }
+    ensures catalog { catalog.new ≡ after_runs catalog.old (due_call catalog.old modules.now patch Pre place) }
+    ensures world { world.new ≡ after_calls world.old (due_call catalog.old modules.now patch Pre place) }
+    ensures installed { patches_in world.new ≡ patches_in world.old }
+    ensures few { finite.len world.new.shadow ≤ finite.len world.old.shadow + allocs_of (due_call catalog.old modules.now patch Pre place) }
+    ensures log { log.new.room ≡ MAX_RECORDS }
+{
+    match run_due(catalog, modules, patch, Which::Pre, place, world, log) {
+        0 => None,
+        status => Some(status),
+    }
+}
+
+/// Runs pre-patch object by object, up to and with the first that refuses, and answers the place of
+/// that object and the status.
+pub(crate) fn pre_patch(
+    catalog: &mut Catalog,
+    modules: &Modules,
+    patch: PatchId,
+    world: &mut World,
+    log: &mut Records,
+) -> Option<(u8, i32)>
+    requires room { finite.len world.old.shadow
+        + allocs_of (calls_of patch Pre (due_from (is_loaded_in modules.now) 0 (objects_at catalog.old patch))) ≤ MAX_VARIABLES }
+    requires log { log.old.room ≡ MAX_RECORDS }
+    ensures refused { MatchOption result
+        (find refuses (due_from (is_loaded_in modules.now) 0 (objects_at catalog.old patch)) ≡ None)
+        (λ r. (o : ObjectOf) × (slice_get (objects_at catalog.old patch) r.0 ≡ Some o) × (r.1 ≡ status_of (script_for Pre o.callbacks))
+        × (find refuses (due_from (is_loaded_in modules.now) 0 (objects_at catalog.old patch)) ≡ Some (r.0, o))) }
+    ensures catalog { catalog.new ≡ after_runs catalog.old (pre_calls patch (due_from (is_loaded_in modules.now) 0 (objects_at catalog.old patch))) }
+    ensures world { world.new ≡ after_calls world.old (pre_calls patch (due_from (is_loaded_in modules.now) 0 (objects_at catalog.old patch))) }
+    ensures installed { patches_in world.new ≡ patches_in world.old }
+    ensures few { finite.len world.new.shadow
+        ≤ finite.len world.old.shadow + allocs_of (calls_of patch Pre (due_from (is_loaded_in modules.now) 0 (objects_at catalog.old patch))) }
+    ensures log { log.new.room ≡ MAX_RECORDS }
+{
+    for place in 0..catalog.targets(patch) {
+        if let Some(status) = run_pre(catalog, modules, patch, place, world, log) {
+            return Some((place, status));
+        }
+    }
+    None
+}
+
+/// Takes a patch whose pre-patch refused out again: the objects before the one that refused get
+/// post-unpatch, and the patch leaves the list with its states.
+pub(crate) fn take_out(
+    catalog: &mut Catalog,
+    modules: &Modules,
+    patch: PatchId,
+    place: u8,
+    status: i32,
+    world: &mut World,
+    log: &mut Records,
+) -> Reply
+    requires refused { IsSomeAnd (slice_get (objects_at catalog.old patch) place) (λ o.
+        find refuses (due_from (is_loaded_in modules.now) 0 (objects_at catalog.old patch)) ≡ Some (place, o)) }
+    requires room { finite.len world.old.shadow
+        + allocs_of (calls_of patch PostUn (due_from (is_loaded_in modules.now) 0 (objects_at catalog.old patch))) ≤ MAX_VARIABLES }
+    requires log { log.old.room ≡ MAX_RECORDS }
+    ensures reply { IsSomeAnd (slice_get (objects_at catalog.old patch) place) (λ o. result ≡ PreFailed patch o.object status) }
+    ensures catalog { catalog.new ≡ after_runs catalog.old
+        (calls_of patch PostUn (before_first refuses (due_from (is_loaded_in modules.now) 0 (objects_at catalog.old patch)))) }
+    ensures world { world.new ≡ without_patch (after_calls world.old
+        (calls_of patch PostUn (before_first refuses (due_from (is_loaded_in modules.now) 0 (objects_at catalog.old patch))))) patch }
+    ensures installed { (before : List ℕ) → patches_in world.old ≡ before ++ patch ∷ [] → list_any (λ p. p == patch) before ≡ false → patches_in world.new ≡ before }
+    ensures few { finite.len world.new.shadow ≤ MAX_VARIABLES }
+    ensures log { log.new.room ≡ MAX_RECORDS }
+{
+    let object = catalog.target(patch, place).unwrap();
+    run_callbacks(catalog, modules, patch, Which::PostUn, place, world, log);
+    log.clear();
+    prove!(world.drop_records(patch) <= log.spare());
+    world.drop_states(patch, log);
+    Reply::PreFailed(patch, object, status)
+}

@@ -1,0 +1,13 @@
+use Rattle.std.proofs.Common.{length, ap, sym, arith}
+use Rattle.klp_plan.specs.Parts.{last_of, targets_of}
+use Rattle.klp_plan.proofs.DraftLemmas.{kept-target, found_within}
+use Rattle.klp_plan.proofs.LineLemmas.{positive}
+use Rattle.klp_plan.proofs.draft.Draft.place_target.Goals as goal
+
+pub invariant_of-self-2 : goal.invariant_of-self-2
+invariant_of-self-2 c =
+    let some = positive _ c.if-is_empty.ensures in
+    let same = ap length c.open_targets-targets.ensures in
+    let plain = ap (λ patches. length (targets_of (last_of patches))) c.deref.ensures.value in
+    let there = found_within c.self.inside.objects.items _ _ c.in-Some.number c.self.invariant.objects_by_name (sym c.in-Some.ensures) in
+    kept-target c.self.invariant c.in-Some.number c.push_target.new.patches.items there (omega arith) (omega (arith, same, plain)) c.in_ok-push_target.ensures.ok

@@ -1,0 +1,31 @@
+-- What a catalog's text says: the handler, the objects with their symbols, and the patches, all in the order of the text.
+use Rattle.std.specs.Prelude.{ℕ, Bool, List}
+use Rattle.klp_types.specs.Compatible.{SystemState}
+use Rattle.klp_types.specs.Image.{Object}
+use Rattle.klp_types.specs.Setting.{Callback}
+
+-- a new function: the symbol that it stands in for, by name and position, its own name and its address
+pub record PlanFunction : Type 0 where
+  pub symbol : List ℕ
+  -- 0, or which of the symbols of this name in the object, from 1
+  pub sympos : ℕ
+  pub new_name : List ℕ
+  pub address : ℕ
+
+-- an object that a patch changes, by its place among the plan's objects, the new functions in it, and the callbacks for it
+pub record PlanTarget : Type 0 where
+  pub object : ℕ
+  pub functions : List PlanFunction
+  pub callbacks : List Callback
+
+-- a patch: whether it replaces all older ones, the objects that it changes, and the system states that it names
+pub record PlanPatch : Type 0 where
+  pub name : List ℕ
+  pub replace : Bool
+  pub targets : List PlanTarget
+  pub states : List SystemState
+
+pub record Plan : Type 0 where
+  pub handler : ℕ
+  pub objects : List Object
+  pub patches : List PlanPatch

@@ -1,0 +1,66 @@
+ghost use Rattle.std.specs.Prelude.{◌≡◌, [], ◌∷◌, ◌++◌, None, OnOk, OnErr, position, bytes_eq, slice_get, option_map};
+
+use indexmap::IndexSet;
+use std::alloc::{AllocError, Global};
+use std::marker::Model;
+
+/// A name of an object, a patch, a symbol or a new function, as a word of the text spells it.
+#[derive(Debug, Drop)]
+pub(crate) struct Name(pub String);
+
+impl Model for Name {
+    ghost use Rattle.std.specs.Prelude.{ℕ, List, string_bytes};
+
+    ghost Value = { List ℕ };
+
+    ghost view = { λ n. string_bytes n.0 };
+}
+
+/// Names in the order in which they came, each once. A name is found by its hash.
+#[derive(Drop)]
+pub struct Names {
+    set: IndexSet<String>,
+}
+
+impl Model for Names {
+    ghost use Rattle.std.specs.Prelude.{ℕ, List, map, string_bytes};
+
+    ghost Value = { List (List ℕ) };
+
+    ghost view = { λ n. map string_bytes n.set.keys };
+}
+
+impl Names {
+    pub(crate) fn new(alloc: Global) -> Names
+        ensures { result ≡ [] }
+    {
+        Names {
+            set: IndexSet::new(alloc),
+        }
+    }
+
+    /// The place of the name, from 0.
+    pub fn number(&self, name: &str) -> Option<usize>
+        ensures { result ≡ position (bytes_eq name.now) self.now }
+    {
+        self.set.get_index_of(name)
+    }
+
+    /// The name at a place.
+    pub fn name(&self, number: usize) -> Option<&str>
+        ensures { option_map (λ name. name.now) result ≡ slice_get self.now number }
+    {
+        let name = self.set.get_index(number)?;
+        Some(name.as_str())
+    }
+
+    /// Adds a name that isn't there.
+    pub(crate) fn add(&mut self, alloc: Global, name: &str) -> Result<(), AllocError>
+        requires { position (bytes_eq name.now) self.old ≡ None }
+        ensures ok { OnOk result (self.new ≡ self.old ++ name.now ∷ []) }
+        ensures err { OnErr result (self.new ≡ self.old) }
+    {
+        let _ = self.set.insert(String::from_str(alloc, name)?)?;
+        Ok(())
+    }
+}

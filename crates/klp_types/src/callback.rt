@@ -1,0 +1,13 @@
+/// When a callback of a patch runs for an object (callbacks, Callbacks).
+#[derive(Clone, Copy, Debug, PartialEq, Eq, Hash)]
+pub enum Which {
+    /// Before the object is patched. A status other than 0 stops the patch.
+    Pre,
+    /// After the object has been patched and all tasks run the patch.
+    Post,
+    /// Before the object is unpatched: it makes undone what `Post` did.
+    PreUn,
+    /// After the object has been unpatched and no task runs the patch: it makes undone what `Pre`
+    /// did.
+    PostUn,
+}
