@@ -2,10 +2,12 @@
 //! runs one round, for which it writes what was accepted and refused and no time.
 #![tactic(auto)]
 
+use klp_catalog::Catalog;
 use klp_core::Manager;
 use klp_program::boot;
-use klp_types::{Event, PatchId};
+use klp_types::{Event, PatchId, ShadowKey};
 use std::alloc::{AllocError, Global};
+use std::ops::Range;
 use std::rt::{Clock, Env};
 use std::time::Instant;
 use std::{env, io};
@@ -19,12 +21,21 @@ const PATCHES: u8 = 16;
 
 const FUNCTIONS: u16 = 64;
 
+// How many shadow variables are there while some come and go.
+const FEW: u64 = 10;
+const MANY: u64 = 500;
+
+// How often a shadow variable comes and goes in a round.
+const PAIRS: u64 = 16;
+
 #[derive(Debug, Drop, Error)]
 enum Fault {
     #[error(transparent)]
     Memory(#[from(alloc)] AllocError),
     #[error(transparent)]
     Boot(#[from] klp_program::Fault),
+    #[error("Script")]
+    Script,
     #[error("Io")]
     Io(#[from] io::Error),
 }
@@ -72,12 +83,72 @@ fn refused_events(alloc: Global) -> Result<Vec<Event>, AllocError> {
     Ok(events)
 }
 
-// What one list of events came to.
-#[derive(Clone, Copy, Debug)]
+// Adds the shadow variables of these numbers.
+fn added(alloc: Global, numbers: Range<u64>) -> Result<Vec<Event>, AllocError> {
+    let mut events = Vec::new(alloc);
+    for obj in numbers {
+        events.push(Event::ShadowAlloc(ShadowKey { obj, id: 1 }, obj))?;
+    }
+    Ok(events)
+}
+
+// A shadow variable between the others comes and goes.
+fn pairs(alloc: Global) -> Result<Vec<Event>, AllocError> {
+    let mut events = Vec::new(alloc);
+    for pair in 0..PAIRS {
+        let key = ShadowKey {
+            obj: pair % FEW,
+            id: 2,
+        };
+        events.push(Event::ShadowAlloc(key, pair))?;
+        events.push(Event::ShadowFree(key))?;
+    }
+    Ok(events)
+}
+
+// The lists of events of a round, in their order.
+#[derive(Debug, Drop)]
+struct Lists {
+    enabling: Vec<Event>,
+    refused: Vec<Event>,
+    few: Vec<Event>,
+    more: Vec<Event>,
+    pairs: Vec<Event>,
+}
+
+fn lists(alloc: Global) -> Result<Lists, AllocError> {
+    Ok(Lists {
+        enabling: accepted_events(alloc)?,
+        refused: refused_events(alloc)?,
+        few: added(alloc, 0..FEW)?,
+        more: added(alloc, FEW..MANY)?,
+        pairs: pairs(alloc)?,
+    })
+}
+
+// What one list of events came to, or many of them.
+#[derive(Clone, Copy, Debug, Default)]
 struct Outcome {
     accepted: u64,
     refused: u64,
     nanoseconds: u128,
+}
+
+impl Outcome {
+    fn add(&mut self, other: Self) {
+        self.accepted = self.accepted.saturating_add(other.accepted);
+        self.refused = self.refused.saturating_add(other.refused);
+        self.nanoseconds = self.nanoseconds.saturating_add(other.nanoseconds);
+    }
+}
+
+// What is measured, of one round or of many.
+#[derive(Clone, Copy, Debug, Default)]
+struct Measured {
+    enabling: Outcome,
+    refused: Outcome,
+    among_few: Outcome,
+    among_many: Outcome,
 }
 
 // Takes the events, and tells how long that took.
@@ -92,24 +163,29 @@ fn taken<R: Clock>(rt: &R, manager: &mut Manager, events: &[Event]) -> io::Resul
     })
 }
 
-// Takes the events that are accepted, and then those that are refused.
-fn both<R: Clock>(
-    rt: &R,
-    manager: &mut Manager,
-    accepted: &[Event],
-    refused: &[Event],
-) -> io::Result<(Outcome, Outcome)> {
-    let accepted = taken(rt, manager, accepted)?;
-    let refused = taken(rt, manager, refused)?;
-    Ok((accepted, refused))
+// A manager over a text that has no callbacks.
+fn booted(alloc: Global, text: &str) -> Result<Manager, Fault> {
+    let plan = Catalog::read(alloc, text.as_bytes()).map_err(klp_program::Fault::from)?;
+    if plan.script(0).is_some() {
+        return Err(Fault::Script);
+    }
+    Ok(boot(alloc, plan, Vec::new(alloc))?)
 }
 
 // One round, over a manager of its own.
-fn round<R: Clock>(rt: &R, alloc: Global, text: &str) -> Result<(Outcome, Outcome), Fault> {
-    let accepted = accepted_events(alloc)?;
-    let refused = refused_events(alloc)?;
-    let mut manager = boot(alloc, text.as_bytes())?;
-    Ok(both(rt, &mut manager, &accepted, &refused)?)
+fn round<R: Clock>(
+    rt: &R,
+    manager: &mut Manager,
+    lists: &Lists,
+    measured: &mut Measured,
+) -> io::Result<()> {
+    measured.enabling.add(taken(rt, manager, &lists.enabling)?);
+    measured.refused.add(taken(rt, manager, &lists.refused)?);
+    manager.run(&lists.few);
+    measured.among_few.add(taken(rt, manager, &lists.pairs)?);
+    manager.run(&lists.more);
+    measured.among_many.add(taken(rt, manager, &lists.pairs)?);
+    Ok(())
 }
 
 fn main(rt: HostRuntime) -> Result<(), Fault> {
@@ -119,21 +195,23 @@ fn main(rt: HostRuntime) -> Result<(), Fault> {
         None => 1,
     };
     let text = catalog(alloc)?;
-    let mut accepting = 0;
-    let mut refusing = 0;
-    let mut counts = (0, 0);
+    let lists = lists(alloc)?;
+    let mut measured = Measured::default();
     for _ in 0..rounds {
-        let (accepted, refused) = round(&rt, alloc, text.as_str())?;
-        counts = (accepted.accepted, refused.refused);
-        accepting = u128::saturating_add(accepting, accepted.nanoseconds);
-        refusing = u128::saturating_add(refusing, refused.nanoseconds);
+        let mut manager = booted(alloc, text.as_str())?;
+        round(&rt, &mut manager, &lists, &mut measured)?;
     }
-    println!(rt; "accepted {} refused {}", counts.0, counts.1)?;
-    if rounds > 1 {
-        let enabled = u128::from(rounds).saturating_mul(u128::from(counts.0));
-        let turned_away = u128::from(rounds).saturating_mul(u128::from(counts.1));
-        println!(rt; "{enabled} accepted in {accepting} ns")?;
-        println!(rt; "{turned_away} refused in {refusing} ns")?;
+    let outcomes = [
+        ("enabled and polled", measured.enabling),
+        ("turned away", measured.refused),
+        ("shadow variable among 10", measured.among_few),
+        ("shadow variable among 500", measured.among_many),
+    ];
+    for (name, outcome) in outcomes {
+        println!(rt; "{name}: accepted {} refused {}", outcome.accepted, outcome.refused)?;
+        if rounds > 1 {
+            println!(rt; "{name}: {} ns", outcome.nanoseconds)?;
+        }
     }
     Ok(())
 }

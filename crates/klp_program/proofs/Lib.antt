@@ -1,1 +1,2 @@
 pub mod BootedLemmas
+pub mod ServeLemmas

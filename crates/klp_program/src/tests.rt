@@ -192,6 +192,137 @@ fn a_513th_shadow_variable_has_no_room(rt: HostRuntime) -> Result<(), Fail> {
     Ok(())
 }
 
+// A kernel of one function and a module, which stand before the patches of a case.
+const OBJECTS: &str = "\
+handler ffffffff81000000
+object vmlinux
+symbol f ffffffff81001000 e80000000090c3
+object m
+symbol g ffffffffa0000000 e800000000c3
+";
+
+// A patch that hands its state on, and one that takes it over.
+const HANDOVER: &str = "\
+patch a
+state 3 1
+target vmlinux
+func .klp.sym.vmlinux.f,0 f_a ffffffffc0001000
+pre 0 set:3:9
+patch b
+state 3 1
+target vmlinux
+func .klp.sym.vmlinux.f,0 f_b ffffffffc0002000
+pre 0 takeprev:3 freeall:9
+patch x
+state 3 0
+target vmlinux
+func .klp.sym.vmlinux.f,0 f_x ffffffffc0003000
+";
+
+// A patch whose pre-patch callback refuses.
+const REFUSING: &str = "\
+patch a
+target vmlinux
+func .klp.sym.vmlinux.f,0 f_a ffffffffc0001000
+pre -16
+postun 0
+";
+
+// A patch with callbacks for an object that isn't loaded too, and one that has none.
+const COUNTED: &str = "\
+patch a
+target vmlinux
+func .klp.sym.vmlinux.f,0 f_a ffffffffc0001000
+pre 0 alloc:7:0:1
+post 0
+preun 0
+target m
+func .klp.sym.m.g,0 g_a ffffffffc0002000
+pre -1
+patch b
+target vmlinux
+func .klp.sym.vmlinux.f,0 f_b ffffffffc0003000
+";
+
+// A text of the objects and these patches.
+fn over_objects(alloc: Global, patches: &str) -> Result<String, AllocError> {
+    let mut text = String::from_str(alloc, OBJECTS)?;
+    text.push_str(patches)?;
+    Ok(text)
+}
+
+#[test]
+fn callbacks_and_states_are_answered(rt: HostRuntime) -> Result<(), Fail> {
+    let cases: [(&str, &[u8], &[u8]); 4] = [
+        (
+            HANDOVER,
+            b"shadow alloc 1 9 5\nshadow alloc 2 9 6\nload a\npoll\nload b\nshadow get 1 9\nshadow get 2 9\npoll\nload x\n",
+            b"ok\nok\nstarted\ncompleted 1\nstarted\nnone\nnone\ncompleted 1\nerror 22 Incompatible\n",
+        ),
+        (
+            REFUSING,
+            b"load a\nruns a vmlinux\ntext vmlinux\npoll\nload a\nruns a vmlinux\n",
+            b"prefailed a vmlinux -16\nruns 1 - - 0\nf ffffffff81001000 0f1f44000090c3\nerror 22 NotMoving\nprefailed a vmlinux -16\nruns 2 - - 0\n",
+        ),
+        (
+            COUNTED,
+            b"runs a vmlinux\nload a\nruns a vmlinux\nshadow get 7 0\npoll\nruns a vmlinux\nruns a m\n",
+            b"runs 0 0 0 -\nstarted\nruns 1 0 0 -\nvalue 1\ncompleted 1\nruns 1 1 0 -\nruns 0 - - -\n",
+        ),
+        (
+            COUNTED,
+            b"runs b vmlinux\nruns b m\nruns z vmlinux\nruns z z\nruns a z\nruns a\nruns a m m\nruns\n",
+            b"runs - - - -\nerror 2 NotFound\nerror 2 NoPatch\nerror 2 NoPatch\nerror 2 NoModule\nerror 22 BadLine\nerror 22 BadLine\nerror 22 BadLine\n",
+        ),
+    ];
+    for (patches, lines, want) in cases {
+        let text = over_objects(rt.alloc(), patches)?;
+        let ran = ran(rt.alloc(), text.as_bytes(), lines)?;
+        assert_eq!(rt; ran.status, 0);
+        assert_eq!(rt; ran.out.as_slice(), want);
+        assert!(rt; ran.err.is_empty());
+    }
+    Ok(())
+}
+
+#[test]
+fn a_patch_waits_for_room_for_its_variables(rt: HostRuntime) -> Result<(), Fail> {
+    let alloc = rt.alloc();
+    let text = over_objects(alloc, COUNTED)?;
+    let mut lines = allocs(alloc, 512)?;
+    lines.write_all(b"load a\nshadow free 8 0\nload a\nshadow alloc 9 0 1\n")?;
+    let ran = ran(alloc, text.as_bytes(), &lines)?;
+    assert_eq!(rt; ran.status, 0);
+    let answers = ran.out.as_slice();
+    assert_eq!(rt; answers.len(), 512 * 3 + 14 + 8 + 8 + 14);
+    assert!(rt; answers.ends_with(b"ok\nerror 12 Full\nfreed 1\nstarted\nerror 12 Full\n"));
+    Ok(())
+}
+
+#[test]
+fn a_faulty_callback_or_state_is_told(rt: HostRuntime) -> Result<(), Fail> {
+    let cases: [(&str, &[u8]); 6] = [
+        ("pre 2147483648\n", b"klpsim: line 9: BadNumber\n"),
+        ("pre 0 alloc:1:2\n", b"klpsim: line 9: BadEdit\n"),
+        ("pre 1 free:1:2\n", b"klpsim: line 9: WrongCount\n"),
+        ("pre 0\npre 0\n", b"klpsim: line 10: Twice\n"),
+        ("state 1 x\n", b"klpsim: line 9: BadNumber\n"),
+        ("state 1 1\nstate 1 2\n", b"klpsim: line 10: Twice\n"),
+    ];
+    for (lines, want) in cases {
+        let mut text = over_objects(
+            rt.alloc(),
+            "patch a\ntarget vmlinux\nfunc .klp.sym.vmlinux.f,0 f_a ffffffffc0001000\n",
+        )?;
+        text.push_str(lines)?;
+        let ran = ran(rt.alloc(), text.as_bytes(), b"load a\n")?;
+        assert_eq!(rt; ran.status, 1);
+        assert_eq!(rt; ran.err.as_slice(), want);
+        assert!(rt; ran.out.is_empty());
+    }
+    Ok(())
+}
+
 #[test]
 fn the_sample_is_patched(rt: HostRuntime) -> Result<(), Fail> {
     let lines = b"text vmlinux\nload p\ntext vmlinux\npoll\n";
