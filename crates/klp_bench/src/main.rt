@@ -23,6 +23,7 @@ const FUNCTIONS: u16 = 64;
 
 // How many shadow variables are there while some come and go.
 const FEW: u64 = 10;
+
 const MANY: u64 = 500;
 
 // How often a shadow variable comes and goes in a round.
@@ -106,61 +107,44 @@ fn pairs(alloc: Global) -> Result<Vec<Event>, AllocError> {
     Ok(events)
 }
 
-// The lists of events of a round, in their order.
+// A list of events that each round takes, and what that came to in all rounds.
 #[derive(Debug, Drop)]
-struct Lists {
-    enabling: Vec<Event>,
-    refused: Vec<Event>,
-    few: Vec<Event>,
-    more: Vec<Event>,
-    pairs: Vec<Event>,
-}
-
-fn lists(alloc: Global) -> Result<Lists, AllocError> {
-    Ok(Lists {
-        enabling: accepted_events(alloc)?,
-        refused: refused_events(alloc)?,
-        few: added(alloc, 0..FEW)?,
-        more: added(alloc, FEW..MANY)?,
-        pairs: pairs(alloc)?,
-    })
-}
-
-// What one list of events came to, or many of them.
-#[derive(Clone, Copy, Debug, Default)]
-struct Outcome {
+struct Measured {
+    name: &'static str,
+    events: Vec<Event>,
     accepted: u64,
     refused: u64,
     nanoseconds: u128,
 }
 
-impl Outcome {
-    fn add(&mut self, other: Self) {
-        self.accepted = self.accepted.saturating_add(other.accepted);
-        self.refused = self.refused.saturating_add(other.refused);
-        self.nanoseconds = self.nanoseconds.saturating_add(other.nanoseconds);
+impl Measured {
+    fn new(name: &'static str, events: Vec<Event>) -> Self {
+        Self {
+            name,
+            events,
+            accepted: 0,
+            refused: 0,
+            nanoseconds: 0,
+        }
+    }
+
+    fn add(&mut self, (accepted, refused): (u64, u64), nanoseconds: u128) {
+        self.accepted = self.accepted.saturating_add(accepted);
+        self.refused = self.refused.saturating_add(refused);
+        self.nanoseconds = self.nanoseconds.saturating_add(nanoseconds);
     }
 }
 
-// What is measured, of one round or of many.
-#[derive(Clone, Copy, Debug, Default)]
-struct Measured {
-    enabling: Outcome,
-    refused: Outcome,
-    among_few: Outcome,
-    among_many: Outcome,
-}
-
-// Takes the events, and tells how long that took.
-fn taken<R: Clock>(rt: &R, manager: &mut Manager, events: &[Event]) -> io::Result<Outcome> {
-    let start = Instant::now(rt)?;
-    let (accepted, refused) = manager.run(events);
-    let end = Instant::now(rt)?;
-    Ok(Outcome {
-        accepted,
-        refused,
-        nanoseconds: end.saturating_duration_since(start).as_nanos(),
-    })
+// What a round takes, in order.
+fn lists(alloc: Global) -> Result<Vec<Measured>, AllocError> {
+    let mut lists = Vec::new(alloc);
+    lists.push(Measured::new("enable and poll", accepted_events(alloc)?))?;
+    lists.push(Measured::new("the same again", refused_events(alloc)?))?;
+    lists.push(Measured::new("10 shadow variables", added(alloc, 0..FEW)?))?;
+    lists.push(Measured::new("one more comes and goes", pairs(alloc)?))?;
+    lists.push(Measured::new("490 more of them", added(alloc, FEW..MANY)?))?;
+    lists.push(Measured::new("one more comes and goes", pairs(alloc)?))?;
+    Ok(lists)
 }
 
 // A manager over a text that has no callbacks.
@@ -175,16 +159,17 @@ fn booted(alloc: Global, text: &str) -> Result<Manager, Fault> {
 // One round, over a manager of its own.
 fn round<R: Clock>(
     rt: &R,
-    manager: &mut Manager,
-    lists: &Lists,
-    measured: &mut Measured,
-) -> io::Result<()> {
-    measured.enabling.add(taken(rt, manager, &lists.enabling)?);
-    measured.refused.add(taken(rt, manager, &lists.refused)?);
-    manager.run(&lists.few);
-    measured.among_few.add(taken(rt, manager, &lists.pairs)?);
-    manager.run(&lists.more);
-    measured.among_many.add(taken(rt, manager, &lists.pairs)?);
+    alloc: Global,
+    text: &str,
+    lists: &mut Vec<Measured>,
+) -> Result<(), Fault> {
+    let mut manager = booted(alloc, text)?;
+    for list in lists {
+        let start = Instant::now(rt)?;
+        let counts = manager.run(&list.events);
+        let end = Instant::now(rt)?;
+        list.add(counts, end.saturating_duration_since(start).as_nanos());
+    }
     Ok(())
 }
 
@@ -195,22 +180,17 @@ fn main(rt: HostRuntime) -> Result<(), Fault> {
         None => 1,
     };
     let text = catalog(alloc)?;
-    let lists = lists(alloc)?;
-    let mut measured = Measured::default();
+    let mut lists = lists(alloc)?;
     for _ in 0..rounds {
-        let mut manager = booted(alloc, text.as_str())?;
-        round(&rt, &mut manager, &lists, &mut measured)?;
+        round(&rt, alloc, text.as_str(), &mut lists)?;
     }
-    let outcomes = [
-        ("enabled and polled", measured.enabling),
-        ("turned away", measured.refused),
-        ("shadow variable among 10", measured.among_few),
-        ("shadow variable among 500", measured.among_many),
-    ];
-    for (name, outcome) in outcomes {
-        println!(rt; "{name}: accepted {} refused {}", outcome.accepted, outcome.refused)?;
+    for list in &lists {
+        println!(rt;
+            "{}: accepted {} refused {}",
+            list.name, list.accepted, list.refused
+        )?;
         if rounds > 1 {
-            println!(rt; "{name}: {} ns", outcome.nanoseconds)?;
+            println!(rt; "{} ns", list.nanoseconds)?;
         }
     }
     Ok(())

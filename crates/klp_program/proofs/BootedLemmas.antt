@@ -1,5 +1,5 @@
 -- The manager that is booted step by step is that of the plan.
-use Rattle.std.proofs.Common.{◌≡◌, ℕ, List, [], ◌∷◌, map, refl, sym, ap, ◌∙◌}
+use Rattle.std.proofs.Common.{◌≡◌, ℕ, List, [], ◌∷◌, map, refl, ap, ◌∙◌}
 use Rattle.klp_types.specs.Image.{Image, Object}
 use Rattle.klp_types.specs.Script.{Script}
 use Rattle.klp_text.specs.TextImage as text
@@ -7,7 +7,7 @@ use Rattle.klp_text.specs.TextImage.{TextImage}
 use Rattle.klp_modules.specs.Names as names
 use Rattle.klp_modules.specs.Names.{ModuleTable}
 use Rattle.klp_callback.specs.Told.{Told}
-use Rattle.klp_plan.specs.Plan.{Plan, PlanPatch}
+use Rattle.klp_plan.specs.Plan.{Plan}
 use Rattle.klp_plan.specs.Scripts.{scripts_of}
 use Rattle.klp_catalog.specs.Assembled.{without_scripts, counts_of, scripts_told, counts_told}
 use Rattle.klp_catalog.specs.Catalog.{Catalog}

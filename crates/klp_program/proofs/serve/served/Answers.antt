@@ -16,34 +16,34 @@ pub loop-script-preserved : goal.loop-script-preserved
 loop-script-preserved g c =
     let told : c.if-not-is_empty.callback ≡ never_ran c.in-Some.script =
     elim c.if-not-is_empty.branch [
-      then-not-is_empty+in_ok-new w ↦
-        let i = w.into_dyn_box.result.vtable in
-        let box = w.into_dyn_box.result.value in
-        let value = w.in_ok-new.field-0.value in
-        let made = w.into_dyn_box.ensures.1 in
-        told_of c.if-not-is_empty.callback ((own-1.entry i).1.script_of box) c.in-Some.script ((own-1.entry i).1.runs_of box) (w.callback-is ∙ w.new-callback.ensures)
-        (read_made own-1 (own-1.entry at-1-1) at-1-1 refl Script (λ j v. j.1.script_of v) i box value made ∙ ap (λ (t : Told). t.script) (w.in_ok-new.ensures.ok ∙ w.new.ensures))
-        (read_made own-1 (own-1.entry at-1-1) at-1-1 refl ℕ (λ j v. j.1.runs_of v) i box value made ∙ ap (λ (t : Told). t.runs) (w.in_ok-new.ensures.ok ∙ w.new.ensures))
-    | else-not-is_empty+then-script-ne0+in_ok-new-2 w ↦
-        let i = w.into_dyn_box-in_ok-new-2.result.vtable in
-        let box = w.into_dyn_box-in_ok-new-2.result.value in
-        let value = w.in_ok-new-2.field-0.value in
-        let made = w.into_dyn_box-in_ok-new-2.ensures.1 in
-        let edits : c.script.inside.edits.items ≡ [] = search rules in
-        let status : value.status ≡ c.script.inside.status = search rules in
-        told_of c.if-not-is_empty.callback ((own-1.entry i).1.script_of box) c.in-Some.script ((own-1.entry i).1.runs_of box) (w.callback-is ∙ w.new-then-script-ne0-3.ensures)
-        (read_made own-1 (own-1.entry at-1-2) at-1-2 refl Script (λ j v. j.1.script_of v) i box value made ∙ without_edits c.script.inside.edits.items c.script.inside.status value.status edits status ∙ c.script.view_is)
-        (read_made own-1 (own-1.entry at-1-2) at-1-2 refl ℕ (λ j v. j.1.runs_of v) i box value made ∙ ap (λ (r : Refusal). r.runs) (w.in_ok-new-2.ensures.ok ∙ w.new-then-script-ne0.ensures))
-    | else-not-is_empty+else-script-ne0+in_ok-new-3 w ↦
-        let i = w.into_dyn_box-in_ok-new-3.result.vtable in
-        let box = w.into_dyn_box-in_ok-new-3.result.value in
-        let value = w.in_ok-new-3.field-0.value in
-        let made = w.into_dyn_box-in_ok-new-3.ensures.1 in
-        let edits : c.script.inside.edits.items ≡ [] = search rules in
-        let status : pos 0 ≡ c.script.inside.status = search rules in
-        told_of c.if-not-is_empty.callback ((own-1.entry i).1.script_of box) c.in-Some.script ((own-1.entry i).1.runs_of box) (w.callback-is ∙ w.new-else-script-ne0-3.ensures)
-        (read_made own-1 (own-1.entry at-1-3) at-1-3 refl Script (λ j v. j.1.script_of v) i box value made ∙ without_edits c.script.inside.edits.items c.script.inside.status (pos 0) edits status ∙ c.script.view_is)
-        (read_made own-1 (own-1.entry at-1-3) at-1-3 refl ℕ (λ j v. j.1.runs_of v) i box value made ∙ w.in_ok-new-3.ensures.ok ∙ w.new-else-script-ne0.ensures)
+      | then-not-is_empty+in_ok-new w ↦
+          let i = w.into_dyn_box.result.vtable in
+          let box = w.into_dyn_box.result.value in
+          let value = w.in_ok-new.field-0.value in
+          let made = w.into_dyn_box.ensures.1 in
+          told_of c.if-not-is_empty.callback ((own-1.entry i).1.script_of box) c.in-Some.script ((own-1.entry i).1.runs_of box) (w.callback-is ∙ w.new-callback.ensures)
+          (read_made own-1 (own-1.entry at-1-1) at-1-1 refl Script (λ j v. j.1.script_of v) i box value made ∙ ap (λ (t : Told). t.script) (w.in_ok-new.ensures.ok ∙ w.new.ensures))
+          (read_made own-1 (own-1.entry at-1-1) at-1-1 refl ℕ (λ j v. j.1.runs_of v) i box value made ∙ ap (λ (t : Told). t.runs) (w.in_ok-new.ensures.ok ∙ w.new.ensures))
+      | else-not-is_empty+then-script-ne0+in_ok-new-2 w ↦
+          let i = w.into_dyn_box-in_ok-new-2.result.vtable in
+          let box = w.into_dyn_box-in_ok-new-2.result.value in
+          let value = w.in_ok-new-2.field-0.value in
+          let made = w.into_dyn_box-in_ok-new-2.ensures.1 in
+          let edits : c.script.inside.edits.items ≡ [] = search rules in
+          let status : value.status ≡ c.script.inside.status = search rules in
+          told_of c.if-not-is_empty.callback ((own-1.entry i).1.script_of box) c.in-Some.script ((own-1.entry i).1.runs_of box) (w.callback-is ∙ w.new-then-script-ne0-3.ensures)
+          (read_made own-1 (own-1.entry at-1-2) at-1-2 refl Script (λ j v. j.1.script_of v) i box value made ∙ without_edits c.script.inside.edits.items c.script.inside.status value.status edits status ∙ c.script.view_is)
+          (read_made own-1 (own-1.entry at-1-2) at-1-2 refl ℕ (λ j v. j.1.runs_of v) i box value made ∙ ap (λ (r : Refusal). r.runs) (w.in_ok-new-2.ensures.ok ∙ w.new-then-script-ne0.ensures))
+      | else-not-is_empty+else-script-ne0+in_ok-new-3 w ↦
+          let i = w.into_dyn_box-in_ok-new-3.result.vtable in
+          let box = w.into_dyn_box-in_ok-new-3.result.value in
+          let value = w.in_ok-new-3.field-0.value in
+          let made = w.into_dyn_box-in_ok-new-3.ensures.1 in
+          let edits : c.script.inside.edits.items ≡ [] = search rules in
+          let status : pos 0 ≡ c.script.inside.status = search rules in
+          told_of c.if-not-is_empty.callback ((own-1.entry i).1.script_of box) c.in-Some.script ((own-1.entry i).1.runs_of box) (w.callback-is ∙ w.new-else-script-ne0-3.ensures)
+          (read_made own-1 (own-1.entry at-1-3) at-1-3 refl Script (λ j v. j.1.script_of v) i box value made ∙ without_edits c.script.inside.edits.items c.script.inside.status (pos 0) edits status ∙ c.script.view_is)
+          (read_made own-1 (own-1.entry at-1-3) at-1-3 refl ℕ (λ j v. j.1.runs_of v) i box value made ∙ w.in_ok-new-3.ensures.ok ∙ w.new-else-script-ne0.ensures)
     ]
     in
     let scripts = scripts_of c.plan.inside.patches.items in
