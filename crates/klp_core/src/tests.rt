@@ -2,8 +2,6 @@ ghost use Rattle.std.specs.Prelude.{◌≡◌, IfOk};
 ghost use Rattle.klp_text.specs.TextImage.{opening, IsWithinLimits};
 ghost use Rattle.klp_modules.specs.Names.{names_of, opening as opening_table};
 
-mod callbacks;
-
 use crate::{BootFault, Manager};
 use arrayvec::ArrayVec;
 use klp_callback::{Boxed, Scripted};
@@ -16,6 +14,20 @@ use klp_world::Script;
 use std::alloc::{AllocError, Global};
 use std::test::Fail;
 use thiserror::Error;
+
+// A callback for each script of a text, in order. It is no function, since one that hands out a box which
+// it made hides what is proved of boxes.
+macro_rules! callbacks {
+    ($alloc:expr, $text:expr) => {{
+        let mut callbacks = Vec::new($alloc);
+        for script in scripts($alloc, $text)? {
+            callbacks.push(Boxed::new(Box::new($alloc, Scripted::new(script))?))?;
+        }
+        callbacks
+    }};
+}
+
+mod callbacks;
 
 // A kernel of f, h and twice d, and the modules m and n. Of the patches p changes the kernel and m; q
 // the kernel; c replaces all older ones; s names no symbol alone; u names a symbol that m lacks. It is
@@ -85,19 +97,6 @@ impl From<AllocError> for Fault {
     }
 }
 
-// A callback for each script of the plan, in the order of the text.
-fn boxes(alloc: Global, plan: &Plan) -> Result<Vec<Boxed>, AllocError> {
-    let mut callbacks = Vec::new(alloc);
-    for number in 0..MAX_SCRIPTS {
-        let Some(script) = plan.script(number) else {
-            break;
-        };
-        let callback = Scripted::new(copy_of(script));
-        callbacks.push(Boxed::new(Box::new(alloc, callback)?))?;
-    }
-    Ok(callbacks)
-}
-
 fn copy_of(script: &Script) -> Script {
     let mut edits = ArrayVec::new();
     let _ = edits.try_extend_from_slice(script.edits.as_slice());
@@ -107,8 +106,26 @@ fn copy_of(script: &Script) -> Script {
     }
 }
 
-// The image of a text's objects, its modules, and the catalog of its patches over them.
-fn parts(alloc: Global, text: &str) -> Result<(Image, Modules, Catalog), Fault>
+// The scripts of a text's callbacks, in order.
+fn scripts(alloc: Global, text: &str) -> Result<Vec<Script>, Fail> {
+    let plan = Catalog::read(alloc, text.as_bytes())?;
+    let mut scripts = Vec::new(alloc);
+    for number in 0..MAX_SCRIPTS {
+        let Some(script) = plan.script(number) else {
+            break;
+        };
+        scripts.push(copy_of(script))?;
+    }
+    Ok(scripts)
+}
+
+// The image of a text's objects, its modules, and the catalog of its patches over them with these
+// callbacks.
+fn parts(
+    alloc: Global,
+    text: &str,
+    callbacks: Vec<Boxed>,
+) -> Result<(Image, Modules, Catalog), Fault>
     ensures image { IfOk result (λ parts. parts.0 ≡ opening parts.0.image.handler parts.0.image.objects) }
     ensures limits { IfOk result (λ parts. IsWithinLimits parts.0.image.objects) }
     ensures modules { IfOk result (λ parts. parts.1 ≡ opening_table parts.0.image.objects) }
@@ -118,18 +135,17 @@ fn parts(alloc: Global, text: &str) -> Result<(Image, Modules, Catalog), Fault>
     let objects = plan.take_objects();
     let image = Image::new(alloc, objects, plan.handler())?;
     let modules = Modules::new(alloc, &image)?;
-    let callbacks = boxes(alloc, &plan)?;
     let catalog = Catalog::assemble(alloc, &modules, plan, callbacks)?;
     Ok((image, modules, catalog))
 }
 
-fn booted(alloc: Global, text: &str) -> Result<Manager, Fault> {
-    let (image, modules, catalog) = parts(alloc, text)?;
+fn booted(alloc: Global, text: &str, callbacks: Vec<Boxed>) -> Result<Manager, Fault> {
+    let (image, modules, catalog) = parts(alloc, text, callbacks)?;
     Ok(Manager::boot(alloc, image, modules, catalog)?)
 }
 
 fn sample(alloc: Global) -> Result<Manager, Fail> {
-    Ok(booted(alloc, sample_text())?)
+    Ok(booted(alloc, sample_text(), Vec::new(alloc))?)
 }
 
 // What each event answers, in order. It says nothing of the manager afterwards, so that what the proof
@@ -247,8 +263,8 @@ fn events_are_refused_in_order(rt: HostRuntime) -> Result<(), Fail> {
 #[test]
 fn modules_of_another_image_dont_match(rt: HostRuntime) -> Result<(), Fail> {
     let alloc = rt.alloc();
-    let (image, _modules, catalog) = parts(alloc, kernel_text())?;
-    let (other, modules, _catalog) = parts(alloc, sample_text())?;
+    let (image, _modules, catalog) = parts(alloc, kernel_text(), Vec::new(alloc))?;
+    let (other, modules, _catalog) = parts(alloc, sample_text(), Vec::new(alloc))?;
     let few = image.objects();
     let many = other.objects();
     let fault = if few == many {
@@ -263,8 +279,8 @@ fn modules_of_another_image_dont_match(rt: HostRuntime) -> Result<(), Fail> {
 #[test]
 fn a_catalog_over_another_image_doesnt_match(rt: HostRuntime) -> Result<(), Fail> {
     let alloc = rt.alloc();
-    let (image, modules, _catalog) = parts(alloc, kernel_text())?;
-    let (other, _modules, catalog) = parts(alloc, sample_text())?;
+    let (image, modules, _catalog) = parts(alloc, kernel_text(), Vec::new(alloc))?;
+    let (other, _modules, catalog) = parts(alloc, sample_text(), Vec::new(alloc))?;
     let few = image.objects();
     let many = other.objects();
     let fault = if few == many {
@@ -385,9 +401,9 @@ fn patches_and_shadow_variables_stand_apart(rt: HostRuntime) -> Result<(), Fail>
 #[test]
 fn a_refused_boot_can_be_done_again(rt: HostRuntime) -> Result<(), Fail> {
     let alloc = rt.alloc();
-    let manager = match booted(alloc, kernel_text()) {
+    let manager = match booted(alloc, kernel_text(), Vec::new(alloc)) {
         Ok(manager) => manager,
-        Err(_) => booted(alloc, kernel_text())?,
+        Err(_) => booted(alloc, kernel_text(), Vec::new(alloc))?,
     };
     assert_eq!(rt; manager.shadow_get(key(1, 1)), None);
     assert!(rt; manager.installed().is_empty());

@@ -1,6 +1,7 @@
 //! Events over catalogs whose patches have callbacks and system states.
 use crate::Manager;
-use crate::tests::{answers, booted, fill, key};
+use crate::tests::{answers, booted, fill, key, scripts};
+use klp_callback::{Boxed, Scripted};
 use klp_types::{Event, ObjId, PatchId, Refusal, Reply, ShadowKey, Which};
 use std::alloc::{AllocError, Global};
 use std::test::Fail;
@@ -11,7 +12,8 @@ fn answers_over(
     text: &str,
     events: &[Event],
 ) -> Result<Vec<Result<Reply, Refusal>>, Fail> {
-    let mut manager = booted(alloc, text)?;
+    let callbacks = callbacks!(alloc, text);
+    let mut manager = booted(alloc, text, callbacks)?;
     Ok(answers(alloc, &mut manager, events)?)
 }
 
@@ -21,14 +23,20 @@ fn answers_over_full(
     text: &str,
     events: &[Event],
 ) -> Result<Vec<Result<Reply, Refusal>>, Fail> {
-    let mut manager = booted(alloc, text)?;
+    let callbacks = callbacks!(alloc, text);
+    let mut manager = booted(alloc, text, callbacks)?;
     fill(&mut manager);
     Ok(answers(alloc, &mut manager, events)?)
 }
 
 // The manager behind these events, of which nothing is said.
-fn after(alloc: Global, text: &str, events: &[Event]) -> Result<Manager, Fail> {
-    let mut manager = booted(alloc, text)?;
+fn after(
+    alloc: Global,
+    text: &str,
+    callbacks: Vec<Boxed>,
+    events: &[Event],
+) -> Result<Manager, Fail> {
+    let mut manager = booted(alloc, text, callbacks)?;
     manager.run(events);
     Ok(manager)
 }
@@ -89,7 +97,8 @@ fn a_handover_is_accepted(rt: HostRuntime) -> Result<(), Fail> {
 
 #[test]
 fn a_patch_takes_a_state_over(rt: HostRuntime) -> Result<(), Fail> {
-    let manager = after(rt.alloc(), handover_text(), &handover_events())?;
+    let callbacks = callbacks!(rt.alloc(), handover_text());
+    let manager = after(rt.alloc(), handover_text(), callbacks, &handover_events())?;
     assert_eq!(rt; manager.state_of(PatchId(0), 3), Some(9));
     assert_eq!(rt; manager.state_of(PatchId(1), 3), Some(9));
     assert_eq!(rt; manager.shadow_get(key(1, 9)), None);
@@ -123,7 +132,13 @@ fn a_refused_patch_tells_object_and_status(rt: HostRuntime) -> Result<(), Fail> 
 
 #[test]
 fn a_refused_patch_is_gone(rt: HostRuntime) -> Result<(), Fail> {
-    let manager = after(rt.alloc(), refusing_text(), &[Event::Enable(PatchId(0))])?;
+    let callbacks = callbacks!(rt.alloc(), refusing_text());
+    let manager = after(
+        rt.alloc(),
+        refusing_text(),
+        callbacks,
+        &[Event::Enable(PatchId(0))],
+    )?;
     assert_eq!(rt;
         manager.callback_runs(PatchId(0), ObjId(0), Which::Pre),
         Some(1)
@@ -242,7 +257,8 @@ post 0 alloc:1:4:4
 #[test]
 fn callbacks_run_for_loaded_objects_alone(rt: HostRuntime) -> Result<(), Fail> {
     let events = [Event::Enable(PatchId(0)), Event::Poll, Event::Poll];
-    let manager = after(rt.alloc(), module_text(), &events)?;
+    let callbacks = callbacks!(rt.alloc(), module_text());
+    let manager = after(rt.alloc(), module_text(), callbacks, &events)?;
     let keys = [key(1, 1), key(1, 2), key(1, 3), key(1, 4)];
     let got = variables(rt.alloc(), &manager, &keys)?;
     assert_eq!(rt; got.as_slice(), [Some(1), Some(2), None, None].as_slice());
@@ -293,7 +309,8 @@ post 0 alloc:1:9:6
 #[test]
 fn pre_patch_runs_before_post_patch(rt: HostRuntime) -> Result<(), Fail> {
     let events = [Event::Enable(PatchId(0)), Event::Poll];
-    let manager = after(rt.alloc(), order_text(), &events)?;
+    let callbacks = callbacks!(rt.alloc(), order_text());
+    let manager = after(rt.alloc(), order_text(), callbacks, &events)?;
     assert_eq!(rt; manager.shadow_get(key(1, 9)), Some(5));
     Ok(())
 }
