@@ -1,3 +1,4 @@
 pub mod CatalogLemmas
 pub mod RunLemmas
 pub mod AssembleLemmas
+pub mod CountLemmas

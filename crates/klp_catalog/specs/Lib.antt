@@ -3,3 +3,4 @@ pub mod States
 pub mod Runs
 pub mod Assembled
 pub mod Stored
+pub mod Counts

@@ -9,6 +9,7 @@ mod boxes;
 mod callbacks;
 mod catalog;
 mod function;
+pub mod laws;
 mod patch;
 mod target;
 

@@ -1,0 +1,8 @@
+use Rattle.klp_catalog.proofs.CountLemmas.{counts_grow, patches_stay}
+use Rattle.klp_catalog.proofs.laws.counts_grow_by_runs.Goals as goal
+
+pub returns-clause-counts : goal.returns-clause-counts
+returns-clause-counts c = counts_grow
+
+pub returns-clause-patches : goal.returns-clause-patches
+returns-clause-patches c = patches_stay
