@@ -5,4 +5,5 @@ pub mod StateLemmas
 pub mod PatchLemmas
 pub mod UndoLemmas
 pub mod NotedLemmas
+pub mod BucketLemmas
 pub mod ScriptLemmas

@@ -204,7 +204,7 @@ one_of_two true None = refl
 one_of_two true (Some x) = refl
 one_of_two false o = refl
 
-as_entries : (m : Shadow) → as_map (finite.entries m) ≡ m
+pub as_entries : (m : Shadow) → as_map (finite.entries m) ≡ m
 as_entries m = finite.same_entries_map _ _ (finite.entries-from_sorted key_cmp (finite.entries m) (finite.entries_sorted m))
 
 alike : (keep : ShadowKey → Bool) (q x : ShadowKey) → key_cmp q x ≡ Equal → keep x ≡ keep q

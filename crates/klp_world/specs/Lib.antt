@@ -2,3 +2,4 @@ pub mod Coded
 pub mod Undo
 pub mod Noted
 pub mod Sorted
+pub mod Buckets

@@ -7,6 +7,7 @@ pub mod laws;
 mod patch;
 mod script;
 mod shadow;
+mod sorted;
 mod world;
 
 pub use installed::InstalledPatches;

@@ -98,6 +98,30 @@ fn a_world_holds_512_variables(rt: HostRuntime) -> Result<(), Fail> {
 }
 
 #[test]
+fn an_id_is_freed_whatever_the_objects(rt: HostRuntime) -> Result<(), Fail> {
+    let mut noted = Noted {
+        world: World::new(rt.alloc())?,
+        log: Records::new(rt.alloc(), 1024)?,
+    };
+    for obj in 0..200 {
+        assert!(rt; alloc(&rt, &mut noted, key(obj * 64, 7), obj));
+        assert!(rt; alloc(&rt, &mut noted, key(obj * 64, 8), obj));
+    }
+    assert_eq!(rt; free_all(&rt, &mut noted, 7), 200);
+    assert_eq!(rt; noted.world.count(), 200);
+    for obj in 0..200 {
+        assert_eq!(rt; noted.world.get(key(obj * 64, 7)), None);
+        assert_eq!(rt; noted.world.get(key(obj * 64, 8)), Some(obj));
+    }
+    put_back(&mut noted, 200);
+    assert_eq!(rt; noted.world.count(), 400);
+    for obj in 0..200 {
+        assert_eq!(rt; noted.world.get(key(obj * 64, 7)), Some(obj));
+    }
+    Ok(())
+}
+
+#[test]
 fn a_state_is_found_in_the_patch_before(rt: HostRuntime) -> Result<(), Fail> {
     let mut world = World::new(rt.alloc())?;
     let mut log = Records::new(rt.alloc(), 16)?;

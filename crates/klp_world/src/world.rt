@@ -43,21 +43,6 @@ impl Model for World {
     ghost invariant = { λ w. (vec_len w.patches ≤ MAX_PATCHES) × (MAX_PATCHES ≤ vec_capacity w.patches) };
 }
 
-/// Notes the variables of the id.
-fn note_variables(variables: &[(ShadowKey, u64)], id: u64, log: &mut Records)
-    requires { length (variable_rows id variables.now) ≤ spare_of log.old }
-    ensures { log.new ≡ noting log.old (variable_rows id variables.now) }
-{
-    for &(key, was) in variables {
-        if key.id == id {
-            log.note(Record::ShadowVariable {
-                key,
-                was: Some(was),
-            });
-        }
-    }
-}
-
 /// Notes the states of a patch, the last first.
 fn note_states(patch: PatchId, states: &[SystemState], log: &mut Records)
     requires { length states.now ≤ spare_of log.old }
@@ -100,8 +85,7 @@ impl World {
         })
     }
 
-    /// The value of a shadow variable, if it is there. The look-up halves the variables until it
-    /// meets the key (`klp_shadow_get`).
+    /// The value of a shadow variable, if it is there (`klp_shadow_get`).
     pub fn get(&self, key: ShadowKey) -> Option<u64>
         ensures { result ≡ variable self.now key }
     {
@@ -153,7 +137,7 @@ impl World {
     }
 
     /// Adds a shadow variable, and answers whether it did: a variable that is there keeps its value
-    /// (`klp_shadow_alloc`). An insertion moves the variables with greater keys.
+    /// (`klp_shadow_alloc`).
     pub fn alloc(&mut self, key: ShadowKey, value: u64, log: &mut Records) -> bool
         requires room { variable self.old key ≡ None → finite.len self.old.shadow < MAX_VARIABLES }
         requires records { length (rows_of_alloc self.old key) ≤ spare_of log.old }
@@ -185,8 +169,7 @@ impl World {
         there.unwrap_or(value)
     }
 
-    /// Removes a shadow variable, and answers whether it was there (`klp_shadow_free`). A removal
-    /// moves the variables with greater keys.
+    /// Removes a shadow variable, and answers whether it was there (`klp_shadow_free`).
     pub fn free(&mut self, key: ShadowKey, log: &mut Records) -> bool
         requires { length (rows_of_free self.old key) ≤ spare_of log.old }
         ensures answer { result ≡ is_some (variable self.old key) }
@@ -207,7 +190,8 @@ impl World {
     }
 
     /// Removes all shadow variables of the id, whatever their parent objects, and answers how many
-    /// there were (`klp_shadow_free_all`). It walks over the variables twice.
+    /// there were (`klp_shadow_free_all`). It walks over the variables twice, and sorts those of the
+    /// id.
     pub fn free_all(&mut self, id: u64, log: &mut Records) -> u16
         requires { length (rows_of_free_all self.old id) ≤ spare_of log.old }
         ensures answer { result ≡ length (rows_of_free_all self.old id) }
@@ -217,8 +201,7 @@ impl World {
         ensures undo { undone self.new (rows_of_free_all self.old id) ≡ self.old }
     {
         let before = self.shadow.len();
-        note_variables(self.shadow.as_slice(), id, log);
-        self.shadow.remove_id(id);
+        self.shadow.remove_id(id, log);
         (before - self.shadow.len()) as u16
     }
 
