@@ -11,7 +11,8 @@ use Rattle.klp_plan.specs.Parts.{function_count}
 use Rattle.klp_plan.specs.Limits.{IsSmall, AreFew}
 use Rattle.klp_plan.specs.Draft.{patch_names_of}
 use Rattle.klp_catalog.specs.Catalog.{functions_of_target, functions_of_patch, has_same_site, some_same_site}
-use Rattle.klp_catalog.specs.Stored.{IsWithin, AreWithin, StoredPatch, patches_in, functions_in, functions_of_plan, symbol_count, IsStored}
+use Rattle.klp_catalog.specs.Stored.{IsWithin, AreWithin, StoredTarget, StoredPatch, targets_in, target_counts_in, patches_in, patch_counts_in, functions_in, functions_of_plan, symbol_count, IsStored}
+use Rattle.klp_catalog.specs.Runs.{HasCounts}
 
 -- a patch without its callbacks
 abbrev pub target_alone : PlanTarget → PlanTarget
@@ -87,14 +88,16 @@ few_same ps qs e few =
 pub stored_for : (names : List ObjectNames) (symbols : List ℕ) (patch_names : List (List ℕ)) (stored : List StoredPatch) (patches : List PlanPatch)
     → symbols ≡ take 256 (map symbol_count names) → patch_names ≡ patch_names_of patches → map patch_alone (patches_in stored) ≡ map patch_alone patches
     → functions_in stored ≡ map (functions_of_plan names) patches → AreFew patches → some_same_site names patches ≡ false
-    → IsStored names symbols patch_names (patches_in stored) (functions_in stored)
-stored_for names symbols patch_names stored patches counts by_name same resolved few apart =
+    → HasCounts (patches_in stored) (patch_counts_in stored)
+    → IsStored names symbols patch_names (patches_in stored) (functions_in stored) (patch_counts_in stored)
+stored_for names symbols patch_names stored patches counts by_name same resolved few apart counted =
     record {
       counts = counts;
       by_name = by_name ∙ sym (same_names (patches_in stored) patches same);
       resolved = resolved ∙ sym (same_functions (patches_in stored) patches same names);
       few = few_same (patches_in stored) patches same few;
       apart = same_sites names (patches_in stored) patches same ∙ apart;
+      counted = counted;
     }
 
 -- ---- the loops: one more is made of the first that is left
@@ -135,3 +138,27 @@ patches_alone (patch ∷ patches) = λ i. record patch { targets = targets_alone
 
 pub alone : (ps qs : List PlanPatch) → map without_scripts ps ≡ map without_scripts qs → map patch_alone ps ≡ map patch_alone qs
 alone ps qs e = sym (patches_alone ps) ∙ ap (map patch_alone) e ∙ patches_alone qs
+
+-- ---- a count for each callback
+
+-- what is so of all so far and of one more is so of these
+pub snoc_same : {A B : Type 0} (f g : A → B) (done made : List A) (x : A) → map f done ≡ map g done → made ≡ done ++ x ∷ [] → f x ≡ g x → map f made ≡ map g made
+snoc_same f g done made x so_far is same =
+    ap (map f) is ∙ map-append f done (x ∷ []) ∙ (λ i. so_far i ++ same i ∷ []) ∙ sym (ap (map g) is ∙ map-append g done (x ∷ []))
+
+map_twice : {A B C : Type 0} (f : B → C) (g : A → B) (xs : List A) → map f (map g xs) ≡ map (λ x. f (g x)) xs
+map_twice f g [] = refl
+map_twice f g (x ∷ xs) = ap (f (g x) ∷◌) (map_twice f g xs)
+
+pub targets_counted : (targets : List StoredTarget) → map (λ (t : StoredTarget). length t.runs) targets ≡ map (λ (t : StoredTarget). length t.plan.callbacks) targets
+    → map length (target_counts_in targets) ≡ map (λ (t : PlanTarget). length t.callbacks) (targets_in targets)
+targets_counted targets same =
+    map_twice length (λ (t : StoredTarget). t.runs) targets ∙ same
+    ∙ sym (map_twice (λ (t : PlanTarget). length t.callbacks) (λ (t : StoredTarget). t.plan) targets)
+
+pub patches_counted : (patches : List StoredPatch)
+    → map (λ (p : StoredPatch). map length p.runs) patches ≡ map (λ (p : StoredPatch). map (λ (t : PlanTarget). length t.callbacks) p.plan.targets) patches
+    → HasCounts (patches_in patches) (patch_counts_in patches)
+patches_counted patches same =
+    map_twice (map length) (λ (p : StoredPatch). p.runs) patches ∙ same
+    ∙ sym (map_twice (λ (p : PlanPatch). map (λ (t : PlanTarget). length t.callbacks) p.targets) (λ (p : StoredPatch). p.plan) patches)

@@ -170,7 +170,7 @@ in_setting names patches p =
     ∙ ap all_functions (sym (ap patch_objects (slice_get-map (setting_patch names) patches p) ∙ objects_in_patch names (slice_get patches p)))
 
 module _ {names : List ObjectNames} {symbols : List ℕ} {patch_names : List (List ℕ)} (stored : List StoredPatch)
-    (kept : IsStored names symbols patch_names (patches_in stored) (functions_in stored)) where
+    (kept : IsStored names symbols patch_names (patches_in stored) (functions_in stored) (patch_counts_in stored)) where
   pub functions_are : (p : ℕ) → stored_functions (slice_get stored p) ≡ functions_of_patch names (targets_of_patch (slice_get (patches_in stored) p))
   functions_are p =
       by (slice_get stored p) (slice_get (patches_in stored) p)

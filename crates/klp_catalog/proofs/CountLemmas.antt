@@ -1,5 +1,5 @@
 -- The count of each callback after runs.
-use Rattle.std.proofs.Common.{◌≡◌, ℕ, zero, suc, ◌+◌, ◌-◌, ◌≤◌, Bool, true, false, List, [], ◌∷◌, slice_get, option_map, Some, None, Option, refl, sym, ap, subst, ◌∙◌, arith, if◌then◌else◌, IfSome, ltb}
+use Rattle.std.proofs.Common.{◌≡◌, ℕ, zero, suc, ◌+◌, ◌-◌, ◌≤◌, Bool, true, false, List, [], ◌∷◌, map, slice_get, option_map, Some, None, Option, refl, sym, ap, subst, ◌∙◌, arith, if◌then◌else◌, IfSome, ltb}
 use Rattle.std.specs.Prelude.{◌==◌, ◌&&◌, ◌^◌, min, option_and_then, slice_index_or}
 use Rattle.std.proofs.lemmas.Bool.{eqb-true, eq-eqb, ltb-true, ltb-false}
 use Rattle.std.proofs.Math.Nat.{min-eq_left, min-eq_right, min-le_right}
@@ -7,11 +7,11 @@ use Rattle.std.proofs.lemmas.List.Sums.{sum_by-cons}
 use Rattle.klp_world.proofs.First.{FirstAt, first_place}
 use Rattle.klp_types.specs.declared.callback.Which.{Which}
 use Rattle.klp_types.specs.declared.callback.Which.TheVariants.{Pre, Post, PreUn, PostUn}
-use Rattle.klp_types.specs.Setting.{Callback}
+use Rattle.klp_types.specs.Setting.{Callback, patch_objects}
 use Rattle.klp_types.specs.Callbacks.{Call, is_kind}
 use Rattle.klp_callback.specs.Told.{counted}
-use Rattle.klp_catalog.specs.Catalog.{Catalog}
-use Rattle.klp_catalog.specs.Runs.{callbacks_at, number_of, change_at, counted_at, after_run, after_runs, runs_of}
+use Rattle.klp_catalog.specs.Catalog.{Catalog, setting_patch}
+use Rattle.klp_catalog.specs.Runs.{callbacks_at, objects_at, place_of, number_of, change_at, counted_at, after_run, after_runs, runs_of, callback_runs}
 use Rattle.klp_catalog.specs.Counts.{is_run_of, times, grown}
 
 -- ---- kinds
@@ -240,3 +240,21 @@ counts_grow catalog (call ∷ calls) patch place which few =
 pub patches_stay : (catalog : Catalog) (calls : List Call) → (after_runs catalog calls).patches ≡ catalog.patches
 patches_stay catalog [] = refl
 patches_stay catalog (call ∷ calls) = patches_stay (after_run catalog call.patch call.place call.which) calls
+
+-- ---- by objects
+
+pub names_stay : (catalog : Catalog) (calls : List Call) → (after_runs catalog calls).names ≡ catalog.names
+names_stay catalog [] = refl
+names_stay catalog (call ∷ calls) = names_stay (after_run catalog call.patch call.place call.which) calls
+
+objects_stay : (catalog : Catalog) (calls : List Call) (patch : ℕ) → objects_at (after_runs catalog calls) patch ≡ objects_at catalog patch
+objects_stay catalog calls patch = λ i. patch_objects (slice_get (map (setting_patch (names_stay catalog calls i)) (patches_stay catalog calls i)) patch)
+
+pub looks_grow : (catalog : Catalog) (calls : List Call) (patch object place : ℕ) (which : Which) → place_of object (objects_at catalog patch) ≡ Some place
+    → IfSome (callback_runs catalog patch object which) (λ runs. runs ≤ 2 ^ 64 - 1)
+    → callback_runs (after_runs catalog calls) patch object which ≡ option_map (grown (times patch place which calls)) (callback_runs catalog patch object which)
+looks_grow catalog calls patch object place which at few =
+    let here : callback_runs catalog patch object which ≡ runs_of catalog patch place which = ap (option_and_then (λ p. runs_of catalog patch p which)) at in
+    ap (option_and_then (λ p. runs_of (after_runs catalog calls) patch p which)) (ap (place_of object) (objects_stay catalog calls patch) ∙ at)
+    ∙ counts_grow catalog calls patch place which (subst (λ o. IfSome o (λ runs. runs ≤ 2 ^ 64 - 1)) here few)
+    ∙ sym (ap (option_map (grown (times patch place which calls))) here)

@@ -74,6 +74,15 @@ map-kept f change [] n same = refl
 map-kept f change (x ∷ xs) zero same = ap (λ y. y ∷ map f xs) (same x)
 map-kept f change (x ∷ xs) (suc n) same = ap (f x ∷◌) (map-kept f change xs n same)
 
+length-change : {A : Type 0} (change : A → A) (xs : List A) (n : ℕ) → length (change_at change n xs) ≡ length xs
+length-change change [] n = refl
+length-change change (x ∷ xs) zero = refl
+length-change change (x ∷ xs) (suc n) = ap suc (length-change change xs n)
+
+length-counted : (number : Option ℕ) (runs : List ℕ) → length (counted_at number runs) ≡ length runs
+length-counted None runs = refl
+length-counted (Some number) runs = length-change counted runs number
+
 pub change_same : {A : Type 0} (change : A → A) (xs : List A) (n : ℕ) → ((x : A) → change x ≡ x) → change_at change n xs ≡ xs
 change_same change [] n same = refl
 change_same change (x ∷ xs) zero same = ap (λ y. y ∷ xs) (same x)
@@ -151,7 +160,7 @@ nowhere_at_all test [] i past none = tt
 nowhere_at_all test (x ∷ xs) zero past none = absurd (omega arith)
 nowhere_at_all test (x ∷ xs) (suc i) past none = (none.0, nowhere_at_all test xs i (omega arith) none.1)
 
-script-first : (which : Which) (callbacks : List Callback) (n : ℕ) (d : Callback) → FirstAt (λ (c : Callback). is_kind c.which which) callbacks n
+pub script-first : (which : Which) (callbacks : List Callback) (n : ℕ) (d : Callback) → FirstAt (λ (c : Callback). is_kind c.which which) callbacks n
     → script_for which callbacks ≡ Some (get_or callbacks n d).script
 script-first which [] n d h = absurd h
 script-first which (c ∷ cs) zero d h =
@@ -159,7 +168,7 @@ script-first which (c ∷ cs) zero d h =
 script-first which (c ∷ cs) (suc n) d h =
     ap (λ b. option_map (λ (c : Callback). c.script) (if b then Some c else find (λ (c : Callback). is_kind c.which which) cs)) h.0 ∙ script-first which cs n d h.1
 
-script-nowhere : (which : Which) (callbacks : List Callback) → Nowhere (λ (c : Callback). is_kind c.which which) callbacks → script_for which callbacks ≡ None
+pub script-nowhere : (which : Which) (callbacks : List Callback) → Nowhere (λ (c : Callback). is_kind c.which which) callbacks → script_for which callbacks ≡ None
 script-nowhere which [] h = refl
 script-nowhere which (c ∷ cs) h =
     ap (λ b. option_map (λ (c : Callback). c.script) (if b then Some c else find (λ (c : Callback). is_kind c.which which) cs)) h.0 ∙ script-nowhere which cs h.1
@@ -341,15 +350,24 @@ module _ (names : List ObjectNames) (stored : List StoredPatch) (catalog : Catal
         ∙ map-change (λ (p : StoredPatch). p.runs) (patch_after place which) (change_at (counted_at (number_of which (callbacks_at catalog patch place))) place) stored patch
         (λ p h. ap (λ cs. change_at (counted_at (number_of which cs)) place p.runs) (sym (catalog_here p h)))
 
+    pub sizes_kept : map (map length) (patch_counts_in (set stored patch new)) ≡ map (map length) (patch_counts_in stored)
+    sizes_kept =
+        ap (map (map length)) counts_changed
+        ∙ map-kept (map length) (change_at (counted_at (number_of which (callbacks_at catalog patch place))) place) (patch_counts_in stored) patch
+        (λ runs. map-kept length (counted_at (number_of which (callbacks_at catalog patch place))) runs place (length-counted (number_of which (callbacks_at catalog patch place))))
+
     pub catalog_ran : ◌≡◌ {A = Catalog} (record { names = names; patches = patches_in (set stored patch new); runs = patch_counts_in (set stored patch new) }) (after_run catalog patch place which)
     catalog_ran =
         (λ i. record { names = names; patches = patches_kept i; runs = counts_changed i })
         ∙ (λ i. record (view i) { runs = change_at (change_at (counted_at (number_of which (callbacks_at catalog patch place))) place) patch (view i).runs })
 
-pub kept_after : (names : List ObjectNames) (symbols : List ℕ) (patch_names : List (List ℕ)) (patches others : List PlanPatch) (functions more : List (List CatalogFunction))
-    → others ≡ patches → more ≡ functions → IsStored names symbols patch_names patches functions → IsStored names symbols patch_names others more
-kept_after names symbols patch_names patches others functions more same alike kept =
-    subst (λ ps. IsStored names symbols patch_names ps more) (sym same) (subst (IsStored names symbols patch_names patches) (sym alike) kept)
+pub kept_after : (names : List ObjectNames) (symbols : List ℕ) (patch_names : List (List ℕ)) (patches others : List PlanPatch) (functions more : List (List CatalogFunction)) (runs after : List (List (List ℕ)))
+    → others ≡ patches → more ≡ functions → map (map length) after ≡ map (map length) runs
+    → IsStored names symbols patch_names patches functions runs → IsStored names symbols patch_names others more after
+kept_after names symbols patch_names patches others functions more runs after same alike sized kept =
+    subst (λ ps. IsStored names symbols patch_names ps more after) (sym same)
+    (subst (λ fs. IsStored names symbols patch_names patches fs after) (sym alike)
+    (record { counts = kept.counts; by_name = kept.by_name; resolved = kept.resolved; few = kept.few; apart = kept.apart; counted = sized ∙ kept.counted }))
 
 pub effect_calls : (patch place : ℕ) (which : Which) (world : World) (script : Option Script) → effect_if patch world script ≡ after_calls world (call_of patch place which script)
 effect_calls patch place which world None = refl
@@ -469,11 +487,11 @@ states_planned (s ∷ stored) zero = refl
 states_planned (s ∷ stored) (suc p) = states_planned stored p
 
 pub few_targets : {names : List ObjectNames} {symbols : List ℕ} {patch_names : List (List ℕ)} (stored : List StoredPatch) (functions : List (List CatalogFunction)) (p : ℕ)
-    → IsStored names symbols patch_names (patches_in stored) functions → length (stored_targets (slice_get stored p)) ≤ 8
+    → IsStored names symbols patch_names (patches_in stored) functions (patch_counts_in stored) → length (stored_targets (slice_get stored p)) ≤ 8
 few_targets stored functions p kept = omega (arith, ap length (targets_planned stored p), few_targets_at (patches_in stored) p kept.few.each_within)
 
 pub few_states : {names : List ObjectNames} {symbols : List ℕ} {patch_names : List (List ℕ)} (stored : List StoredPatch) (functions : List (List CatalogFunction)) (p : ℕ)
-    → IsStored names symbols patch_names (patches_in stored) functions → length (states_at stored p) ≤ 16
+    → IsStored names symbols patch_names (patches_in stored) functions (patch_counts_in stored) → length (states_at stored p) ≤ 16
 few_states stored functions p kept = omega (arith, ap length (states_planned stored p), few_states_at (patches_in stored) p kept.few.each_within)
 
 -- ---- room

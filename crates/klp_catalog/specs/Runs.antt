@@ -1,5 +1,5 @@
 -- The callbacks of a catalog's patches, and how often each of them ran.
-use Rattle.std.specs.Prelude.{ℕ, zero, suc, ◌==◌, List, [], ◌∷◌, position, slice_get, Option, Some, None, option_and_then, slice_index_or}
+use Rattle.std.specs.Prelude.{◌≡◌, ℕ, zero, suc, ◌==◌, List, [], ◌∷◌, length, map, position, slice_get, Option, Some, None, option_and_then, slice_index_or}
 use Rattle.klp_types.specs.declared.callback.Which.{Which}
 use Rattle.klp_types.specs.declared.record.Record.{Record}
 use Rattle.klp_types.specs.Setting.{PatchObject, Callback, patch_objects}
@@ -8,6 +8,7 @@ use Rattle.klp_types.specs.Script.{Script, alloc_count, effect}
 use Rattle.klp_types.specs.World.{World}
 use Rattle.klp_world.specs.Noted.{rows_of_script}
 use Rattle.klp_callback.specs.Told.{counted}
+use Rattle.klp_plan.specs.Plan.{PlanTarget, PlanPatch}
 use Rattle.klp_catalog.specs.Catalog.{Catalog, patches_of}
 
 -- an object that isn't there has no callbacks
@@ -56,6 +57,10 @@ change_at change (suc place) (item ∷ items) = item ∷ change_at change place 
 abbrev pub counted_at : Option ℕ → List ℕ → List ℕ
 counted_at None runs = runs
 counted_at (Some number) runs = change_at counted number runs
+
+-- there is a count for each callback of each patch for each of its objects
+abbrev pub HasCounts : List PlanPatch → List (List (List ℕ)) → Type 0
+HasCounts patches runs = map (map length) runs ≡ map (λ (p : PlanPatch). map (λ (t : PlanTarget). length t.callbacks) p.targets) patches
 
 -- a callback ran: its count is one more, and everything else stays; nothing changes where there is no such callback
 abbrev pub after_run : Catalog → ℕ → ℕ → Which → Catalog

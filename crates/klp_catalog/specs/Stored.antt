@@ -13,7 +13,7 @@ use Rattle.klp_plan.specs.Parts.{function_count}
 use Rattle.klp_types.specs.declared.limits.TheConstants.{MAX_PATCHES, MAX_STATES}
 use Rattle.klp_plan.specs.Draft.{patch_names_of}
 use Rattle.klp_catalog.specs.Catalog.{CatalogFunction, functions_of_patch, some_same_site}
-use Rattle.klp_catalog.specs.Runs.{number_of, counted_at, change_at}
+use Rattle.klp_catalog.specs.Runs.{number_of, counted_at, change_at, HasCounts}
 
 -- a callback with the script of its box, and how often it ran
 pub record StoredCallback : Type 0 where
@@ -123,10 +123,11 @@ pub record AreWithin (patches : List PlanPatch) : Type 0 where
   pub each_within : AllByRecursion IsWithin patches
 
 -- the names of the objects are known to contracts alone; what is kept agrees with them
-pub record IsStored (names : List ObjectNames) (symbols : List ℕ) (patch_names : List (List ℕ)) (patches : List PlanPatch) (functions : List (List CatalogFunction)) : Type 0 where
+pub record IsStored (names : List ObjectNames) (symbols : List ℕ) (patch_names : List (List ℕ)) (patches : List PlanPatch) (functions : List (List CatalogFunction)) (runs : List (List (List ℕ))) : Type 0 where
   -- as many as an `ObjId` can name
   pub counts : symbols ≡ take 256 (map symbol_count names)
   pub by_name : patch_names ≡ patch_names_of patches
   pub resolved : functions ≡ map (functions_of_plan names) patches
   pub few : AreWithin patches
   pub apart : some_same_site names patches ≡ false
+  pub counted : HasCounts patches runs

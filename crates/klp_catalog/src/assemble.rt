@@ -3,12 +3,14 @@
 ghost use Rattle.std.specs.Prelude.{◌≡◌, ◌+◌, ◌++◌, false, length, take, map, OnOk, IfOk, IfErr};
 ghost use Rattle.klp_types.specs.Setting.{Callback as CallbackValue};
 ghost use Rattle.klp_types.specs.Script.{Script as ScriptOfEdits};
+ghost use Rattle.klp_plan.specs.Plan.{PlanTarget as TargetValue};
 ghost use Rattle.klp_plan.specs.Scripts.{scripts_of_target, scripts_of_targets, scripts_of};
 ghost use Rattle.std.specs.List.{list_any};
 ghost use Rattle.klp_catalog.specs.Catalog as catalog;
 ghost use Rattle.klp_catalog.specs.Catalog.{CatalogFunction as FunctionValue, resolved_function, functions_of_target, some_same_site};
 ghost use Rattle.klp_catalog.specs.Assembled.{IsAssembleFault, IsShort, without_script, target_without_scripts, without_scripts, counts_of_patch, counts_of, scripts_told, counts_told};
 ghost use Rattle.klp_catalog.specs.Stored.{symbol_count, callbacks_in, counts_in, patches_in, patch_counts_in, functions_in, functions_of_plan};
+ghost use Rattle.klp_catalog.specs.Runs.{HasCounts};
 ghost use Rattle.klp_catalog.specs.declared.assemble.AssembleFault.TheVariants.{NoMemory};
 
 use crate::boxes::Boxes;
@@ -167,6 +169,7 @@ fn assemble_target(
     ensures functions { OnOk result (functions.new.items ≡ functions.old.items ++ functions_of_target modules.now.names target) }
     ensures scripts { IfOk result (λ made. scripts_of_target made.plan ++ scripts_told boxes.new ≡ scripts_told boxes.old) }
     ensures counts { IfOk result (λ made. made.runs ++ counts_told boxes.new ≡ counts_told boxes.old) }
+    ensures shape { IfOk result (λ made. length made.runs ≡ length made.plan.callbacks) }
     ensures number { OnOk result (length boxes.new + length target.callbacks ≡ length boxes.old) }
     ensures fault { IfErr result (IsShort (length target.callbacks) (length boxes.old)) }
 {
@@ -196,6 +199,7 @@ fn assemble_patch(
     ensures functions { IfOk result (λ made. made.functions ≡ functions_of_plan modules.now.names patch) }
     ensures scripts { IfOk result (λ made. scripts_of_targets made.plan.targets ++ scripts_told boxes.new ≡ scripts_told boxes.old) }
     ensures counts { IfOk result (λ made. counts_of_patch made.runs ++ counts_told boxes.new ≡ counts_told boxes.old) }
+    ensures shape { IfOk result (λ made. map length made.runs ≡ map (λ (t : TargetValue). length t.callbacks) made.plan.targets) }
     ensures number { OnOk result (length boxes.new + length (scripts_of_targets patch.targets) ≡ length boxes.old) }
     ensures fault { IfErr result (IsShort (length (scripts_of_targets patch.targets)) (length boxes.old)) }
 {
@@ -233,6 +237,7 @@ pub(crate) fn assemble_patches(
     ensures functions { IfOk result (λ made. functions_in made.items ≡ map (functions_of_plan modules.now.names) given.items) }
     ensures scripts { IfOk result (λ made. scripts_of (patches_in made.items) ≡ scripts_told callbacks.items) }
     ensures counts { IfOk result (λ made. counts_of (patch_counts_in made.items) ≡ counts_told callbacks.items) }
+    ensures shape { IfOk result (λ made. HasCounts (patches_in made.items) (patch_counts_in made.items)) }
     ensures number { OnOk result (length (scripts_of given.items) ≡ length callbacks.items) }
     ensures apart { OnOk result (some_same_site modules.now.names given.items ≡ false) }
     ensures fault { IfErr result (IsAssembleFault modules.now.names given.items (length callbacks.items)) }

@@ -1,4 +1,4 @@
-ghost use Rattle.std.specs.Prelude.{◌≡◌, ℕ, ◌<◌, ◌≤◌, false, List, Option, length, map, position, bytes_eq, slice_get, option_map, ◌+◌, IfOk, IfErr, IfSome};
+ghost use Rattle.std.specs.Prelude.{◌≡◌, ℕ, ◌<◌, ◌≤◌, false, List, Option, length, map, position, bytes_eq, slice_get, option_map, ◌+◌, is_some, option_and_then, IfOk, IfErr, IfSome};
 ghost use Rattle.std.specs.List.{All};
 ghost use Rattle.klp_types.specs.Setting.{all_functions, patch_objects};
 ghost use Rattle.klp_modules.specs.Names.{ObjectNames};
@@ -14,7 +14,7 @@ ghost use Rattle.klp_plan.specs.Within.{AreTargetsWithin};
 ghost use Rattle.klp_plan.specs.Draft.{patch_names_of};
 ghost use Rattle.klp_catalog.specs.Catalog.{CatalogFunction as FunctionValue, catalog_functions, setting_function, patches_of, has_same_site, some_same_site};
 ghost use Rattle.klp_catalog.specs.States as states;
-ghost use Rattle.klp_catalog.specs.Runs.{objects_at, script_at, allocs_if, rows_if, after_run, callback_runs};
+ghost use Rattle.klp_catalog.specs.Runs.{HasCounts, objects_at, place_of, script_at, allocs_if, rows_if, after_run, callback_runs};
 ghost use Rattle.klp_plan.specs.Scripts.{scripts_of};
 ghost use Rattle.std.specs.FinMap as finite;
 ghost use Rattle.klp_catalog.specs.Assembled.{IsAssembleFault, LiesInObject, without_scripts, counts_of, scripts_told, counts_told};
@@ -58,7 +58,7 @@ impl Model for Catalog {
 
     ghost view = { λ c. record { names = c.over.value.names; patches = patches_in c.patches.items; runs = patch_counts_in c.patches.items } };
 
-    ghost invariant = { λ c. IsStored c.over.value.names c.symbols.items c.names (patches_in c.patches.items) (functions_in c.patches.items) };
+    ghost invariant = { λ c. IsStored c.over.value.names c.symbols.items c.names (patches_in c.patches.items) (functions_in c.patches.items) (patch_counts_in c.patches.items) };
 }
 
 impl Catalog {
@@ -95,6 +95,7 @@ impl Catalog {
         ensures patches { IfOk result (λ catalog. map without_scripts catalog.patches ≡ map without_scripts plan.patches) }
         ensures scripts { IfOk result (λ catalog. scripts_of catalog.patches ≡ scripts_told callbacks.items) }
         ensures counts { IfOk result (λ catalog. counts_of catalog.runs ≡ counts_told callbacks.items) }
+        ensures shape { IfOk result (λ catalog. HasCounts catalog.patches catalog.runs) }
         ensures number { IfOk result (λ catalog. length (scripts_of plan.patches) ≡ length callbacks.items) }
         ensures distinct { IfOk result (λ catalog. some_same_site modules.now.names plan.patches ≡ false) }
         ensures fault { IfErr result (λ fault. IsAssembleFault modules.now.names plan.patches (length callbacks.items) fault) }
@@ -238,7 +239,8 @@ impl Catalog {
     /// How often the callback of a kind for this object ran, up to the greatest number. `None` where
     /// the patch has no such callback.
     pub fn callback_runs(&self, patch: PatchId, object: ObjId, which: Which) -> Option<u64>
-        ensures { result ≡ callback_runs self.now patch object which }
+        ensures runs { result ≡ callback_runs self.now patch object which }
+        ensures there { is_some result ≡ is_some (option_and_then (λ place. script_at self.now patch place which) (place_of object (objects_at self.now patch))) }
     {
         let patch = self.patches.get(usize::from(patch.0))?;
         patch.callback_runs(object, which)

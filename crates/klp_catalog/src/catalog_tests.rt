@@ -17,7 +17,7 @@ target vmlinux
 func .klp.sym.vmlinux.f,0 f_p ffffffffc0001000
 ";
 
-/// The example of `docs/CATALOG.md`, which `klp_plan` reads too.
+/// The example of `docs/CATALOG.md` without callbacks and system states.
 const SECOND: &str = "handler ffffffff81000000
 object vmlinux
 symbol f ffffffff81001000 e80000000090c3
@@ -57,6 +57,63 @@ patch s
 target vmlinux
 func .klp.sym.vmlinux.d,0 d_s ffffffffc0007000
 ";
+
+/// The same with the callbacks and the system states of the example.
+const WITH_STATES: &str = "handler ffffffff81000000
+object vmlinux
+symbol f ffffffff81001000 e80000000090c3
+symbol h ffffffff81002000 e800000000c3
+symbol d ffffffff81003000 e800000000c3
+symbol d ffffffff81004000 e800000000c3
+object m
+symbol g ffffffffa0000000 e800000000c3
+object n
+symbol k ffffffffa0010000 e800000000c3
+patch p
+state 7 2
+target vmlinux
+func .klp.sym.vmlinux.f,0 f_p ffffffffc0001000
+func .klp.sym.vmlinux.h,0 h_p ffffffffc0001100
+pre 0 alloc:1:9:5
+post 0 alloc:1:10:6
+preun 0 free:1:10
+postun 0 free:1:9
+target m
+func .klp.sym.m.g,0 g_p ffffffffc0001200
+pre 0
+post 0
+patch q
+target vmlinux
+func .klp.sym.vmlinux.f,0 f_q ffffffffc0002000
+patch c replace
+state 7 2
+target vmlinux
+func .klp.sym.vmlinux.f,0 f_c ffffffffc0003000
+patch x replace
+target vmlinux
+func .klp.sym.vmlinux.f,0 f_x ffffffffc0004000
+patch y
+state 7 1
+target vmlinux
+func .klp.sym.vmlinux.h,0 h_y ffffffffc0005000
+patch r
+target vmlinux
+func .klp.sym.vmlinux.h,0 h_r ffffffffc0006000
+pre 0 alloc:2:1:1
+postun 0 free:2:1
+target m
+func .klp.sym.m.g,0 g_r ffffffffc0006100
+pre -16
+target n
+func .klp.sym.n.k,0 k_r ffffffffc0006200
+pre 0 alloc:3:1:1
+patch s
+target vmlinux
+func .klp.sym.vmlinux.d,0 d_s ffffffffc0007000
+";
+
+/// How many callbacks it has.
+const SCRIPTS: usize = 10;
 
 /// What stands before the patches of the texts below.
 const OBJECTS: &str = "handler ffffffff81000000
@@ -301,6 +358,26 @@ fn the_newest_before_has_the_state(rt: HostRuntime) -> Result<(), Fail> {
         let told = patch::previous_state(&patches, patch, id, &installed);
         assert_eq!(rt; told, want, "{}", patch.0);
     }
+    Ok(())
+}
+
+#[test]
+fn states_of_the_example_decide(rt: HostRuntime) -> Result<(), Fail> {
+    let mut callbacks = Vec::new(rt.alloc());
+    for _ in 0..SCRIPTS {
+        callbacks.push(Boxed::new(Box::new(rt.alloc(), Quiet::new())?))?;
+    }
+    let catalog = assembled_with(rt.alloc(), WITH_STATES, callbacks)??;
+    let (p, q, c) = (PatchId(0), PatchId(1), PatchId(2));
+    let (x, y) = (PatchId(3), PatchId(4));
+    let there = catalog.patches() > 4;
+    assert!(rt; there);
+    for (patch, want) in [(c, true), (q, true), (x, false), (y, false)] {
+        let told = catalog.is_compatible(patch, &[p]);
+        assert_eq!(rt; told, want, "{}", patch.0);
+    }
+    assert_eq!(rt; catalog.previous_state(c, 7, &[p]), Some(p));
+    assert_eq!(rt; catalog.previous_state(q, 8, &[p]), None);
     Ok(())
 }
 

@@ -6,7 +6,7 @@ use Rattle.klp_plan.specs.Scripts.{scripts_of_target, scripts_of_targets}
 use Rattle.klp_catalog.specs.Catalog.{functions_of_target, functions_of_patch}
 use Rattle.klp_catalog.specs.Assembled.{target_without_scripts, counts_of_patch, scripts_told, counts_told}
 use Rattle.klp_catalog.specs.Stored.{StoredTarget, targets_in, target_counts_in}
-use Rattle.klp_catalog.proofs.AssembleLemmas.{snoc_alike, snoc_flat, parts_made}
+use Rattle.klp_catalog.proofs.AssembleLemmas.{targets_counted, snoc_same, snoc_alike, snoc_flat, parts_made}
 use Rattle.klp_catalog.proofs.assemble.assemble_patch.Goals as goal
 
 pub loop-target-preserved : goal.loop-target-preserved
@@ -28,6 +28,8 @@ loop-target-preserved g c =
       counts = snoc_flat (λ runs. runs) counts_of_patch refl (λ r rs. refl) (target_counts_in done) (target_counts_in c.push.new.self.items) made.runs (counts_told c.loop-target.boxes)
           (counts_told c.assemble_target.new.boxes) (counts_told c.args.boxes.now) c.loop-target.invariant.counts
           (parts_made (λ (t : StoredTarget). t.runs) done c.push.new.self.items made c.in_ok-push.ensures.items) c.in_ok-assemble_target.ensures.counts;
+      shape = snoc_same (λ (t : StoredTarget). length t.runs) (λ (t : StoredTarget). length t.plan.callbacks) done c.push.new.self.items made c.loop-target.invariant.shape
+          c.in_ok-push.ensures.items c.in_ok-assemble_target.ensures.shape;
       number = omega (
         arith,
         c.loop-target.invariant.number,
@@ -37,3 +39,6 @@ loop-target-preserved g c =
         length-map c.in-Some.target.callbacks (λ (k : Callback). k.script),
       );
     }
+
+pub returns-clause-shape : goal.returns-clause-shape
+returns-clause-shape g c = targets_counted c.loop-target.targets.items c.loop-target.invariant.shape

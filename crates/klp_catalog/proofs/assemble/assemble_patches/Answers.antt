@@ -1,11 +1,11 @@
 -- One more patch has its boxes and its functions.
 use Rattle.std.proofs.Common.{◌≡◌, [], ◌∷◌, ◌++◌, ◌||◌, length, length-append, map, refl, sym, ap, ◌∙◌, arith}
-use Rattle.klp_plan.specs.Plan.{PlanPatch}
+use Rattle.klp_plan.specs.Plan.{PlanTarget, PlanPatch}
 use Rattle.klp_plan.specs.Scripts.{scripts_of_targets, scripts_of}
 use Rattle.klp_catalog.specs.Catalog.{has_same_site, some_same_site}
 use Rattle.klp_catalog.specs.Assembled.{without_scripts, counts_of_patch, counts_of, scripts_told, counts_told}
 use Rattle.klp_catalog.specs.Stored.{StoredPatch, patches_in, patch_counts_in, functions_of_plan}
-use Rattle.klp_catalog.proofs.AssembleLemmas.{snoc_alike, snoc_flat, parts_made, or_made}
+use Rattle.klp_catalog.proofs.AssembleLemmas.{patches_counted, snoc_same, snoc_alike, snoc_flat, parts_made, or_made}
 use Rattle.klp_catalog.proofs.assemble.assemble_patches.Goals as goal
 
 pub loop-patch-preserved : goal.loop-patch-preserved
@@ -30,6 +30,8 @@ loop-patch-preserved g c =
       counts = snoc_flat counts_of_patch counts_of refl (λ r rs. refl) (patch_counts_in done) (patch_counts_in c.push.new.self.items) made.runs
           (counts_told c.loop-patch.boxes) (counts_told c.assemble_patch.new.boxes) (counts_told c.args.callbacks.items) c.loop-patch.invariant.counts
           (parts_made (λ (p : StoredPatch). p.runs) done c.push.new.self.items made pushed) c.in_ok-assembled.ensures.counts;
+      shape = snoc_same (λ (p : StoredPatch). map length p.runs) (λ (p : StoredPatch). map (λ (t : PlanTarget). length t.callbacks) p.plan.targets) done c.push.new.self.items made
+          c.loop-patch.invariant.shape pushed c.in_ok-assembled.ensures.shape;
       number = omega (
         arith,
         c.loop-patch.invariant.number,
@@ -41,3 +43,6 @@ loop-patch-preserved g c =
           ∙ or_made c.loop-patch.same_site (has_same_site (functions_of_plan names c.in-Some.patch)) (some_same_site names rest)
           ∙ sym (ap (λ ps. c.loop-patch.same_site || some_same_site names ps) split) ∙ c.loop-patch.invariant.apart;
     }
+
+pub returns-clause-shape : goal.returns-clause-shape
+returns-clause-shape g c = patches_counted c.loop-patch.patches.items c.loop-patch.invariant.shape

@@ -9,8 +9,8 @@ use Rattle.klp_types.specs.Records.{spare_of}
 use Rattle.klp_world.specs.Noted.{noting, rows_of_script}
 use Rattle.klp_world.specs.Undo.{undone}
 use Rattle.klp_catalog.specs.Runs.{callbacks_at, script_at, effect_if, rows_if, after_run}
-use Rattle.klp_catalog.specs.Stored.{patches_in, functions_in, plan_callbacks}
-use Rattle.klp_catalog.proofs.RunLemmas.{idle_world, idle_noted, idle_undo, catalog_past, catalog_idle, catalog_found, catalog_ran, patches_kept, functions_kept, kept_after, effect_calls}
+use Rattle.klp_catalog.specs.Stored.{patches_in, patch_counts_in, functions_in, plan_callbacks}
+use Rattle.klp_catalog.proofs.RunLemmas.{idle_world, idle_noted, idle_undo, catalog_past, catalog_idle, catalog_found, catalog_ran, patches_kept, functions_kept, sizes_kept, kept_after, effect_calls}
 use Rattle.klp_catalog.proofs.catalog.Catalog.run.Goals as goal
 use Rattle.klp_catalog.proofs.catalog.Catalog.run.Given as given
 
@@ -51,12 +51,15 @@ run-requires-clause-records g c =
 
 pub invariant_of-self : goal.invariant_of-self
 invariant_of-self g c =
-    kept_after c.self.inside.over.value.names c.self.inside.symbols.items c.self.inside.names (patches_in c.self.inside.patches.items)
-    (patches_in (set c.self.inside.patches.items c.from-number.result c.run.new.self)) (functions_in c.self.inside.patches.items)
-    (functions_in (set c.self.inside.patches.items c.from-number.result c.run.new.self))
+    let before = c.self.inside.patches.items in
+    let after = set c.self.inside.patches.items c.from-number.result c.run.new.self in
+    kept_after c.self.inside.over.value.names c.self.inside.symbols.items c.self.inside.names (patches_in before) (patches_in after) (functions_in before) (functions_in after)
+    (patch_counts_in before) (patch_counts_in after)
     (patches_kept c.self.inside.over.value.names c.self.inside.patches.items c.args.self.now c.from-number.result c.args.place c.self.view_is c.args.which
     c.index_mut.result.now c.run.new.self (omega arith) c.index_mut.ensures.value c.run.ensures.patch)
     (functions_kept c.self.inside.over.value.names c.self.inside.patches.items c.args.self.now c.from-number.result c.args.place c.self.view_is c.args.which
+    c.index_mut.result.now c.run.new.self (omega arith) c.index_mut.ensures.value c.run.ensures.patch)
+    (sizes_kept c.self.inside.over.value.names c.self.inside.patches.items c.args.self.now c.from-number.result c.args.place c.self.view_is c.args.which
     c.index_mut.result.now c.run.new.self (omega arith) c.index_mut.ensures.value c.run.ensures.patch)
     c.self.invariant
 
