@@ -1,19 +1,30 @@
 -- The manager that is booted step by step is that of the plan.
-use Rattle.std.proofs.Common.{◌≡◌, ℕ, List, [], ◌∷◌, map, refl, ap, ◌∙◌}
-use Rattle.klp_types.specs.Image.{Image, Object}
+use Rattle.std.proofs.Common.{◌≡◌, ◌⊎◌, ℕ, List, [], ◌∷◌, length, map, false, Some, None, Result, Ok, Err, refl, sym, ap, subst, ◌∙◌, inl, inr}
+use Rattle.std.proofs.lemmas.List.{length-map}
+use Rattle.klp_types.specs.Image.{Image, Object, Symbol}
 use Rattle.klp_types.specs.Script.{Script}
+use Rattle.klp_text.specs.declared.fault.ImageFault.{ImageFault}
+use Rattle.klp_text.specs.declared.fault.ImageFault.TheVariants as image
+use Rattle.klp_text.specs.Faults.{image_fault}
 use Rattle.klp_text.specs.TextImage as text
 use Rattle.klp_text.specs.TextImage.{TextImage}
 use Rattle.klp_modules.specs.Names as names
-use Rattle.klp_modules.specs.Names.{ModuleTable}
+use Rattle.klp_modules.specs.Names.{ModuleTable, ObjectNames}
 use Rattle.klp_callback.specs.Told.{Told}
 use Rattle.klp_plan.specs.Plan.{Plan}
 use Rattle.klp_plan.specs.Scripts.{scripts_of}
-use Rattle.klp_catalog.specs.Assembled.{without_scripts, counts_of, scripts_told, counts_told}
-use Rattle.klp_catalog.specs.Catalog.{Catalog}
-use Rattle.klp_core.specs.Boot.{opening_state}
+use Rattle.klp_catalog.specs.declared.assemble.AssembleFault.{AssembleFault}
+use Rattle.klp_catalog.specs.Assembled.{without_scripts, counts_of, scripts_told, counts_told, IsAssembleFault}
+use Rattle.klp_catalog.specs.Catalog.{Catalog, some_same_site}
+use Rattle.klp_catalog.specs.Runs.{HasCounts}
+use Rattle.klp_core.specs.declared.fault.BootFault.{BootFault}
+use Rattle.klp_core.specs.declared.fault.BootFault.TheVariants as boot
+use Rattle.klp_core.specs.Boot.{opening_state, symbol_counts, name_counts, IsMatch}
 use Rattle.klp_core.specs.Managed.{Managed}
-use Rattle.klp_program.specs.Booted.{IsBootedOver, image_of, never_ran}
+use Rattle.std.specs.Result.{IsErrAnd, IfErr}
+use Rattle.klp_program.specs.declared.fault.Fault.{Fault}
+use Rattle.klp_program.specs.declared.fault.Fault.TheVariants as faults
+use Rattle.klp_program.specs.Booted.{IsBootedOver, IsBootFault, image_of, never_ran}
 
 -- callbacks that never ran tell the scripts that they were made of
 pub scripts_made : (scripts : List Script) → scripts_told (map never_ran scripts) ≡ scripts
@@ -25,16 +36,79 @@ pub booted_over : (plan after : Plan) (handler : ℕ) (objects : List Object) (c
     → callbacks ≡ map never_ran (scripts_of plan.patches)
     → image ≡ text.opening handler objects → modules ≡ names.opening image.image.objects
     → catalog.names ≡ modules.names → map without_scripts catalog.patches ≡ map without_scripts after.patches
-    → scripts_of catalog.patches ≡ scripts_told callbacks → counts_of catalog.runs ≡ counts_told callbacks
+    → scripts_of catalog.patches ≡ scripts_told callbacks → HasCounts catalog.patches catalog.runs → counts_of catalog.runs ≡ counts_told callbacks
     → manager ≡ record { image = image.image; catalog = catalog; state = opening_state image.image }
     → IsBootedOver plan manager
-booted_over plan after handler objects callbacks image modules catalog manager rest taken handled given made numbered named patched scripted counted booted =
+booted_over plan after handler objects callbacks image modules catalog manager rest taken handled given made numbered named patched scripted shaped counted booted =
     let over : image.image ≡ image_of plan = rw (made, handled, taken, rest) refl in
     record {
       image = ap (λ (m : Managed). m.image) booted ∙ over;
       names = ap (λ (m : Managed). m.catalog.names) booted ∙ named ∙ ap (λ (m : ModuleTable). m.names) numbered ∙ ap (λ (i : Image). names.names_of i.objects) over;
       patches = ap (λ (m : Managed). map without_scripts m.catalog.patches) booted ∙ patched ∙ ap (λ (p : Plan). map without_scripts p.patches) rest;
       scripts = ap (λ (m : Managed). scripts_of m.catalog.patches) booted ∙ scripted ∙ ap scripts_told given ∙ scripts_made (scripts_of plan.patches);
+      shape = subst (λ (m : Managed). HasCounts m.catalog.patches m.catalog.runs) (sym booted) shaped;
       counts = ap (λ (m : Managed). counts_of m.catalog.runs) booted ∙ counted ∙ ap counts_told given;
       state = ap (λ (m : Managed). m.state) booted ∙ ap opening_state over;
     }
+
+named_handler : (plan after : Plan) (handler : ℕ) → after ≡ record plan { objects = [] } → handler ≡ after.handler → handler ≡ plan.handler
+named_handler plan after handler rest handled = handled ∙ ap (λ (p : Plan). p.handler) rest
+
+-- a plan that is booted has no fault
+pub sound_over : (plan after : Plan) (handler : ℕ) (objects : List Object) (image : TextImage) (modules : ModuleTable) → after ≡ record plan { objects = [] } → objects ≡ plan.objects → handler ≡ after.handler
+    → image_fault handler objects ≡ None → image ≡ text.opening handler objects → modules ≡ names.opening image.image.objects
+    → some_same_site modules.names after.patches ≡ false
+    → (image_fault plan.handler plan.objects ≡ None) × (some_same_site (names.names_of plan.objects) plan.patches ≡ false)
+sound_over plan after handler objects image modules rest taken handled sound made numbered distinct =
+    let named : modules.names ≡ names.names_of plan.objects =
+    ap (λ (m : ModuleTable). m.names) numbered ∙ ap (λ (t : TextImage). names.names_of t.image.objects) made ∙ ap names.names_of taken
+    in
+    (
+      sym (λ i. image_fault (named_handler plan after handler rest handled i) (taken i)) ∙ sound,
+      sym (λ i. some_same_site (named i) (rest i).patches) ∙ distinct,
+    )
+
+-- a fault of the image is one of the plan
+pub image_faulty : (plan after : Plan) (handler : ℕ) (objects : List Object) (fault : ImageFault) → after ≡ record plan { objects = [] } → objects ≡ plan.objects → handler ≡ after.handler
+    → (fault ≡ image.NoMemory) ⊎ (image_fault handler objects ≡ Some fault) → IsBootFault plan (faults.Image fault)
+image_faulty plan after handler objects fault rest taken handled told =
+    subst (λ (os : List Object). (fault ≡ image.NoMemory) ⊎ (image_fault plan.handler os ≡ Some fault)) taken
+    (subst (λ (h : ℕ). (fault ≡ image.NoMemory) ⊎ (image_fault h objects ≡ Some fault)) (named_handler plan after handler rest handled) told)
+
+-- a fault of the catalog is one of the plan
+pub assemble_faulty : (plan after : Plan) (handler : ℕ) (objects : List Object) (callbacks : List Told) (image : TextImage) (modules : ModuleTable) (fault : AssembleFault)
+    → after ≡ record plan { objects = [] } → objects ≡ plan.objects → handler ≡ after.handler
+    → callbacks ≡ map never_ran (scripts_of plan.patches)
+    → image_fault handler objects ≡ None → image ≡ text.opening handler objects → modules ≡ names.opening image.image.objects
+    → IsAssembleFault modules.names after.patches (length callbacks) fault → IsBootFault plan (faults.Assemble fault)
+assemble_faulty plan after handler objects callbacks image modules fault rest taken handled given sound made numbered told =
+    let named : modules.names ≡ names.names_of plan.objects =
+    ap (λ (m : ModuleTable). m.names) numbered ∙ ap (λ (t : TextImage). names.names_of t.image.objects) made ∙ ap names.names_of taken
+    in
+    let count : length callbacks ≡ length (scripts_of plan.patches) = ap length given ∙ length-map (scripts_of plan.patches) never_ran in (
+      subst (λ (os : List Object). image_fault plan.handler os ≡ None) taken (subst (λ (h : ℕ). image_fault h objects ≡ None) (named_handler plan after handler rest handled) sound),
+      subst (λ (ns : List ObjectNames). IsAssembleFault ns plan.patches (length (scripts_of plan.patches)) fault) named
+          (subst (λ (p : Plan). IsAssembleFault modules.names p.patches (length (scripts_of plan.patches)) fault) rest
+          (subst (λ (n : ℕ). IsAssembleFault modules.names after.patches n fault) count told)),
+    )
+
+counts_named : (objects : List Object) → name_counts (names.names_of objects) ≡ symbol_counts objects
+counts_named [] = refl
+counts_named (object ∷ objects) = λ i. length-map object.symbols (λ (s : Symbol). s.name) i ∷ counts_named objects i
+
+-- the manager that is booted step by step always matches, so only memory may be wanting
+pub boot_faulty : (image : TextImage) (modules : ModuleTable) (catalog : Catalog) (fault : BootFault) → modules ≡ names.opening image.image.objects → catalog.names ≡ modules.names
+    → ((IsMatch image.image modules catalog → ⊥) × (fault ≡ boot.Mismatch)) ⊎ (IsMatch image.image modules catalog × (fault ≡ boot.NoMemory)) → fault ≡ boot.NoMemory
+boot_faulty image modules catalog fault numbered named told =
+    let objects = image.image.objects in
+    let counted : name_counts modules.names ≡ symbol_counts objects = ap (λ (m : ModuleTable). name_counts m.names) numbered ∙ counts_named objects in
+    let matches : IsMatch image.image modules catalog = record { modules_match = counted; catalog_matches = ap name_counts named ∙ counted } in
+    elim told as (λ _. fault ≡ boot.NoMemory) [
+      | inl mismatch ↦ absurd (mismatch.0 matches)
+      | inr wanting ↦ wanting.1
+    ]
+
+-- what is told of a fault that a conversion gives
+pub told_of_fault : {A : Type 0} (plan : Plan) (result : Result A Fault) (fault : Fault) → IsErrAnd result (λ told. told ≡ fault) → IsBootFault plan fault → IfErr result (IsBootFault plan)
+told_of_fault plan (Ok value) fault given is = tt
+told_of_fault plan (Err told) fault given is = subst (IsBootFault plan) (sym given) is

@@ -1,29 +1,46 @@
 -- Which manager a plan boots.
-use Rattle.std.specs.Prelude.{◌≡◌, map}
-use Rattle.klp_types.specs.Image.{Image}
+use Rattle.std.specs.Prelude.{◌≡◌, ◌⊎◌, length, map, Some, None}
+use Rattle.klp_types.specs.Image as types
+use Rattle.klp_text.specs.declared.fault.ImageFault.TheVariants as image
+use Rattle.klp_text.specs.Faults.{image_fault}
 use Rattle.klp_types.specs.Script.{Script}
 use Rattle.klp_modules.specs.Names.{names_of}
 use Rattle.klp_callback.specs.Told.{Told}
 use Rattle.klp_plan.specs.Plan.{Plan}
 use Rattle.klp_plan.specs.Scripts.{scripts_of}
-use Rattle.klp_catalog.specs.Assembled.{without_scripts, counts_of, counts_told}
+use Rattle.klp_catalog.specs.Assembled.{without_scripts, counts_of, counts_told, IsAssembleFault}
+use Rattle.klp_catalog.specs.Runs.{HasCounts}
+use Rattle.klp_core.specs.declared.fault.BootFault.TheVariants as boot
 use Rattle.klp_core.specs.Boot.{opening_state}
 use Rattle.klp_core.specs.Managed.{Managed}
+use Rattle.klp_program.specs.declared.fault.Fault.{Fault}
+use Rattle.klp_program.specs.declared.fault.Fault.TheVariants.{NoMemory, Image, Assemble, Boot}
 
 -- a callback that runs this script and never ran
 abbrev pub never_ran : Script → Told
 never_ran script = record { script = script; runs = 0 }
 
 -- the image that a plan tells of
-abbrev pub image_of : Plan → Image
+abbrev pub image_of : Plan → types.Image
 image_of plan = record { handler = plan.handler; objects = plan.objects }
 
 -- the manager is that of a plan: over the image of its objects, with its patches over the names of that
--- image and its scripts in the order of the text; no callback ran, and nothing is installed
+-- image and its scripts in the order of the text; there is a count for each callback, none ran, and nothing is installed
 pub record IsBootedOver (plan : Plan) (manager : Managed) : Type 0 where
   pub image : manager.image ≡ image_of plan
   pub names : manager.catalog.names ≡ names_of plan.objects
   pub patches : map without_scripts manager.catalog.patches ≡ map without_scripts plan.patches
   pub scripts : scripts_of manager.catalog.patches ≡ scripts_of plan.patches
+  pub shape : HasCounts manager.catalog.patches manager.catalog.runs
   pub counts : counts_of manager.catalog.runs ≡ counts_told (map never_ran (scripts_of plan.patches))
   pub state : manager.state ≡ opening_state (image_of plan)
+
+-- why a plan isn't booted: a fault of the image; else one of the catalog, which has the names of that image and a
+-- callback for each script; want of memory may stand in place of the others
+abbrev pub IsBootFault : Plan → Fault → Type 0
+IsBootFault plan NoMemory = Unit {0}
+IsBootFault plan (Image fault) = (fault ≡ image.NoMemory) ⊎ (image_fault plan.handler plan.objects ≡ Some fault)
+IsBootFault plan (Assemble fault) =
+    (image_fault plan.handler plan.objects ≡ None) × IsAssembleFault (names_of plan.objects) plan.patches (length (scripts_of plan.patches)) fault
+IsBootFault plan (Boot fault) = fault ≡ boot.NoMemory
+IsBootFault plan other = ⊥

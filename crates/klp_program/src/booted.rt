@@ -1,7 +1,10 @@
-ghost use Rattle.std.specs.Prelude.{◌≡◌, length, map, IfOk};
+ghost use Rattle.std.specs.Prelude.{◌≡◌, false, length, map, None, OnOk, IfOk, IfErr};
+ghost use Rattle.klp_text.specs.Faults.{image_fault};
+ghost use Rattle.klp_modules.specs.Names.{names_of};
 ghost use Rattle.klp_plan.specs.Scripts.{scripts_of};
 ghost use Rattle.klp_plan.specs.Within.{AreTargetsWithin};
-ghost use Rattle.klp_program.specs.Booted.{IsBootedOver, never_ran};
+ghost use Rattle.klp_catalog.specs.Catalog.{some_same_site};
+ghost use Rattle.klp_program.specs.Booted.{IsBootedOver, IsBootFault, never_ran};
 
 use crate::fault::Fault;
 use klp_callback::Boxed;
@@ -21,7 +24,9 @@ use std::alloc::Global;
 pub fn boot(alloc: Global, mut plan: Plan, callbacks: Vec<Boxed>) -> Result<Manager, Fault>
     requires targets { AreTargetsWithin (length plan.objects) plan.patches }
     requires callbacks { callbacks.items ≡ map never_ran (scripts_of plan.patches) }
-    ensures { IfOk result (λ manager. IsBootedOver plan manager) }
+    ensures booted { IfOk result (λ manager. IsBootedOver plan manager) }
+    ensures sound { OnOk result ((image_fault plan.handler plan.objects ≡ None) × (some_same_site (names_of plan.objects) plan.patches ≡ false)) }
+    ensures fault { IfErr result (λ fault. IsBootFault plan fault) }
 {
     let objects = plan.take_objects();
     let image = Image::new(alloc, objects, plan.handler())?;

@@ -1,3 +1,6 @@
+ghost use Rattle.std.specs.Prelude.{◌≡◌};
+ghost use Rattle.klp_program.specs.declared.fault.Fault.TheVariants.{NoMemory, Image, Assemble, Boot};
+
 use klp_catalog::{AssembleFault, TextFault};
 use klp_core::BootFault;
 use klp_text::ImageFault;
@@ -22,20 +25,49 @@ pub enum Fault {
     #[error(transparent)]
     Text(#[from] TextFault),
     #[error(transparent)]
-    Image(#[from] ImageFault),
+    Image(ImageFault),
     #[error(transparent)]
-    Assemble(#[from] AssembleFault),
+    Assemble(AssembleFault),
     #[error(transparent)]
-    Boot(#[from] BootFault),
+    Boot(BootFault),
+}
+
+// A conversion that is derived has no clause, and `boot` promises which fault it answers.
+impl From<ImageFault> for Fault {
+    ghost from_gives = { λ fault told. told ≡ Image fault };
+
+    fn from(fault: ImageFault) -> Fault {
+        Fault::Image(fault)
+    }
+}
+
+impl From<AssembleFault> for Fault {
+    ghost from_gives = { λ fault told. told ≡ Assemble fault };
+
+    fn from(fault: AssembleFault) -> Fault {
+        Fault::Assemble(fault)
+    }
+}
+
+impl From<BootFault> for Fault {
+    ghost from_gives = { λ fault told. told ≡ Boot fault };
+
+    fn from(fault: BootFault) -> Fault {
+        Fault::Boot(fault)
+    }
 }
 
 impl From<AllocError> for Fault {
+    ghost from_gives = { λ _ told. told ≡ NoMemory };
+
     fn from(_error: AllocError) -> Fault {
         Fault::NoMemory
     }
 }
 
 impl<T: Drop> From<AllocFailed<T>> for Fault {
+    ghost from_gives = { λ _ told. told ≡ NoMemory };
+
     fn from(_error: AllocFailed<T>) -> Fault {
         Fault::NoMemory
     }
