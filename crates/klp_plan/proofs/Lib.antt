@@ -1,7 +1,3 @@
-pub mod WordLemmas
-pub mod NumberLemmas
-pub mod LineLemmas
-pub mod EditLemmas
 pub mod SpelledLemmas
 pub mod ListLemmas
 pub mod LimitLemmas

@@ -4,7 +4,7 @@ use Rattle.std.specs.List.{list_any, position_or_len, prefix_len}
 use Rattle.std.specs.String.{string_eq}
 use Rattle.std.specs.declared.alloc.Global.{Global}
 use Rattle.klp_plan.specs.Parts.{on_last}
-use Rattle.klp_plan.proofs.WordLemmas.{missing_from}
+use Rattle.klp_line.proofs.WordLemmas.{missing_from}
 
 -- a write at the last place changes the last item
 pub set_last : {A : Type 0} (change : A → A) (xs : List A) (n : ℕ) (x y : A) → n + 1 ≡ length xs → x ≡ get_or xs n x → y ≡ change x → set xs n y ≡ on_last change xs

@@ -13,10 +13,10 @@ use Rattle.std.specs.Str.Parse.{digits_value}
 use Rattle.klp_types.specs.declared.edit.Edit.{Edit}
 use Rattle.klp_types.specs.declared.edit.Edit.TheVariants.{Alloc, Free, FreeAll, SetData, TakePrev}
 use Rattle.klp_types.specs.Script.{Script, is_success}
-use Rattle.klp_plan.specs.Words.{status_of}
-use Rattle.klp_plan.specs.Edits.{edit_number, alloc_of, free_of, free_all_of, set_of, take_prev_of, edit_of_parts, edit_of, edits_of, failure_of, script_with, script_of}
+use Rattle.klp_line.specs.Words.{status_of}
+use Rattle.klp_line.specs.Edits.{edit_number, alloc_of, free_of, free_all_of, set_of, take_prev_of, edit_of_parts, edit_of, edits_of, failure_of, script_with, script_of}
 use Rattle.klp_plan.specs.Spelled.{edit_word, script_words, IsEdit, IsScript}
-use Rattle.klp_plan.proofs.NumberLemmas.{own, is_decimal_at, and_left, and_right}
+use Rattle.klp_line.proofs.NumberLemmas.{own, is_decimal_at, and_left, and_right}
 
 -- ---- words without a colon
 

@@ -4,11 +4,11 @@ use Rattle.std.proofs.lemmas.List.Splits.{length-slice_split}
 use Rattle.std.proofs.lemmas.List.Sums.{count_by-le-length}
 use Rattle.std.specs.List.{slice_split}
 use Rattle.std.specs.Str.Lines.{lines, lines_of_parts}
-use Rattle.klp_plan.specs.declared.fault.TextFaultKind.{TextFaultKind}
-use Rattle.klp_plan.specs.declared.fault.TextFaultKind.TheVariants.{NoMemory}
+use Rattle.klp_line.specs.declared.fault.TextFaultKind.{TextFaultKind}
+use Rattle.klp_line.specs.declared.fault.TextFaultKind.TheVariants.{NoMemory}
 use Rattle.klp_plan.specs.declared.fault.TextFault.{TextFault}
 use Rattle.klp_plan.specs.Plan.{Plan}
-use Rattle.klp_plan.specs.Gives.{◌>>=◌, Fails}
+use Rattle.klp_line.specs.Gives.{◌>>=◌, Fails}
 use Rattle.klp_plan.specs.Draft.{Draft, empty_draft}
 use Rattle.klp_plan.specs.Text.{with_line, at_line, with_lines, finished, finished_with, plan_of, NoFaultBefore, IsReached, IsFaultOf}
 

@@ -5,10 +5,10 @@ use Rattle.klp_types.specs.Compatible.{SystemState}
 use Rattle.klp_types.specs.Image.{Object, symbols_of}
 use Rattle.klp_types.specs.declared.limits.TheConstants.{MAX_EDITS, MAX_PATCHES, MAX_STATES}
 use Rattle.klp_plan.specs.declared.limit.TheConstants.{MAX_OBJECTS, MAX_SYMBOLS, MAX_BODY, MAX_TARGETS, MAX_FUNCTIONS}
-use Rattle.klp_plan.specs.declared.fault.TextFaultKind.{TextFaultKind}
-use Rattle.klp_plan.specs.declared.fault.TextFaultKind.TheVariants.{OutOfPlace, UnknownObject, Twice, TooMany}
-use Rattle.klp_plan.specs.declared.line.Line.{Line}
-use Rattle.klp_plan.specs.declared.line.Line.TheVariants as line
+use Rattle.klp_line.specs.declared.fault.TextFaultKind.{TextFaultKind}
+use Rattle.klp_line.specs.declared.fault.TextFaultKind.TheVariants.{OutOfPlace, UnknownObject, Twice, TooMany}
+use Rattle.klp_line.specs.declared.line.Line.{Line}
+use Rattle.klp_line.specs.declared.line.Line.TheVariants as line
 use Rattle.klp_plan.specs.Plan.{PlanTarget, PlanPatch}
 use Rattle.klp_plan.specs.Parts.{last_of, on_last, has_some, targets_of, states_of, callbacks_of, has_which, names_state, function_count, with_symbol, with_target, with_function_in, with_callback_in, with_state}
 use Rattle.klp_types.specs.FirstOf.{first_of, unless}

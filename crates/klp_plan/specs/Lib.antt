@@ -2,11 +2,7 @@ pub mod Plan
 pub mod Scripts
 pub mod Parts
 pub mod Limits
-pub mod Words
-pub mod Edits
 pub mod Spelled
-pub mod Gives
-pub mod Lines
 pub mod Draft
 pub mod Within
 pub mod Kept

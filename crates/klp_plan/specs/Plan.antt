@@ -3,14 +3,7 @@ use Rattle.std.specs.Prelude.{ℕ, Bool, List}
 use Rattle.klp_types.specs.Compatible.{SystemState}
 use Rattle.klp_types.specs.Image.{Object}
 use Rattle.klp_types.specs.Setting.{Callback}
-
--- a new function: the symbol that it stands in for, by name and position, its own name and its address
-pub record PlanFunction : Type 0 where
-  pub symbol : List ℕ
-  -- 0, or which of the symbols of this name in the object, from 1
-  pub sympos : ℕ
-  pub new_name : List ℕ
-  pub address : ℕ
+pub use Rattle.klp_line.specs.Function.{PlanFunction}
 
 -- an object that a patch changes, by its place among the plan's objects, the new functions in it, and the callbacks for it
 pub record PlanTarget : Type 0 where

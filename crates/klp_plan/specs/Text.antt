@@ -1,12 +1,12 @@
 -- What a catalog's text gives: a plan, or the first faulty line and its kind.
 use Rattle.std.specs.Prelude.{◌≡◌, ℕ, suc, ◌<◌, ◌≤◌, if◌then◌else◌, List, [], ◌∷◌, length, Option, Some, None, Result, Ok, Err}
 use Rattle.std.specs.Str.Lines.{lines}
-use Rattle.klp_plan.specs.declared.fault.TextFaultKind.{TextFaultKind}
-use Rattle.klp_plan.specs.declared.fault.TextFaultKind.TheVariants.{Missing, NoMemory}
+use Rattle.klp_line.specs.declared.fault.TextFaultKind.{TextFaultKind}
+use Rattle.klp_line.specs.declared.fault.TextFaultKind.TheVariants.{Missing, NoMemory}
 use Rattle.klp_plan.specs.declared.fault.TextFault.{TextFault}
 use Rattle.klp_plan.specs.Plan.{Plan}
-use Rattle.klp_plan.specs.Gives.{◌>>=◌}
-use Rattle.klp_plan.specs.Lines.{words_of, is_comment, line_of}
+use Rattle.klp_line.specs.Gives.{◌>>=◌}
+use Rattle.klp_line.specs.Lines.{words_of, is_comment, line_of}
 use Rattle.klp_plan.specs.Parts.{has_some}
 use Rattle.klp_plan.specs.Draft.{Draft, empty_draft, open_object, placed}
 

@@ -3,20 +3,17 @@
 ghost use Rattle.std.specs.Prelude.{◌≡◌, ◌<◌, ◌==◌, vec_len, length, IsTrue, OnOk, OnErr, IfOk, option_copied};
 ghost use Rattle.std.specs.List.{list_any};
 ghost use Rattle.klp_types.specs.Image.{Symbol};
-ghost use Rattle.klp_plan.specs.Gives.{Gives, Becomes};
+ghost use Rattle.klp_line.specs.Gives.{Gives, Becomes};
 ghost use Rattle.klp_plan.specs.Parts.{last_of, targets_of, states_of, callbacks_of, has_which, names_state, on_last, has_some, with_symbol, with_target, with_function_in, with_callback_in, with_state};
 ghost use Rattle.klp_plan.specs.Plan.{PlanTarget as TargetValue};
 ghost use Rattle.klp_plan.specs.Within.{AreTargetsWithin};
 ghost use Rattle.klp_plan.specs.Draft.{empty_draft, open_object, placed};
 ghost use Rattle.klp_plan.specs.Text.{with_line, finished_with};
 
-use crate::edit::ScriptText;
-use crate::fault::TextFaultKind;
 use crate::limit::{MAX_BODY, MAX_FUNCTIONS, MAX_OBJECTS, MAX_SYMBOLS, MAX_TARGETS};
-use crate::line::Line;
-use crate::lines::Words;
-use crate::names::{Name, Names};
-use crate::plan::{Plan, PlanCallback, PlanFunction, PlanPatch, PlanTarget, SystemState};
+use crate::names::Names;
+use crate::plan::{Plan, PlanCallback, PlanPatch, PlanTarget};
+use klp_line::{Line, Name, PlanFunction, ScriptText, SystemState, TextFaultKind, Words};
 use klp_types::{MAX_PATCHES, MAX_STATES, ObjId, ObjectText, SymbolText, Which};
 use std::alloc::{AllocError, Global};
 use std::marker::Model;

@@ -2,7 +2,7 @@
 //! law.
 ghost use Rattle.std.specs.Prelude.{◌≡◌, Ok};
 ghost use Rattle.klp_types.specs.Script.{Script};
-ghost use Rattle.klp_plan.specs.Edits.{script_of};
+ghost use Rattle.klp_line.specs.Edits.{script_of};
 ghost use Rattle.klp_plan.specs.Spelled.{IsScript, script_words};
 
 /// Each script that a callback may have can be written in a line, and no two in the same words: the

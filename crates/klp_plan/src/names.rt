@@ -4,18 +4,6 @@ use indexmap::IndexSet;
 use std::alloc::{AllocError, Global};
 use std::marker::Model;
 
-/// A name of an object, a patch, a symbol or a new function, as a word of the text spells it.
-#[derive(Debug, Drop)]
-pub(crate) struct Name(pub String);
-
-impl Model for Name {
-    ghost use Rattle.std.specs.Prelude.{ℕ, List, string_bytes};
-
-    ghost Value = { List ℕ };
-
-    ghost view = { λ n. string_bytes n.0 };
-}
-
 /// Names in the order in which they came, each once. A name is found by its hash.
 #[derive(Drop)]
 pub struct Names {

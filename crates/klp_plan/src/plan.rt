@@ -5,32 +5,12 @@ ghost use Rattle.klp_plan.specs.Limits.{AreFew};
 ghost use Rattle.klp_plan.specs.Scripts.{scripts_of};
 
 use crate::names::Names;
+use klp_line::{PlanFunction, SystemState};
 use klp_types::{ObjId, ObjectText, Which};
 use klp_world::Script;
 use std::alloc::{AllocError, Global};
 use std::marker::Model;
 use std::mem;
-
-/// A new function of a patch.
-#[derive(Debug, Drop)]
-pub struct PlanFunction {
-    /// The name of the symbol that it stands in for.
-    pub symbol: String,
-    /// Which of the symbols of that name in the object is meant, from 1. With 0 the name is to be
-    /// unique in the object.
-    pub sympos: u32,
-    pub new_name: String,
-    pub address: u64,
-}
-
-impl Model for PlanFunction {
-    ghost use Rattle.std.specs.Prelude.{string_bytes};
-    ghost use Rattle.klp_plan.specs.Plan.{PlanFunction};
-
-    ghost Value = { PlanFunction };
-
-    ghost view = { λ f. record { symbol = string_bytes f.symbol; sympos = f.sympos; new_name = string_bytes f.new_name; address = f.address } };
-}
 
 /// A callback of a patch for an object (callbacks).
 #[derive(Debug, Drop)]
@@ -82,24 +62,6 @@ impl PlanTarget {
         self.callbacks.push(callback)?;
         Ok(())
     }
-}
-
-/// A system state that a patch names (system-state): its id, and the version in which the patch
-/// knows it.
-#[derive(Clone, Copy, Debug, PartialEq, Eq)]
-pub struct SystemState {
-    pub id: u64,
-    pub version: u32,
-}
-
-impl Model for SystemState {
-    ghost use Rattle.klp_types.specs.Compatible.{SystemState};
-
-    ghost Value = { SystemState };
-
-    ghost view = { λ s. record { id = s.id; version = s.version } };
-
-    ghost inverse = { λ s. record { id = s.id; version = s.version } };
 }
 
 /// A patch.

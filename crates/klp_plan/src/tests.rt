@@ -272,29 +272,3 @@ fn tells_faults_of_whole_texts(rt: HostRuntime) -> Result<(), Fail> {
     assert_eq!(rt; fault.to_string(rt.alloc())?.as_str(), "line 6: WrongCount");
     Ok(())
 }
-
-#[test]
-fn fault_kind_names(rt: HostRuntime) -> Result<(), Fail> {
-    let kinds = [
-        (TextFaultKind::NotAscii, 1, "NotAscii"),
-        (TextFaultKind::LineTooLong, 2, "LineTooLong"),
-        (TextFaultKind::UnknownWord, 3, "UnknownWord"),
-        (TextFaultKind::WrongCount, 4, "WrongCount"),
-        (TextFaultKind::BadNumber, 5, "BadNumber"),
-        (TextFaultKind::BadHex, 6, "BadHex"),
-        (TextFaultKind::BadName, 7, "BadName"),
-        (TextFaultKind::BadSymbol, 8, "BadSymbol"),
-        (TextFaultKind::BadEdit, 9, "BadEdit"),
-        (TextFaultKind::OutOfPlace, 10, "OutOfPlace"),
-        (TextFaultKind::Twice, 11, "Twice"),
-        (TextFaultKind::UnknownObject, 12, "UnknownObject"),
-        (TextFaultKind::TooMany, 13, "TooMany"),
-        (TextFaultKind::Missing, 14, "Missing"),
-        (TextFaultKind::NoMemory, 15, "NoMemory"),
-    ];
-    for (kind, number, name) in kinds {
-        assert_eq!(rt; kind as u8, number);
-        assert_eq!(rt; kind.to_string(rt.alloc())?.as_str(), name);
-    }
-    Ok(())
-}

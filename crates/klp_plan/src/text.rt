@@ -4,8 +4,8 @@ ghost use Rattle.klp_plan.specs.Within.{AreTargetsWithin};
 
 use crate::draft::Draft;
 use crate::fault::TextFault;
-use crate::lines::Lines;
 use crate::plan::Plan;
+use klp_line::Lines;
 use std::alloc::Global;
 
 /// Reads the whole text of a catalog, in time that is linear in its length.

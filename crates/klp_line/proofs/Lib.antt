@@ -1,0 +1,4 @@
+pub mod WordLemmas
+pub mod NumberLemmas
+pub mod LineLemmas
+pub mod EditLemmas

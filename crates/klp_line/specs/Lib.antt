@@ -1,0 +1,5 @@
+pub mod Function
+pub mod Words
+pub mod Edits
+pub mod Gives
+pub mod Lines

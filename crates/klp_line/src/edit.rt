@@ -1,0 +1,212 @@
+//! The edits of a callback, and its script.
+
+ghost use Rattle.std.specs.Prelude.{◌≡◌, ℕ, ◌<◌, ◌≤◌, ◌==◌, List, [], ◌∷◌, length, MatchOption, MatchResult};
+ghost use Rattle.klp_line.specs.Gives.{Gives};
+ghost use Rattle.klp_line.specs.Edits.{parts_of, edit_number, alloc_of, free_of, free_all_of, set_of, take_prev_of, edit_of, edits_of, failure_of, script_of};
+
+use crate::fault::TextFaultKind;
+use crate::lines::{Words, position_of};
+use crate::number::{number64, status};
+use arrayvec::ArrayVec;
+use klp_types::{Edit, MAX_EDITS, ShadowKey};
+use klp_world::Script;
+use std::alloc::Global;
+use std::marker::Model;
+
+/// The parts of an edit that are still to be read. Colons separate them.
+#[derive(Drop)]
+struct Parts<'a> {
+    rest: &'a [u8],
+    /// Whether the last part was read.
+    is_over: bool,
+}
+
+impl<'a> Model for Parts<'a> {
+    ghost use Rattle.std.specs.Prelude.{ℕ, List};
+    ghost use Rattle.klp_line.specs.Edits.{parts_left};
+
+    ghost Value = { List (List ℕ) };
+
+    ghost view = { λ p. parts_left p.is_over p.rest.now };
+}
+
+impl<'a> Parts<'a> {
+    fn new(word: &'a [u8]) -> Parts<'a>
+        ensures { result ≡ parts_of word.now }
+    {
+        Parts {
+            rest: word,
+            is_over: false,
+        }
+    }
+
+    /// The next part of an edit that has too few parts without it.
+    fn part(&mut self) -> Result<&'a [u8], TextFaultKind>
+        ensures { MatchResult result (λ part. self.old ≡ part.now ∷ self.new)
+            (λ kind. (kind ≡ TextFaultKind.BadEdit) × (self.old ≡ [])) }
+    {
+        if self.is_over {
+            return Err(TextFaultKind::BadEdit);
+        }
+        let Some(end) = position_of(self.rest, b':') else {
+            self.is_over = true;
+            return Ok(self.rest);
+        };
+        let part = &self.rest[..end];
+        self.rest = &self.rest[end + 1..];
+        Ok(part)
+    }
+
+    /// The end of an edit that has too many parts with one more.
+    fn end(&mut self) -> Result<(), TextFaultKind>
+        ensures { MatchResult result (λ _. self.old ≡ [])
+            (λ kind. (kind ≡ TextFaultKind.BadEdit) × (part : List ℕ) × (parts : List (List ℕ)) × (self.old ≡ part ∷ parts)) }
+    {
+        match self.part() {
+            Ok(_) => Err(TextFaultKind::BadEdit),
+            Err(_) => Ok(()),
+        }
+    }
+}
+
+fn edit_number(part: &[u8]) -> Result<u64, TextFaultKind>
+    ensures { result ≡ edit_number part.now }
+{
+    number64(part).ok_or(TextFaultKind::BadEdit)
+}
+
+fn alloc_edit(parts: &mut Parts<'_>) -> Result<Edit, TextFaultKind>
+    ensures { result ≡ alloc_of parts.old }
+{
+    let obj = parts.part()?;
+    let id = parts.part()?;
+    let value = parts.part()?;
+    parts.end()?;
+    let obj = edit_number(obj)?;
+    let id = edit_number(id)?;
+    Ok(Edit::Alloc(ShadowKey { obj, id }, edit_number(value)?))
+}
+
+fn free_edit(parts: &mut Parts<'_>) -> Result<Edit, TextFaultKind>
+    ensures { result ≡ free_of parts.old }
+{
+    let obj = parts.part()?;
+    let id = parts.part()?;
+    parts.end()?;
+    let obj = edit_number(obj)?;
+    let id = edit_number(id)?;
+    Ok(Edit::Free(ShadowKey { obj, id }))
+}
+
+fn free_all_edit(parts: &mut Parts<'_>) -> Result<Edit, TextFaultKind>
+    ensures { result ≡ free_all_of parts.old }
+{
+    let id = parts.part()?;
+    parts.end()?;
+    Ok(Edit::FreeAll(edit_number(id)?))
+}
+
+fn set_data_edit(parts: &mut Parts<'_>) -> Result<Edit, TextFaultKind>
+    ensures { result ≡ set_of parts.old }
+{
+    let state = parts.part()?;
+    let value = parts.part()?;
+    parts.end()?;
+    let state = edit_number(state)?;
+    Ok(Edit::SetData(state, edit_number(value)?))
+}
+
+fn take_prev_edit(parts: &mut Parts<'_>) -> Result<Edit, TextFaultKind>
+    ensures { result ≡ take_prev_of parts.old }
+{
+    let state = parts.part()?;
+    parts.end()?;
+    Ok(Edit::TakePrev(edit_number(state)?))
+}
+
+/// An edit: its name and its numbers.
+fn edit(word: &[u8]) -> Result<Edit, TextFaultKind>
+    ensures { result ≡ edit_of word.now }
+{
+    let mut parts = Parts::new(word);
+    let name = parts.part()?;
+    if name == b"alloc".as_slice() {
+        alloc_edit(&mut parts)
+    } else if name == b"free".as_slice() {
+        free_edit(&mut parts)
+    } else if name == b"freeall".as_slice() {
+        free_all_edit(&mut parts)
+    } else if name == b"set".as_slice() {
+        set_data_edit(&mut parts)
+    } else if name == b"takeprev".as_slice() {
+        take_prev_edit(&mut parts)
+    } else {
+        Err(TextFaultKind::BadEdit)
+    }
+}
+
+/// The edits that the words are, of which there may be too many.
+fn edits(alloc: Global, words: &mut Words<'_>) -> Result<Vec<Edit>, TextFaultKind>
+    ensures { Gives (λ e. e.items) result (edits_of words.old) }
+{
+    let mut edits = Vec::new(alloc);
+    while let Some(word) = words.next() {
+        edits.push(edit(word)?)?;
+    }
+    Ok(edits)
+}
+
+/// A script as a line gives it: there may be more edits than a script may have.
+#[derive(Debug, Drop)]
+pub struct ScriptText {
+    edits: Vec<Edit>,
+    status: i32,
+}
+
+impl Model for ScriptText {
+    ghost use Rattle.klp_types.specs.Script.{Script};
+
+    ghost Value = { Script };
+
+    ghost view = { λ s. record { edits = s.edits.items; status = s.status } };
+}
+
+impl ScriptText {
+    /// The script, unless it has too many edits. Takes no memory.
+    pub fn into_script(self) -> Option<Script>
+        ensures { MatchOption result (MAX_EDITS < length self.edits) (λ script. (length self.edits ≤ MAX_EDITS) × (script ≡ self)) }
+    {
+        let mut edits = ArrayVec::new();
+        edits.try_extend_from_slice(&self.edits).ok()?;
+        Some(Script {
+            edits,
+            status: self.status,
+        })
+    }
+}
+
+/// The script of a callback that fails: it has no edits.
+fn failure(alloc: Global, status: i32, words: &mut Words<'_>) -> Result<ScriptText, TextFaultKind>
+    ensures { Gives (λ s. s) result (failure_of status words.old) }
+{
+    words.end()?;
+    Ok(ScriptText {
+        edits: Vec::new(alloc),
+        status,
+    })
+}
+
+/// The script of a callback: its status, and with status 0 its edits.
+pub(crate) fn script(alloc: Global, words: &mut Words<'_>) -> Result<ScriptText, TextFaultKind>
+    ensures { Gives (λ s. s) result (script_of words.old) }
+{
+    let word = words.word()?;
+    let status = status(word).ok_or(TextFaultKind::BadNumber)?;
+    if status != 0 {
+        return failure(alloc, status, words);
+    }
+    Ok(ScriptText {
+        edits: edits(alloc, words)?,
+        status,
+    })
+}

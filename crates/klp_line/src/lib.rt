@@ -1,0 +1,24 @@
+//! One line of a catalog's text: its words, and what they say.
+//!
+//! A text is cut into [`Lines`] and a line into [`Words`]. [`Line::read`] says what the words mean
+//! by themselves: whether the line may stand where it does, `klp_plan` says.
+#![tactic(auto)]
+
+mod edit;
+mod fault;
+mod items;
+mod limit;
+mod line;
+mod lines;
+mod number;
+mod words;
+
+pub use edit::ScriptText;
+pub use fault::TextFaultKind;
+pub use items::{Name, PlanFunction, SystemState};
+pub use limit::{MAX_ADDRESS_DIGITS, MAX_LINE, MAX_NAME, MAX_SYMBOL_NAME};
+pub use line::Line;
+pub use lines::{Lines, Words};
+
+#[cfg(test)]
+mod tests;

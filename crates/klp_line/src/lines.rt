@@ -1,0 +1,152 @@
+ghost use Rattle.std.specs.Prelude.{◌≡◌, ℕ, ◌==◌, not, position, List, ◌∷◌, [], MatchOption, MatchResult};
+ghost use Rattle.std.specs.List.{position_or_len};
+ghost use Rattle.std.specs.Str.Lines.{lines, strip_carriage_return};
+ghost use Rattle.klp_line.specs.Lines.{is_blank, words_of};
+
+use crate::fault::TextFaultKind;
+use std::marker::Model;
+
+/// The lines of a text that are still to be read.
+///
+/// A line ends at a line feed, or at the end of the text where bytes are left. A carriage return
+/// right before the line feed isn't a part of the line.
+#[derive(Drop)]
+pub struct Lines<'a> {
+    rest: &'a [u8],
+}
+
+impl<'a> Model for Lines<'a> {
+    ghost use Rattle.std.specs.Prelude.{ℕ, List};
+    ghost use Rattle.std.specs.Str.Lines.{lines};
+
+    ghost Value = { List (List ℕ) };
+
+    ghost view = { λ l. lines l.rest.now };
+}
+
+impl<'a> Lines<'a> {
+    /// All lines of the text, which may be of any length and have any bytes. Nothing is looked at
+    /// yet.
+    pub fn new(text: &'a [u8]) -> Lines<'a>
+        ensures { result ≡ lines text.now }
+    {
+        Lines { rest: text }
+    }
+
+    /// The next line, without the bytes that end it, in time that is linear in its length.
+    pub fn next(&mut self) -> Option<&'a [u8]>
+        ensures { MatchOption result (self.old ≡ []) (λ line. self.old ≡ line.now ∷ self.new) }
+    {
+        if self.rest.is_empty() {
+            return None;
+        }
+        let Some(end) = position_of(self.rest, b'\n') else {
+            let line = self.rest;
+            self.rest = &[];
+            return Some(line);
+        };
+        let line = &self.rest[..end];
+        self.rest = &self.rest[end + 1..];
+        Some(without_carriage_return(line))
+    }
+}
+
+/// Where the first byte `at` stands.
+pub(crate) fn position_of(bytes: &[u8], at: u8) -> Option<usize>
+    ensures { result ≡ position (λ b. b == at) bytes.now }
+{
+    bytes.iter().position(|b| *b == at)
+}
+
+/// The line before its line feed, less the carriage return at its end.
+fn without_carriage_return(line: &[u8]) -> &[u8]
+    ensures { result.now ≡ strip_carriage_return line.now }
+{
+    match line {
+        [front @ .., b'\r'] => front,
+        _ => line,
+    }
+}
+
+/// How many blanks the bytes begin with.
+fn blank_len(bytes: &[u8]) -> usize
+    ensures { result ≡ position_or_len (λ b. not (is_blank b)) bytes.now }
+{
+    bytes
+        .iter()
+        .position(|b| !is_blank(*b))
+        .unwrap_or(bytes.len())
+}
+
+/// How long the word is that the bytes begin with.
+fn word_len(bytes: &[u8]) -> usize
+    ensures { result ≡ position_or_len is_blank bytes.now }
+{
+    bytes
+        .iter()
+        .position(|b| is_blank(*b))
+        .unwrap_or(bytes.len())
+}
+
+fn is_blank(byte: u8) -> bool
+    ensures { result ≡ is_blank byte }
+{
+    byte == b' ' || byte == b'\t'
+}
+
+/// The words of a line that are still to be read. Spaces and tabs separate them.
+#[derive(Drop)]
+pub struct Words<'a> {
+    rest: &'a [u8],
+}
+
+impl<'a> Model for Words<'a> {
+    ghost use Rattle.std.specs.Prelude.{ℕ, List};
+    ghost use Rattle.klp_line.specs.Lines.{words_of};
+
+    ghost Value = { List (List ℕ) };
+
+    ghost view = { λ w. words_of w.rest.now };
+}
+
+impl<'a> Words<'a> {
+    /// All words of the line, which may have any bytes: whether it is a comment isn't looked at.
+    pub fn new(line: &'a [u8]) -> Words<'a>
+        ensures { result ≡ words_of line.now }
+    {
+        Words { rest: line }
+    }
+
+    /// The next word, which is never empty, in time that is linear in its length and that of the
+    /// blanks in front of it.
+    pub fn next(&mut self) -> Option<&'a [u8]>
+        ensures { MatchOption result (self.old ≡ []) (λ word. self.old ≡ word.now ∷ self.new) }
+    {
+        let (_, rest) = self.rest.split_at(blank_len(self.rest));
+        let (word, rest) = rest.split_at(word_len(rest));
+        self.rest = rest;
+        if word.is_empty() {
+            return None;
+        }
+        Some(word)
+    }
+
+    /// The next word of a line that has too few words without it.
+    pub(crate) fn word(&mut self) -> Result<&'a [u8], TextFaultKind>
+        ensures { MatchResult result (λ word. self.old ≡ word.now ∷ self.new)
+            (λ kind. (kind ≡ TextFaultKind.WrongCount) × (self.old ≡ [])) }
+    {
+        self.next().ok_or(TextFaultKind::WrongCount)
+    }
+
+    /// The end of a line that has too many words with one more.
+    pub(crate) fn end(&mut self) -> Result<(), TextFaultKind>
+        ensures { MatchResult result (λ _. self.old ≡ [])
+            (λ kind. (kind ≡ TextFaultKind.WrongCount) × (word : List ℕ) × (words : List (List ℕ)) × (self.old ≡ word ∷ words)) }
+    {
+        match self.next() {
+            None => Ok(()),
+            Some(_) => Err(TextFaultKind::WrongCount),
+        }
+    }
+}
