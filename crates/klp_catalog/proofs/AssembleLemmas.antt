@@ -8,7 +8,8 @@ use Rattle.std.proofs.lemmas.List.Sums.{sum_by-cons}
 use Rattle.klp_modules.specs.Names.{ObjectNames}
 use Rattle.klp_plan.specs.Plan.{PlanTarget, PlanPatch}
 use Rattle.klp_plan.specs.Parts.{function_count}
-use Rattle.klp_plan.specs.Limits.{IsSmall, AreFew}
+use Rattle.klp_plan.specs.Limits.{IsSmall, AreFew, has_same, target_number}
+use Rattle.klp_plan.proofs.DraftLemmas.{same_numbers}
 use Rattle.klp_plan.specs.Draft.{patch_names_of}
 use Rattle.klp_catalog.specs.Catalog.{functions_of_target, functions_of_patch, has_same_site, some_same_site}
 use Rattle.klp_catalog.specs.Stored.{IsWithin, AreWithin, StoredTarget, StoredPatch, targets_in, target_counts_in, patches_in, patch_counts_in, functions_in, functions_of_plan, symbol_count, IsStored}
@@ -57,6 +58,10 @@ site_alone names (patch ∷ patches) = λ i. has_same_site (functions_alone name
 pub same_sites : (names : List ObjectNames) (ps qs : List PlanPatch) → map patch_alone ps ≡ map patch_alone qs → some_same_site names ps ≡ some_same_site names qs
 same_sites names ps qs e = sym (site_alone names ps) ∙ ap (some_same_site names) e ∙ site_alone names qs
 
+numbers_alone : (targets : List PlanTarget) → map target_number (map target_alone targets) ≡ map target_number targets
+numbers_alone [] = refl
+numbers_alone (target ∷ targets) = ap (target.object ∷◌) (numbers_alone targets)
+
 -- limits
 small_same : (p q : PlanPatch) → patch_alone p ≡ patch_alone q → IsSmall q → IsWithin p
 small_same p q e small =
@@ -64,6 +69,8 @@ small_same p q e small =
     let functions = ap (λ (r : PlanPatch). function_count r.targets) e in
     let states = ap (λ (r : PlanPatch). length r.states) e in
     record {
+      distinct_targets = same_numbers target_number p.targets q.targets (sym (numbers_alone p.targets) ∙ ap (λ (r : PlanPatch). map target_number r.targets) e ∙ numbers_alone q.targets)
+          ∙ small.distinct_targets;
       few_targets = omega (arith, length-map p.targets target_alone, length-map q.targets target_alone, small.few_targets);
       few_functions = omega (arith, count_alone p.targets, count_alone q.targets, small.few_functions);
       few_states = omega (arith, small.few_states);
@@ -83,6 +90,10 @@ few_same ps qs e few =
       few_patches = omega (arith, ap length e, length-map ps patch_alone, length-map qs patch_alone, few.few_patches);
       each_within = each_same ps qs e few.each_small;
     }
+
+pub each_once : (patches : List PlanPatch) → AllByRecursion IsWithin patches → AllByRecursion (λ (p : PlanPatch). has_same target_number p.targets ≡ false) patches
+each_once [] within = tt
+each_once (patch ∷ patches) within = (within.0.distinct_targets, each_once patches within.1)
 
 -- what is stored for patches that are the plan's but for their callbacks
 pub stored_for : (names : List ObjectNames) (symbols : List ℕ) (patch_names : List (List ℕ)) (stored : List StoredPatch) (patches : List PlanPatch)

@@ -10,6 +10,7 @@ use Rattle.klp_modules.specs.Names.{ObjectNames}
 use Rattle.klp_plan.specs.Plan.{PlanTarget, PlanPatch}
 use Rattle.klp_plan.specs.declared.limit.TheConstants.{MAX_TARGETS, MAX_FUNCTIONS}
 use Rattle.klp_plan.specs.Parts.{function_count}
+use Rattle.klp_plan.specs.Limits.{has_same, target_number}
 use Rattle.klp_types.specs.declared.limits.TheConstants.{MAX_PATCHES, MAX_STATES}
 use Rattle.klp_plan.specs.Draft.{patch_names_of}
 use Rattle.klp_catalog.specs.Catalog.{CatalogFunction, functions_of_patch, some_same_site}
@@ -112,9 +113,10 @@ symbol_count object = length object.symbols
 abbrev pub functions_of_plan : List ObjectNames → PlanPatch → List CatalogFunction
 functions_of_plan names patch = functions_of_patch names patch.targets
 
--- limits that a plan's patches keep to, whatever their callbacks are
+-- limits that a plan's patches keep to, whatever their callbacks are, and that a patch has each object once
 pub record IsWithin (patch : PlanPatch) : Type 0 where
   pub few_targets : length patch.targets ≤ MAX_TARGETS
+  pub distinct_targets : has_same target_number patch.targets ≡ false
   pub few_functions : function_count patch.targets ≤ MAX_FUNCTIONS
   pub few_states : length patch.states ≤ MAX_STATES
 

@@ -1,5 +1,5 @@
 ghost use Rattle.std.specs.Prelude.{◌≡◌, ℕ, ◌<◌, ◌≤◌, false, List, Option, length, map, position, bytes_eq, slice_get, option_map, ◌+◌, is_some, option_and_then, IfOk, IfErr, IfSome};
-ghost use Rattle.std.specs.List.{All};
+ghost use Rattle.std.specs.List.{All, AllByRecursion};
 ghost use Rattle.klp_types.specs.Setting.{all_functions, patch_objects};
 ghost use Rattle.klp_modules.specs.Names.{ObjectNames};
 ghost use Rattle.klp_types.specs.Setting.{PatchObject};
@@ -10,6 +10,7 @@ ghost use Rattle.klp_world.specs.Undo.{undone};
 ghost use Rattle.klp_world.specs.Noted.{noting, rows_of_script};
 ghost use Rattle.klp_plan.specs.Plan.{PlanPatch as PatchValue};
 ghost use Rattle.klp_plan.specs.Text.{plan_of, IsFaultOf};
+ghost use Rattle.klp_plan.specs.Limits.{has_same, target_number};
 ghost use Rattle.klp_plan.specs.Within.{AreTargetsWithin};
 ghost use Rattle.klp_plan.specs.Draft.{patch_names_of};
 ghost use Rattle.klp_catalog.specs.Catalog.{CatalogFunction as FunctionValue, catalog_functions, setting_function, patches_of, has_same_site, some_same_site};
@@ -96,6 +97,7 @@ impl Catalog {
         ensures scripts { IfOk result (λ catalog. scripts_of catalog.patches ≡ scripts_told callbacks.items) }
         ensures counts { IfOk result (λ catalog. counts_of catalog.runs ≡ counts_told callbacks.items) }
         ensures shape { IfOk result (λ catalog. HasCounts catalog.patches catalog.runs) }
+        ensures once { IfOk result (λ catalog. AllByRecursion (λ (p : PatchValue). has_same target_number p.targets ≡ false) catalog.patches) }
         ensures number { IfOk result (λ catalog. length (scripts_of plan.patches) ≡ length callbacks.items) }
         ensures distinct { IfOk result (λ catalog. some_same_site modules.now.names plan.patches ≡ false) }
         ensures fault { IfErr result (λ fault. IsAssembleFault modules.now.names plan.patches (length callbacks.items) fault) }

@@ -1,5 +1,5 @@
 -- Facts of a draft: its last patch, its counts and its names.
-use Rattle.std.proofs.Common.{◌≡◌, ℕ, suc, ◌+◌, ◌-◌, ◌<◌, ◌≤◌, Bool, false, List, [], ◌∷◌, ◌++◌, length, slice_get, option_map, Some, None, Option, refl, sym, subst, ap, ◌∙◌, arith, length-append}
+use Rattle.std.proofs.Common.{◌≡◌, ℕ, suc, ◌+◌, ◌-◌, ◌<◌, ◌≤◌, Bool, false, List, [], ◌∷◌, ◌++◌, length, map, slice_get, option_map, Some, None, Option, refl, sym, subst, ap, ◌∙◌, arith, length-append}
 use Rattle.std.proofs.lemmas.List.Sums.{sum_by-append, sum_by-cons}
 use Rattle.klp_types.specs.Image.{Symbol, Object, symbols_of}
 use Rattle.klp_plan.specs.Plan.{PlanFunction, PlanTarget, PlanPatch}
@@ -8,11 +8,12 @@ use Rattle.klp_plan.specs.Parts.{last_of, on_last, targets_of, states_of, callba
 use Rattle.klp_plan.specs.Kept.{IsKept}
 use Rattle.klp_plan.proofs.ListLemmas.{map-push}
 use Rattle.klp_plan.specs.Draft.{names_of, patch_names_of}
-use Rattle.klp_plan.specs.Limits.{HasFewEdits, HasOneEach, IsSmall, state_number}
+use Rattle.klp_plan.specs.Limits.{HasFewEdits, HasOneEach, IsSmall, has_same, target_number, state_number}
 use Rattle.klp_plan.proofs.LimitLemmas.{all-push, one_each-push, distinct-push}
 use Rattle.klp_types.specs.Compatible.{SystemState}
-use Rattle.std.specs.Prelude.{position, bytes_eq}
-use Rattle.std.specs.List.{All, AllByRecursion}
+use Rattle.std.specs.Prelude.{◌||◌, position, bytes_eq}
+use Rattle.std.specs.List.{All, AllByRecursion, list_any}
+use Rattle.std.specs.Bool.{◌==◌}
 use Rattle.std.proofs.lemmas.List.{length-map}
 use Rattle.std.proofs.lemmas.List.Quantifiers.{position-Some}
 use Rattle.std.proofs.lemmas.List.Elements.{All-push, All-nil, All-weaker, All-from_recursion, recursion_from_All}
@@ -139,14 +140,40 @@ all-on_last P change [] all more = tt
 all-on_last P change (x ∷ []) all more = (more x refl all.0, tt)
 all-on_last P change (x ∷ y ∷ xs) all more = (all.0, all-on_last P change (y ∷ xs) all.1 (λ z e h. more z (last_of-cons x y xs ∙ e) h))
 
+-- what two lists of the same numbers have twice
+any_number : {A : Type 0} (number : A → ℕ) (n : ℕ) (xs ys : List A) → map number xs ≡ map number ys → list_any (λ y. number y == n) xs ≡ list_any (λ y. number y == n) ys
+any_number number n [] [] e = refl
+any_number number n [] (y ∷ ys) e = cc
+any_number number n (x ∷ xs) [] e = cc
+any_number number n (x ∷ xs) (y ∷ ys) e =
+    let first : number x ≡ number y = cc in
+    let rest : map number xs ≡ map number ys = cc in
+    λ i. (first i == n) || any_number number n xs ys rest i
+
+pub same_numbers : {A : Type 0} (number : A → ℕ) (xs ys : List A) → map number xs ≡ map number ys → has_same number xs ≡ has_same number ys
+same_numbers number [] [] e = refl
+same_numbers number [] (y ∷ ys) e = cc
+same_numbers number (x ∷ xs) [] e = cc
+same_numbers number (x ∷ xs) (y ∷ ys) e =
+    let first : number x ≡ number y = cc in
+    let rest : map number xs ≡ map number ys = cc in
+    ap (λ n. list_any (λ z. number z == n) xs || has_same number xs) first
+    ∙ (λ i. any_number number (number y) xs ys rest i || same_numbers number xs ys rest i)
+
+numbers-on_last : {A : Type 0} (number : A → ℕ) (change : A → A) → ((x : A) → number (change x) ≡ number x) → (xs : List A) → map number (on_last change xs) ≡ map number xs
+numbers-on_last number change same [] = refl
+numbers-on_last number change same (x ∷ []) = ap (λ n. n ∷ []) (same x)
+numbers-on_last number change same (x ∷ y ∷ xs) = ap (number x ∷◌) (numbers-on_last number change same (y ∷ xs))
+
 new_small : (name : List ℕ) (replace : Bool) → IsSmall (record { name = name; replace = replace; targets = []; states = [] })
-new_small name replace = record { few_targets = omega arith; few_functions = omega arith; one_each = tt; few_states = omega arith; distinct_states = refl }
+new_small name replace = record { few_targets = omega arith; distinct_targets = refl; few_functions = omega arith; one_each = tt; few_states = omega arith; distinct_states = refl }
 
 new_one_each : (object : ℕ) → HasOneEach (record { object = object; functions = []; callbacks = [] })
 new_one_each object = record { few_callbacks = omega arith; distinct = refl; few_edits = tt }
 
-small-with_target : (object : ℕ) (patch : PlanPatch) → length patch.targets < 8 → IsSmall patch → IsSmall (with_target (Some object) patch)
-small-with_target object patch room small = record {
+small-with_target : (object : ℕ) (patch : PlanPatch) → list_any (λ (t : PlanTarget). t.object == object) patch.targets ≡ false → length patch.targets < 8 → IsSmall patch → IsSmall (with_target (Some object) patch)
+small-with_target object patch new room small = record {
+  distinct_targets = distinct-push target_number patch.targets (record { object = object; functions = []; callbacks = [] }) small.distinct_targets new;
   few_targets = omega (arith, length-append patch.targets (record { object = object; functions = []; callbacks = [] } ∷ []));
   few_functions = omega (
     arith,
@@ -161,6 +188,7 @@ small-with_target object patch room small = record {
 
 small-with_function : (function : PlanFunction) (patch : PlanPatch) → 0 < length patch.targets → function_count patch.targets < 64 → IsSmall patch → IsSmall (with_function_in function patch)
 small-with_function function patch some room small = record {
+  distinct_targets = same_numbers target_number (on_last (with_function function) patch.targets) patch.targets (numbers-on_last target_number (with_function function) (λ t. refl) patch.targets) ∙ small.distinct_targets;
   few_targets = omega (arith, small.few_targets, length-on_last (with_function function) patch.targets);
   few_functions = omega (arith, count_more function patch.targets some);
   one_each = all-on_last HasOneEach (with_function function) patch.targets small.one_each (λ target last one. record { few_callbacks = one.few_callbacks; distinct = one.distinct; few_edits = one.few_edits });
@@ -200,6 +228,7 @@ function_count-with_state state patches = ap (λ p. function_count (targets_of p
 
 small-with_callback : (callback : PlanCallback) (patch : PlanPatch) → HasFewEdits callback → has_which callback.which (callbacks_of (last_of patch.targets)) ≡ false → IsSmall patch → IsSmall (with_callback_in callback patch)
 small-with_callback callback patch few new small = record {
+  distinct_targets = same_numbers target_number (on_last (with_callback callback) patch.targets) patch.targets (numbers-on_last target_number (with_callback callback) (λ t. refl) patch.targets) ∙ small.distinct_targets;
   few_targets = omega (arith, small.few_targets, length-on_last (with_callback callback) patch.targets);
   few_functions = omega (arith, small.few_functions, count_same callback patch.targets);
   one_each = all-on_last HasOneEach (with_callback callback) patch.targets small.one_each
@@ -210,6 +239,7 @@ small-with_callback callback patch few new small = record {
 
 small-with_state : (state : SystemState) (patch : PlanPatch) → names_state state.id patch.states ≡ false → length patch.states < 16 → IsSmall patch → IsSmall (with_state state patch)
 small-with_state state patch new room small = record {
+  distinct_targets = small.distinct_targets;
   few_targets = small.few_targets;
   few_functions = small.few_functions;
   one_each = small.one_each;
@@ -282,8 +312,8 @@ module _ {objects : List Object} {object_names : List (List ℕ)} {symbols : ℕ
     targets_within = subst (AreTargetsWithin (length objects)) (sym e) (All-push (TargetsWithin (length objects)) patches _ kept.targets_within (All-nil (IsTargetWithin (length objects))));
   }
 
-  pub kept-target : (object : ℕ) (next : List PlanPatch) → object < length objects → 0 < length patches → length (targets_of (last_of patches)) < 8 → next ≡ on_last (with_target (Some object)) patches → IsKept objects object_names symbols next patch_names functions
-  kept-target object next there some room e = record {
+  pub kept-target : (object : ℕ) (next : List PlanPatch) → object < length objects → 0 < length patches → list_any (λ (t : PlanTarget). t.object == object) (targets_of (last_of patches)) ≡ false → length (targets_of (last_of patches)) < 8 → next ≡ on_last (with_target (Some object)) patches → IsKept objects object_names symbols next patch_names functions
+  kept-target object next there some fresh room e = record {
     objects_by_name = kept.objects_by_name;
     patches_by_name = kept.patches_by_name ∙ sym (ap patch_names_of e ∙ patch_names-with_target (Some object) patches);
     symbol_count = kept.symbol_count;
@@ -293,7 +323,7 @@ module _ {objects : List Object} {object_names : List (List ℕ)} {symbols : ℕ
       few_patches = omega (arith, kept.few_patches.few_patches, ap length e, length-on_last (with_target (Some object)) patches);
       each_small = subst (AllByRecursion IsSmall) (sym e)
           (all-on_last IsSmall (with_target (Some object)) patches kept.few_patches.each_small
-          (λ patch last small. small-with_target object patch (omega (arith, ap (λ p. length (targets_of p)) last)) small));
+          (λ patch last small. small-with_target object patch (sym (ap (λ p. list_any (λ (t : PlanTarget). t.object == object) (targets_of p)) last) ∙ fresh) (omega (arith, ap (λ p. length (targets_of p)) last)) small));
     };
     targets_within = subst (AreTargetsWithin (length objects)) (sym e)
         (All-on_last (TargetsWithin (length objects)) (with_target (Some object)) patches kept.targets_within

@@ -19,6 +19,9 @@ callback_number callback = which_number callback.which
 abbrev pub state_number : SystemState → ℕ
 state_number state = state.id
 
+abbrev pub target_number : PlanTarget → ℕ
+target_number target = target.object
+
 abbrev pub HasFewEdits : PlanCallback → Type 0
 HasFewEdits callback = length callback.script.edits ≤ MAX_EDITS
 
@@ -30,6 +33,7 @@ pub record HasOneEach (target : PlanTarget) : Type 0 where
 
 pub record IsSmall (patch : PlanPatch) : Type 0 where
   pub few_targets : length patch.targets ≤ MAX_TARGETS
+  pub distinct_targets : has_same target_number patch.targets ≡ false
   pub few_functions : function_count patch.targets ≤ MAX_FUNCTIONS
   pub one_each : AllByRecursion HasOneEach patch.targets
   pub few_states : length patch.states ≤ MAX_STATES

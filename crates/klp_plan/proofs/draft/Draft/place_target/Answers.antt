@@ -1,4 +1,7 @@
-use Rattle.std.proofs.Common.{length, ap, sym, arith}
+use Rattle.std.proofs.Common.{length, ap, sym, ◌∙◌, arith}
+use Rattle.std.specs.Bool.{◌==◌}
+use Rattle.std.specs.List.{list_any}
+use Rattle.klp_plan.specs.Plan.{PlanTarget}
 use Rattle.klp_plan.specs.Parts.{last_of, targets_of}
 use Rattle.klp_plan.proofs.DraftLemmas.{kept-target, found_within}
 use Rattle.klp_line.proofs.LineLemmas.{positive}
@@ -10,4 +13,6 @@ invariant_of-self-2 c =
     let same = ap length c.open_targets-targets.ensures in
     let plain = ap (λ patches. length (targets_of (last_of patches))) c.deref.ensures.value in
     let there = found_within c.self.inside.objects.items _ _ c.in-Some.number c.self.invariant.objects_by_name (sym c.in-Some.ensures) in
-    kept-target c.self.invariant c.in-Some.number c.push_target.new.patches.items there (omega arith) (omega (arith, same, plain)) c.in_ok-push_target.ensures.ok
+    let targets = ap (λ patches. targets_of (last_of patches)) c.deref.ensures.value in
+    let fresh = ap (list_any (λ (t : PlanTarget). t.object == c.in-Some.number)) (sym (c.open_targets-targets.ensures ∙ targets)) ∙ sym c.if-has_target.ensures in
+    kept-target c.self.invariant c.in-Some.number c.push_target.new.patches.items there (omega arith) fresh (omega (arith, same, plain)) c.in_ok-push_target.ensures.ok
