@@ -1,4 +1,4 @@
-ghost use Rattle.std.specs.Prelude.{◌≡◌, ◌+◌, ◌<◌, ◌≤◌, Some, ◌==◌, ◌&&◌, ◌⊎◌, true, false, count_by, is_ok, is_err, is_none, Ok, Err, None, IfOk, IfErr, IsErr, slice_index_or, slice_set, replicate, length, map};
+ghost use Rattle.std.specs.Prelude.{◌≡◌, ◌+◌, ◌<◌, ◌≤◌, Some, ◌==◌, ◌&&◌, ◌⊎◌, true, false, count_by, is_ok, is_err, is_none, Ok, Err, None, IfOk, IfErr, OnErr, IsErr, slice_index_or, slice_set, replicate, length, map};
 ghost use Rattle.std.specs.List.{list_any};
 ghost use Rattle.klp_types.specs.declared.event.Event.TheVariants.{Enable, Poll};
 ghost use Rattle.klp_types.specs.Callbacks.{calls, lacks_room};
@@ -120,6 +120,7 @@ impl Manager {
         } }
         // runs of callbacks change no more than their counts
         ensures setting { setting_of self.new ≡ setting_of self.old }
+        ensures refused { OnErr result (self.new ≡ self.old) }
     {
         match event {
             Event::Enable(patch) => self.enable(patch),
