@@ -141,6 +141,8 @@ impl Manager {
           catalog = after_runs self.old.catalog (callbacks_of_run (setting_of self.old) self.old.state events.now);
           state = run (setting_of self.old) self.old.state events.now;
         } }
+        // so runs can be joined
+        ensures setting { setting_of self.new ≡ setting_of self.old }
     {
         let mut accepted = 0;
         let mut refused = 0;

@@ -15,6 +15,7 @@ loop-event-preserved g c =
     let accepted = turn_answers is_ok now new event c.apply.result (drop c.loop-event.event-index events) rest c.apply.ensures.state split c.apply.ensures.answer in
     let refused = turn_answers is_err now new event c.apply.result (drop c.loop-event.event-index events) rest c.apply.ensures.state split c.apply.ensures.answer in
     let behind = turn_behind now new event (drop c.loop-event.event-index events) rest c.apply.ensures.state split ∙ c.loop-event.invariant.2 in
+    let setting = c.apply.ensures.setting ∙ c.loop-event.invariant.5 in
     elim c.match-apply.branch [
       | in-Ok w ↦
           let yes : (◌≡◌ {A = ℕ} (cond (is_ok c.apply.result) 1 0) 1) = ap (λ r. cond (is_ok r) 1 0) w.in-Ok.is in
@@ -24,6 +25,7 @@ loop-event-preserved g c =
             behind,
             omega (arith, w.accepted-is, c.loop-event.invariant.3),
             omega (arith, w.refused-is, c.loop-event.invariant.4),
+            setting,
           )
       | in-Err w ↦
           let no : (◌≡◌ {A = ℕ} (cond (is_ok c.apply.result) 1 0) 0) = ap (λ r. cond (is_ok r) 1 0) w.in-Err.is in
@@ -33,5 +35,6 @@ loop-event-preserved g c =
             behind,
             omega (arith, w.accepted-is, c.loop-event.invariant.3),
             omega (arith, w.refused-is, c.loop-event.invariant.4),
+            setting,
           )
     ]

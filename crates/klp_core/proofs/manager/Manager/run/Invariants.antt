@@ -20,3 +20,4 @@ invariant-loop-event g l =
     }))
     × (l.accepted ≤ l.event-index)
     × (l.refused ≤ l.event-index)
+    × (setting_of l.self ≡ setting_of l.initial.self)
