@@ -409,3 +409,24 @@ fn a_refused_boot_can_be_done_again(rt: HostRuntime) -> Result<(), Fail> {
     assert!(rt; manager.installed().is_empty());
     Ok(())
 }
+
+#[test]
+fn faults_and_refusals_keep_their_numbers(rt: HostRuntime) -> Result<(), Fail> {
+    for (fault, number) in [(BootFault::Mismatch, 1), (BootFault::NoMemory, 2)] {
+        assert_eq!(rt; fault as u8, number);
+    }
+    let refusals = [
+        (Refusal::NoPatch, 1),
+        (Refusal::Busy, 2),
+        (Refusal::AlreadyThere, 3),
+        (Refusal::Incompatible, 5),
+        (Refusal::NoSymbol, 6),
+        (Refusal::Full, 13),
+        (Refusal::NotMoving, 15),
+        (Refusal::Exists, 16),
+    ];
+    for (refusal, number) in refusals {
+        assert_eq!(rt; refusal as u8, number);
+    }
+    Ok(())
+}
