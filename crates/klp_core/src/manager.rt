@@ -1,4 +1,4 @@
-ghost use Rattle.std.specs.Prelude.{◌≡◌, ◌+◌, ◌<◌, ◌≤◌, Some, ◌==◌, ◌&&◌, ◌⊎◌, true, false, count_by, is_ok, is_err, is_none, Ok, Err, None, IfOk, IfErr, OnErr, IsErr, slice_index_or, slice_set, replicate, length, map};
+ghost use Rattle.std.specs.Prelude.{◌≡◌, ◌+◌, ◌<◌, ◌≤◌, Some, ◌==◌, ◌&&◌, ◌⊎◌, true, false, count_by, is_ok, is_err, is_none, is_some, option_and_then, Ok, Err, None, IfOk, IfErr, OnErr, IsErr, slice_index_or, slice_set, replicate, length, map};
 ghost use Rattle.std.specs.List.{list_any};
 ghost use Rattle.klp_types.specs.declared.event.Event.TheVariants.{Enable, Poll};
 ghost use Rattle.klp_types.specs.Callbacks.{calls, lacks_room};
@@ -13,7 +13,7 @@ ghost use Rattle.klp_types.specs.Run.{answer, next, run, answers, callbacks_of_r
 ghost use Rattle.klp_text.specs.TextImage.{opening, IsWithinLimits};
 ghost use Rattle.klp_modules.specs.Names.{names_of};
 ghost use Rattle.klp_catalog.specs.Catalog.{CatalogFunction as FunctionOf};
-ghost use Rattle.klp_catalog.specs.Runs.{after_runs, callback_runs};
+ghost use Rattle.klp_catalog.specs.Runs.{objects_at, place_of, script_at, after_runs, callback_runs};
 ghost use Rattle.klp_core.specs.Boot.{IsMatch, AreNamed, opening_state};
 ghost use Rattle.klp_core.specs.Managed.{setting_of};
 ghost use Rattle.klp_core.specs.declared.fault.BootFault.TheVariants.{Mismatch, NoMemory};
@@ -191,7 +191,8 @@ impl Manager {
     /// How often a callback ran: that of a patch for an object, of a kind. `None` where the patch
     /// has none. The greatest number stays.
     pub fn callback_runs(&self, patch: PatchId, object: ObjId, which: Which) -> Option<u64>
-        ensures { result ≡ callback_runs self.now.catalog patch object which }
+        ensures runs { result ≡ callback_runs self.now.catalog patch object which }
+        ensures there { is_some result ≡ is_some (option_and_then (λ place. script_at self.now.catalog patch place which) (place_of object (objects_at self.now.catalog patch))) }
     {
         self.catalog.callback_runs(patch, object, which)
     }

@@ -62,8 +62,7 @@ pub sound_over : (plan after : Plan) (handler : ℕ) (objects : List Object) (im
 sound_over plan after handler objects image modules rest taken handled sound made numbered distinct =
     let named : modules.names ≡ names.names_of plan.objects =
     ap (λ (m : ModuleTable). m.names) numbered ∙ ap (λ (t : TextImage). names.names_of t.image.objects) made ∙ ap names.names_of taken
-    in
-    (
+    in (
       sym (λ i. image_fault (named_handler plan after handler rest handled i) (taken i)) ∙ sound,
       sym (λ i. some_same_site (named i) (rest i).patches) ∙ distinct,
     )
