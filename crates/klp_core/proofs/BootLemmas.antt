@@ -50,6 +50,7 @@ kept_at_boot text modules catalog made limits flags named =
         known = λ patch among. let no : ⊥ = cc in absurd no;
         distinct = distinct_none;
         resolved = λ patch among. let no : ⊥ = cc in absurd no;
+        stated = refl;
         forward = λ move is. let no : ⊥ = cc in absurd no;
         moving_there = λ move is. let no : ⊥ = cc in absurd no;
         variables = omega (arith, finite.len-empty key_cmp ℕ);

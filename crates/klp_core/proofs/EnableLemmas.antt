@@ -28,9 +28,10 @@ use Rattle.klp_modules.specs.Names.{ObjectNames, ModuleTable, names_of}
 use Rattle.klp_plan.specs.Plan.{PlanFunction, PlanTarget, PlanPatch}
 use Rattle.klp_catalog.specs.Catalog.{Catalog, CatalogFunction, catalog_functions, functions_of_patch, functions_of_target, targets_of_patch, patch_object, resolved_function, setting_patch, setting_function, site_of}
 use Rattle.klp_catalog.specs.Assembled.{IsInObject, LiesInObject}
+use Rattle.klp_catalog.specs.States.{state_ids}
 use Rattle.klp_core.specs.Hooks.{due_sites, hooked_with}
 use Rattle.klp_core.specs.Managed.{Managed, setting_of}
-use Rattle.klp_core.specs.Kept.{managed_of, IsKept}
+use Rattle.klp_core.specs.Kept.{managed_of, stored_ids, named_ids, IsKept}
 use Rattle.klp_core.proofs.HookLemmas.{Agrees, IsBelow, length-hooked_with, hooked_with-reads, function_for-any, due_any, due_sites-below, object_of-named, site_below-named}
 use borrow.Author.Tests.{eqb-true, ltb-true}
 
@@ -245,10 +246,11 @@ or-last false same h = ap (λ b. b || false) h
 pub kept_after : (text : TextImage) (modules : ModuleTable) (catalog : Catalog) (world after : World) (moving : Option Move) (runs : List (List (List ℕ))) (patch : ℕ) (functions : List CatalogFunction)
     → IsKept text modules catalog world moving → IsInstallable text catalog world moving patch
     → AreFunctions (setting_of (managed_of text catalog world moving)) patch functions
-    → numbers_of after ≡ numbers_of world ++ patch ∷ [] → finite.len after.shadow ≤ MAX_VARIABLES
+    → numbers_of after ≡ numbers_of world ++ patch ∷ [] → stored_ids after ≡ stored_ids world ++ (patch, state_ids catalog patch) ∷ []
+    → finite.len after.shadow ≤ MAX_VARIABLES
     → IsKept (record text { hooked = hooked_with (due_sites (λ object. slice_index_or modules.loaded object false) functions) text.hooked }) modules (record catalog { runs = runs })
     after (Some (record { patch = patch; target = true }))
-kept_after text modules catalog world after moving runs patch functions kept new are more few =
+kept_after text modules catalog world after moving runs patch functions kept new are more more_ids few =
     let old = managed_of text catalog world moving in
     let move : Move = record { patch = patch; target = true } in
     let next = managed_of text catalog after (Some move) in
@@ -270,6 +272,10 @@ kept_after text modules catalog world after moving runs patch functions kept new
         distinct = subst (λ (ps : List ℕ). IsDistinct eqb ps) all (distinct_more installed patch kept.allowed.distinct apart);
         resolved = subst (λ (ps : List ℕ). (q : ℕ) → list_any (eqb q) ps ≡ true → lacks_symbol setting old.state q ≡ false) all
             (resolved_more setting old.state installed patch kept.allowed.resolved new.resolved);
+        stated = more_ids
+            ∙ ap (λ (rows : List (ℕ × List ℕ)). rows ++ (patch, state_ids catalog patch) ∷ []) kept.allowed.stated
+            ∙ sym (map-append (λ p. (p, state_ids catalog p)) installed (patch ∷ []))
+            ∙ ap (named_ids catalog) all;
         forward = λ m is. ap (λ (m : Move). m.target) (sym (some_inj is));
         moving_there = λ m is. subst (λ (m : Move). list_any (eqb m.patch) (numbers_of after) ≡ true) (some_inj is)
             (subst (λ (ps : List ℕ). list_any (eqb patch) ps ≡ true) all last);
@@ -290,9 +296,9 @@ none-moves m is = let no : ⊥ = cc in absurd no
 
 -- the same patches are installed, and nothing moves
 pub kept_at_rest : (text : TextImage) (modules : ModuleTable) (catalog : Catalog) (world after : World) (moving : Option Move) (runs : List (List (List ℕ)))
-    → IsKept text modules catalog world moving → numbers_of after ≡ numbers_of world → finite.len after.shadow ≤ MAX_VARIABLES
-    → IsKept text modules (record catalog { runs = runs }) after None
-kept_at_rest text modules catalog world after moving runs kept same few =
+    → IsKept text modules catalog world moving → numbers_of after ≡ numbers_of world → stored_ids after ≡ stored_ids world
+    → finite.len after.shadow ≤ MAX_VARIABLES → IsKept text modules (record catalog { runs = runs }) after None
+kept_at_rest text modules catalog world after moving runs kept same same_ids few =
     let old = managed_of text catalog world moving in
     let setting = setting_of old in
     let back = sym same in
@@ -303,6 +309,7 @@ kept_at_rest text modules catalog world after moving runs kept same few =
         known = subst (λ (ps : List ℕ). (q : ℕ) → list_any (eqb q) ps ≡ true → q < length catalog.patches) back kept.allowed.known;
         distinct = subst (λ (ps : List ℕ). IsDistinct eqb ps) back kept.allowed.distinct;
         resolved = subst (λ (ps : List ℕ). (q : ℕ) → list_any (eqb q) ps ≡ true → lacks_symbol setting old.state q ≡ false) back kept.allowed.resolved;
+        stated = same_ids ∙ kept.allowed.stated ∙ ap (named_ids catalog) back;
         forward = λ m is. none-moves m is;
         moving_there = λ m is. none-moves m is;
         variables = few;

@@ -10,3 +10,4 @@ pub mod RoomLemmas
 pub mod InstallLemmas
 pub mod RunLemmas
 pub mod EventLemmas
+pub mod StateLemmas

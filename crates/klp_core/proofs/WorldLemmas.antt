@@ -17,14 +17,14 @@ use Rattle.klp_world.specs.Noted.{rows_of_free_all}
 use Rattle.klp_world.proofs.SortedLemmas.{key_total}
 use Rattle.klp_world.proofs.UndoLemmas.{count_parted}
 use Rattle.klp_core.specs.Managed.{setting_of}
-use Rattle.klp_core.specs.Kept.{managed_of, IsKept}
+use Rattle.klp_core.specs.Kept.{managed_of, stored_ids, named_ids, IsKept}
 use Rattle.klp_core.proofs.EnableLemmas.{numbers_of}
 
 -- over a world with the same installed patches, and with shadow variables for which there is room
 pub kept_over : (text : TextImage) (modules : ModuleTable) (catalog : Catalog) (world other : World) (moving : Option Move)
-    → IsKept text modules catalog world moving → numbers_of other ≡ numbers_of world → finite.len other.shadow ≤ MAX_VARIABLES
-    → IsKept text modules catalog other moving
-kept_over text modules catalog world other moving kept same few =
+    → IsKept text modules catalog world moving → numbers_of other ≡ numbers_of world → stored_ids other ≡ stored_ids world
+    → finite.len other.shadow ≤ MAX_VARIABLES → IsKept text modules catalog other moving
+kept_over text modules catalog world other moving kept same same_ids few =
     let old = managed_of text catalog world moving in
     let new = managed_of text catalog other moving in
     let setting = setting_of old in
@@ -36,6 +36,7 @@ kept_over text modules catalog world other moving kept same few =
         known = subst (λ (ps : List ℕ). (q : ℕ) → list_any (eqb q) ps ≡ true → q < length catalog.patches) turned kept.allowed.known;
         distinct = subst (λ (ps : List ℕ). IsDistinct eqb ps) turned kept.allowed.distinct;
         resolved = subst (λ (ps : List ℕ). (q : ℕ) → list_any (eqb q) ps ≡ true → lacks_symbol setting old.state q ≡ false) turned kept.allowed.resolved;
+        stated = same_ids ∙ kept.allowed.stated ∙ ap (named_ids catalog) turned;
         forward = kept.allowed.forward;
         moving_there = subst (λ (ps : List ℕ). (move : Move) → moving ≡ Some move → list_any (eqb move.patch) ps ≡ true) turned kept.allowed.moving_there;
         variables = few;
@@ -61,7 +62,7 @@ pub kept_allocated : (text : TextImage) (modules : ModuleTable) (catalog : Catal
     → IsKept text modules catalog (allocated world key value there) moving
 kept_allocated text modules catalog world moving key value (Some was) kept room = kept
 kept_allocated text modules catalog world moving key value None kept room =
-    kept_over text modules catalog world (with_variable world key value) moving kept refl
+    kept_over text modules catalog world (with_variable world key value) moving kept refl refl
     (one_more (finite.contains_key world.shadow key) (finite.len world.shadow) (finite.len (finite.insert world.shadow key value)) MAX_VARIABLES
     (finite.len-insert key_total world.shadow key value) (room refl))
 

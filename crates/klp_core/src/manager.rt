@@ -14,6 +14,7 @@ ghost use Rattle.klp_text.specs.TextImage.{opening, IsWithinLimits};
 ghost use Rattle.klp_modules.specs.Names.{names_of};
 ghost use Rattle.klp_catalog.specs.Catalog.{CatalogFunction as FunctionOf};
 ghost use Rattle.klp_catalog.specs.Runs.{objects_at, place_of, script_at, after_runs, callback_runs};
+ghost use Rattle.klp_catalog.specs.States.{state_ids};
 ghost use Rattle.klp_core.specs.Boot.{IsMatch, AreNamed, opening_state};
 ghost use Rattle.klp_core.specs.Managed.{setting_of};
 ghost use Rattle.klp_core.specs.declared.fault.BootFault.TheVariants.{Mismatch, NoMemory};
@@ -183,7 +184,9 @@ impl Manager {
     /// The value of a system state of an installed patch. `None` where the patch isn't installed or
     /// doesn't name the state.
     pub fn state_of(&self, patch: PatchId, id: u64) -> Option<u64>
-        ensures { result ≡ state_value self.now.state.world patch id }
+        ensures value { result ≡ state_value self.now.state.world patch id }
+        // exactly the states that the catalog tells of installed patches are there
+        ensures there { is_some result ≡ (is_installed self.now.state patch && list_any (λ own. own == id) (state_ids self.now.catalog patch)) }
     {
         self.world.value(patch, id)
     }

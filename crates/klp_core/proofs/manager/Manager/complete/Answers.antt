@@ -1,4 +1,4 @@
-use Rattle.std.proofs.Common.{◌≡◌, ◌+◌, ◌≤◌, ◌∙◌, None, sym, subst, arith}
+use Rattle.std.proofs.Common.{◌≡◌, ◌+◌, ◌≤◌, ◌∙◌, None, sym, ap, subst, arith}
 use Rattle.std.specs.FinMap as finite
 use Rattle.klp_types.specs.declared.limits.TheConstants.{MAX_VARIABLES}
 use Rattle.klp_types.specs.declared.callback.Which.TheVariants.{Post}
@@ -6,7 +6,8 @@ use Rattle.klp_types.specs.Callbacks.{allocs_of}
 use Rattle.klp_catalog.specs.Catalog.{Catalog}
 use Rattle.klp_catalog.specs.Runs.{after_runs}
 use Rattle.klp_core.specs.Due.{due_calls}
-use Rattle.klp_core.specs.Kept.{IsKept}
+use Rattle.klp_core.specs.Kept.{IsKept, stored_ids}
+use Rattle.klp_core.proofs.StateLemmas.{calls_keep}
 use Rattle.klp_core.proofs.LoopLemmas.{after_runs-keeps}
 use Rattle.klp_core.proofs.RoomLemmas.{room_to_complete}
 use Rattle.klp_core.proofs.EnableLemmas.{kept_at_rest}
@@ -19,7 +20,8 @@ invariant_of-self g c =
     c.in-Some.moving c.targets-end.result c.self.view_is c.self.invariant.0 c.in-Some.is c.targets-end.ensures.count c.requires.room
     in
     let kept = kept_at_rest c.self.inside.image c.self.inside.modules c.self.inside.catalog c.self.inside.world c.run_callbacks.new.world c.self.inside.moving
-    (after_runs c.self.inside.catalog due).runs c.self.invariant.0 c.run_callbacks.ensures.installed (omega (arith, room, c.run_callbacks.ensures.few))
+    (after_runs c.self.inside.catalog due).runs c.self.invariant.0 c.run_callbacks.ensures.installed
+    (ap stored_ids c.run_callbacks.ensures.world ∙ calls_keep c.self.inside.world due) (omega (arith, room, c.run_callbacks.ensures.few))
     in (
       subst (λ (k : Catalog). IsKept c.self.inside.image c.self.inside.modules k c.run_callbacks.new.world None) (sym (c.run_callbacks.ensures.catalog ∙ after_runs-keeps c.self.inside.catalog due)) kept,
       c.run_callbacks.ensures.log,

@@ -16,11 +16,12 @@ use Rattle.klp_catalog.specs.Assembled.{LiesInObject}
 use Rattle.klp_core.specs.Hooks.{due_sites, hooked_with}
 use Rattle.klp_core.specs.Due.{is_loaded_in, due_from, pre_calls}
 use Rattle.klp_core.specs.Managed.{Managed, setting_of}
-use Rattle.klp_core.specs.Kept.{managed_of, IsKept}
+use Rattle.klp_core.specs.Kept.{managed_of, stored_ids, IsKept}
 use Rattle.klp_core.proofs.LoopLemmas.{after_runs-append, after_runs-keeps, objects-kept}
 use Rattle.klp_core.proofs.RoomLemmas.{room_to_enable}
 use Rattle.klp_core.proofs.EnableLemmas.{each_below, installable, kept_after, kept_at_rest, enabled_patches, any-numbers}
 use Rattle.klp_core.proofs.InstallLemmas.{starts, fails}
+use Rattle.klp_core.proofs.StateLemmas.{calls_keep, put_last, out_again}
 use Rattle.klp_core.proofs.manager.Manager.install.Goals as goal
 
 rests : (moving : Option Move) → is_some moving ≡ false → moving ≡ None
@@ -53,12 +54,16 @@ invariant_of-self g c =
     let own = c.functions.ensures.setting ∙ ap (λ (k : Catalog). all_functions (objects_at k c.args.patch)) same in
     let first = ap (λ (w : World). finite.len w.shadow) c.add_states.ensures.world in
     let room = room_to_enable c.self.inside.image c.self.inside.modules c.self.inside.catalog c.self.inside.world c.self.inside.moving c.args.patch c.self.invariant.0 facts.enough in
+    let own_ids = c.deref.ensures.0 ∙ c.state_ids-ids.ensures in
+    let more_ids = ap stored_ids c.pre_patch.ensures.world ∙ calls_keep c.add_states.new.self pre ∙ ap stored_ids c.add_states.ensures.world
+    ∙ put_last c.self.inside.world c.args.patch _ ∙ ap (λ ids. stored_ids c.self.inside.world ++ (c.args.patch, ids) ∷ []) own_ids
+    in
     let more = c.pre_patch.ensures.installed ∙ ap (λ (w : World). map (λ (i : Installed). i.patch) w.installed) c.add_states.ensures.world
     ∙ enabled_patches c.self.inside.world c.args.patch _
     in (
       rw (c.hook_all.ensures, same)
           (kept_after c.self.inside.image c.self.inside.modules c.self.inside.catalog c.self.inside.world c.pre_patch.new.world c.self.inside.moving (after_runs c.self.inside.catalog pre).runs
-          c.args.patch c.functions.result.now c.self.invariant.0 facts (record { own = own; inside = inside }) more
+          c.args.patch c.functions.result.now c.self.invariant.0 facts (record { own = own; inside = inside }) more more_ids
           (omega (arith, first, room, c.pre_patch.ensures.few))),
       c.pre_patch.ensures.log,
     )
@@ -93,13 +98,20 @@ invariant_of-self-in-Some g c =
     let runs = c.take_out.ensures.catalog ∙ ap (λ k. after_runs k clean) c.pre_patch.ensures.catalog ∙ sym (after_runs-append c.self.inside.catalog pre clean)
     ∙ after_runs-keeps c.self.inside.catalog (pre ++ clean)
     in
+    let own_ids = c.deref.ensures.0 ∙ c.state_ids-ids.ensures in
+    let more_ids = ap stored_ids c.pre_patch.ensures.world ∙ calls_keep c.add_states.new.self pre ∙ ap stored_ids c.add_states.ensures.world
+    ∙ put_last c.self.inside.world c.args.patch _ ∙ ap (λ ids. stored_ids c.self.inside.world ++ (c.args.patch, ids) ∷ []) own_ids
+    in
+    let same_ids = ap stored_ids c.take_out.ensures.world
+    ∙ out_again c.self.inside.world (after_calls c.pre_patch.new.world clean) c.args.patch _ (calls_keep c.pre_patch.new.world clean ∙ more_ids) facts.apart
+    in
     let before = map (λ (i : Installed). i.patch) c.self.inside.world.installed in
     let more = c.pre_patch.ensures.installed ∙ ap (λ (w : World). map (λ (i : Installed). i.patch) w.installed) c.add_states.ensures.world
     ∙ enabled_patches c.self.inside.world c.args.patch _
     in
     let same = c.take_out.ensures.installed before more (any-numbers c.args.patch c.self.inside.world.installed ∙ facts.apart) in
     let kept = kept_at_rest c.self.inside.image c.self.inside.modules c.self.inside.catalog c.self.inside.world c.take_out.new.world c.self.inside.moving
-    (after_runs c.self.inside.catalog (pre ++ clean)).runs c.self.invariant.0 same c.take_out.ensures.few
+    (after_runs c.self.inside.catalog (pre ++ clean)).runs c.self.invariant.0 same same_ids c.take_out.ensures.few
     in (
       subst (λ m. IsKept c.self.inside.image c.self.inside.modules c.take_out.new.catalog c.take_out.new.world m) (sym (rests c.self.inside.moving facts.still))
           (subst (λ (k : Catalog). IsKept c.self.inside.image c.self.inside.modules k c.take_out.new.world None) (sym runs) kept),
