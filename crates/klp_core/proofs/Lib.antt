@@ -11,3 +11,4 @@ pub mod InstallLemmas
 pub mod RunLemmas
 pub mod EventLemmas
 pub mod StateLemmas
+pub mod PreviousLemmas

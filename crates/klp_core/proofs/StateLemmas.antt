@@ -106,7 +106,7 @@ out_again world after patch ids last apart = rows_taken patch after.installed �
 
 -- a state is there where its patch is installed and names it
 
-named_value : (id : ℕ) (values : List (ℕ × ℕ)) → is_some (value_among id values) ≡ list_any (λ own. own == id) (ids_in values)
+pub named_value : (id : ℕ) (values : List (ℕ × ℕ)) → is_some (value_among id values) ≡ list_any (λ own. own == id) (ids_in values)
 named_value id [] = refl
 named_value id (state ∷ states) =
     elim (state.0 == id) as (λ b. is_some (cond b (Some state.1) (value_among id states)) ≡ (b || list_any (λ own. own == id) (ids_in states))) [

@@ -5,6 +5,7 @@ mod boot;
 mod callbacks;
 mod fault;
 mod hooks;
+pub mod laws;
 mod manager;
 mod shadow;
 #[cfg(test)]

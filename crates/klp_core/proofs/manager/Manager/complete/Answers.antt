@@ -1,4 +1,4 @@
-use Rattle.std.proofs.Common.{◌≡◌, ◌+◌, ◌≤◌, ◌∙◌, None, sym, ap, subst, arith}
+use Rattle.std.proofs.Common.{◌+◌, ◌≤◌, ◌∙◌, None, sym, ap, subst, arith}
 use Rattle.std.specs.FinMap as finite
 use Rattle.klp_types.specs.declared.limits.TheConstants.{MAX_VARIABLES}
 use Rattle.klp_types.specs.declared.callback.Which.TheVariants.{Post}

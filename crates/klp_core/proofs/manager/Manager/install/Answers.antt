@@ -1,11 +1,10 @@
-use Rattle.std.proofs.Common.{rules, w32, to_z, of_z, true, None, Option, refl, is_some, ◌≡◌, ℕ, ◌+◌, ◌<◌, ◌≤◌, ◌++◌, List, [], ◌∷◌, length, map, Some, sym, ap, subst, ◌∙◌, arith}
-use Rattle.std.specs.Prelude.{slice_get, find, slice_index_or, false, IsSomeAnd}
+use Rattle.std.proofs.Common.{rules, w32, to_z, of_z, true, None, Option, refl, is_some, ◌≡◌, ◌≤◌, ◌++◌, List, [], ◌∷◌, length, map, Some, sym, ap, subst, ◌∙◌, arith}
+use Rattle.std.specs.Prelude.{slice_get, find, false, IsSomeAnd}
 use Rattle.std.specs.List.{All, before_first}
 use Rattle.std.specs.FinMap as finite
-use Rattle.klp_types.specs.declared.limits.TheConstants.{MAX_VARIABLES}
-use Rattle.klp_types.specs.declared.callback.Which.TheVariants.{Pre, PostUn}
+use Rattle.klp_types.specs.declared.callback.Which.TheVariants.{PostUn}
 use Rattle.klp_types.specs.declared.version.Move.{Move}
-use Rattle.klp_types.specs.Setting.{PatchObject, all_functions}
+use Rattle.klp_types.specs.Setting.{all_functions}
 use Rattle.klp_types.specs.World.{Installed, World, with_patch}
 use Rattle.klp_types.specs.Callbacks.{allocs_of, calls_of, refuses, after_calls}
 use Rattle.klp_text.specs.TextImage.{TextImage}
@@ -13,9 +12,8 @@ use Rattle.klp_modules.specs.Names.{ObjectNames}
 use Rattle.klp_catalog.specs.Catalog.{Catalog}
 use Rattle.klp_catalog.specs.Runs.{after_runs, objects_at}
 use Rattle.klp_catalog.specs.Assembled.{LiesInObject}
-use Rattle.klp_core.specs.Hooks.{due_sites, hooked_with}
 use Rattle.klp_core.specs.Due.{is_loaded_in, due_from, pre_calls}
-use Rattle.klp_core.specs.Managed.{Managed, setting_of}
+use Rattle.klp_core.specs.Managed.{Managed}
 use Rattle.klp_core.specs.Kept.{managed_of, stored_ids, IsKept}
 use Rattle.klp_core.proofs.LoopLemmas.{after_runs-append, after_runs-keeps, objects-kept}
 use Rattle.klp_core.proofs.RoomLemmas.{room_to_enable}
