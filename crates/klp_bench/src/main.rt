@@ -128,10 +128,18 @@ impl Measured {
         }
     }
 
-    fn add(&mut self, (accepted, refused): (u64, u64), nanoseconds: u128) {
+    // Counts what a round came to, between these two moments.
+    fn add(
+        &mut self,
+        (accepted, refused): (u64, u64),
+        start: io::Result<Instant>,
+        end: io::Result<Instant>,
+    ) -> Result<(), Fault> {
+        let passed = end?.saturating_duration_since(start?);
         self.accepted = self.accepted.saturating_add(accepted);
         self.refused = self.refused.saturating_add(refused);
-        self.nanoseconds = self.nanoseconds.saturating_add(nanoseconds);
+        self.nanoseconds = self.nanoseconds.saturating_add(passed.as_nanos());
+        Ok(())
     }
 }
 
@@ -156,7 +164,8 @@ fn booted(alloc: Global, text: &str) -> Result<Manager, Fault> {
     Ok(boot(alloc, plan, Vec::new(alloc))?)
 }
 
-// One round, over a manager of its own.
+// One round, over a manager of its own. It is left in one place while it holds the manager: each
+// further way out would be proved with all that is known of it.
 fn round<R: Clock>(
     rt: &R,
     alloc: Global,
@@ -164,13 +173,16 @@ fn round<R: Clock>(
     lists: &mut Vec<Measured>,
 ) -> Result<(), Fault> {
     let mut manager = booted(alloc, text)?;
+    let mut ended = Ok(());
     for list in lists {
-        let start = Instant::now(rt)?;
+        let start = Instant::now(rt);
         let counts = manager.run(&list.events);
-        let end = Instant::now(rt)?;
-        list.add(counts, end.saturating_duration_since(start).as_nanos());
+        ended = list.add(counts, start, Instant::now(rt));
+        if ended.is_err() {
+            break;
+        }
     }
-    Ok(())
+    ended
 }
 
 fn main(rt: HostRuntime) -> Result<(), Fault> {

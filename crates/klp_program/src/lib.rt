@@ -16,6 +16,3 @@ pub use fault::Fault;
 pub use sample::CATALOG;
 pub use serve::console;
 pub use wanted::Words;
-
-#[cfg(test)]
-mod tests;

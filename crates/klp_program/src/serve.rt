@@ -191,6 +191,35 @@ fn script_at(plan: &Plan, number: usize) -> Option<Script>
     Some(copy_of(script))
 }
 
+// Writes what the last event answered, and then answers lines until one asks for an event, which is
+// told. `None` at the end of the input.
+fn next_event<R: BufRead, W: Write>(
+    alloc: Global,
+    manager: &Manager,
+    answer: Option<Result<Reply, Refusal>>,
+    input: &mut R,
+    line: &mut Vec<u8>,
+    out: &mut W,
+) -> Result<Option<Event>, Fault> {
+    if let Some(answer) = answer {
+        write_answer(manager, answer, out)?;
+        out.flush().map_err(|_| Fault::Write)?;
+    }
+    for _ in 0..u64::MAX {
+        if read_line(input, line)? == 0 {
+            break;
+        }
+        let asked = read(line.strip_suffix(b"\n").unwrap_or(line));
+        let event = event_of(manager.catalog(), &asked);
+        if event.is_some() {
+            return Ok(event);
+        }
+        write_look(alloc, manager, &asked, out)?;
+        out.flush().map_err(|_| Fault::Write)?;
+    }
+    Ok(None)
+}
+
 // Answers line after line until the input ends.
 //
 // Each script of the text gets a callback of the simplest kind that means it. The boxes are made
@@ -216,21 +245,19 @@ fn served<R: BufRead, W: Write>(
     }
     let mut manager = boot(alloc, plan, callbacks)?;
     let mut line = Vec::new(alloc);
+    let mut answer = None;
+    let mut ended = Ok(());
     for _ in 0..u64::MAX {
-        if read_line(input, &mut line)? == 0 {
-            break;
-        }
-        let asked = read(line.strip_suffix(b"\n").unwrap_or(&line));
-        match event_of(manager.catalog(), &asked) {
-            Some(event) => {
-                let answer = manager.apply(event);
-                write_answer(&manager, answer, out)?;
+        match next_event(alloc, &manager, answer, input, &mut line, out) {
+            Ok(Some(event)) => answer = Some(manager.apply(event)),
+            Ok(None) => break,
+            Err(fault) => {
+                ended = Err(fault);
+                break;
             }
-            None => write_look(alloc, &manager, &asked, out)?,
         }
-        out.flush().map_err(|_| Fault::Write)?;
     }
-    Ok(())
+    ended
 }
 
 /// Serves the input over a catalog's text, until it ends. The answer is the exit status: 0, or 1
