@@ -4,7 +4,7 @@ use Rattle.std.specs.List.{list_all, slice_split}
 use Rattle.std.specs.Char.{is_ascii}
 use Rattle.klp_types.specs.declared.callback.Which.{Which}
 use Rattle.klp_types.specs.declared.callback.Which.TheVariants as which
-use Rattle.klp_line.specs.declared.limit.TheConstants.{MAX_LINE}
+use Rattle.klp_types.specs.declared.limits.TheConstants.{MAX_LINE}
 use Rattle.klp_line.specs.declared.fault.TextFaultKind.{TextFaultKind}
 use Rattle.klp_line.specs.declared.fault.TextFaultKind.TheVariants.{NotAscii, LineTooLong, UnknownWord, WrongCount}
 use Rattle.klp_line.specs.declared.line.Keyword.{Keyword}

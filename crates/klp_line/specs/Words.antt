@@ -3,7 +3,7 @@ use Rattle.std.specs.Prelude.{ℕ, ℤ, pos, neg_ℤ, ◌+◌, ◌^◌, ◌==◌
 use Rattle.std.specs.List.{list_all, starts_with, before_first, after_first}
 use Rattle.std.specs.Char.{is_ascii_alphanumeric, is_ascii_digit, is_ascii_hexdigit}
 use Rattle.std.specs.Str.Parse.{digits_value}
-use Rattle.klp_line.specs.declared.limit.TheConstants.{MAX_NAME, MAX_SYMBOL_NAME, MAX_ADDRESS_DIGITS}
+use Rattle.klp_types.specs.declared.limits.TheConstants.{MAX_NAME, MAX_SYMBOL_NAME, MAX_ADDRESS_DIGITS}
 use Rattle.hex.specs.declared.error.FromHexError.{FromHexError}
 use Rattle.hex.specs.Hex.{decode_of}
 use Rattle.klp_line.specs.declared.fault.TextFaultKind.{TextFaultKind}

@@ -14,7 +14,7 @@ pub enum TextFaultKind {
     /// A byte of a line that isn't a comment is no ASCII.
     #[error("NotAscii")]
     NotAscii = 1,
-    /// The line has more than [`MAX_LINE`](crate::MAX_LINE) bytes.
+    /// The line has more than [`MAX_LINE`](klp_types::MAX_LINE) bytes.
     #[error("LineTooLong")]
     LineTooLong = 2,
     /// No line begins with this word, or another word than `replace` stands behind the name of a

@@ -7,7 +7,6 @@
 mod edit;
 mod fault;
 mod items;
-mod limit;
 mod line;
 mod lines;
 mod number;
@@ -16,9 +15,5 @@ mod words;
 pub use edit::ScriptText;
 pub use fault::TextFaultKind;
 pub use items::{Name, PlanFunction, SystemState};
-pub use limit::{MAX_ADDRESS_DIGITS, MAX_LINE, MAX_NAME, MAX_SYMBOL_NAME};
 pub use line::Line;
 pub use lines::{Lines, Words};
-
-#[cfg(test)]
-mod tests;

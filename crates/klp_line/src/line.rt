@@ -9,10 +9,9 @@ ghost use Rattle.klp_line.specs.Lines.{keyword_of, handler_line, object_line, sy
 use crate::edit::ScriptText;
 use crate::fault::TextFaultKind;
 use crate::items::{Name, PlanFunction, SystemState};
-use crate::limit::MAX_LINE;
 use crate::lines::Words;
 use crate::{edit, number, words};
-use klp_types::{SymbolText, Which};
+use klp_types::{MAX_LINE, SymbolText, Which};
 use std::alloc::Global;
 
 /// The word that a line begins with.

@@ -9,10 +9,10 @@ ghost use Rattle.klp_line.specs.Words.{is_name_byte, is_symbol_byte, is_name, is
 
 use crate::fault::TextFaultKind;
 use crate::items::Name;
-use crate::limit::{MAX_ADDRESS_DIGITS, MAX_NAME, MAX_SYMBOL_NAME};
 use crate::lines::position_of;
 use crate::number::number32;
 use hex::FromHexError;
+use klp_types::{MAX_ADDRESS_DIGITS, MAX_NAME, MAX_SYMBOL_NAME};
 use std::alloc::Global;
 use std::marker::Model;
 use std::str;

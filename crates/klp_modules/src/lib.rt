@@ -11,8 +11,6 @@ pub mod laws;
 mod modules;
 mod numbered;
 mod tables;
-#[cfg(test)]
-mod tests;
 
 pub use fault::SymbolFault;
 pub use modules::Modules;

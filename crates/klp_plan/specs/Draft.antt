@@ -4,7 +4,7 @@ use Rattle.std.specs.List.{list_any}
 use Rattle.klp_types.specs.Compatible.{SystemState}
 use Rattle.klp_types.specs.Image.{Object, symbols_of}
 use Rattle.klp_types.specs.declared.limits.TheConstants.{MAX_EDITS, MAX_PATCHES, MAX_STATES}
-use Rattle.klp_plan.specs.declared.limit.TheConstants.{MAX_OBJECTS, MAX_SYMBOLS, MAX_BODY, MAX_TARGETS, MAX_FUNCTIONS}
+use Rattle.klp_types.specs.declared.limits.TheConstants.{MAX_OBJECTS, MAX_SITES, MAX_BODY, MAX_TARGETS, MAX_FUNCTIONS}
 use Rattle.klp_line.specs.declared.fault.TextFaultKind.{TextFaultKind}
 use Rattle.klp_line.specs.declared.fault.TextFaultKind.TheVariants.{OutOfPlace, UnknownObject, Twice, TooMany}
 use Rattle.klp_line.specs.declared.line.Line.{Line}
@@ -59,7 +59,7 @@ place_faults draft (line.Object name) =
     ∷ (nat_le MAX_OBJECTS (length draft.objects), TooMany) ∷ []
 place_faults draft (line.Symbol symbol) =
     (has_some draft.patches, OutOfPlace) ∷ (not (has_some draft.objects), OutOfPlace)
-    ∷ (nat_le MAX_SYMBOLS (length (symbols_of draft.objects)), TooMany) ∷ (nat_lt MAX_BODY (length symbol.body), TooMany) ∷ []
+    ∷ (nat_le MAX_SITES (length (symbols_of draft.objects)), TooMany) ∷ (nat_lt MAX_BODY (length symbol.body), TooMany) ∷ []
 place_faults draft (line.Patch name replace) =
     (is_some (number_of name (patch_names_of draft.patches)), Twice) ∷ (nat_le MAX_PATCHES (length draft.patches), TooMany) ∷ []
 place_faults draft (line.Target name) =

@@ -1,7 +1,7 @@
 -- What a draft and a plan keep beside the plan so far: the names by which it finds objects and patches, and how many things there are.
 use Rattle.std.specs.Prelude.{◌≡◌, ℕ, ◌≤◌, List, length}
 use Rattle.klp_types.specs.Image.{Object, symbols_of}
-use Rattle.klp_plan.specs.declared.limit.TheConstants.{MAX_OBJECTS}
+use Rattle.klp_types.specs.declared.limits.TheConstants.{MAX_OBJECTS}
 use Rattle.klp_plan.specs.Plan.{PlanPatch}
 use Rattle.klp_plan.specs.Parts.{last_of, targets_of, function_count}
 use Rattle.klp_plan.specs.Limits.{AreFew}

@@ -3,7 +3,7 @@ use Rattle.std.specs.Prelude.{◌≡◌, ℕ, ◌≤◌, ◌==◌, ◌||◌, Boo
 use Rattle.std.specs.List.{AllByRecursion, list_any}
 use Rattle.klp_types.specs.Compatible.{SystemState}
 use Rattle.klp_types.specs.declared.limits.TheConstants.{MAX_EDITS, MAX_PATCHES, MAX_STATES}
-use Rattle.klp_plan.specs.declared.limit.TheConstants.{MAX_TARGETS, MAX_FUNCTIONS}
+use Rattle.klp_types.specs.declared.limits.TheConstants.{MAX_TARGETS, MAX_FUNCTIONS}
 use Rattle.klp_plan.specs.Plan.{PlanTarget, PlanPatch}
 use Rattle.klp_types.specs.Setting.{Callback as PlanCallback}
 use Rattle.klp_plan.specs.Parts.{function_count, which_number}

@@ -10,11 +10,13 @@ ghost use Rattle.klp_plan.specs.Within.{AreTargetsWithin};
 ghost use Rattle.klp_plan.specs.Draft.{empty_draft, open_object, placed};
 ghost use Rattle.klp_plan.specs.Text.{with_line, finished_with};
 
-use crate::limit::{MAX_BODY, MAX_FUNCTIONS, MAX_OBJECTS, MAX_SYMBOLS, MAX_TARGETS};
 use crate::names::Names;
 use crate::plan::{Plan, PlanCallback, PlanPatch, PlanTarget};
 use klp_line::{Line, Name, PlanFunction, ScriptText, SystemState, TextFaultKind, Words};
-use klp_types::{MAX_PATCHES, MAX_STATES, ObjId, ObjectText, SymbolText, Which};
+use klp_types::{
+    MAX_BODY, MAX_FUNCTIONS, MAX_OBJECTS, MAX_PATCHES, MAX_SITES, MAX_STATES, MAX_TARGETS, ObjId,
+    ObjectText, SymbolText, Which,
+};
 use std::alloc::{AllocError, Global};
 use std::marker::Model;
 
@@ -213,7 +215,7 @@ impl Draft {
         if !self.patches.is_empty() || self.objects.is_empty() {
             return Err(TextFaultKind::OutOfPlace);
         }
-        if self.symbols >= MAX_SYMBOLS || symbol.body.len() > MAX_BODY {
+        if self.symbols >= MAX_SITES || symbol.body.len() > MAX_BODY {
             return Err(TextFaultKind::TooMany);
         }
         push_symbol(&mut self.objects, symbol)?;

@@ -8,23 +8,12 @@
 mod draft;
 mod fault;
 pub mod laws;
-mod limit;
 mod names;
 mod plan;
 mod text;
 
 pub use fault::TextFault;
-pub use klp_line::{
-    MAX_ADDRESS_DIGITS, MAX_LINE, MAX_NAME, MAX_SYMBOL_NAME, PlanFunction, SystemState,
-    TextFaultKind,
-};
-pub use klp_types::{MAX_EDITS, MAX_PATCHES, MAX_STATES};
-pub use limit::{MAX_BODY, MAX_FUNCTIONS, MAX_OBJECTS, MAX_SYMBOLS, MAX_TARGETS};
+pub use klp_line::{PlanFunction, SystemState, TextFaultKind};
 pub use names::Names;
 pub use plan::{Plan, PlanCallback, PlanPatch, PlanTarget};
 pub use text::read;
-
-#[cfg(test)]
-mod fault_tests;
-#[cfg(test)]
-mod tests;

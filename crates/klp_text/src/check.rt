@@ -5,8 +5,7 @@ ghost use Rattle.klp_text.specs.Faults as faults;
 
 use crate::entry::can_reach;
 use crate::fault::ImageFault;
-use crate::limits::{ENTRY_SITE_LEN, MAX_BODY, MAX_OBJECTS, MAX_SITES};
-use klp_types::{ObjectText, SymbolText};
+use klp_types::{ENTRY_SITE_LEN, MAX_BODY, MAX_OBJECTS, MAX_SITES, ObjectText, SymbolText};
 
 /// The name of the first object.
 const KERNEL: &str = "vmlinux";

@@ -3,7 +3,7 @@ ghost use Rattle.std.specs.Int.{w32};
 ghost use Rattle.klp_types.specs.Bytes as bytes;
 ghost use Rattle.klp_types.specs.Bytes.{can_reach};
 
-use crate::limits::ENTRY_SITE_LEN;
+use klp_types::ENTRY_SITE_LEN;
 
 /// What stands at an entry site that isn't hooked: `nopl 0x0(%rax,%rax,1)`.
 pub const NOP: [u8; ENTRY_SITE_LEN] = [0x0f, 0x1f, 0x44, 0x00, 0x00];

@@ -10,11 +10,7 @@ mod check;
 mod entry;
 mod fault;
 mod image;
-mod limits;
 mod stored;
-#[cfg(test)]
-mod tests;
 
 pub use fault::ImageFault;
 pub use image::Image;
-pub use limits::{ENTRY_SITE_LEN, MAX_BODY, MAX_OBJECTS, MAX_SITES};

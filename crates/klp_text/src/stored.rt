@@ -3,8 +3,7 @@ ghost use Rattle.std.specs.Int.{w32};
 ghost use Rattle.klp_types.specs.Bytes.{nop, displacement, entry_bytes};
 
 use crate::entry::{NOP, call};
-use crate::limits::ENTRY_SITE_LEN;
-use klp_types::SymbolText;
+use klp_types::{ENTRY_SITE_LEN, SymbolText};
 use std::alloc::{AllocError, Global};
 
 /// A symbol as it stands in the text.

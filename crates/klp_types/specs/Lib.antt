@@ -12,3 +12,4 @@ pub mod Callbacks
 pub mod Step
 pub mod Run
 pub mod Records
+pub mod Examples

@@ -10,7 +10,11 @@ ghost use Rattle.klp_types.specs.Entries.{is_site_loaded, patches_site, is_hooke
 ghost use Rattle.klp_types.specs.Bytes.{symbol_in, patched, resting, text_of};
 ghost use Rattle.klp_types.specs.Run.{answer, next, run, answers};
 
-use crate::limits::{MAX_EDITS, MAX_PATCHES, MAX_STATES, MAX_VARIABLES};
+use crate::limits::{
+    ENTRY_SITE_LEN, MAX_ADDRESS_DIGITS, MAX_BODY, MAX_EDITS, MAX_FUNCTIONS, MAX_LINE, MAX_NAME,
+    MAX_OBJECTS, MAX_PATCHES, MAX_RECORDS, MAX_SITES, MAX_STATES, MAX_SYMBOL_NAME, MAX_TARGETS,
+    MAX_VARIABLES,
+};
 
 /// A site has an entry exactly where its object is loaded and an installed patch has a function for
 /// it: a nop never stands alone.
@@ -54,10 +58,21 @@ pub fn run_and_one_step()
         → answers setting state (events ++ event ∷ []) ≡ answers setting state events ++ answer setting (run setting state events) event ∷ [] }
 {}
 
-/// How much a world holds, and a script.
+/// How much there may be of everything.
 pub fn limits_are_these()
-    ensures variables { MAX_VARIABLES ≡ 512 }
+    ensures objects { MAX_OBJECTS ≡ 17 }
+    ensures sites { MAX_SITES ≡ 256 }
+    ensures entry_site { ENTRY_SITE_LEN ≡ 5 }
+    ensures body { MAX_BODY ≡ 256 }
     ensures patches { MAX_PATCHES ≡ 16 }
+    ensures targets { MAX_TARGETS ≡ 8 }
+    ensures functions { MAX_FUNCTIONS ≡ 64 }
     ensures states { MAX_STATES ≡ 16 }
     ensures edits { MAX_EDITS ≡ 16 }
+    ensures variables { MAX_VARIABLES ≡ 512 }
+    ensures records { MAX_RECORDS ≡ 4096 }
+    ensures line { MAX_LINE ≡ 2048 }
+    ensures name { MAX_NAME ≡ 55 }
+    ensures symbol_name { MAX_SYMBOL_NAME ≡ 127 }
+    ensures address { MAX_ADDRESS_DIGITS ≡ 16 }
 {}

@@ -8,6 +8,7 @@
 mod callback;
 mod edit;
 mod event;
+pub mod examples;
 pub mod laws;
 mod limits;
 mod number;
@@ -19,12 +20,13 @@ mod version;
 pub use callback::Which;
 pub use edit::Edit;
 pub use event::{Event, Refusal, Reply};
-pub use limits::{MAX_EDITS, MAX_PATCHES, MAX_STATES, MAX_VARIABLES};
+pub use limits::{
+    ENTRY_SITE_LEN, MAX_ADDRESS_DIGITS, MAX_BODY, MAX_EDITS, MAX_FUNCTIONS, MAX_LINE, MAX_NAME,
+    MAX_OBJECTS, MAX_PATCHES, MAX_RECORDS, MAX_SITES, MAX_STATES, MAX_SYMBOL_NAME, MAX_TARGETS,
+    MAX_VARIABLES,
+};
 pub use number::{ObjId, PatchId, Site};
 pub use record::{Record, Records};
 pub use shadow::ShadowKey;
 pub use text::{ObjectText, SymbolText};
 pub use version::{Entry, Move, Target, Version};
-
-#[cfg(test)]
-mod tests;

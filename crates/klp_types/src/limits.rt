@@ -1,13 +1,47 @@
-//! How much a world holds. These limits are this project's own.
+//! How much there may be of everything. All limits stand here, and are this project's own but for the
+//! length of an entry site, which is that of a call.
 
-/// How many shadow variables there may be.
-pub const MAX_VARIABLES: usize = 512;
+/// How many objects an image may have, `vmlinux` among them.
+pub const MAX_OBJECTS: usize = 17;
 
-/// How many patches may be installed.
+/// How many symbols all objects of an image may have together, which are its sites.
+pub const MAX_SITES: usize = 256;
+
+/// How many bytes an entry site has: as many as a call of the handler. No body may be shorter.
+pub const ENTRY_SITE_LEN: usize = 5;
+
+/// How many bytes the body of a symbol may have.
+pub const MAX_BODY: usize = 256;
+
+/// How many patches a catalog may have, and how many may be installed.
 pub const MAX_PATCHES: usize = 16;
+
+/// How many objects a patch may change.
+pub const MAX_TARGETS: usize = 8;
+
+/// How many new functions a patch may have.
+pub const MAX_FUNCTIONS: usize = 64;
 
 /// How many system states a patch may name.
 pub const MAX_STATES: usize = 16;
 
 /// How many edits a script may have.
 pub const MAX_EDITS: usize = 16;
+
+/// How many shadow variables there may be.
+pub const MAX_VARIABLES: usize = 512;
+
+/// How many records one event may note.
+pub const MAX_RECORDS: usize = 4096;
+
+/// How many bytes a line of a catalog's text that isn't skipped may have, without those that end it.
+pub const MAX_LINE: usize = 2048;
+
+/// How many bytes the name of an object, a patch or a new function may have.
+pub const MAX_NAME: usize = 55;
+
+/// How many bytes the name of a symbol may have.
+pub const MAX_SYMBOL_NAME: usize = 127;
+
+/// How many hexadecimal digits an address may have, zeros in front among them.
+pub const MAX_ADDRESS_DIGITS: usize = 16;

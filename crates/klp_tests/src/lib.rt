@@ -1,0 +1,11 @@
+//! Tests of what no contract says: values from outside, printed names, calls that succeed where memory
+//! is there, and a few ways of the program that no script shows. They stand above all crates, so that
+//! what they test is proved once.
+#![tactic(auto)]
+
+#[cfg(test)]
+mod modules;
+#[cfg(test)]
+mod records;
+#[cfg(test)]
+mod text;

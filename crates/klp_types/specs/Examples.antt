@@ -1,0 +1,95 @@
+-- A small kernel with patches, and states of it, over which the definitions are computed.
+use Rattle.std.specs.Prelude.{ℕ, ℤ, pos, negsuc, Bool, true, false, List, [], ◌∷◌, ◌==◌, map, Option, Some, None, if◌then◌else◌}
+use Rattle.std.specs.FinMap as finite
+use Rattle.klp_types.specs.declared.callback.Which.{Which}
+use Rattle.klp_types.specs.declared.callback.Which.TheVariants.{Pre, Post, PreUn, PostUn}
+use Rattle.klp_types.specs.declared.version.Move.{Move}
+use Rattle.klp_types.specs.Image.{Symbol, Object, Image}
+use Rattle.klp_types.specs.Script.{Script}
+use Rattle.klp_types.specs.World.{Installed}
+use Rattle.klp_types.specs.Setting.{Function, Callback, PatchObject, Patch, Setting}
+use Rattle.klp_types.specs.State.{State}
+use Rattle.klp_types.specs.Callbacks.{Call}
+
+-- f and h of the kernel (sites 0 and 1), and g of a module (site 2); their names play no part
+abbrev pub f : Symbol
+f = record { name = 102 ∷ []; address = 0xffff_ffff_8100_1000; body = 232 ∷ 0 ∷ 0 ∷ 0 ∷ 0 ∷ 144 ∷ 195 ∷ [] }
+
+abbrev pub h : Symbol
+h = record { name = 104 ∷ []; address = 0xffff_ffff_8100_2000; body = 232 ∷ 0 ∷ 0 ∷ 0 ∷ 0 ∷ 195 ∷ [] }
+
+abbrev pub g : Symbol
+g = record { name = 103 ∷ []; address = 0xffff_ffff_a000_0000; body = 232 ∷ 0 ∷ 0 ∷ 0 ∷ 0 ∷ 195 ∷ [] }
+
+abbrev pub kernel : Image
+kernel = record {
+  handler = 0xffff_ffff_8100_0000;
+  objects = record { name = []; symbols = f ∷ h ∷ [] } ∷ record { name = 109 ∷ []; symbols = g ∷ [] } ∷ [];
+}
+
+-- p has a function for each site; c is a cumulative patch with one for f alone
+abbrev pub p : Patch
+p = record {
+  replace = false;
+  objects =
+      record { object = 0; functions = record { site = Some 0; address = 0xffff_ffff_c000_1000 } ∷ record { site = Some 1; address = 0xffff_ffff_c000_1100 } ∷ []; callbacks = [] }
+      ∷ record { object = 1; functions = record { site = Some 2; address = 0xffff_ffff_c000_1200 } ∷ []; callbacks = [] } ∷ [];
+  states = [];
+}
+
+abbrev pub c : Patch
+c = record {
+  replace = true;
+  objects = record { object = 0; functions = record { site = Some 0; address = 0xffff_ffff_c000_3000 } ∷ []; callbacks = [] } ∷ [];
+  states = [];
+}
+
+abbrev pub patched_kernel : Setting
+patched_kernel = record { image = kernel; patches = p ∷ c ∷ [] }
+
+abbrev pub installed : ℕ → Installed
+installed patch = record { patch = patch; values = [] }
+
+-- both patches are installed, and c moves to this target; the module isn't loaded
+abbrev pub moving_to : Bool → State
+moving_to target = record {
+  loaded = true ∷ false ∷ [];
+  world = record { installed = installed 0 ∷ installed 1 ∷ []; shadow = finite.empty };
+  moving = Some (record { patch = 1; target = target });
+}
+
+-- a script without edits that answers this status
+abbrev pub answering : ℤ → Script
+answering status = record { edits = []; status = status }
+
+-- pre-patch, which refuses in the object of this number, and the other callbacks of an object
+abbrev pub callbacks_for : ℕ → ℕ → List Callback
+callbacks_for refusing object =
+    record { which = PostUn; script = answering (pos 0) } ∷ record { which = Pre; script = answering (if object == refusing then negsuc 11 else pos 0) }
+    ∷ record { which = PreUn; script = answering (pos 0) } ∷ record { which = Post; script = answering (pos 0) } ∷ []
+
+abbrev pub object_with : ℕ → ℕ → PatchObject
+object_with refusing object = record { object = object; functions = []; callbacks = callbacks_for refusing object }
+
+-- three objects, which a patch names in the order 2, 0, 1; its pre-patch refuses in one of them
+abbrev pub refusing_in : ℕ → Setting
+refusing_in object = record {
+  image = record { handler = 0; objects = record { name = []; symbols = [] } ∷ record { name = []; symbols = [] } ∷ record { name = []; symbols = [] } ∷ [] };
+  patches = record { replace = false; objects = object_with object 2 ∷ object_with object 0 ∷ object_with object 1 ∷ []; states = [] } ∷ [];
+}
+
+-- these objects of the three are loaded, and nothing is installed
+abbrev pub loaded_alone : List Bool → State
+loaded_alone loaded = record { loaded = loaded; world = record { installed = []; shadow = finite.empty }; moving = None }
+
+-- all three are loaded, and the patch moves to this target
+abbrev pub all_moving_to : Bool → State
+all_moving_to target = record {
+  loaded = true ∷ true ∷ true ∷ [];
+  world = record { installed = installed 0 ∷ []; shadow = finite.empty };
+  moving = Some (record { patch = 0; target = target });
+}
+
+-- which callbacks run: of which of the patch's objects, and of which kind
+abbrev pub ran : List Call → List (ℕ × Which)
+ran calls = map {B = ℕ × Which} (λ (call : Call). (call.place, call.which)) calls
