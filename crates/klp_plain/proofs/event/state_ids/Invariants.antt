@@ -1,8 +1,0 @@
-use Rattle.std.proofs.Common.{◌≡◌, map, take}
-use Rattle.klp_types.specs.Compatible.{SystemState}
-use Rattle.klp_types.specs.Setting.{named_states}
-use Rattle.klp_plain.proofs.event.state_ids.Given as goal
-
--- the ids of the states so far
-abbrev pub invariant-loop-state : goal.invariant-loop-state
-invariant-loop-state l = l.ids.items ≡ map (λ (s : SystemState). s.id) (take l.state-index (named_states l.setting l.fn.patch))
