@@ -4,6 +4,7 @@ use klp_modules::{Modules, SymbolFault};
 use klp_text::Image;
 use klp_types::{ObjId, ObjectText, Record, Site, SymbolText};
 use std::alloc::{AllocError, Global};
+use std::process::Abort;
 use std::test::Fail;
 
 /// A symbol of six bytes.
@@ -39,10 +40,8 @@ fn objects(alloc: Global) -> Result<Vec<ObjectText>, AllocError>
     Ok(objects)
 }
 
-#[test]
-fn names_and_positions(rt: HostRuntime) -> Result<(), Fail> {
-    let image = Image::new(rt.alloc(), objects(rt.alloc())?, 0x1000)?;
-    let modules = Modules::new(rt.alloc(), &image)?;
+// The site that each spelling picks, or why none.
+fn check_spellings(rt: &impl Abort, modules: &Modules) {
     let (kernel, module) = (ObjId(0), ObjId(1));
     let cases = [
         (kernel, "d", 0, Err(SymbolFault::Ambiguous)),
@@ -64,32 +63,48 @@ fn names_and_positions(rt: HostRuntime) -> Result<(), Fail> {
             "{name},{position}"
         );
     }
-    assert_eq!(rt;
-        [
-            modules.object("vmlinux"),
-            modules.object("m"),
-            modules.object("d")
-        ],
-        [Some(kernel), Some(module), None]
-    );
-    assert_eq!(rt;
-        [
-            modules.symbols(kernel),
-            modules.symbols(module),
-            modules.symbols(ObjId(2))
-        ],
-        [Some(4), Some(2), None]
-    );
-    assert!(rt;
-        modules.object_name(module) == Some("m") && modules.object_name(ObjId(2)).is_none()
-    );
-    assert!(rt; modules.symbol(Site(3)) == Some((kernel, "d", 2)));
-    assert!(rt;
-        modules.symbol(Site(5)) == Some((module, "d", 1)) && modules.symbol(Site(6)).is_none()
-    );
-    assert!(rt;
-        modules.is_loaded(kernel) && !modules.is_loaded(module) && !modules.is_loaded(ObjId(2))
-    );
+}
+
+// The object of each name, and of each object its name, its symbols, and whether it is loaded.
+fn check_objects(rt: &impl Abort, modules: &Modules) {
+    for (name, want) in [
+        ("vmlinux", Some(ObjId(0))),
+        ("m", Some(ObjId(1))),
+        ("d", None),
+    ] {
+        assert!(rt; modules.object(name) == want, "{name}");
+    }
+    let rows = [
+        (ObjId(0), Some("vmlinux"), Some(4), true),
+        (ObjId(1), Some("m"), Some(2), false),
+        (ObjId(2), None, None, false),
+    ];
+    for (object, name, symbols, loaded) in rows {
+        assert!(rt; modules.object_name(object) == name);
+        assert!(rt; modules.symbols(object) == symbols);
+        assert!(rt; modules.is_loaded(object) == loaded);
+    }
+}
+
+// The symbol of a site: its object, its name, and its position among those of the name.
+fn check_symbols(rt: &impl Abort, modules: &Modules) {
+    let rows = [
+        (Site(3), Some((ObjId(0), "d", 2))),
+        (Site(5), Some((ObjId(1), "d", 1))),
+        (Site(6), None),
+    ];
+    for (site, want) in rows {
+        assert!(rt; modules.symbol(site) == want);
+    }
+}
+
+#[test]
+fn names_and_positions(rt: HostRuntime) -> Result<(), Fail> {
+    let image = Image::new(rt.alloc(), objects(rt.alloc())?, 0x1000)?;
+    let modules = Modules::new(rt.alloc(), &image)?;
+    check_spellings(&rt, &modules);
+    check_objects(&rt, &modules);
+    check_symbols(&rt, &modules);
     Ok(())
 }
 
