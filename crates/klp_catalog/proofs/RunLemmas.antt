@@ -1,5 +1,5 @@
 -- Runs of callbacks: what is found, what is counted, and what stays.
-use Rattle.std.proofs.Common.{◌≡◌, ℕ, ℤ, zero, suc, ◌+◌, ◌*◌, ◌<◌, ◌≤◌, Bool, true, false, List, [], ◌∷◌, length, map, slice_get, option_map, get_or, set, Some, None, Option, refl, sym, ap, subst, ◌∙◌, arith, if◌then◌else◌, add-one, IfSome}
+use Rattle.std.proofs.Common.{◌≡◌, ℕ, ℤ, zero, suc, ◌+◌, ◌<◌, ◌≤◌, Bool, true, false, List, [], ◌∷◌, length, map, slice_get, option_map, get_or, set, Some, None, Option, refl, sym, ap, subst, ◌∙◌, arith, if◌then◌else◌, add-one}
 use Rattle.std.proofs.lemmas.Bool.{lt-ltb, le-ltb}
 use Rattle.std.proofs.lemmas.List.{append-nil}
 use Rattle.std.proofs.lemmas.List.{length-map}
@@ -9,24 +9,21 @@ use Rattle.klp_types.specs.declared.record.Record.{Record}
 use Rattle.std.specs.Prelude.{not, ◌==◌, nat_lt, take, position, find, option_and_then, slice_index_or}
 use Rattle.std.proofs.lemmas.Option.{slice_get-map}
 use Rattle.klp_types.specs.declared.callback.Which.{Which}
-use Rattle.klp_types.specs.Records.{RecordList, spare_of}
+use Rattle.klp_types.specs.Records.{RecordList}
 use Rattle.klp_types.specs.Setting.{Callback, PatchObject, patch_objects}
 use Rattle.klp_types.specs.Callbacks.{is_kind, script_for, call_of, after_calls}
 use Rattle.klp_types.specs.Script.{Script, is_alloc, alloc_count}
 use Rattle.klp_types.specs.declared.edit.Edit.{Edit}
 use Rattle.klp_types.specs.World.{World}
 use Rattle.klp_world.specs.Undo.{undone}
-use Rattle.klp_world.specs.Noted.{noting, rows_of_script}
-use Rattle.klp_world.proofs.ScriptLemmas.{few_script_records}
-use Rattle.std.specs.FinMap as finite
-use Rattle.klp_types.specs.declared.limits.TheConstants.{MAX_EDITS, MAX_VARIABLES}
+use Rattle.klp_world.specs.Noted.{noting}
 use Rattle.klp_callback.specs.Told.{counted}
 use Rattle.klp_modules.specs.Names.{ObjectNames}
 use Rattle.klp_plan.specs.Plan.{PlanTarget, PlanPatch, PlanFunction}
 use Rattle.klp_types.specs.Compatible.{SystemState}
 use Rattle.klp_catalog.specs.Catalog.{Catalog, CatalogFunction, setting_patch, patch_object, targets_of_patch}
 use Rattle.std.specs.List.{AllByRecursion}
-use Rattle.klp_catalog.specs.Runs.{callbacks_of, callbacks_at, objects_at, place_of, callback_runs, number_of, change_at, counted_at, after_run, effect_if, rows_if, allocs_if}
+use Rattle.klp_catalog.specs.Runs.{callbacks_of, callbacks_at, objects_at, place_of, callback_runs, number_of, change_at, counted_at, after_run, effect_if, rows_if}
 use Rattle.klp_catalog.specs.Stored.{IsWithin, StoredCallback, StoredTarget, StoredPatch, callbacks_in, counts_in, targets_in, target_counts_in, patches_in, patch_counts_in, functions_in, target_callbacks, plan_callbacks, target_after, patch_after, stored_callbacks, stored_targets, states_at, IsStored}
 use Rattle.klp_catalog.proofs.CatalogLemmas.{catalog_of, setting_at}
 
@@ -493,15 +490,3 @@ few_targets stored functions p kept = omega (arith, ap length (targets_planned s
 pub few_states : {names : List ObjectNames} {symbols : List ℕ} {patch_names : List (List ℕ)} (stored : List StoredPatch) (functions : List (List CatalogFunction)) (p : ℕ)
     → IsStored names symbols patch_names (patches_in stored) functions (patch_counts_in stored) → length (states_at stored p) ≤ 16
 few_states stored functions p kept = omega (arith, ap length (states_planned stored p), few_states_at (patches_in stored) p kept.few.each_within)
-
--- ---- room
-
-pub room_if : (world : World) (script : Option Script) → finite.len world.shadow + allocs_if script ≤ MAX_VARIABLES
-    → IfSome script (λ s. finite.len world.shadow + alloc_count s.edits ≤ MAX_VARIABLES)
-room_if world None room = tt
-room_if world (Some script) room = room
-
-pub records_if : (patch : ℕ) (world : World) (log : RecordList) (script : Option Script) → IfSome script (λ s. length s.edits ≤ MAX_EDITS)
-    → finite.len world.shadow + 2 * MAX_EDITS ≤ spare_of log → IfSome script (λ s. length (rows_of_script patch world s) ≤ spare_of log)
-records_if patch world log None few room = tt
-records_if patch world log (Some script) few room = let rows = few_script_records patch world script in omega arith

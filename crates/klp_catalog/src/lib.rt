@@ -20,8 +20,3 @@ pub use klp_plan::{
     MAX_ADDRESS_DIGITS, MAX_BODY, MAX_FUNCTIONS, MAX_LINE, MAX_NAME, MAX_OBJECTS, MAX_PATCHES,
     MAX_SYMBOL_NAME, MAX_SYMBOLS, MAX_TARGETS, Plan, TextFault, TextFaultKind,
 };
-
-#[cfg(test)]
-mod catalog_tests;
-#[cfg(test)]
-mod run_tests;
