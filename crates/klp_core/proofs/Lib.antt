@@ -2,7 +2,6 @@ pub mod HookLemmas
 pub mod EnableLemmas
 pub mod BootLemmas
 pub mod ViewLemmas
-pub mod MatchLemmas
 pub mod WorldLemmas
 pub mod CallLemmas
 pub mod LoopLemmas
