@@ -1,8 +1,8 @@
 -- Callbacks object by object, as loops over a patch's objects run them.
-use Rattle.std.proofs.Common.{◌≡◌, ℕ, suc, zero, ◌+◌, ◌≤◌, ◌<◌, Bool, true, false, cond, List, [], ◌∷◌, ◌++◌, take, drop, length, Option, Some, None, refl, sym, ap, ◌∙◌, append_assoc, arith}
-use Rattle.std.specs.Prelude.{slice_get, filter, find, not, is_some, unwrap_or}
+use Rattle.std.proofs.Common.{◌≡◌, ℕ, suc, zero, ◌+◌, ◌≤◌, Bool, true, false, cond, List, [], ◌∷◌, ◌++◌, take, drop, length, Option, Some, None, refl, sym, ap, ◌∙◌, append_assoc, arith}
+use Rattle.std.specs.Prelude.{slice_get, find, not, is_some, unwrap_or}
 use Rattle.std.proofs.lemmas.List.{append-nil, take-append-drop}
-use Rattle.std.specs.List.{before_first, enumerate_from, sum_by, position_or_len}
+use Rattle.std.specs.List.{before_first, position_or_len}
 use Rattle.std.proofs.Math.Seq.{drop-cons}
 use Rattle.std.proofs.lemmas.Option.{slice_get_within, get_or_from_slice_get}
 use Rattle.std.proofs.lemmas.List.Sums.{sum_by-append}
@@ -10,7 +10,7 @@ use Rattle.klp_types.specs.declared.callback.Which.{Which}
 use Rattle.klp_types.specs.declared.callback.Which.TheVariants.{Pre, PostUn}
 use Rattle.klp_types.specs.Setting.{PatchObject}
 use Rattle.klp_types.specs.World.{World}
-use Rattle.klp_types.specs.Script.{Script, alloc_count, effect}
+use Rattle.klp_types.specs.Script.{alloc_count, effect}
 use Rattle.klp_core.specs.Due.{due_from, pre_calls}
 use Rattle.klp_types.specs.Callbacks.{Call, script_for, call_of, calls_of, refuses, refused_calls, enable_calls, allocs_of, after_calls}
 

@@ -2,13 +2,11 @@
 use Rattle.std.proofs.Common.{◌≡◌, ℕ, ◌+◌, ◌≤◌, ◌<◌, Bool, true, false, cond, List, [], ◌∷◌, ◌++◌, take, drop, length, get_or, Option, Some, None, refl, sym, ap, ◌∙◌, arith}
 use Rattle.std.specs.Prelude.{ℤ, slice_get, find, not, pos, IsSomeAnd}
 use Rattle.std.specs.List.{before_first}
-use Rattle.std.specs.FinMap as finite
 use Rattle.std.proofs.lemmas.Option.{slice_get-get_or}
 use Rattle.std.proofs.lemmas.List.{get_or-take, length-take-le, append-nil}
 use Rattle.klp_types.specs.declared.callback.Which.{Which}
 use Rattle.klp_types.specs.declared.callback.Which.TheVariants.{Pre}
 use Rattle.klp_types.specs.Setting.{PatchObject}
-use Rattle.klp_types.specs.World.{World}
 use Rattle.klp_types.specs.Script.{Script, is_success}
 use Rattle.klp_types.specs.Callbacks.{Call, script_for, call_of, calls_of, is_refusing, refuses}
 use Rattle.klp_types.specs.Step.{status_of}

@@ -1,5 +1,5 @@
 -- The callbacks that are due, as the definitions list them, and the room for them.
-use Rattle.std.proofs.Common.{◌≡◌, ℕ, ◌+◌, ◌≤◌, ◌++◌, Bool, true, false, ltb, ltb-false, List, length, take, Option, Some, refl, sym, ap, subst, ◌∙◌, arith}
+use Rattle.std.proofs.Common.{◌≡◌, ℕ, ◌+◌, ◌≤◌, ◌++◌, Bool, false, ltb, ltb-false, List, length, take, Option, Some, sym, ap, subst, ◌∙◌, arith}
 use Rattle.std.specs.Prelude.{slice_index_or}
 use Rattle.std.specs.FinMap as finite
 use Rattle.std.proofs.Math.Seq.{take-length}
@@ -8,7 +8,6 @@ use Rattle.klp_types.specs.declared.callback.Which.{Which}
 use Rattle.klp_types.specs.declared.callback.Which.TheVariants.{Pre, Post, PostUn}
 use Rattle.klp_types.specs.declared.event.Event.TheVariants.{Enable, Poll}
 use Rattle.klp_types.specs.declared.version.Move.{Move}
-use Rattle.klp_types.specs.Setting.{PatchObject}
 use Rattle.klp_types.specs.World.{World}
 use Rattle.klp_types.specs.Callbacks.{calls_of, loaded_objects, end_of, end_calls, allocs_of, lacks_room}
 use Rattle.klp_text.specs.TextImage.{TextImage}

@@ -1,4 +1,5 @@
 pub mod Managed
+pub mod Events
 pub mod Boot
 pub mod Hooks
 pub mod Due

@@ -1,4 +1,4 @@
-use Rattle.std.proofs.Common.{◌+◌, ◌*◌, ◌++◌, ◌∙◌, ap, arith}
+use Rattle.std.proofs.Common.{◌+◌, ◌∙◌, ap, arith}
 use Rattle.klp_types.specs.Callbacks.{allocs_of}
 use Rattle.klp_core.specs.Due.{is_loaded_in, due_call}
 use Rattle.klp_catalog.specs.Runs.{objects_at}

@@ -1,8 +1,7 @@
-use Rattle.std.proofs.Common.{rules, w32, to_z, of_z, ◌≡◌, ◌+◌, ◌++◌, ◌∙◌, Bool, true, false, Some, refl, ap, sym, arith, drop}
-use Rattle.std.specs.Prelude.{find, not}
+use Rattle.std.proofs.Common.{rules, w32, to_z, of_z, ◌≡◌, ◌+◌, ◌++◌, ◌∙◌, ap, sym, arith, drop}
 use Rattle.klp_types.specs.declared.callback.Which.TheVariants.{Pre}
 use Rattle.klp_types.specs.Script.{is_success}
-use Rattle.klp_types.specs.Callbacks.{allocs_of, after_calls, refuses}
+use Rattle.klp_types.specs.Callbacks.{allocs_of, after_calls}
 use Rattle.klp_catalog.specs.Catalog.{Catalog}
 use Rattle.klp_catalog.specs.Runs.{after_runs, objects_at}
 use Rattle.klp_core.specs.Due.{is_loaded_in, due_from, due_call, due_status, pre_calls}

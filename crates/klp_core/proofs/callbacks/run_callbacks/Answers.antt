@@ -1,5 +1,4 @@
-use Rattle.std.proofs.Common.{◌+◌, ◌++◌, ◌∙◌, ap, sym, arith, take}
-use Rattle.klp_types.specs.World.{World}
+use Rattle.std.proofs.Common.{◌+◌, ◌∙◌, ap, sym, arith, take}
 use Rattle.klp_types.specs.Callbacks.{allocs_of, after_calls}
 use Rattle.klp_catalog.specs.Catalog.{Catalog}
 use Rattle.klp_catalog.specs.Runs.{after_runs, objects_at}

@@ -1,7 +1,5 @@
-use Rattle.std.proofs.Common.{◌≡◌, ◌+◌, ◌≤◌, List, take}
+use Rattle.std.proofs.Common.{◌≡◌, ◌+◌, ◌≤◌, take}
 use Rattle.std.specs.FinMap as finite
-use Rattle.klp_types.specs.declared.limits.TheConstants.{MAX_VARIABLES}
-use Rattle.klp_types.specs.Setting.{PatchObject}
 use Rattle.klp_types.specs.Callbacks.{allocs_of, after_calls}
 use Rattle.klp_catalog.specs.Runs.{after_runs, objects_at}
 use Rattle.klp_core.specs.Due.{is_loaded_in, patches_in, due_calls}

@@ -1,6 +1,6 @@
-use Rattle.std.proofs.Common.{◌≡◌, ◌+◌, ◌≤◌, ◌∙◌, ap, sym, arith}
+use Rattle.std.proofs.Common.{◌≤◌, ◌∙◌, ap, sym, arith}
 use Rattle.std.specs.FinMap as finite
-use Rattle.klp_types.specs.Records.{RecordList, spare_of}
+use Rattle.klp_types.specs.Records.{spare_of}
 use Rattle.klp_types.specs.declared.limits.TheConstants.{MAX_VARIABLES}
 use Rattle.klp_catalog.specs.Runs.{script_at}
 use Rattle.klp_core.proofs.RunLemmas.{rows_fit, ran_due}

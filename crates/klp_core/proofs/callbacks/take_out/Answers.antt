@@ -1,4 +1,4 @@
-use Rattle.std.proofs.Common.{◌+◌, ◌≤◌, ◌∙◌, ap, sym, arith}
+use Rattle.std.proofs.Common.{◌∙◌, ap, sym, arith}
 use Rattle.klp_types.specs.declared.callback.Which.TheVariants.{PostUn}
 use Rattle.std.specs.FinMap as finite
 use Rattle.klp_types.specs.World.{World, without_patch}

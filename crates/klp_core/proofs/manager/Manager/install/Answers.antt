@@ -116,32 +116,24 @@ invariant_of-self-in-Some g c =
       c.take_out.ensures.log,
     )
 
-pub returns-in-None-clause-state : goal.returns-in-None-clause-state
-returns-in-None-clause-state g c =
-    ap (λ (t : TextImage). managed_of t c.pre_patch.new.catalog c.pre_patch.new.world (Some (record { patch = c.args.patch; target = true }))) c.hook_all.ensures
-    ∙ starts c.self.inside.image c.self.inside.modules c.self.inside.catalog c.pre_patch.new.catalog c.self.inside.world c.pre_patch.new.world c.self.inside.moving
-    c.args.self.now c.args.patch c.self.view_is c.self.invariant.0 c.in-None.ensures.refused c.pre_patch.ensures.catalog
-    (c.pre_patch.ensures.world ∙ ap (λ w. after_calls w (pre_calls c.args.patch (due_from (is_loaded_in c.self.inside.modules) 0 (objects_at c.self.inside.catalog c.args.patch))))
-    (c.add_states.ensures.world ∙ ap (with_patch c.self.inside.world c.args.patch) (c.deref.ensures.0 ∙ c.state_ids-ids.ensures)))
+pub returns-in-None : goal.returns-in-None
+returns-in-None g c = record {
+  answered = search rules;
+  left =
+      ap (λ (t : TextImage). managed_of t c.pre_patch.new.catalog c.pre_patch.new.world (Some (record { patch = c.args.patch; target = true }))) c.hook_all.ensures
+      ∙ starts c.self.inside.image c.self.inside.modules c.self.inside.catalog c.pre_patch.new.catalog c.self.inside.world c.pre_patch.new.world c.self.inside.moving
+      c.args.self.now c.args.patch c.self.view_is c.self.invariant.0 c.in-None.ensures.refused c.pre_patch.ensures.catalog
+      (c.pre_patch.ensures.world ∙ ap (λ w. after_calls w (pre_calls c.args.patch (due_from (is_loaded_in c.self.inside.modules) 0 (objects_at c.self.inside.catalog c.args.patch))))
+      (c.add_states.ensures.world ∙ ap (with_patch c.self.inside.world c.args.patch) (c.deref.ensures.0 ∙ c.state_ids-ids.ensures)));
+}
 
-pub returns-in-Some-clause-answer : goal.returns-in-Some-clause-answer
-returns-in-Some-clause-answer g c =
+pub returns-in-Some : goal.returns-in-Some
+returns-in-Some g c =
     let refused = c.in-Some.ensures.refused in
     let stored : to_z w32 (of_z w32 c.in-Some.status) ≡ c.in-Some.status = search rules in
-    (fails c.self.inside.image c.self.inside.modules c.self.inside.catalog c.pre_patch.new.catalog c.take_out.new.catalog c.self.inside.world c.pre_patch.new.world c.take_out.new.world
+    fails c.self.inside.image c.self.inside.modules c.self.inside.catalog c.pre_patch.new.catalog c.take_out.new.catalog c.self.inside.world c.pre_patch.new.world c.take_out.new.world
     c.self.inside.moving c.args.self.now c.args.patch c.in-Some.place (to_z w32 (of_z w32 c.in-Some.status)) refused.0 c.take_out.result c.self.view_is c.self.invariant.0
     refused.1 (stored ∙ refused.2) refused.3 c.pre_patch.ensures.catalog
     (c.pre_patch.ensures.world ∙ ap (λ w. after_calls w (pre_calls c.args.patch (due_from (is_loaded_in c.self.inside.modules) 0 (objects_at c.self.inside.catalog c.args.patch))))
     (c.add_states.ensures.world ∙ ap (with_patch c.self.inside.world c.args.patch) (c.deref.ensures.0 ∙ c.state_ids-ids.ensures)))
-    c.take_out.ensures.catalog c.take_out.ensures.world c.take_out.ensures.reply).answer
-
-pub returns-in-Some-clause-state : goal.returns-in-Some-clause-state
-returns-in-Some-clause-state g c =
-    let refused = c.in-Some.ensures.refused in
-    let stored : to_z w32 (of_z w32 c.in-Some.status) ≡ c.in-Some.status = search rules in
-    (fails c.self.inside.image c.self.inside.modules c.self.inside.catalog c.pre_patch.new.catalog c.take_out.new.catalog c.self.inside.world c.pre_patch.new.world c.take_out.new.world
-    c.self.inside.moving c.args.self.now c.args.patch c.in-Some.place (to_z w32 (of_z w32 c.in-Some.status)) refused.0 c.take_out.result c.self.view_is c.self.invariant.0
-    refused.1 (stored ∙ refused.2) refused.3 c.pre_patch.ensures.catalog
-    (c.pre_patch.ensures.world ∙ ap (λ w. after_calls w (pre_calls c.args.patch (due_from (is_loaded_in c.self.inside.modules) 0 (objects_at c.self.inside.catalog c.args.patch))))
-    (c.add_states.ensures.world ∙ ap (with_patch c.self.inside.world c.args.patch) (c.deref.ensures.0 ∙ c.state_ids-ids.ensures)))
-    c.take_out.ensures.catalog c.take_out.ensures.world c.take_out.ensures.reply).state
+    c.take_out.ensures.catalog c.take_out.ensures.world c.take_out.ensures.reply

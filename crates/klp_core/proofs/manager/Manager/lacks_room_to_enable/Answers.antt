@@ -1,6 +1,4 @@
-use Rattle.std.proofs.Common.{ap, sym, ◌∙◌}
-use Rattle.std.specs.FinMap as finite
-use Rattle.klp_types.specs.World.{World}
+use Rattle.std.proofs.Common.{◌∙◌}
 use Rattle.klp_core.proofs.RoomLemmas.{lacks_to_enable}
 use Rattle.klp_core.proofs.manager.Manager.lacks_room_to_enable.Goals as goal
 
