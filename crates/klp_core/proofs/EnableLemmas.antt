@@ -22,7 +22,6 @@ use Rattle.klp_types.specs.declared.event.Refusal.TheVariants.{NoPatch, Busy, Al
 use Rattle.klp_types.specs.Callbacks.{lacks_room}
 use Rattle.klp_types.specs.Step.{has_patch, lacks_symbol, is_compatible, refusals}
 use Rattle.klp_types.specs.Entries.{is_hooked, is_empty, entries_from, is_site_loaded, is_object_loaded, patches_site}
-use Rattle.klp_types.proofs.EntryLemmas.{is_hooked-any}
 use Rattle.klp_text.specs.TextImage.{TextImage, site_count}
 use Rattle.klp_modules.specs.Names.{ObjectNames, ModuleTable, names_of}
 use Rattle.klp_plan.specs.Plan.{PlanFunction, PlanTarget, PlanPatch}
@@ -111,14 +110,19 @@ pub record AreFunctions (setting : Setting) (patch : ℕ) (functions : List Cata
   pub own : map setting_function functions ≡ functions_of setting patch
   pub inside : All (LiesInObject (names_of setting.image.objects)) functions
 
-pub hooked_after : (setting : Setting) (old new : State) (patch : ℕ) (functions : List CatalogFunction) (hooked : List Bool)
+-- a site has an entry exactly where its object is loaded and an installed patch has a function for it
+abbrev pub EntriesArePatched : Type 0
+EntriesArePatched = (setting : Setting) (state : State) (site : ℕ)
+    → is_hooked setting state site ≡ (is_site_loaded setting state site && list_any (patches_site setting site) (installed_patches state))
+
+pub hooked_after : EntriesArePatched → (setting : Setting) (old new : State) (patch : ℕ) (functions : List CatalogFunction) (hooked : List Bool)
     → AreFunctions setting patch functions
     → length hooked ≡ length (symbols_of setting.image.objects)
     → ((site : ℕ) → slice_index_or hooked site false ≡ is_hooked setting old site)
     → new.loaded ≡ old.loaded → installed_patches new ≡ installed_patches old ++ patch ∷ []
     → (site : ℕ)
     → slice_index_or (hooked_with (due_sites (λ object. slice_index_or old.loaded object false) functions) hooked) site false ≡ is_hooked setting new site
-hooked_after setting old new patch functions hooked are count before same_loaded one_more site =
+hooked_after law setting old new patch functions hooked are count before same_loaded one_more site =
     let flags = λ (object : ℕ). slice_index_or old.loaded object false in
     let loaded = is_site_loaded setting old site in
     let others = list_any (patches_site setting site) (installed_patches old) in
@@ -136,14 +140,14 @@ hooked_after setting old new patch functions hooked are count before same_loaded
     ap (λ (l : List Bool). is_object_loaded (record old { loaded = l }) (object_of setting.image.objects site)) same_loaded
     in
     hooked_with-reads (due_sites flags functions) hooked site below
-    ∙ ap (λ b. b || list_any (λ t. t == site) (due_sites flags functions)) (before site ∙ is_hooked-any setting old site)
+    ∙ ap (λ b. b || list_any (λ t. t == site) (due_sites flags functions)) (before site ∙ law setting old site)
     ∙ ap (λ b. (loaded && others) || b) due
     ∙ hooked_more loaded others asks
     ∙ ap (λ q. loaded && (others || (q || false))) (sym own)
     ∙ ap (λ b. loaded && b) (sym (list_any-append (patches_site setting site) (installed_patches old) (patch ∷ [])))
     ∙ ap (λ (ps : List ℕ). loaded && list_any (patches_site setting site) ps) (sym one_more)
     ∙ ap (λ b. b && list_any (patches_site setting site) (installed_patches new)) (sym still)
-    ∙ sym (is_hooked-any setting new site)
+    ∙ sym (law setting new site)
 
 -- the numbers of installed patches
 
@@ -243,14 +247,14 @@ or-last : (old same : Bool) → same ≡ true → (old || (same || false)) ≡ t
 or-last true same h = refl
 or-last false same h = ap (λ b. b || false) h
 
-pub kept_after : (text : TextImage) (modules : ModuleTable) (catalog : Catalog) (world after : World) (moving : Option Move) (runs : List (List (List ℕ))) (patch : ℕ) (functions : List CatalogFunction)
+pub kept_after : EntriesArePatched → (text : TextImage) (modules : ModuleTable) (catalog : Catalog) (world after : World) (moving : Option Move) (runs : List (List (List ℕ))) (patch : ℕ) (functions : List CatalogFunction)
     → IsKept text modules catalog world moving → IsInstallable text catalog world moving patch
     → AreFunctions (setting_of (managed_of text catalog world moving)) patch functions
     → numbers_of after ≡ numbers_of world ++ patch ∷ [] → stored_ids after ≡ stored_ids world ++ (patch, state_ids catalog patch) ∷ []
     → finite.len after.shadow ≤ MAX_VARIABLES
     → IsKept (record text { hooked = hooked_with (due_sites (λ object. slice_index_or modules.loaded object false) functions) text.hooked }) modules (record catalog { runs = runs })
     after (Some (record { patch = patch; target = true }))
-kept_after text modules catalog world after moving runs patch functions kept new are more more_ids few =
+kept_after law text modules catalog world after moving runs patch functions kept new are more more_ids few =
     let old = managed_of text catalog world moving in
     let move : Move = record { patch = patch; target = true } in
     let next = managed_of text catalog after (Some move) in
@@ -258,7 +262,7 @@ kept_after text modules catalog world after moving runs patch functions kept new
     let installed = numbers_of world in
     let all = sym more in
     let apart : list_any (λ p. p == patch) installed ≡ false = any-numbers patch world.installed ∙ new.apart in
-    let hooked = hooked_after setting old.state next.state patch functions text.hooked are kept.text_of_state.sites kept.text_of_state.hooked refl more in
+    let hooked = hooked_after law setting old.state next.state patch functions text.hooked are kept.text_of_state.sites kept.text_of_state.hooked refl more in
     let flags : modules.loaded ≡ text.loaded = ap (λ (m : ModuleTable). m.loaded) kept.text_of_state.modules_are in
     let last : list_any (eqb patch) (installed ++ patch ∷ []) ≡ true =
     list_any-append (eqb patch) installed (patch ∷ []) ∙ or-last (list_any (eqb patch) installed) (eqb patch patch) (nat_eq_equiv.refl patch)
@@ -294,6 +298,13 @@ kept_after text modules catalog world after moving runs patch functions kept new
 none-moves : {P : Type 0} (m : Move) → None ≡ Some m → P
 none-moves m is = let no : ⊥ = cc in absurd no
 
+-- the entries of a site depend on what is loaded and on which patches are installed
+pub same_patches_same_site : (setting : Setting) (old new : State) (site : ℕ) → old.loaded ≡ new.loaded → installed_patches old ≡ installed_patches new
+    → is_hooked setting old site ≡ is_hooked setting new site
+same_patches_same_site setting old new site flags same =
+    ap (λ (l : List Bool). is_hooked setting (record old { loaded = l }) site) flags
+    ∙ ap (λ (ps : List ℕ). not (is_empty (cond (is_site_loaded setting new site) (entries_from setting site (reverse ps)) []))) same
+
 -- the same patches are installed, and nothing moves
 pub kept_at_rest : (text : TextImage) (modules : ModuleTable) (catalog : Catalog) (world after : World) (moving : Option Move) (runs : List (List (List ℕ)))
     → IsKept text modules catalog world moving → numbers_of after ≡ numbers_of world → stored_ids after ≡ stored_ids world
@@ -319,7 +330,7 @@ kept_at_rest text modules catalog world after moving runs kept same same_ids few
         catalog_names = kept.text_of_state.catalog_names;
         sites = kept.text_of_state.sites;
         hooked = λ site. kept.text_of_state.hooked site
-            ∙ ap (λ (ps : List ℕ). not (is_empty (cond (is_site_loaded setting old.state site) (entries_from setting site (reverse ps)) []))) back;
+            ∙ same_patches_same_site setting old.state (managed_of text catalog after None).state site refl back;
       };
     }
 

@@ -1,24 +1,22 @@
 -- What a manager keeps when its world changes.
 use Rattle.std.proofs.Common.{◌≡◌, ℕ, ◌+◌, ◌<◌, ◌≤◌, Bool, true, false, ◌&&◌, cond, List, Option, Some, None, length, refl, sym, ap, subst, ◌∙◌, eqb, arith}
+use Rattle.std.specs.Cmp.{IsTotalOrder, then_total, on_total, nat_cmp_total}
 use Rattle.std.specs.List.{IsDistinct, list_any}
 use Rattle.std.specs.FinMap as finite
 use Rattle.klp_types.specs.declared.limits.TheConstants.{MAX_VARIABLES}
 use Rattle.klp_types.specs.declared.shadow.ShadowKey.{ShadowKey}
 use Rattle.klp_types.specs.declared.version.Move.{Move}
-use Rattle.klp_types.specs.World.{World, with_variable}
-use Rattle.klp_types.specs.Entries.{is_site_loaded, patches_site}
+use Rattle.klp_types.specs.World.{World, with_variable, key_cmp}
 use Rattle.klp_types.specs.Step.{lacks_symbol}
-use Rattle.klp_types.proofs.EntryLemmas.{is_hooked-any}
 use Rattle.klp_types.specs.Script.{allocated}
 use Rattle.klp_text.specs.TextImage.{TextImage}
 use Rattle.klp_modules.specs.Names.{ModuleTable}
 use Rattle.klp_catalog.specs.Catalog.{Catalog}
 use Rattle.klp_world.specs.Noted.{rows_of_free_all}
-use Rattle.klp_world.proofs.SortedLemmas.{key_total}
 use Rattle.klp_world.proofs.UndoLemmas.{count_parted}
 use Rattle.klp_core.specs.Managed.{setting_of}
 use Rattle.klp_core.specs.Kept.{managed_of, stored_ids, named_ids, IsKept}
-use Rattle.klp_core.proofs.EnableLemmas.{numbers_of}
+use Rattle.klp_core.proofs.EnableLemmas.{numbers_of, same_patches_same_site}
 
 -- over a world with the same installed patches, and with shadow variables for which there is room
 pub kept_over : (text : TextImage) (modules : ModuleTable) (catalog : Catalog) (world other : World) (moving : Option Move)
@@ -45,13 +43,12 @@ kept_over text modules catalog world other moving kept same same_ids few =
         modules_are = kept.text_of_state.modules_are;
         catalog_names = kept.text_of_state.catalog_names;
         sites = kept.text_of_state.sites;
-        hooked = λ site.
-            kept.text_of_state.hooked site
-            ∙ is_hooked-any setting old.state site
-            ∙ ap (λ (ps : List ℕ). is_site_loaded setting old.state site && list_any (patches_site setting site) ps) turned
-            ∙ sym (is_hooked-any setting new.state site);
+        hooked = λ site. kept.text_of_state.hooked site ∙ same_patches_same_site setting old.state new.state site refl turned;
       };
     }
+
+key_total : IsTotalOrder key_cmp
+key_total = then_total (on_total (λ (k : ShadowKey). k.obj) nat_cmp_total) (on_total (λ (k : ShadowKey). k.id) nat_cmp_total)
 
 one_more : (there : Bool) (before after limit : ℕ) → after ≡ cond there before (before + 1) → before < limit → after ≤ limit
 one_more true before after limit is room = omega arith

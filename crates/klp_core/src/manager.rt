@@ -28,6 +28,7 @@ use klp_catalog::laws::counts_grow_by_runs;
 use klp_catalog::{Catalog, CatalogFunction};
 use klp_modules::Modules;
 use klp_text::Image;
+use klp_types::laws::entry_where_patched;
 use klp_types::{
     Event, MAX_PATCHES, MAX_VARIABLES, Move, ObjId, PatchId, Records, Refusal, Reply, ShadowKey,
     Which,
@@ -291,6 +292,7 @@ impl Manager {
         requires few { length self.old.catalog.patches ≤ 16 }
         ensures { Accepts self.old self.new (Enable patch) result }
     {
+        entry_where_patched();
         self.log.clear();
         let ids = self.catalog.state_ids(patch);
         self.world.add_states(patch, &ids, &mut self.log);

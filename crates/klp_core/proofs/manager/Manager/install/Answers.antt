@@ -60,7 +60,7 @@ invariant_of-self g c =
     ∙ enabled_patches c.self.inside.world c.args.patch _
     in (
       rw (c.hook_all.ensures, same)
-          (kept_after c.self.inside.image c.self.inside.modules c.self.inside.catalog c.self.inside.world c.pre_patch.new.world c.self.inside.moving (after_runs c.self.inside.catalog pre).runs
+          (kept_after c.entry_where_patched.ensures c.self.inside.image c.self.inside.modules c.self.inside.catalog c.self.inside.world c.pre_patch.new.world c.self.inside.moving (after_runs c.self.inside.catalog pre).runs
           c.args.patch c.functions.result.now c.self.invariant.0 facts (record { own = own; inside = inside }) more more_ids
           (omega (arith, first, room, c.pre_patch.ensures.few))),
       c.pre_patch.ensures.log,
