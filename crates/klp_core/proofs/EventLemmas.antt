@@ -16,7 +16,7 @@ use Rattle.klp_catalog.specs.Catalog.{Catalog}
 use Rattle.klp_catalog.specs.Runs.{after_runs}
 use Rattle.klp_core.specs.Managed.{Managed, setting_of}
 use Rattle.klp_core.specs.Events.{Takes, after_event, after_events, answers_to}
-use Rattle.klp_core.proofs.LoopLemmas.{after_runs-append, setting-kept}
+use Rattle.klp_core.proofs.LoopLemmas.{after_runs-append, setting-stays}
 
 pub next_event : {A : Type 0} (xs : List A) (i : ℕ) (x : A) → i < length xs → x ≡ get_or xs i x → drop i xs ≡ x ∷ drop (i + 1) xs
 next_event xs i x below is =
@@ -24,7 +24,7 @@ next_event xs i x below is =
     drop-cons xs i x below ∙ ap (λ y. y ∷ drop (suc i) xs) (sym is) ∙ ap (λ n. x ∷ drop n xs) next
 
 pub same_setting : (managed : Managed) (event : Event) → setting_of (after_event managed event) ≡ setting_of managed
-same_setting managed event = setting-kept managed (callbacks_of (setting_of managed) managed.state event) (next (setting_of managed) managed.state event)
+same_setting managed event = setting-stays managed (callbacks_of (setting_of managed) managed.state event) (next (setting_of managed) managed.state event)
 
 one_left : (managed : Managed) (event : Event) (rest : List Event) → after_events (after_event managed event) rest ≡ after_events managed (event ∷ rest)
 one_left managed event rest =
@@ -58,8 +58,8 @@ refused_if : (managed : Managed) (refusal : Option Refusal) (outcome : Reply × 
       state = state_after managed.state (unless refusal outcome);
     }) ≡ managed)
 refused_if managed refusal outcome runs (Ok reply) is = tt
-refused_if managed None outcome runs (Err told) is = let no : ⊥ = cc in absurd no
-refused_if managed (Some refusal) outcome runs (Err told) is = refl
+refused_if managed None outcome runs (Err reason) is = let no : ⊥ = cc in absurd no
+refused_if managed (Some refusal) outcome runs (Err reason) is = refl
 
 -- a refusal leaves everything
 pub refusal_stays : (before after : Managed) (event : Event) (result : Result Reply Refusal) → Takes before after event result → OnErr result (after ≡ before)

@@ -16,7 +16,7 @@ use Rattle.klp_world.specs.Noted.{rows_of_script}
 use Rattle.klp_modules.specs.Names.{ModuleTable}
 use Rattle.klp_catalog.specs.Catalog.{Catalog}
 use Rattle.klp_catalog.specs.Runs.{number_of, change_at, counted_at, callbacks_of, objects_at, after_run, after_runs}
-use Rattle.klp_core.specs.Due.{is_loaded_in, due_call, call_for}
+use Rattle.klp_core.specs.Loaded.{is_loaded_in, loaded_call, call_for}
 
 -- a run notes no more than there is room for, once nothing else is noted
 pub rows_fit : (patch : ℕ) (world : World) (script : Option Script) (log : RecordList)
@@ -67,11 +67,11 @@ ran_at : (catalog : Catalog) (modules : ModuleTable) (patch place object : ℕ) 
 ran_at catalog modules patch place object which None at there loaded = let never : ⊥ = cc in absurd never
 ran_at catalog modules patch place object which (Some o) at there loaded =
     let own : object ≡ o.object = ap (λ f. unwrap_or f object) there in
-    let due : is_loaded_in modules o.object ≡ true = ap (is_loaded_in modules) (sym own) ∙ loaded in
+    let here : is_loaded_in modules o.object ≡ true = ap (is_loaded_in modules) (sym own) ∙ loaded in
     ran_if catalog patch place which (script_for which o.callbacks) (ap (λ f. script_for which (callbacks_of f)) at)
-    ∙ ap (λ b. after_runs catalog (cond b (call_of patch place which (script_for which o.callbacks)) [])) (sym due)
+    ∙ ap (λ b. after_runs catalog (cond b (call_of patch place which (script_for which o.callbacks)) [])) (sym here)
 
-pub ran_due : (catalog : Catalog) (modules : ModuleTable) (patch place object : ℕ) (which : Which)
+pub ran_where_loaded : (catalog : Catalog) (modules : ModuleTable) (patch place object : ℕ) (which : Which)
     → Some object ≡ option_map (λ (o : PatchObject). o.object) (slice_get (objects_at catalog patch) place) → is_loaded_in modules object ≡ true
-    → after_run catalog patch place which ≡ after_runs catalog (due_call catalog modules patch which place)
-ran_due catalog modules patch place object which there loaded = ran_at catalog modules patch place object which (slice_get (objects_at catalog patch) place) refl there loaded
+    → after_run catalog patch place which ≡ after_runs catalog (loaded_call catalog modules patch which place)
+ran_where_loaded catalog modules patch place object which there loaded = ran_at catalog modules patch place object which (slice_get (objects_at catalog patch) place) refl there loaded

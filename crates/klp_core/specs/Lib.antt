@@ -2,6 +2,6 @@ pub mod Managed
 pub mod Events
 pub mod Boot
 pub mod Hooks
-pub mod Due
-pub mod Kept
+pub mod Loaded
+pub mod Invariant
 pub mod View

@@ -1,4 +1,4 @@
-ghost use Rattle.std.specs.Prelude.{◌≡◌, ◌≤◌, IsTrue, IfOk, IfErr, OnOk, false, [], length};
+ghost use Rattle.std.specs.Prelude.{◌≡◌, IsTrue, IfOk, IfErr, OnOk, false, []};
 ghost use Rattle.std.specs.FinMap as finite;
 ghost use Rattle.klp_text.specs.TextImage.{IsWithinLimits};
 ghost use Rattle.klp_core.specs.Boot.{IsMatch, IsFaultOf};

@@ -9,7 +9,7 @@ ghost use Rattle.klp_types.specs.Setting.{PatchObject as ObjectOf};
 ghost use Rattle.klp_types.specs.Callbacks.{script_for, calls_of, refuses, allocs_of, after_calls};
 ghost use Rattle.klp_types.specs.Step.{status_of};
 ghost use Rattle.klp_catalog.specs.Runs.{after_runs, objects_at};
-ghost use Rattle.klp_core.specs.Due.{is_loaded_in, patches_in, due_from, due_calls, due_call, due_status, refusal_of, pre_calls};
+ghost use Rattle.klp_core.specs.Loaded.{is_loaded_in, patches_in, loaded_from, loaded_calls, loaded_call, loaded_status, refusal_of, pre_calls};
 
 use crate::manager::MAX_RECORDS;
 use klp_catalog::Catalog;
@@ -19,8 +19,14 @@ use klp_world::World;
 use klp_world::laws::{installed_patches_stay, records_are_few, variables_are_few};
 
 /// How many shadow variables the callback of one object adds at most, where the object is loaded.
-fn due_allocs(catalog: &Catalog, modules: &Modules, patch: PatchId, which: Which, place: u8) -> u16
-    ensures value { result ≡ allocs_of (due_call catalog.now modules.now patch which place) }
+fn allocs_where_loaded(
+    catalog: &Catalog,
+    modules: &Modules,
+    patch: PatchId,
+    which: Which,
+    place: u8,
+) -> u16
+    ensures value { result ≡ allocs_of (loaded_call catalog.now modules.now patch which place) }
     ensures limit { result ≤ 16 }
 {
     match catalog.target(patch, place) {
@@ -31,19 +37,19 @@ fn due_allocs(catalog: &Catalog, modules: &Modules, patch: PatchId, which: Which
 
 /// How many shadow variables the callbacks of a kind for the loaded objects of a patch add at most.
 pub(crate) fn allocs(catalog: &Catalog, modules: &Modules, patch: PatchId, which: Which) -> usize
-    ensures value { result ≡ allocs_of (calls_of patch which (due_from (is_loaded_in modules.now) 0 (objects_at catalog.now patch))) }
+    ensures value { result ≡ allocs_of (calls_of patch which (loaded_from (is_loaded_in modules.now) 0 (objects_at catalog.now patch))) }
     ensures limit { result ≤ 128 }
 {
     let mut sum = 0;
     for place in 0..catalog.targets(patch) {
-        sum += usize::from(due_allocs(catalog, modules, patch, which, place));
+        sum += usize::from(allocs_where_loaded(catalog, modules, patch, which, place));
     }
     sum
 }
 
 /// Runs the callback of one object, where the object is loaded, and answers its status: 0 where
 /// there is none. What it notes isn't kept.
-fn run_due(
+fn run_where_loaded(
     catalog: &mut Catalog,
     modules: &Modules,
     patch: PatchId,
@@ -52,13 +58,13 @@ fn run_due(
     world: &mut World,
     log: &mut Records,
 ) -> i32
-    requires room { finite.len world.old.shadow + allocs_of (due_call catalog.old modules.now patch which place) ≤ MAX_VARIABLES }
+    requires room { finite.len world.old.shadow + allocs_of (loaded_call catalog.old modules.now patch which place) ≤ MAX_VARIABLES }
     requires log { log.old.room ≡ MAX_RECORDS }
-    ensures status { result ≡ due_status catalog.old modules.now patch which place }
-    ensures catalog { catalog.new ≡ after_runs catalog.old (due_call catalog.old modules.now patch which place) }
-    ensures world { world.new ≡ after_calls world.old (due_call catalog.old modules.now patch which place) }
+    ensures status { result ≡ loaded_status catalog.old modules.now patch which place }
+    ensures catalog { catalog.new ≡ after_runs catalog.old (loaded_call catalog.old modules.now patch which place) }
+    ensures world { world.new ≡ after_calls world.old (loaded_call catalog.old modules.now patch which place) }
     ensures installed { patches_in world.new ≡ patches_in world.old }
-    ensures few { finite.len world.new.shadow ≤ finite.len world.old.shadow + allocs_of (due_call catalog.old modules.now patch which place) }
+    ensures few { finite.len world.new.shadow ≤ finite.len world.old.shadow + allocs_of (loaded_call catalog.old modules.now patch which place) }
     ensures log { log.new.room ≡ MAX_RECORDS }
 {
     variables_are_few();
@@ -86,16 +92,16 @@ pub(crate) fn run_callbacks(
     log: &mut Records,
 )
     requires end { end ≤ length (objects_at catalog.old patch) }
-    requires room { finite.len world.old.shadow + allocs_of (due_calls catalog.old modules.now patch which end) ≤ MAX_VARIABLES }
+    requires room { finite.len world.old.shadow + allocs_of (loaded_calls catalog.old modules.now patch which end) ≤ MAX_VARIABLES }
     requires log { log.old.room ≡ MAX_RECORDS }
-    ensures catalog { catalog.new ≡ after_runs catalog.old (due_calls catalog.old modules.now patch which end) }
-    ensures world { world.new ≡ after_calls world.old (due_calls catalog.old modules.now patch which end) }
+    ensures catalog { catalog.new ≡ after_runs catalog.old (loaded_calls catalog.old modules.now patch which end) }
+    ensures world { world.new ≡ after_calls world.old (loaded_calls catalog.old modules.now patch which end) }
     ensures installed { patches_in world.new ≡ patches_in world.old }
-    ensures few { finite.len world.new.shadow ≤ finite.len world.old.shadow + allocs_of (due_calls catalog.old modules.now patch which end) }
+    ensures few { finite.len world.new.shadow ≤ finite.len world.old.shadow + allocs_of (loaded_calls catalog.old modules.now patch which end) }
     ensures log { log.new.room ≡ MAX_RECORDS }
 {
     for place in 0..end {
-        run_due(catalog, modules, patch, which, place, world, log);
+        run_where_loaded(catalog, modules, patch, which, place, world, log);
     }
 }
 
@@ -108,16 +114,16 @@ fn run_pre(
     world: &mut World,
     log: &mut Records,
 ) -> Option<i32>
-    requires room { finite.len world.old.shadow + allocs_of (due_call catalog.old modules.now patch Pre place) ≤ MAX_VARIABLES }
+    requires room { finite.len world.old.shadow + allocs_of (loaded_call catalog.old modules.now patch Pre place) ≤ MAX_VARIABLES }
     requires log { log.old.room ≡ MAX_RECORDS }
-    ensures status { result ≡ refusal_of (due_status catalog.old modules.now patch Pre place) }
-    ensures catalog { catalog.new ≡ after_runs catalog.old (due_call catalog.old modules.now patch Pre place) }
-    ensures world { world.new ≡ after_calls world.old (due_call catalog.old modules.now patch Pre place) }
+    ensures status { result ≡ refusal_of (loaded_status catalog.old modules.now patch Pre place) }
+    ensures catalog { catalog.new ≡ after_runs catalog.old (loaded_call catalog.old modules.now patch Pre place) }
+    ensures world { world.new ≡ after_calls world.old (loaded_call catalog.old modules.now patch Pre place) }
     ensures installed { patches_in world.new ≡ patches_in world.old }
-    ensures few { finite.len world.new.shadow ≤ finite.len world.old.shadow + allocs_of (due_call catalog.old modules.now patch Pre place) }
+    ensures few { finite.len world.new.shadow ≤ finite.len world.old.shadow + allocs_of (loaded_call catalog.old modules.now patch Pre place) }
     ensures log { log.new.room ≡ MAX_RECORDS }
 {
-    match run_due(catalog, modules, patch, Which::Pre, place, world, log) {
+    match run_where_loaded(catalog, modules, patch, Which::Pre, place, world, log) {
         0 => None,
         status => Some(status),
     }
@@ -133,17 +139,17 @@ pub(crate) fn pre_patch(
     log: &mut Records,
 ) -> Option<(u8, i32)>
     requires room { finite.len world.old.shadow
-        + allocs_of (calls_of patch Pre (due_from (is_loaded_in modules.now) 0 (objects_at catalog.old patch))) ≤ MAX_VARIABLES }
+        + allocs_of (calls_of patch Pre (loaded_from (is_loaded_in modules.now) 0 (objects_at catalog.old patch))) ≤ MAX_VARIABLES }
     requires log { log.old.room ≡ MAX_RECORDS }
     ensures refused { MatchOption result
-        (find refuses (due_from (is_loaded_in modules.now) 0 (objects_at catalog.old patch)) ≡ None)
+        (find refuses (loaded_from (is_loaded_in modules.now) 0 (objects_at catalog.old patch)) ≡ None)
         (λ r. (o : ObjectOf) × (slice_get (objects_at catalog.old patch) r.0 ≡ Some o) × (r.1 ≡ status_of (script_for Pre o.callbacks))
-        × (find refuses (due_from (is_loaded_in modules.now) 0 (objects_at catalog.old patch)) ≡ Some (r.0, o))) }
-    ensures catalog { catalog.new ≡ after_runs catalog.old (pre_calls patch (due_from (is_loaded_in modules.now) 0 (objects_at catalog.old patch))) }
-    ensures world { world.new ≡ after_calls world.old (pre_calls patch (due_from (is_loaded_in modules.now) 0 (objects_at catalog.old patch))) }
+        × (find refuses (loaded_from (is_loaded_in modules.now) 0 (objects_at catalog.old patch)) ≡ Some (r.0, o))) }
+    ensures catalog { catalog.new ≡ after_runs catalog.old (pre_calls patch (loaded_from (is_loaded_in modules.now) 0 (objects_at catalog.old patch))) }
+    ensures world { world.new ≡ after_calls world.old (pre_calls patch (loaded_from (is_loaded_in modules.now) 0 (objects_at catalog.old patch))) }
     ensures installed { patches_in world.new ≡ patches_in world.old }
     ensures few { finite.len world.new.shadow
-        ≤ finite.len world.old.shadow + allocs_of (calls_of patch Pre (due_from (is_loaded_in modules.now) 0 (objects_at catalog.old patch))) }
+        ≤ finite.len world.old.shadow + allocs_of (calls_of patch Pre (loaded_from (is_loaded_in modules.now) 0 (objects_at catalog.old patch))) }
     ensures log { log.new.room ≡ MAX_RECORDS }
 {
     for place in 0..catalog.targets(patch) {
@@ -166,15 +172,15 @@ pub(crate) fn take_out(
     log: &mut Records,
 ) -> Reply
     requires refused { IsSomeAnd (slice_get (objects_at catalog.old patch) place) (λ o.
-        find refuses (due_from (is_loaded_in modules.now) 0 (objects_at catalog.old patch)) ≡ Some (place, o)) }
+        find refuses (loaded_from (is_loaded_in modules.now) 0 (objects_at catalog.old patch)) ≡ Some (place, o)) }
     requires room { finite.len world.old.shadow
-        + allocs_of (calls_of patch PostUn (due_from (is_loaded_in modules.now) 0 (objects_at catalog.old patch))) ≤ MAX_VARIABLES }
+        + allocs_of (calls_of patch PostUn (loaded_from (is_loaded_in modules.now) 0 (objects_at catalog.old patch))) ≤ MAX_VARIABLES }
     requires log { log.old.room ≡ MAX_RECORDS }
     ensures reply { IsSomeAnd (slice_get (objects_at catalog.old patch) place) (λ o. result ≡ PreFailed patch o.object status) }
     ensures catalog { catalog.new ≡ after_runs catalog.old
-        (calls_of patch PostUn (before_first refuses (due_from (is_loaded_in modules.now) 0 (objects_at catalog.old patch)))) }
+        (calls_of patch PostUn (before_first refuses (loaded_from (is_loaded_in modules.now) 0 (objects_at catalog.old patch)))) }
     ensures world { world.new ≡ without_patch (after_calls world.old
-        (calls_of patch PostUn (before_first refuses (due_from (is_loaded_in modules.now) 0 (objects_at catalog.old patch))))) patch }
+        (calls_of patch PostUn (before_first refuses (loaded_from (is_loaded_in modules.now) 0 (objects_at catalog.old patch))))) patch }
     ensures installed { (before : List ℕ) → patches_in world.old ≡ before ++ patch ∷ [] → list_any (λ p. p == patch) before ≡ false → patches_in world.new ≡ before }
     ensures few { finite.len world.new.shadow ≤ MAX_VARIABLES }
     ensures log { log.new.room ≡ MAX_RECORDS }

@@ -1,4 +1,4 @@
-ghost use Rattle.std.specs.Prelude.{◌≡◌, ◌+◌, ◌<◌, ◌≤◌, Some, ◌==◌, ◌&&◌, ◌⊎◌, true, false, count_by, is_ok, is_err, is_none, is_some, option_and_then, Ok, Err, None, IfOk, IfErr, OnErr, IsErr, slice_index_or, slice_set, replicate, length, map};
+ghost use Rattle.std.specs.Prelude.{◌≡◌, ◌+◌, ◌<◌, ◌≤◌, Some, ◌==◌, ◌&&◌, true, false, is_none, is_some, option_and_then, Ok, Err, None, IfOk, IfErr, OnErr, slice_index_or, slice_set, replicate, length};
 ghost use Rattle.std.specs.List.{list_any};
 ghost use Rattle.klp_types.specs.declared.event.Event.TheVariants.{Enable, Poll};
 ghost use Rattle.klp_types.specs.Callbacks.{lacks_room};
@@ -34,7 +34,7 @@ use klp_types::{
     Which,
 };
 use klp_world::{InstalledPatches, World};
-use std::alloc::{AllocError, Global};
+use std::alloc::Global;
 use std::marker::Model;
 
 /// How many records one event may note.
@@ -64,12 +64,12 @@ impl Model for Manager {
     ghost coded = { Prim.hlevel (codes, world_code) };
 
     ghost use Rattle.std.specs.Prelude.{◌≡◌};
-    ghost use Rattle.klp_core.specs.Kept.{managed_of, IsKept};
+    ghost use Rattle.klp_core.specs.Invariant.{managed_of, Invariant};
     ghost use Rattle.klp_core.specs.declared.manager.TheConstants.{MAX_RECORDS};
 
     ghost view = { λ m. managed_of m.image m.catalog m.world m.moving };
 
-    ghost invariant = { λ m. IsKept m.image m.modules m.catalog m.world m.moving × (m.log.room ≡ MAX_RECORDS) };
+    ghost invariant = { λ m. Invariant m.image m.modules m.catalog m.world m.moving × (m.log.room ≡ MAX_RECORDS) };
 }
 
 impl Manager {
@@ -198,6 +198,7 @@ impl Manager {
         &self.modules
     }
 
+    // Each event goes to its own method.
     fn take(&mut self, event: Event) -> Result<Reply, Refusal>
         ensures { Takes self.old self.new event result }
     {

@@ -4,7 +4,7 @@ use Rattle.std.specs.FinMap as finite
 use Rattle.klp_types.specs.declared.callback.Which.TheVariants.{Pre}
 use Rattle.klp_types.specs.Callbacks.{calls_of, refuses, allocs_of, after_calls}
 use Rattle.klp_catalog.specs.Runs.{after_runs, objects_at}
-use Rattle.klp_core.specs.Due.{is_loaded_in, patches_in, due_from, pre_calls}
+use Rattle.klp_core.specs.Loaded.{is_loaded_in, patches_in, loaded_from, pre_calls}
 use Rattle.klp_core.specs.declared.manager.TheConstants.{MAX_RECORDS}
 use Rattle.klp_core.proofs.callbacks.pre_patch.Given as goal
 
@@ -12,8 +12,8 @@ use Rattle.klp_core.proofs.callbacks.pre_patch.Given as goal
 abbrev pub invariant-loop-place : goal.invariant-loop-place
 invariant-loop-place g l =
     let objects = objects_at l.fn.catalog l.patch in
-    let all = due_from (is_loaded_in l.modules) 0 objects in
-    let left = due_from (is_loaded_in l.modules) l.place (drop l.place objects) in
+    let all = loaded_from (is_loaded_in l.modules) 0 objects in
+    let left = loaded_from (is_loaded_in l.modules) l.place (drop l.place objects) in
     record {
       objects : objects_at l.catalog l.patch ≡ objects;
       catalog : after_runs l.catalog (pre_calls l.patch left) ≡ after_runs l.fn.catalog (pre_calls l.patch all);

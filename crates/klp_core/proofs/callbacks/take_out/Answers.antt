@@ -4,7 +4,7 @@ use Rattle.std.specs.FinMap as finite
 use Rattle.klp_types.specs.World.{World, without_patch}
 use Rattle.klp_types.specs.Callbacks.{allocs_of, after_calls, calls_of}
 use Rattle.klp_catalog.specs.Runs.{after_runs, objects_at}
-use Rattle.klp_core.specs.Due.{is_loaded_in, patches_in, due_from}
+use Rattle.klp_core.specs.Loaded.{is_loaded_in, patches_in, loaded_from}
 use Rattle.klp_core.proofs.EnableLemmas.{gone-again}
 use Rattle.klp_core.proofs.CallLemmas.{clean-few}
 use Rattle.klp_core.proofs.LoopLemmas.{refused-before}
@@ -15,7 +15,7 @@ run_callbacks-requires-clause-room g c =
     let objects = objects_at c.args.catalog.now c.args.patch in
     let loaded = is_loaded_in c.args.modules.now in
     let same = ap (λ os. allocs_of (calls_of c.args.patch PostUn os)) (refused-before loaded objects c.args.place c.requires.refused) in
-    omega (arith, same, clean-few c.args.patch (due_from loaded 0 objects), c.requires.room)
+    omega (arith, same, clean-few c.args.patch (loaded_from loaded 0 objects), c.requires.room)
 
 pub returns-clause-catalog : goal.returns-clause-catalog
 returns-clause-catalog g c =
@@ -40,4 +40,4 @@ returns-clause-few g c =
     let loaded = is_loaded_in c.args.modules.now in
     let same = ap (λ os. allocs_of (calls_of c.args.patch PostUn os)) (refused-before loaded objects c.args.place c.requires.refused) in
     let left = ap (λ (w : World). finite.len w.shadow) c.drop_states.ensures.world in
-    omega (arith, same, left, clean-few c.args.patch (due_from loaded 0 objects), c.run_callbacks.ensures.few, c.requires.room)
+    omega (arith, same, left, clean-few c.args.patch (loaded_from loaded 0 objects), c.run_callbacks.ensures.few, c.requires.room)

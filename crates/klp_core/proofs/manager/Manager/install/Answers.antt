@@ -12,12 +12,12 @@ use Rattle.klp_modules.specs.Names.{ObjectNames}
 use Rattle.klp_catalog.specs.Catalog.{Catalog}
 use Rattle.klp_catalog.specs.Runs.{after_runs, objects_at}
 use Rattle.klp_catalog.specs.Assembled.{LiesInObject}
-use Rattle.klp_core.specs.Due.{is_loaded_in, due_from, pre_calls}
+use Rattle.klp_core.specs.Loaded.{is_loaded_in, loaded_from, pre_calls}
 use Rattle.klp_core.specs.Managed.{Managed}
-use Rattle.klp_core.specs.Kept.{managed_of, stored_ids, IsKept}
-use Rattle.klp_core.proofs.LoopLemmas.{after_runs-append, after_runs-keeps, objects-kept}
+use Rattle.klp_core.specs.Invariant.{managed_of, stored_ids, Invariant}
+use Rattle.klp_core.proofs.LoopLemmas.{after_runs-append, after_runs-keeps, objects-stay}
 use Rattle.klp_core.proofs.RoomLemmas.{room_to_enable}
-use Rattle.klp_core.proofs.EnableLemmas.{each_below, installable, kept_after, kept_at_rest, enabled_patches, any-numbers}
+use Rattle.klp_core.proofs.EnableLemmas.{each_below, installable, invariant_after, invariant_at_rest, enabled_patches, any-numbers}
 use Rattle.klp_core.proofs.InstallLemmas.{starts, fails}
 use Rattle.klp_core.proofs.StateLemmas.{calls_keep, put_last, out_again}
 use Rattle.klp_core.proofs.manager.Manager.install.Goals as goal
@@ -36,7 +36,7 @@ add_states-requires-clause-room g c =
 
 pub hook_all-requires : goal.hook_all-requires
 hook_all-requires g c =
-    let pre = pre_calls c.args.patch (due_from (is_loaded_in c.self.inside.modules) 0 (objects_at c.self.inside.catalog c.args.patch)) in
+    let pre = pre_calls c.args.patch (loaded_from (is_loaded_in c.self.inside.modules) 0 (objects_at c.self.inside.catalog c.args.patch)) in
     let names = ap (λ (k : Catalog). k.names) (c.pre_patch.ensures.catalog ∙ after_runs-keeps c.self.inside.catalog pre) in
     each_below c.self.inside.image.image c.functions.result.now
     (subst (λ (names : List ObjectNames). All (LiesInObject names) c.functions.result.now) (names ∙ c.self.invariant.0.text_of_state.catalog_names) c.functions.ensures.in_object)
@@ -45,7 +45,7 @@ pub invariant_of-self : goal.invariant_of-self
 invariant_of-self g c =
     let facts = installable c.self.inside.image c.self.inside.modules c.self.inside.catalog c.self.inside.world c.self.inside.moving
     c.args.self.now c.args.patch c.self.view_is c.self.invariant.0 c.requires.unrefused in
-    let pre = pre_calls c.args.patch (due_from (is_loaded_in c.self.inside.modules) 0 (objects_at c.self.inside.catalog c.args.patch)) in
+    let pre = pre_calls c.args.patch (loaded_from (is_loaded_in c.self.inside.modules) 0 (objects_at c.self.inside.catalog c.args.patch)) in
     let same = c.pre_patch.ensures.catalog ∙ after_runs-keeps c.self.inside.catalog pre in
     let names = ap (λ (k : Catalog). k.names) same in
     let inside = subst (λ (names : List ObjectNames). All (LiesInObject names) c.functions.result.now) (names ∙ c.self.invariant.0.text_of_state.catalog_names) c.functions.ensures.in_object in
@@ -60,7 +60,7 @@ invariant_of-self g c =
     ∙ enabled_patches c.self.inside.world c.args.patch _
     in (
       rw (c.hook_all.ensures, same)
-          (kept_after c.entry_where_patched.ensures c.self.inside.image c.self.inside.modules c.self.inside.catalog c.self.inside.world c.pre_patch.new.world c.self.inside.moving (after_runs c.self.inside.catalog pre).runs
+          (invariant_after c.entry_where_patched.ensures c.self.inside.image c.self.inside.modules c.self.inside.catalog c.self.inside.world c.pre_patch.new.world c.self.inside.moving (after_runs c.self.inside.catalog pre).runs
           c.args.patch c.functions.result.now c.self.invariant.0 facts (record { own = own; inside = inside }) more more_ids
           (omega (arith, first, room, c.pre_patch.ensures.few))),
       c.pre_patch.ensures.log,
@@ -68,20 +68,20 @@ invariant_of-self g c =
 
 pub take_out-requires-clause-refused : goal.take_out-requires-clause-refused
 take_out-requires-clause-refused g c =
-    let pre = pre_calls c.args.patch (due_from (is_loaded_in c.self.inside.modules) 0 (objects_at c.self.inside.catalog c.args.patch)) in
-    let same = ap (λ (k : Catalog). objects_at k c.args.patch) c.pre_patch.ensures.catalog ∙ objects-kept c.self.inside.catalog pre c.args.patch in
+    let pre = pre_calls c.args.patch (loaded_from (is_loaded_in c.self.inside.modules) 0 (objects_at c.self.inside.catalog c.args.patch)) in
+    let same = ap (λ (k : Catalog). objects_at k c.args.patch) c.pre_patch.ensures.catalog ∙ objects-stay c.self.inside.catalog pre c.args.patch in
     let refused = c.in-Some.ensures.refused in
-    subst (λ os. IsSomeAnd (slice_get os c.in-Some.place) (λ o. find refuses (due_from (is_loaded_in c.self.inside.modules) 0 os) ≡ Some (c.in-Some.place, o))) (sym same)
-    (subst (λ found. IsSomeAnd found (λ o. find refuses (due_from (is_loaded_in c.self.inside.modules) 0 (objects_at c.self.inside.catalog c.args.patch)) ≡ Some (c.in-Some.place, o)))
+    subst (λ os. IsSomeAnd (slice_get os c.in-Some.place) (λ o. find refuses (loaded_from (is_loaded_in c.self.inside.modules) 0 os) ≡ Some (c.in-Some.place, o))) (sym same)
+    (subst (λ found. IsSomeAnd found (λ o. find refuses (loaded_from (is_loaded_in c.self.inside.modules) 0 (objects_at c.self.inside.catalog c.args.patch)) ≡ Some (c.in-Some.place, o)))
     (sym refused.1) refused.3)
 
 pub take_out-requires-clause-room : goal.take_out-requires-clause-room
 take_out-requires-clause-room g c =
     let facts = installable c.self.inside.image c.self.inside.modules c.self.inside.catalog c.self.inside.world c.self.inside.moving
     c.args.self.now c.args.patch c.self.view_is c.self.invariant.0 c.requires.unrefused in
-    let pre = pre_calls c.args.patch (due_from (is_loaded_in c.self.inside.modules) 0 (objects_at c.self.inside.catalog c.args.patch)) in
-    let same = ap (λ (k : Catalog). objects_at k c.args.patch) c.pre_patch.ensures.catalog ∙ objects-kept c.self.inside.catalog pre c.args.patch in
-    let post_un = ap (λ os. allocs_of (calls_of c.args.patch PostUn (due_from (is_loaded_in c.self.inside.modules) 0 os))) same in
+    let pre = pre_calls c.args.patch (loaded_from (is_loaded_in c.self.inside.modules) 0 (objects_at c.self.inside.catalog c.args.patch)) in
+    let same = ap (λ (k : Catalog). objects_at k c.args.patch) c.pre_patch.ensures.catalog ∙ objects-stay c.self.inside.catalog pre c.args.patch in
+    let post_un = ap (λ os. allocs_of (calls_of c.args.patch PostUn (loaded_from (is_loaded_in c.self.inside.modules) 0 os))) same in
     let first = ap (λ (w : World). finite.len w.shadow) c.add_states.ensures.world in
     let room = room_to_enable c.self.inside.image c.self.inside.modules c.self.inside.catalog c.self.inside.world c.self.inside.moving c.args.patch c.self.invariant.0 facts.enough in
     omega (arith, post_un, first, room, c.pre_patch.ensures.few)
@@ -91,8 +91,8 @@ invariant_of-self-in-Some g c =
     let facts = installable c.self.inside.image c.self.inside.modules c.self.inside.catalog c.self.inside.world c.self.inside.moving
     c.args.self.now c.args.patch c.self.view_is c.self.invariant.0 c.requires.unrefused in
     let loaded = is_loaded_in c.self.inside.modules in
-    let pre = pre_calls c.args.patch (due_from loaded 0 (objects_at c.self.inside.catalog c.args.patch)) in
-    let clean = calls_of c.args.patch PostUn (before_first refuses (due_from loaded 0 (objects_at c.pre_patch.new.catalog c.args.patch))) in
+    let pre = pre_calls c.args.patch (loaded_from loaded 0 (objects_at c.self.inside.catalog c.args.patch)) in
+    let clean = calls_of c.args.patch PostUn (before_first refuses (loaded_from loaded 0 (objects_at c.pre_patch.new.catalog c.args.patch))) in
     let runs = c.take_out.ensures.catalog ∙ ap (λ k. after_runs k clean) c.pre_patch.ensures.catalog ∙ sym (after_runs-append c.self.inside.catalog pre clean)
     ∙ after_runs-keeps c.self.inside.catalog (pre ++ clean)
     in
@@ -108,11 +108,11 @@ invariant_of-self-in-Some g c =
     ∙ enabled_patches c.self.inside.world c.args.patch _
     in
     let same = c.take_out.ensures.installed before more (any-numbers c.args.patch c.self.inside.world.installed ∙ facts.apart) in
-    let kept = kept_at_rest c.self.inside.image c.self.inside.modules c.self.inside.catalog c.self.inside.world c.take_out.new.world c.self.inside.moving
+    let holds = invariant_at_rest c.self.inside.image c.self.inside.modules c.self.inside.catalog c.self.inside.world c.take_out.new.world c.self.inside.moving
     (after_runs c.self.inside.catalog (pre ++ clean)).runs c.self.invariant.0 same same_ids c.take_out.ensures.few
     in (
-      subst (λ m. IsKept c.self.inside.image c.self.inside.modules c.take_out.new.catalog c.take_out.new.world m) (sym (rests c.self.inside.moving facts.still))
-          (subst (λ (k : Catalog). IsKept c.self.inside.image c.self.inside.modules k c.take_out.new.world None) (sym runs) kept),
+      subst (λ m. Invariant c.self.inside.image c.self.inside.modules c.take_out.new.catalog c.take_out.new.world m) (sym (rests c.self.inside.moving facts.still))
+          (subst (λ (k : Catalog). Invariant c.self.inside.image c.self.inside.modules k c.take_out.new.world None) (sym runs) holds),
       c.take_out.ensures.log,
     )
 
@@ -123,7 +123,7 @@ returns-in-None g c = record {
       ap (λ (t : TextImage). managed_of t c.pre_patch.new.catalog c.pre_patch.new.world (Some (record { patch = c.args.patch; target = true }))) c.hook_all.ensures
       ∙ starts c.self.inside.image c.self.inside.modules c.self.inside.catalog c.pre_patch.new.catalog c.self.inside.world c.pre_patch.new.world c.self.inside.moving
       c.args.self.now c.args.patch c.self.view_is c.self.invariant.0 c.in-None.ensures.refused c.pre_patch.ensures.catalog
-      (c.pre_patch.ensures.world ∙ ap (λ w. after_calls w (pre_calls c.args.patch (due_from (is_loaded_in c.self.inside.modules) 0 (objects_at c.self.inside.catalog c.args.patch))))
+      (c.pre_patch.ensures.world ∙ ap (λ w. after_calls w (pre_calls c.args.patch (loaded_from (is_loaded_in c.self.inside.modules) 0 (objects_at c.self.inside.catalog c.args.patch))))
       (c.add_states.ensures.world ∙ ap (with_patch c.self.inside.world c.args.patch) (c.deref.ensures.0 ∙ c.state_ids-ids.ensures)));
 }
 
@@ -134,6 +134,6 @@ returns-in-Some g c =
     fails c.self.inside.image c.self.inside.modules c.self.inside.catalog c.pre_patch.new.catalog c.take_out.new.catalog c.self.inside.world c.pre_patch.new.world c.take_out.new.world
     c.self.inside.moving c.args.self.now c.args.patch c.in-Some.place (to_z w32 (of_z w32 c.in-Some.status)) refused.0 c.take_out.result c.self.view_is c.self.invariant.0
     refused.1 (stored ∙ refused.2) refused.3 c.pre_patch.ensures.catalog
-    (c.pre_patch.ensures.world ∙ ap (λ w. after_calls w (pre_calls c.args.patch (due_from (is_loaded_in c.self.inside.modules) 0 (objects_at c.self.inside.catalog c.args.patch))))
+    (c.pre_patch.ensures.world ∙ ap (λ w. after_calls w (pre_calls c.args.patch (loaded_from (is_loaded_in c.self.inside.modules) 0 (objects_at c.self.inside.catalog c.args.patch))))
     (c.add_states.ensures.world ∙ ap (with_patch c.self.inside.world c.args.patch) (c.deref.ensures.0 ∙ c.state_ids-ids.ensures)))
     c.take_out.ensures.catalog c.take_out.ensures.world c.take_out.ensures.reply

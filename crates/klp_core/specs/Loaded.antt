@@ -20,28 +20,28 @@ abbrev pub patches_in : World → List ℕ
 patches_in world = map (λ (i : Installed). i.patch) world.installed
 
 -- the loaded ones of these objects, of which the first has this place
-abbrev pub due_from : (ℕ → Bool) → ℕ → List PatchObject → List (ℕ × PatchObject)
-due_from loaded place objects = filter (λ (o : ℕ × PatchObject). loaded o.1.object) (enumerate_from place objects)
+abbrev pub loaded_from : (ℕ → Bool) → ℕ → List PatchObject → List (ℕ × PatchObject)
+loaded_from loaded place objects = filter (λ (o : ℕ × PatchObject). loaded o.1.object) (enumerate_from place objects)
 
 -- the callbacks of a kind for the loaded ones of a patch's first objects
-abbrev pub due_calls : Catalog → ModuleTable → ℕ → Which → ℕ → List Call
-due_calls catalog modules patch which end = calls_of patch which (due_from (is_loaded_in modules) 0 (take end (objects_at catalog patch)))
+abbrev pub loaded_calls : Catalog → ModuleTable → ℕ → Which → ℕ → List Call
+loaded_calls catalog modules patch which end = calls_of patch which (loaded_from (is_loaded_in modules) 0 (take end (objects_at catalog patch)))
 
 -- the callback of one object, where it is loaded
 abbrev pub call_for : (ℕ → Bool) → ℕ → Which → ℕ → Option PatchObject → List Call
 call_for loaded patch which place None = []
 call_for loaded patch which place (Some object) = if loaded object.object then call_of patch place which (script_for which object.callbacks) else []
 
-abbrev pub due_call : Catalog → ModuleTable → ℕ → Which → ℕ → List Call
-due_call catalog modules patch which place = call_for (is_loaded_in modules) patch which place (slice_get (objects_at catalog patch) place)
+abbrev pub loaded_call : Catalog → ModuleTable → ℕ → Which → ℕ → List Call
+loaded_call catalog modules patch which place = call_for (is_loaded_in modules) patch which place (slice_get (objects_at catalog patch) place)
 
 -- the status that it answers: 0 where none runs
 abbrev pub status_for : (ℕ → Bool) → Which → Option PatchObject → ℤ
 status_for loaded which None = pos 0
 status_for loaded which (Some object) = if loaded object.object then status_of (script_for which object.callbacks) else pos 0
 
-abbrev pub due_status : Catalog → ModuleTable → ℕ → Which → ℕ → ℤ
-due_status catalog modules patch which place = status_for (is_loaded_in modules) which (slice_get (objects_at catalog patch) place)
+abbrev pub loaded_status : Catalog → ModuleTable → ℕ → Which → ℕ → ℤ
+loaded_status catalog modules patch which place = status_for (is_loaded_in modules) which (slice_get (objects_at catalog patch) place)
 
 -- the pre-patch callbacks up to and with the first that refuses
 abbrev pub pre_calls : ℕ → List (ℕ × PatchObject) → List Call

@@ -56,6 +56,6 @@ pub record IsText (text : TextImage) (modules : ModuleTable) (managed : Managed)
   pub hooked : (site : ℕ) → slice_index_or text.hooked site false ≡ is_hooked (setting_of managed) managed.state site
 
 -- both
-pub record IsKept (text : TextImage) (modules : ModuleTable) (catalog : Catalog) (world : World) (moving : Option Move) : Type 0 where
+pub record Invariant (text : TextImage) (modules : ModuleTable) (catalog : Catalog) (world : World) (moving : Option Move) : Type 0 where
   pub allowed : IsAllowed (managed_of text catalog world moving)
   pub text_of_state : IsText text modules (managed_of text catalog world moving)
