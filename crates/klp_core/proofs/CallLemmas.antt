@@ -1,5 +1,5 @@
 -- Callbacks object by object, as loops over a patch's objects run them.
-use Rattle.std.proofs.Common.{◌≡◌, ℕ, suc, zero, ◌+◌, ◌≤◌, Bool, true, false, cond, List, [], ◌∷◌, ◌++◌, take, drop, length, Option, Some, None, refl, sym, ap, ◌∙◌, append_assoc, arith}
+use Rattle.std.proofs.Common.{sum_by, ◌≡◌, ℕ, suc, zero, ◌+◌, ◌≤◌, Bool, true, false, cond, List, [], ◌∷◌, ◌++◌, take, drop, length, Option, Some, None, refl, sym, ap, ◌∙◌, append_assoc, arith}
 use Rattle.std.specs.Prelude.{slice_get, find, not, is_some, unwrap_or}
 use Rattle.std.proofs.lemmas.List.{append-nil, take-append-drop}
 use Rattle.std.specs.List.{before_first, position_or_len}
@@ -141,11 +141,12 @@ before-refusing loaded (x ∷ xs) n (suc d) o e =
       | false ↦ λ e. before-refusing loaded xs (n + 1) d o (e ∙ ap (λ k. Some (k, o)) next)
     ] e
 
--- what the clean-up may add is no more than what it might add for all objects
-pub clean-few : (patch : ℕ) (objects : List (ℕ × PatchObject)) → allocs_of (calls_of patch PostUn (before_first refuses objects)) ≤ allocs_of (calls_of patch PostUn objects)
-clean-few patch objects =
+-- what the clean-up may add and note is no more than what it might for all objects
+pub clean-few : (weight : Call → ℕ) (patch : ℕ) (objects : List (ℕ × PatchObject))
+    → sum_by weight (calls_of patch PostUn (before_first refuses objects)) ≤ sum_by weight (calls_of patch PostUn objects)
+clean-few weight patch objects =
     let n = position_or_len refuses objects in
-    let whole = ap (λ xs. allocs_of (calls_of patch PostUn xs)) (take-append-drop n objects) in
-    let parts = ap allocs_of (calls_of-append patch PostUn (take n objects) (drop n objects)) in
-    let sums = allocs-append (calls_of patch PostUn (take n objects)) (calls_of patch PostUn (drop n objects)) in
+    let whole = ap (λ xs. sum_by weight (calls_of patch PostUn xs)) (take-append-drop n objects) in
+    let parts = ap (sum_by weight) (calls_of-append patch PostUn (take n objects) (drop n objects)) in
+    let sums = sum_by-append weight (calls_of patch PostUn (take n objects)) (calls_of patch PostUn (drop n objects)) in
     omega (arith, whole, parts, sums)

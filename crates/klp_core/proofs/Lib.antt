@@ -5,6 +5,7 @@ pub mod ViewLemmas
 pub mod WorldLemmas
 pub mod CallLemmas
 pub mod LoopLemmas
+pub mod RanLemmas
 pub mod RoomLemmas
 pub mod InstallLemmas
 pub mod RunLemmas

@@ -1,7 +1,7 @@
 ghost use Rattle.std.specs.Prelude.{◌≡◌, ◌+◌, ◌<◌, ◌≤◌, Some, ◌==◌, ◌&&◌, true, false, is_none, is_some, option_and_then, Ok, Err, None, IfOk, IfErr, OnErr, slice_index_or, slice_set, replicate, length};
 ghost use Rattle.std.specs.List.{list_any};
 ghost use Rattle.klp_types.specs.declared.event.Event.TheVariants.{Enable, Poll};
-ghost use Rattle.klp_types.specs.Callbacks.{lacks_room};
+ghost use Rattle.klp_types.specs.Callbacks.{lacks_room, may_run};
 ghost use Rattle.klp_types.specs.declared.limits.TheConstants.{MAX_PATCHES};
 ghost use Rattle.klp_types.specs.Setting.{replaces};
 ghost use Rattle.klp_types.specs.World.{variable, state_value};
@@ -16,10 +16,11 @@ ghost use Rattle.klp_catalog.specs.Runs.{objects_at, place_of, script_at, callba
 ghost use Rattle.klp_catalog.specs.States.{state_ids};
 ghost use Rattle.klp_core.specs.Boot.{IsMatch, AreNamed, IsFaultOf, opening_state};
 ghost use Rattle.klp_core.specs.Managed.{setting_of};
+ghost use Rattle.klp_core.specs.Calls.{records_of};
 ghost use Rattle.klp_core.specs.Events.{Takes, TakesAll, Accepts, AreCounted};
 
 use crate::boot::room_over;
-use crate::callbacks::{allocs, pre_patch, run_callbacks, take_out};
+use crate::callbacks::{allocs, pre_patch, put_last, run_callbacks, take_out};
 use crate::fault::BootFault;
 use crate::hooks::hook_all;
 use crate::view::TextView;
@@ -244,7 +245,8 @@ impl Manager {
 
     // Whether there is no room for what the callbacks that enabling may run add.
     fn lacks_room_to_enable(&self, patch: PatchId) -> bool
-        ensures { result ≡ lacks_room (setting_of self.now) self.now.state (Enable patch) }
+        ensures room { result ≡ lacks_room (setting_of self.now) self.now.state (Enable patch) }
+        ensures records { records_of (may_run (setting_of self.now) self.now.state (Enable patch)) ≤ 512 }
     {
         let pre = allocs(&self.catalog, &self.modules, patch, Which::Pre);
         let post_un = allocs(&self.catalog, &self.modules, patch, Which::PostUn);
@@ -253,7 +255,8 @@ impl Manager {
 
     // Whether there is no room for what the post-patch callbacks of the moving patch add.
     fn lacks_room_to_complete(&self) -> bool
-        ensures { result ≡ lacks_room (setting_of self.now) self.now.state Poll }
+        ensures room { result ≡ lacks_room (setting_of self.now) self.now.state Poll }
+        ensures records { records_of (may_run (setting_of self.now) self.now.state Poll) ≤ 256 }
     {
         let post = match self.moving {
             Some(moving) => allocs(&self.catalog, &self.modules, moving.patch, Which::Post),
@@ -266,6 +269,7 @@ impl Manager {
     fn enable_refusal(&self, patch: PatchId) -> Option<Refusal>
         ensures few { length self.now.catalog.patches ≤ 16 }
         ensures refusal { result ≡ first_of (refusals (setting_of self.now) self.now.state (Enable patch)) }
+        ensures records { result ≡ None → records_of (may_run (setting_of self.now) self.now.state (Enable patch)) ≤ 512 }
     {
         if patch.0 >= self.catalog.patches() {
             Some(Refusal::NoPatch)
@@ -291,12 +295,11 @@ impl Manager {
     fn install(&mut self, patch: PatchId) -> Reply
         requires unrefused { first_of (refusals (setting_of self.old) self.old.state (Enable patch)) ≡ None }
         requires few { length self.old.catalog.patches ≤ 16 }
+        requires records { records_of (may_run (setting_of self.old) self.old.state (Enable patch)) ≤ 512 }
         ensures { Accepts self.old self.new (Enable patch) result }
     {
         entry_where_patched();
-        self.log.clear();
-        let ids = self.catalog.state_ids(patch);
-        self.world.add_states(patch, &ids, &mut self.log);
+        put_last(&self.catalog, patch, &mut self.world, &mut self.log);
         match pre_patch(
             &mut self.catalog,
             &self.modules,
@@ -341,11 +344,13 @@ impl Manager {
     // The transition ends: post-patch runs object by object.
     fn complete(&mut self) -> Reply
         requires room { lacks_room (setting_of self.old) self.old.state Poll ≡ false }
+        requires records { records_of (may_run (setting_of self.old) self.old.state Poll) ≤ 256 }
         ensures { Accepts self.old self.new Poll result }
     {
         let Some(moving) = self.moving else {
             return Reply::Completed(false);
         };
+        self.log.clear();
         let end = self.catalog.targets(moving.patch);
         run_callbacks(
             &mut self.catalog,
