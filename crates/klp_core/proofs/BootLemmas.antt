@@ -1,6 +1,6 @@
 -- What a manager keeps when it is booted.
-use Rattle.std.proofs.Common.{◌≡◌, ℕ, zero, suc, ◌+◌, ◌<◌, Bool, true, false, List, [], ◌∷◌, length, replicate, Option, Some, None, refl, sym, ap, ◌∙◌, eqb, arith}
-use Rattle.std.specs.Prelude.{◌&&◌, not, nat_lt, slice_get, slice_index_or, slice_set, option_map}
+use Rattle.std.proofs.Common.{◌≡◌, ℕ, zero, suc, ◌+◌, ◌<◌, Bool, true, false, cond, List, [], ◌∷◌, length, replicate, Option, Some, None, refl, sym, ap, ◌∙◌, eqb, arith}
+use Rattle.std.specs.Prelude.{not, nat_lt, slice_get, slice_index_or, slice_set, option_map}
 use Rattle.std.specs.Option.{option_eq}
 use Rattle.std.specs.Cmp.{nat_eq_equiv}
 use Rattle.std.specs.List.{IsDistinct}
@@ -9,14 +9,14 @@ use Rattle.std.proofs.lemmas.Option.{slice_get-map}
 use Rattle.std.specs.FinMap as finite
 use Rattle.klp_types.specs.Image.{Object, symbols_of}
 use Rattle.klp_types.specs.World.{World, key_cmp}
-use Rattle.klp_types.specs.Entries.{is_site_loaded}
-use Rattle.klp_types.proofs.EntryLemmas.{is_hooked-any}
+use Rattle.klp_types.specs.declared.version.Entry.{Entry}
+use Rattle.klp_types.specs.Entries.{is_empty, is_site_loaded}
 use Rattle.klp_text.specs.TextImage.{TextImage, opening, IsWithinLimits}
 use Rattle.klp_modules.specs.Names.{ObjectNames, ModuleTable, names_of, names_of_object}
 use Rattle.klp_catalog.specs.Catalog.{Catalog}
 use Rattle.klp_core.specs.Boot.{AreNamed, name_counts, symbol_counts}
 use Rattle.klp_core.specs.Managed.{setting_of}
-use Rattle.klp_core.specs.Kept.{managed_of, IsKept}
+use Rattle.klp_core.specs.Invariant.{managed_of, Invariant}
 use Rattle.klp_core.proofs.EnableLemmas.{no_flag}
 use borrow.Author.Tests.{eqb-true, ltb-true, ltb-false, not-false}
 
@@ -24,7 +24,8 @@ length_flags : (count : ℕ) → length (replicate count false) ≡ count
 length_flags zero = refl
 length_flags (suc count) = ap suc (length_flags count)
 
-nothing_hooked : (loaded : Bool) → (loaded && false) ≡ false
+-- whether its object is loaded or not, a site has no entry where nothing is installed
+nothing_hooked : (loaded : Bool) → not (is_empty {A = Entry} (cond loaded [] [])) ≡ false
 nothing_hooked true = refl
 nothing_hooked false = refl
 
@@ -35,10 +36,10 @@ distinct_none = tt
 abbrev pub empty_world : World
 empty_world = record { installed = []; shadow = finite.empty }
 
-pub kept_at_boot : (text : TextImage) (modules : ModuleTable) (catalog : Catalog) → text ≡ opening text.image.handler text.image.objects
+pub invariant_at_boot : (text : TextImage) (modules : ModuleTable) (catalog : Catalog) → text ≡ opening text.image.handler text.image.objects
     → IsWithinLimits text.image.objects → modules.loaded ≡ slice_set (replicate (length modules.names) false) 0 true
-    → AreNamed text.image modules catalog → IsKept text modules catalog empty_world None
-kept_at_boot text modules catalog made limits flags named =
+    → AreNamed text.image modules catalog → Invariant text modules catalog empty_world None
+invariant_at_boot text modules catalog made limits flags named =
     let fresh = managed_of text catalog empty_world None in
     let hooked = ap (λ (t : TextImage). t.hooked) made in
     let loaded = ap (λ (t : TextImage). t.loaded) made in
@@ -62,7 +63,7 @@ kept_at_boot text modules catalog made limits flags named =
         sites = ap length hooked ∙ length_flags (length (symbols_of text.image.objects));
         hooked = λ site. ap (λ (fs : List Bool). slice_index_or fs site false) hooked
             ∙ no_flag (length (symbols_of text.image.objects)) site
-            ∙ sym (is_hooked-any (setting_of fresh) fresh.state site ∙ nothing_hooked (is_site_loaded (setting_of fresh) fresh.state site));
+            ∙ sym (nothing_hooked (is_site_loaded (setting_of fresh) fresh.state site));
       };
     }
   where

@@ -22,17 +22,16 @@ use Rattle.klp_types.specs.declared.event.Refusal.TheVariants.{NoPatch, Busy, Al
 use Rattle.klp_types.specs.Callbacks.{lacks_room}
 use Rattle.klp_types.specs.Step.{has_patch, lacks_symbol, is_compatible, refusals}
 use Rattle.klp_types.specs.Entries.{is_hooked, is_empty, entries_from, is_site_loaded, is_object_loaded, patches_site}
-use Rattle.klp_types.proofs.EntryLemmas.{is_hooked-any}
 use Rattle.klp_text.specs.TextImage.{TextImage, site_count}
 use Rattle.klp_modules.specs.Names.{ObjectNames, ModuleTable, names_of}
 use Rattle.klp_plan.specs.Plan.{PlanFunction, PlanTarget, PlanPatch}
 use Rattle.klp_catalog.specs.Catalog.{Catalog, CatalogFunction, catalog_functions, functions_of_patch, functions_of_target, targets_of_patch, patch_object, resolved_function, setting_patch, setting_function, site_of}
 use Rattle.klp_catalog.specs.Assembled.{IsInObject, LiesInObject}
 use Rattle.klp_catalog.specs.States.{state_ids}
-use Rattle.klp_core.specs.Hooks.{due_sites, hooked_with}
+use Rattle.klp_core.specs.Hooks.{loaded_sites, hooked_with}
 use Rattle.klp_core.specs.Managed.{Managed, setting_of}
-use Rattle.klp_core.specs.Kept.{managed_of, stored_ids, named_ids, IsKept}
-use Rattle.klp_core.proofs.HookLemmas.{Agrees, IsBelow, length-hooked_with, hooked_with-reads, function_for-any, due_any, due_sites-below, object_of-named, site_below-named}
+use Rattle.klp_core.specs.Invariant.{managed_of, stored_ids, named_ids, Invariant}
+use Rattle.klp_core.proofs.HookLemmas.{Agrees, IsBelow, length-hooked_with, hooked_with-reads, function_for-any, loaded_any, loaded_sites-below, object_of-named, site_below-named}
 use borrow.Author.Tests.{eqb-true, ltb-true}
 
 pub no_flag : (count object : ℕ) → slice_index_or (replicate count false) object false ≡ false
@@ -111,22 +110,27 @@ pub record AreFunctions (setting : Setting) (patch : ℕ) (functions : List Cata
   pub own : map setting_function functions ≡ functions_of setting patch
   pub inside : All (LiesInObject (names_of setting.image.objects)) functions
 
-pub hooked_after : (setting : Setting) (old new : State) (patch : ℕ) (functions : List CatalogFunction) (hooked : List Bool)
+-- a site has an entry exactly where its object is loaded and an installed patch has a function for it
+abbrev pub EntriesArePatched : Type 0
+EntriesArePatched = (setting : Setting) (state : State) (site : ℕ)
+    → is_hooked setting state site ≡ (is_site_loaded setting state site && list_any (patches_site setting site) (installed_patches state))
+
+pub hooked_after : EntriesArePatched → (setting : Setting) (old new : State) (patch : ℕ) (functions : List CatalogFunction) (hooked : List Bool)
     → AreFunctions setting patch functions
     → length hooked ≡ length (symbols_of setting.image.objects)
     → ((site : ℕ) → slice_index_or hooked site false ≡ is_hooked setting old site)
     → new.loaded ≡ old.loaded → installed_patches new ≡ installed_patches old ++ patch ∷ []
     → (site : ℕ)
-    → slice_index_or (hooked_with (due_sites (λ object. slice_index_or old.loaded object false) functions) hooked) site false ≡ is_hooked setting new site
-hooked_after setting old new patch functions hooked are count before same_loaded one_more site =
+    → slice_index_or (hooked_with (loaded_sites (λ object. slice_index_or old.loaded object false) functions) hooked) site false ≡ is_hooked setting new site
+hooked_after law setting old new patch functions hooked are count before same_loaded one_more site =
     let flags = λ (object : ℕ). slice_index_or old.loaded object false in
     let loaded = is_site_loaded setting old site in
     let others = list_any (patches_site setting site) (installed_patches old) in
     let asks = list_any (λ (f : CatalogFunction). is_at f.site site) functions in
-    let below = due_sites-below flags functions (length hooked)
+    let below = loaded_sites-below flags functions (length hooked)
     (subst (λ n. All (IsBelow n) functions) (sym count) (each_below setting.image functions are.inside))
     in
-    let due = due_any flags loaded functions site
+    let asked = loaded_any flags loaded functions site
     (All-weaker (LiesInObject (names_of setting.image.objects)) (Agrees flags loaded site) (agrees setting old site) functions are.inside)
     in
     let own : patches_site setting site patch ≡ asks =
@@ -135,15 +139,15 @@ hooked_after setting old new patch functions hooked are count before same_loaded
     let still : is_site_loaded setting new site ≡ loaded =
     ap (λ (l : List Bool). is_object_loaded (record old { loaded = l }) (object_of setting.image.objects site)) same_loaded
     in
-    hooked_with-reads (due_sites flags functions) hooked site below
-    ∙ ap (λ b. b || list_any (λ t. t == site) (due_sites flags functions)) (before site ∙ is_hooked-any setting old site)
-    ∙ ap (λ b. (loaded && others) || b) due
+    hooked_with-reads (loaded_sites flags functions) hooked site below
+    ∙ ap (λ b. b || list_any (λ t. t == site) (loaded_sites flags functions)) (before site ∙ law setting old site)
+    ∙ ap (λ b. (loaded && others) || b) asked
     ∙ hooked_more loaded others asks
     ∙ ap (λ q. loaded && (others || (q || false))) (sym own)
     ∙ ap (λ b. loaded && b) (sym (list_any-append (patches_site setting site) (installed_patches old) (patch ∷ [])))
     ∙ ap (λ (ps : List ℕ). loaded && list_any (patches_site setting site) ps) (sym one_more)
     ∙ ap (λ b. b && list_any (patches_site setting site) (installed_patches new)) (sym still)
-    ∙ sym (is_hooked-any setting new site)
+    ∙ sym (law setting new site)
 
 -- the numbers of installed patches
 
@@ -203,10 +207,10 @@ pub record IsInstallable (text : TextImage) (catalog : Catalog) (world : World) 
   pub enough : lacks_room (setting_of (managed_of text catalog world moving)) (managed_of text catalog world moving).state (Enable patch) ≡ false
 
 pub installable : (text : TextImage) (modules : ModuleTable) (catalog : Catalog) (world : World) (moving : Option Move) (managed : Managed) (patch : ℕ)
-    → managed_of text catalog world moving ≡ managed → IsKept text modules catalog world moving
+    → managed_of text catalog world moving ≡ managed → Invariant text modules catalog world moving
     → first_of (refusals (setting_of managed) managed.state (Enable patch)) ≡ None
     → IsInstallable text catalog world moving patch
-installable text modules catalog world moving managed patch view kept unrefused =
+installable text modules catalog world moving managed patch view holds unrefused =
     let own = managed_of text catalog world moving in
     let none : first_of (refusals (setting_of own) own.state (Enable patch)) ≡ None =
     subst (λ (m : Managed). first_of (refusals (setting_of m) m.state (Enable patch)) ≡ None) (sym view) unrefused
@@ -215,7 +219,7 @@ installable text modules catalog world moving managed patch view kept unrefused 
     let there = free.there in
     let below : patch < length catalog.patches = omega (arith, length-map catalog.patches (setting_patch catalog.names)) in
     let apart : list_any (λ p. p == patch) (numbers_of world) ≡ false = any-numbers patch world.installed ∙ free.apart in
-    let few = room (numbers_of world) patch (length catalog.patches) kept.allowed.distinct kept.allowed.known below apart in
+    let few = room (numbers_of world) patch (length catalog.patches) holds.allowed.distinct holds.allowed.known below apart in
     record {
       below = below;
       apart = free.apart;
@@ -243,14 +247,14 @@ or-last : (old same : Bool) → same ≡ true → (old || (same || false)) ≡ t
 or-last true same h = refl
 or-last false same h = ap (λ b. b || false) h
 
-pub kept_after : (text : TextImage) (modules : ModuleTable) (catalog : Catalog) (world after : World) (moving : Option Move) (runs : List (List (List ℕ))) (patch : ℕ) (functions : List CatalogFunction)
-    → IsKept text modules catalog world moving → IsInstallable text catalog world moving patch
+pub invariant_after : EntriesArePatched → (text : TextImage) (modules : ModuleTable) (catalog : Catalog) (world after : World) (moving : Option Move) (runs : List (List (List ℕ))) (patch : ℕ) (functions : List CatalogFunction)
+    → Invariant text modules catalog world moving → IsInstallable text catalog world moving patch
     → AreFunctions (setting_of (managed_of text catalog world moving)) patch functions
     → numbers_of after ≡ numbers_of world ++ patch ∷ [] → stored_ids after ≡ stored_ids world ++ (patch, state_ids catalog patch) ∷ []
     → finite.len after.shadow ≤ MAX_VARIABLES
-    → IsKept (record text { hooked = hooked_with (due_sites (λ object. slice_index_or modules.loaded object false) functions) text.hooked }) modules (record catalog { runs = runs })
+    → Invariant (record text { hooked = hooked_with (loaded_sites (λ object. slice_index_or modules.loaded object false) functions) text.hooked }) modules (record catalog { runs = runs })
     after (Some (record { patch = patch; target = true }))
-kept_after text modules catalog world after moving runs patch functions kept new are more more_ids few =
+invariant_after law text modules catalog world after moving runs patch functions holds new are more more_ids few =
     let old = managed_of text catalog world moving in
     let move : Move = record { patch = patch; target = true } in
     let next = managed_of text catalog after (Some move) in
@@ -258,22 +262,22 @@ kept_after text modules catalog world after moving runs patch functions kept new
     let installed = numbers_of world in
     let all = sym more in
     let apart : list_any (λ p. p == patch) installed ≡ false = any-numbers patch world.installed ∙ new.apart in
-    let hooked = hooked_after setting old.state next.state patch functions text.hooked are kept.text_of_state.sites kept.text_of_state.hooked refl more in
-    let flags : modules.loaded ≡ text.loaded = ap (λ (m : ModuleTable). m.loaded) kept.text_of_state.modules_are in
+    let hooked = hooked_after law setting old.state next.state patch functions text.hooked are holds.text_of_state.sites holds.text_of_state.hooked refl more in
+    let flags : modules.loaded ≡ text.loaded = ap (λ (m : ModuleTable). m.loaded) holds.text_of_state.modules_are in
     let last : list_any (eqb patch) (installed ++ patch ∷ []) ≡ true =
     list_any-append (eqb patch) installed (patch ∷ []) ∙ or-last (list_any (eqb patch) installed) (eqb patch patch) (nat_eq_equiv.refl patch)
     in
     record {
       allowed = record {
-        limits = kept.allowed.limits;
-        loaded = kept.allowed.loaded;
+        limits = holds.allowed.limits;
+        loaded = holds.allowed.loaded;
         known = subst (λ (ps : List ℕ). (q : ℕ) → list_any (eqb q) ps ≡ true → q < length catalog.patches) all
-            (known_more installed patch (length catalog.patches) kept.allowed.known new.below);
-        distinct = subst (λ (ps : List ℕ). IsDistinct eqb ps) all (distinct_more installed patch kept.allowed.distinct apart);
+            (known_more installed patch (length catalog.patches) holds.allowed.known new.below);
+        distinct = subst (λ (ps : List ℕ). IsDistinct eqb ps) all (distinct_more installed patch holds.allowed.distinct apart);
         resolved = subst (λ (ps : List ℕ). (q : ℕ) → list_any (eqb q) ps ≡ true → lacks_symbol setting old.state q ≡ false) all
-            (resolved_more setting old.state installed patch kept.allowed.resolved new.resolved);
+            (resolved_more setting old.state installed patch holds.allowed.resolved new.resolved);
         stated = more_ids
-            ∙ ap (λ (rows : List (ℕ × List ℕ)). rows ++ (patch, state_ids catalog patch) ∷ []) kept.allowed.stated
+            ∙ ap (λ (rows : List (ℕ × List ℕ)). rows ++ (patch, state_ids catalog patch) ∷ []) holds.allowed.stated
             ∙ sym (map-append (λ p. (p, state_ids catalog p)) installed (patch ∷ []))
             ∙ ap (named_ids catalog) all;
         forward = λ m is. ap (λ (m : Move). m.target) (sym (some_inj is));
@@ -282,11 +286,11 @@ kept_after text modules catalog world after moving runs patch functions kept new
         variables = few;
       };
       text_of_state = record {
-        modules_are = kept.text_of_state.modules_are;
-        catalog_names = kept.text_of_state.catalog_names;
-        sites = length-hooked_with (due_sites (λ object. slice_index_or modules.loaded object false) functions) text.hooked ∙ kept.text_of_state.sites;
+        modules_are = holds.text_of_state.modules_are;
+        catalog_names = holds.text_of_state.catalog_names;
+        sites = length-hooked_with (loaded_sites (λ object. slice_index_or modules.loaded object false) functions) text.hooked ∙ holds.text_of_state.sites;
         hooked = λ site.
-            ap (λ (l : List Bool). slice_index_or (hooked_with (due_sites (λ object. slice_index_or l object false) functions) text.hooked) site false) flags
+            ap (λ (l : List Bool). slice_index_or (hooked_with (loaded_sites (λ object. slice_index_or l object false) functions) text.hooked) site false) flags
             ∙ hooked site;
       };
     }
@@ -294,32 +298,39 @@ kept_after text modules catalog world after moving runs patch functions kept new
 none-moves : {P : Type 0} (m : Move) → None ≡ Some m → P
 none-moves m is = let no : ⊥ = cc in absurd no
 
+-- the entries of a site depend on what is loaded and on which patches are installed
+pub same_patches_same_site : (setting : Setting) (old new : State) (site : ℕ) → old.loaded ≡ new.loaded → installed_patches old ≡ installed_patches new
+    → is_hooked setting old site ≡ is_hooked setting new site
+same_patches_same_site setting old new site flags same =
+    ap (λ (l : List Bool). is_hooked setting (record old { loaded = l }) site) flags
+    ∙ ap (λ (ps : List ℕ). not (is_empty (cond (is_site_loaded setting new site) (entries_from setting site (reverse ps)) []))) same
+
 -- the same patches are installed, and nothing moves
-pub kept_at_rest : (text : TextImage) (modules : ModuleTable) (catalog : Catalog) (world after : World) (moving : Option Move) (runs : List (List (List ℕ)))
-    → IsKept text modules catalog world moving → numbers_of after ≡ numbers_of world → stored_ids after ≡ stored_ids world
-    → finite.len after.shadow ≤ MAX_VARIABLES → IsKept text modules (record catalog { runs = runs }) after None
-kept_at_rest text modules catalog world after moving runs kept same same_ids few =
+pub invariant_at_rest : (text : TextImage) (modules : ModuleTable) (catalog : Catalog) (world after : World) (moving : Option Move) (runs : List (List (List ℕ)))
+    → Invariant text modules catalog world moving → numbers_of after ≡ numbers_of world → stored_ids after ≡ stored_ids world
+    → finite.len after.shadow ≤ MAX_VARIABLES → Invariant text modules (record catalog { runs = runs }) after None
+invariant_at_rest text modules catalog world after moving runs holds same same_ids few =
     let old = managed_of text catalog world moving in
     let setting = setting_of old in
     let back = sym same in
     record {
       allowed = record {
-        limits = kept.allowed.limits;
-        loaded = kept.allowed.loaded;
-        known = subst (λ (ps : List ℕ). (q : ℕ) → list_any (eqb q) ps ≡ true → q < length catalog.patches) back kept.allowed.known;
-        distinct = subst (λ (ps : List ℕ). IsDistinct eqb ps) back kept.allowed.distinct;
-        resolved = subst (λ (ps : List ℕ). (q : ℕ) → list_any (eqb q) ps ≡ true → lacks_symbol setting old.state q ≡ false) back kept.allowed.resolved;
-        stated = same_ids ∙ kept.allowed.stated ∙ ap (named_ids catalog) back;
+        limits = holds.allowed.limits;
+        loaded = holds.allowed.loaded;
+        known = subst (λ (ps : List ℕ). (q : ℕ) → list_any (eqb q) ps ≡ true → q < length catalog.patches) back holds.allowed.known;
+        distinct = subst (λ (ps : List ℕ). IsDistinct eqb ps) back holds.allowed.distinct;
+        resolved = subst (λ (ps : List ℕ). (q : ℕ) → list_any (eqb q) ps ≡ true → lacks_symbol setting old.state q ≡ false) back holds.allowed.resolved;
+        stated = same_ids ∙ holds.allowed.stated ∙ ap (named_ids catalog) back;
         forward = λ m is. none-moves m is;
         moving_there = λ m is. none-moves m is;
         variables = few;
       };
       text_of_state = record {
-        modules_are = kept.text_of_state.modules_are;
-        catalog_names = kept.text_of_state.catalog_names;
-        sites = kept.text_of_state.sites;
-        hooked = λ site. kept.text_of_state.hooked site
-            ∙ ap (λ (ps : List ℕ). not (is_empty (cond (is_site_loaded setting old.state site) (entries_from setting site (reverse ps)) []))) back;
+        modules_are = holds.text_of_state.modules_are;
+        catalog_names = holds.text_of_state.catalog_names;
+        sites = holds.text_of_state.sites;
+        hooked = λ site. holds.text_of_state.hooked site
+            ∙ same_patches_same_site setting old.state (managed_of text catalog after None).state site refl back;
       };
     }
 

@@ -1,6 +1,6 @@
 -- One event of a run.
-use Rattle.std.proofs.Common.{◌≡◌, ℕ, suc, ◌+◌, ◌<◌, Bool, true, false, cond, List, [], ◌∷◌, ◌++◌, drop, length, get_or, refl, sym, ap, ◌∙◌, arith}
-use Rattle.std.specs.Prelude.{count_by, is_ok, is_err, Result}
+use Rattle.std.proofs.Common.{◌≡◌, ℕ, suc, ◌+◌, ◌<◌, Bool, cond, List, ◌∷◌, drop, length, get_or, Option, Some, None, refl, sym, ap, subst, ◌∙◌, arith}
+use Rattle.std.specs.Prelude.{count_by, OnErr, Result, Ok, Err}
 use Rattle.std.proofs.Math.Seq.{drop-cons}
 use Rattle.std.proofs.lemmas.List.Sums.{sum_by-cons}
 use Rattle.klp_types.specs.declared.event.Event.{Event}
@@ -8,59 +8,62 @@ use Rattle.klp_types.specs.declared.event.Reply.{Reply}
 use Rattle.klp_types.specs.declared.event.Refusal.{Refusal}
 use Rattle.klp_types.specs.Setting.{Setting}
 use Rattle.klp_types.specs.State.{State}
-use Rattle.klp_types.specs.Step.{callbacks_of}
-use Rattle.klp_types.specs.Run.{answer, next, run, answers, callbacks_of_run}
+use Rattle.klp_types.specs.FirstOf.{first_of, unless}
+use Rattle.klp_types.specs.Callbacks.{Call, calls}
+use Rattle.klp_types.specs.Step.{refusals, accepted, calls_unless, callbacks_of}
+use Rattle.klp_types.specs.Run.{answer_of, state_after, answer, next, run, answers, callbacks_of_run}
 use Rattle.klp_catalog.specs.Catalog.{Catalog}
 use Rattle.klp_catalog.specs.Runs.{after_runs}
 use Rattle.klp_core.specs.Managed.{Managed, setting_of}
-use Rattle.klp_core.proofs.LoopLemmas.{after_runs-append, setting-kept}
+use Rattle.klp_core.specs.Events.{Takes, after_event, after_events, answers_to}
+use Rattle.klp_core.proofs.LoopLemmas.{after_runs-append, setting-stays}
 
 pub next_event : {A : Type 0} (xs : List A) (i : ℕ) (x : A) → i < length xs → x ≡ get_or xs i x → drop i xs ≡ x ∷ drop (i + 1) xs
 next_event xs i x below is =
     let next : suc i ≡ i + 1 = omega arith in
     drop-cons xs i x below ∙ ap (λ y. y ∷ drop (suc i) xs) (sym is) ∙ ap (λ n. x ∷ drop n xs) next
 
--- a manager behind one event
-abbrev pub behind : Managed → Event → Managed
-behind managed event = record managed {
-  catalog = after_runs managed.catalog (callbacks_of (setting_of managed) managed.state event);
-  state = next (setting_of managed) managed.state event;
-}
+pub same_setting : (managed : Managed) (event : Event) → setting_of (after_event managed event) ≡ setting_of managed
+same_setting managed event = setting-stays managed (callbacks_of (setting_of managed) managed.state event) (next (setting_of managed) managed.state event)
 
--- and behind a list of them
-abbrev pub behind_all : Managed → List Event → Managed
-behind_all managed events = record managed {
-  catalog = after_runs managed.catalog (callbacks_of_run (setting_of managed) managed.state events);
-  state = run (setting_of managed) managed.state events;
-}
-
-abbrev pub answers_of : Managed → List Event → List (Result Reply Refusal)
-answers_of managed events = answers (setting_of managed) managed.state events
-
-same_setting : (managed : Managed) (event : Event) → setting_of (behind managed event) ≡ setting_of managed
-same_setting managed event = setting-kept managed (callbacks_of (setting_of managed) managed.state event) (next (setting_of managed) managed.state event)
-
-one_behind : (managed : Managed) (event : Event) (rest : List Event) → behind_all (behind managed event) rest ≡ behind_all managed (event ∷ rest)
-one_behind managed event rest =
+one_left : (managed : Managed) (event : Event) (rest : List Event) → after_events (after_event managed event) rest ≡ after_events managed (event ∷ rest)
+one_left managed event rest =
     let setting = setting_of managed in
     let state = next setting managed.state event in
     let calls = callbacks_of setting managed.state event in
     ap (λ (s : Setting). record managed { catalog = after_runs (after_runs managed.catalog calls) (callbacks_of_run s state rest); state = run s state rest }) (same_setting managed event)
     ∙ ap (λ (k : Catalog). record managed { catalog = k; state = run setting state rest }) (sym (after_runs-append managed.catalog calls (callbacks_of_run setting state rest)))
 
-pub turn_behind : (managed new : Managed) (event : Event) (all rest : List Event) → new ≡ behind managed event → all ≡ event ∷ rest → behind_all new rest ≡ behind_all managed all
-turn_behind managed new event all rest is split = ap (λ m. behind_all m rest) is ∙ one_behind managed event rest ∙ ap (behind_all managed) (sym split)
+pub turn_left : (managed new : Managed) (event : Event) (all rest : List Event) → new ≡ after_event managed event → all ≡ event ∷ rest → after_events new rest ≡ after_events managed all
+turn_left managed new event all rest is split = ap (λ m. after_events m rest) is ∙ one_left managed event rest ∙ ap (after_events managed) (sym split)
 
-one_answer : (managed : Managed) (event : Event) (rest : List Event) → answers_of managed (event ∷ rest) ≡ answer (setting_of managed) managed.state event ∷ answers_of (behind managed event) rest
+one_answer : (managed : Managed) (event : Event) (rest : List Event) → answers_to managed (event ∷ rest) ≡ answer (setting_of managed) managed.state event ∷ answers_to (after_event managed event) rest
 one_answer managed event rest =
     ap (λ (s : Setting). answer (setting_of managed) managed.state event ∷ answers s (next (setting_of managed) managed.state event) rest) (sym (same_setting managed event))
 
 pub turn_answers : (test : Result Reply Refusal → Bool) (managed new : Managed) (event : Event) (result : Result Reply Refusal) (all rest : List Event)
-    → new ≡ behind managed event → all ≡ event ∷ rest → result ≡ answer (setting_of managed) managed.state event
-    → count_by test (answers_of managed all) ≡ cond (test result) 1 0 + count_by test (answers_of new rest)
+    → new ≡ after_event managed event → all ≡ event ∷ rest → result ≡ answer (setting_of managed) managed.state event
+    → count_by test (answers_to managed all) ≡ cond (test result) 1 0 + count_by test (answers_to new rest)
 turn_answers test managed new event result all rest is split given =
-    ap (λ es. count_by test (answers_of managed es)) split
+    ap (λ es. count_by test (answers_to managed es)) split
     ∙ ap (count_by test) (one_answer managed event rest)
-    ∙ sum_by-cons (λ r. cond (test r) 1 0) (answer (setting_of managed) managed.state event) (answers_of (behind managed event) rest)
-    ∙ ap (λ r. cond (test r) 1 0 + count_by test (answers_of (behind managed event) rest)) (sym given)
-    ∙ ap (λ m. cond (test result) 1 0 + count_by test (answers_of m rest)) (sym is)
+    ∙ sum_by-cons (λ r. cond (test r) 1 0) (answer (setting_of managed) managed.state event) (answers_to (after_event managed event) rest)
+    ∙ ap (λ r. cond (test r) 1 0 + count_by test (answers_to (after_event managed event) rest)) (sym given)
+    ∙ ap (λ m. cond (test result) 1 0 + count_by test (answers_to m rest)) (sym is)
+
+refused_if : (managed : Managed) (refusal : Option Refusal) (outcome : Reply × State) (runs : List Call) (result : Result Reply Refusal)
+    → result ≡ answer_of (unless refusal outcome)
+    → OnErr result ((record managed {
+      catalog = after_runs managed.catalog (calls_unless refusal runs);
+      state = state_after managed.state (unless refusal outcome);
+    }) ≡ managed)
+refused_if managed refusal outcome runs (Ok reply) is = tt
+refused_if managed None outcome runs (Err reason) is = let no : ⊥ = cc in absurd no
+refused_if managed (Some refusal) outcome runs (Err reason) is = refl
+
+-- a refusal leaves everything
+pub refusal_stays : (before after : Managed) (event : Event) (result : Result Reply Refusal) → Takes before after event result → OnErr result (after ≡ before)
+refusal_stays before after event result taken =
+    subst (λ (m : Managed). OnErr result (m ≡ before)) (sym taken.left)
+    (refused_if before (first_of (refusals (setting_of before) before.state event)) (accepted (setting_of before) before.state event)
+    (calls (setting_of before) before.state event) result taken.answered)

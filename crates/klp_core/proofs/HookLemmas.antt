@@ -8,7 +8,7 @@ use Rattle.klp_types.specs.Image.{Symbol, Object, symbols_of, object_of}
 use Rattle.klp_types.specs.Setting.{function_for, is_at}
 use Rattle.klp_modules.specs.Names.{names_of, first_site, symbol_names}
 use Rattle.klp_catalog.specs.Catalog.{CatalogFunction, setting_function}
-use Rattle.klp_core.specs.Hooks.{due_site, due_sites, hooked_with}
+use Rattle.klp_core.specs.Hooks.{loaded_site, loaded_sites, hooked_with}
 use borrow.Author.Tests.{eqb-true, eqb-false, ltb-true, lt-ltb, le-ltb}
 
 -- whether each site is below this number
@@ -82,48 +82,48 @@ function_for-any (f ∷ functions) site = found functions site f (is_at f.site s
 abbrev pub Agrees : (ℕ → Bool) → Bool → ℕ → CatalogFunction → Type 0
 Agrees loaded here site f = is_at f.site site ≡ true → loaded f.object ≡ here
 
-due_same : (loaded here same any : Bool) (s site : ℕ) (due : List ℕ) → (s == site) ≡ same → (same ≡ true → loaded ≡ here)
-    → list_any (λ t. t == site) due ≡ (here && any)
-    → list_any (λ t. t == site) (due_site loaded (Some s) ++ due) ≡ (here && (same || any))
-due_same true true true any s site due e h rest = rw e refl
-due_same true false true any s site due e h rest = let is : true ≡ false = h refl in let no : ⊥ = cc in absurd no
-due_same true here false any s site due e h rest = rw e rest
-due_same false true true any s site due e h rest = let is : false ≡ true = h refl in let no : ⊥ = cc in absurd no
-due_same false true false any s site due e h rest = rest
-due_same false false same any s site due e h rest = rest
+site_same : (loaded here same any : Bool) (s site : ℕ) (sites : List ℕ) → (s == site) ≡ same → (same ≡ true → loaded ≡ here)
+    → list_any (λ t. t == site) sites ≡ (here && any)
+    → list_any (λ t. t == site) (loaded_site loaded (Some s) ++ sites) ≡ (here && (same || any))
+site_same true true true any s site sites e h rest = rw e refl
+site_same true false true any s site sites e h rest = let is : true ≡ false = h refl in let no : ⊥ = cc in absurd no
+site_same true here false any s site sites e h rest = rw e rest
+site_same false true true any s site sites e h rest = let is : false ≡ true = h refl in let no : ⊥ = cc in absurd no
+site_same false true false any s site sites e h rest = rest
+site_same false false same any s site sites e h rest = rest
 
-due_step : (loaded here any : Bool) (own : Option ℕ) (site : ℕ) (due : List ℕ) → (is_at own site ≡ true → loaded ≡ here)
-    → list_any (λ t. t == site) due ≡ (here && any)
-    → list_any (λ t. t == site) (due_site loaded own ++ due) ≡ (here && (is_at own site || any))
-due_step loaded here any None site due h rest = rest
-due_step loaded here any (Some s) site due h rest = due_same loaded here (s == site) any s site due refl h rest
+site_step : (loaded here any : Bool) (own : Option ℕ) (site : ℕ) (sites : List ℕ) → (is_at own site ≡ true → loaded ≡ here)
+    → list_any (λ t. t == site) sites ≡ (here && any)
+    → list_any (λ t. t == site) (loaded_site loaded own ++ sites) ≡ (here && (is_at own site || any))
+site_step loaded here any None site sites h rest = rest
+site_step loaded here any (Some s) site sites h rest = site_same loaded here (s == site) any s site sites refl h rest
 
-pub due_any : (loaded : ℕ → Bool) (here : Bool) (functions : List CatalogFunction) (site : ℕ)
+pub loaded_any : (loaded : ℕ → Bool) (here : Bool) (functions : List CatalogFunction) (site : ℕ)
     → All (Agrees loaded here site) functions
-    → list_any (λ t. t == site) (due_sites loaded functions) ≡ (here && list_any (λ (f : CatalogFunction). is_at f.site site) functions)
-due_any loaded true [] site h = refl
-due_any loaded false [] site h = refl
-due_any loaded here (f ∷ functions) site h =
-    due_step (loaded f.object) here (list_any (λ (g : CatalogFunction). is_at g.site site) functions) f.site site (due_sites loaded functions)
-    (All-head (Agrees loaded here site) f functions h) (due_any loaded here functions site (All-tail (Agrees loaded here site) f functions h))
+    → list_any (λ t. t == site) (loaded_sites loaded functions) ≡ (here && list_any (λ (f : CatalogFunction). is_at f.site site) functions)
+loaded_any loaded true [] site h = refl
+loaded_any loaded false [] site h = refl
+loaded_any loaded here (f ∷ functions) site h =
+    site_step (loaded f.object) here (list_any (λ (g : CatalogFunction). is_at g.site site) functions) f.site site (loaded_sites loaded functions)
+    (All-head (Agrees loaded here site) f functions h) (loaded_any loaded here functions site (All-tail (Agrees loaded here site) f functions h))
 
 -- and are sites of the image
 
 abbrev pub IsBelow : ℕ → CatalogFunction → Type 0
 IsBelow count f = IfSome f.site (λ s. s < count)
 
-due_below : (loaded : Bool) (own : Option ℕ) (count : ℕ) (due : List ℕ) → IfSome own (λ s. s < count) → all_below count due ≡ true
-    → all_below count (due_site loaded own ++ due) ≡ true
-due_below loaded None count due h rest = rest
-due_below false (Some s) count due h rest = rest
-due_below true (Some s) count due h rest = rw (lt-ltb s count h) rest
+site_below : (loaded : Bool) (own : Option ℕ) (count : ℕ) (sites : List ℕ) → IfSome own (λ s. s < count) → all_below count sites ≡ true
+    → all_below count (loaded_site loaded own ++ sites) ≡ true
+site_below loaded None count sites h rest = rest
+site_below false (Some s) count sites h rest = rest
+site_below true (Some s) count sites h rest = rw (lt-ltb s count h) rest
 
-pub due_sites-below : (loaded : ℕ → Bool) (functions : List CatalogFunction) (count : ℕ)
-    → All (IsBelow count) functions → all_below count (due_sites loaded functions) ≡ true
-due_sites-below loaded [] count h = refl
-due_sites-below loaded (f ∷ functions) count h =
-    due_below (loaded f.object) f.site count (due_sites loaded functions) (All-head (IsBelow count) f functions h)
-    (due_sites-below loaded functions count (All-tail (IsBelow count) f functions h))
+pub loaded_sites-below : (loaded : ℕ → Bool) (functions : List CatalogFunction) (count : ℕ)
+    → All (IsBelow count) functions → all_below count (loaded_sites loaded functions) ≡ true
+loaded_sites-below loaded [] count h = refl
+loaded_sites-below loaded (f ∷ functions) count h =
+    site_below (loaded f.object) f.site count (loaded_sites loaded functions) (All-head (IsBelow count) f functions h)
+    (loaded_sites-below loaded functions count (All-tail (IsBelow count) f functions h))
 
 -- a site that lies in an object by the names is a site of that object
 

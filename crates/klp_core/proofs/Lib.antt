@@ -2,10 +2,10 @@ pub mod HookLemmas
 pub mod EnableLemmas
 pub mod BootLemmas
 pub mod ViewLemmas
-pub mod MatchLemmas
 pub mod WorldLemmas
 pub mod CallLemmas
 pub mod LoopLemmas
+pub mod RanLemmas
 pub mod RoomLemmas
 pub mod InstallLemmas
 pub mod RunLemmas

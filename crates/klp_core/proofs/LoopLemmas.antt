@@ -2,23 +2,21 @@
 use Rattle.std.proofs.Common.{◌≡◌, ℕ, ◌+◌, ◌≤◌, ◌<◌, Bool, true, false, cond, List, [], ◌∷◌, ◌++◌, take, drop, length, get_or, Option, Some, None, refl, sym, ap, ◌∙◌, arith}
 use Rattle.std.specs.Prelude.{ℤ, slice_get, find, not, pos, IsSomeAnd}
 use Rattle.std.specs.List.{before_first}
-use Rattle.std.specs.FinMap as finite
 use Rattle.std.proofs.lemmas.Option.{slice_get-get_or}
 use Rattle.std.proofs.lemmas.List.{get_or-take, length-take-le, append-nil}
 use Rattle.klp_types.specs.declared.callback.Which.{Which}
 use Rattle.klp_types.specs.declared.callback.Which.TheVariants.{Pre}
 use Rattle.klp_types.specs.Setting.{PatchObject}
-use Rattle.klp_types.specs.World.{World}
 use Rattle.klp_types.specs.Script.{Script, is_success}
 use Rattle.klp_types.specs.Callbacks.{Call, script_for, call_of, calls_of, is_refusing, refuses}
 use Rattle.klp_types.specs.Step.{status_of}
 use Rattle.klp_catalog.specs.Catalog.{Catalog}
 use Rattle.klp_catalog.specs.Runs.{after_run, after_runs, objects_at}
 use Rattle.klp_modules.specs.Names.{ModuleTable}
-use Rattle.klp_core.specs.Due.{is_loaded_in, due_from, due_call, due_status, call_for, status_for, refusal_of, pre_calls}
+use Rattle.klp_core.specs.Loaded.{is_loaded_in, loaded_from, loaded_call, loaded_status, call_for, status_for, refusal_of, pre_calls}
 use Rattle.klp_types.specs.State.{State}
 use Rattle.klp_core.specs.Managed.{Managed, setting_of}
-use Rattle.klp_core.proofs.CallLemmas.{due-loaded, due-unloaded, due-end, before-refusing}
+use Rattle.klp_core.proofs.CallLemmas.{from-loaded, from-unloaded, from-end, before-refusing}
 
 pub after_runs-append : (catalog : Catalog) (xs ys : List Call) → after_runs catalog (xs ++ ys) ≡ after_runs (after_runs catalog xs) ys
 after_runs-append catalog [] ys = refl
@@ -29,8 +27,8 @@ pub after_runs-keeps : (catalog : Catalog) (xs : List Call) → after_runs catal
 after_runs-keeps catalog [] = refl
 after_runs-keeps catalog (x ∷ xs) = after_runs-keeps (after_run catalog x.patch x.place x.which) xs
 
-pub objects-kept : (catalog : Catalog) (xs : List Call) (patch : ℕ) → objects_at (after_runs catalog xs) patch ≡ objects_at catalog patch
-objects-kept catalog xs patch = ap (λ (c : Catalog). objects_at c patch) (after_runs-keeps catalog xs)
+pub objects-stay : (catalog : Catalog) (xs : List Call) (patch : ℕ) → objects_at (after_runs catalog xs) patch ≡ objects_at catalog patch
+objects-stay catalog xs patch = ap (λ (c : Catalog). objects_at c patch) (after_runs-keeps catalog xs)
 
 pub object_in-take : (objects : List PatchObject) (end k : ℕ) → k < end → end ≤ length objects → slice_get (take end objects) k ≡ slice_get objects k
 object_in-take [] end k below fits = absurd (omega (arith, below, fits))
@@ -41,12 +39,12 @@ object_in-take (o ∷ objects) end k below fits =
 
 -- the callbacks that are left
 abbrev pub left_from : (ℕ → Bool) → ℕ → Which → ℕ → List PatchObject → List Call
-left_from loaded patch which k objects = calls_of patch which (due_from loaded k (drop k objects))
+left_from loaded patch which k objects = calls_of patch which (loaded_from loaded k (drop k objects))
 
 one_left : (loaded : ℕ → Bool) (patch : ℕ) (which : Which) (objects : List PatchObject) (k : ℕ) (o : PatchObject) (is : Bool) → slice_get objects k ≡ Some o → loaded o.object ≡ is
     → left_from loaded patch which k objects ≡ cond is (call_of patch k which (script_for which o.callbacks)) [] ++ left_from loaded patch which (k + 1) objects
-one_left loaded patch which objects k o true at is = ap (calls_of patch which) (due-loaded loaded objects k o at is)
-one_left loaded patch which objects k o false at is = ap (calls_of patch which) (due-unloaded loaded objects k o at is)
+one_left loaded patch which objects k o true at is = ap (calls_of patch which) (from-loaded loaded objects k o at is)
+one_left loaded patch which objects k o false at is = ap (calls_of patch which) (from-unloaded loaded objects k o at is)
 
 at_left : (loaded : ℕ → Bool) (patch : ℕ) (which : Which) (objects : List PatchObject) (k : ℕ) (found : Option PatchObject) → slice_get objects k ≡ found → k < length objects
     → left_from loaded patch which k objects ≡ call_for loaded patch which k found ++ left_from loaded patch which (k + 1) objects
@@ -60,13 +58,13 @@ pub next_left : (loaded : ℕ → Bool) (patch : ℕ) (which : Which) (objects :
 next_left loaded patch which objects k below = at_left loaded patch which objects k (slice_get objects k) refl below
 
 pub none_left : (loaded : ℕ → Bool) (patch : ℕ) (which : Which) (objects : List PatchObject) (k : ℕ) → length objects ≤ k → left_from loaded patch which k objects ≡ []
-none_left loaded patch which objects k past = ap (calls_of patch which) (due-end loaded objects k past)
+none_left loaded patch which objects k past = ap (calls_of patch which) (from-end loaded objects k past)
 
 -- the same for the catalog as it is in that turn
-pub next_due : (catalog first : Catalog) (modules : ModuleTable) (patch : ℕ) (which : Which) (end k : ℕ) → objects_at catalog patch ≡ objects_at first patch → k < end → end ≤ length (objects_at first patch)
+pub next_loaded : (catalog first : Catalog) (modules : ModuleTable) (patch : ℕ) (which : Which) (end k : ℕ) → objects_at catalog patch ≡ objects_at first patch → k < end → end ≤ length (objects_at first patch)
     → left_from (is_loaded_in modules) patch which k (take end (objects_at first patch))
-    ≡ due_call catalog modules patch which k ++ left_from (is_loaded_in modules) patch which (k + 1) (take end (objects_at first patch))
-next_due catalog first modules patch which end k same below fits =
+    ≡ loaded_call catalog modules patch which k ++ left_from (is_loaded_in modules) patch which (k + 1) (take end (objects_at first patch))
+next_loaded catalog first modules patch which end k same below fits =
     let objects = objects_at first patch in
     let loaded = is_loaded_in modules in
     next_left loaded patch which (take end objects) k (omega (arith, below, length-take-le end objects fits))
@@ -79,47 +77,47 @@ refusing-status (Some script) = refl
 
 -- a turn in which nothing refuses
 pub record GoesOn (loaded : ℕ → Bool) (patch : ℕ) (objects : List PatchObject) (k : ℕ) (o : PatchObject) : Type 0 where
-  pub calls : pre_calls patch (due_from loaded k (drop k objects)) ≡ call_for loaded patch Pre k (Some o) ++ pre_calls patch (due_from loaded (k + 1) (drop (k + 1) objects))
-  pub refused : find refuses (due_from loaded k (drop k objects)) ≡ find refuses (due_from loaded (k + 1) (drop (k + 1) objects))
+  pub calls : pre_calls patch (loaded_from loaded k (drop k objects)) ≡ call_for loaded patch Pre k (Some o) ++ pre_calls patch (loaded_from loaded (k + 1) (drop (k + 1) objects))
+  pub refused : find refuses (loaded_from loaded k (drop k objects)) ≡ find refuses (loaded_from loaded (k + 1) (drop (k + 1) objects))
 
 goes_on : (loaded : ℕ → Bool) (patch : ℕ) (objects : List PatchObject) (k : ℕ) (o : PatchObject) (is : Bool) → slice_get objects k ≡ Some o → loaded o.object ≡ is
     → is_success (cond is (status_of (script_for Pre o.callbacks)) (pos 0)) ≡ true → GoesOn loaded patch objects k o
 goes_on loaded patch objects k o false at is success =
-    let due = due-unloaded loaded objects k o at is in
+    let next = from-unloaded loaded objects k o at is in
     let none : call_for loaded patch Pre k (Some o) ≡ [] = ap (λ b. cond b (call_of patch k Pre (script_for Pre o.callbacks)) []) is in
     record {
-      calls = ap (pre_calls patch) due ∙ ap (λ calls. calls ++ pre_calls patch (due_from loaded (k + 1) (drop (k + 1) objects))) (sym none);
-      refused = ap (find refuses) due;
+      calls = ap (pre_calls patch) next ∙ ap (λ calls. calls ++ pre_calls patch (loaded_from loaded (k + 1) (drop (k + 1) objects))) (sym none);
+      refused = ap (find refuses) next;
     }
 goes_on loaded patch objects k o true at is success =
-    let due = due-loaded loaded objects k o at is in
-    let rest = due_from loaded (k + 1) (drop (k + 1) objects) in
+    let next = from-loaded loaded objects k o at is in
+    let rest = loaded_from loaded (k + 1) (drop (k + 1) objects) in
     let own = call_of patch k Pre (script_for Pre o.callbacks) in
     let one : call_for loaded patch Pre k (Some o) ≡ own = ap (λ b. cond b own []) is in
-    let kept : refuses (k, o) ≡ false = refusing-status (script_for Pre o.callbacks) ∙ ap not success in
+    let passes : refuses (k, o) ≡ false = refusing-status (script_for Pre o.callbacks) ∙ ap not success in
     record {
-      calls = ap (pre_calls patch) due ∙ ap (λ b. own ++ cond b [] (pre_calls patch rest)) kept ∙ ap (λ calls. calls ++ pre_calls patch rest) (sym one);
-      refused = ap (find refuses) due ∙ ap (λ b. cond b (Some (k, o)) (find refuses rest)) kept;
+      calls = ap (pre_calls patch) next ∙ ap (λ b. own ++ cond b [] (pre_calls patch rest)) passes ∙ ap (λ calls. calls ++ pre_calls patch rest) (sym one);
+      refused = ap (find refuses) next ∙ ap (λ b. cond b (Some (k, o)) (find refuses rest)) passes;
     }
 
 -- the turn in which an object refuses
 pub record Stops (loaded : ℕ → Bool) (patch : ℕ) (objects : List PatchObject) (k : ℕ) (o : PatchObject) : Type 0 where
-  pub calls : pre_calls patch (due_from loaded k (drop k objects)) ≡ call_for loaded patch Pre k (Some o)
-  pub refused : find refuses (due_from loaded k (drop k objects)) ≡ Some (k, o)
+  pub calls : pre_calls patch (loaded_from loaded k (drop k objects)) ≡ call_for loaded patch Pre k (Some o)
+  pub refused : find refuses (loaded_from loaded k (drop k objects)) ≡ Some (k, o)
   pub status : status_for loaded Pre (Some o) ≡ status_of (script_for Pre o.callbacks)
 
 stops : (loaded : ℕ → Bool) (patch : ℕ) (objects : List PatchObject) (k : ℕ) (o : PatchObject) (is : Bool) → slice_get objects k ≡ Some o → loaded o.object ≡ is
     → is_success (cond is (status_of (script_for Pre o.callbacks)) (pos 0)) ≡ false → Stops loaded patch objects k o
 stops loaded patch objects k o false at is refusal = let no : ⊥ = cc in absurd no
 stops loaded patch objects k o true at is refusal =
-    let due = due-loaded loaded objects k o at is in
-    let rest = due_from loaded (k + 1) (drop (k + 1) objects) in
+    let next = from-loaded loaded objects k o at is in
+    let rest = loaded_from loaded (k + 1) (drop (k + 1) objects) in
     let own = call_of patch k Pre (script_for Pre o.callbacks) in
     let one : call_for loaded patch Pre k (Some o) ≡ own = ap (λ b. cond b own []) is in
     let refusing : refuses (k, o) ≡ true = refusing-status (script_for Pre o.callbacks) ∙ ap not refusal in
     record {
-      calls = ap (pre_calls patch) due ∙ ap (λ b. own ++ cond b [] (pre_calls patch rest)) refusing ∙ append-nil own ∙ sym one;
-      refused = ap (find refuses) due ∙ ap (λ b. cond b (Some (k, o)) (find refuses rest)) refusing;
+      calls = ap (pre_calls patch) next ∙ ap (λ b. own ++ cond b [] (pre_calls patch rest)) refusing ∙ append-nil own ∙ sym one;
+      refused = ap (find refuses) next ∙ ap (λ b. cond b (Some (k, o)) (find refuses rest)) refusing;
       status = ap (λ b. cond b (status_of (script_for Pre o.callbacks)) (pos 0)) is;
     }
 
@@ -140,10 +138,10 @@ object_there (o ∷ objects) k below = (get_or (o ∷ objects) k o, slice_get-ge
 pub record IsTurn (catalog first : Catalog) (modules : ModuleTable) (patch k : ℕ) : Type 0 where
   pub object : PatchObject
   pub there : slice_get (objects_at first patch) k ≡ Some object
-  pub due : due_call catalog modules patch Pre k ≡ call_for (is_loaded_in modules) patch Pre k (Some object)
-  pub status : due_status catalog modules patch Pre k ≡ status_for (is_loaded_in modules) Pre (Some object)
+  pub call : loaded_call catalog modules patch Pre k ≡ call_for (is_loaded_in modules) patch Pre k (Some object)
+  pub status : loaded_status catalog modules patch Pre k ≡ status_for (is_loaded_in modules) Pre (Some object)
   pub left : left_from (is_loaded_in modules) patch Pre k (objects_at first patch)
-      ≡ due_call catalog modules patch Pre k ++ left_from (is_loaded_in modules) patch Pre (k + 1) (objects_at first patch)
+      ≡ loaded_call catalog modules patch Pre k ++ left_from (is_loaded_in modules) patch Pre (k + 1) (objects_at first patch)
 
 pub turn : (catalog first : Catalog) (modules : ModuleTable) (patch k : ℕ) → objects_at catalog patch ≡ objects_at first patch → k < length (objects_at first patch) → IsTurn catalog first modules patch k
 turn catalog first modules patch k same below =
@@ -154,7 +152,7 @@ turn catalog first modules patch k same below =
     record {
       object = found.0;
       there = found.1;
-      due = ap (call_for loaded patch Pre k) (now ∙ found.1);
+      call = ap (call_for loaded patch Pre k) (now ∙ found.1);
       status = ap (status_for loaded Pre) (now ∙ found.1);
       left = next_left loaded patch Pre objects k below ∙ ap (λ f. call_for loaded patch Pre k f ++ left_from loaded patch Pre (k + 1) objects) (sym now);
     }
@@ -174,8 +172,8 @@ pub no_refusal-is : (status : ℤ) → (◌≡◌ {A = Option ℤ} None (refusal
 no_refusal-is status e = no_refusal_by status (is_success status) refl e
 
 refused_at : (loaded : ℕ → Bool) (objects : List PatchObject) (place : ℕ) (found : Option PatchObject)
-    → IsSomeAnd found (λ o. find refuses (due_from loaded 0 objects) ≡ Some (place, o))
-    → before_first refuses (due_from loaded 0 objects) ≡ due_from loaded 0 (take place objects)
+    → IsSomeAnd found (λ o. find refuses (loaded_from loaded 0 objects) ≡ Some (place, o))
+    → before_first refuses (loaded_from loaded 0 objects) ≡ loaded_from loaded 0 (take place objects)
 refused_at loaded objects place None refused = absurd refused
 refused_at loaded objects place (Some o) refused =
     let zero : place ≡ 0 + place = omega arith in
@@ -183,10 +181,10 @@ refused_at loaded objects place (Some o) refused =
 
 -- the objects that get post-unpatch are the loaded ones of those before the place of the one that refuses
 pub refused-before : (loaded : ℕ → Bool) (objects : List PatchObject) (place : ℕ)
-    → IsSomeAnd (slice_get objects place) (λ o. find refuses (due_from loaded 0 objects) ≡ Some (place, o))
-    → before_first refuses (due_from loaded 0 objects) ≡ due_from loaded 0 (take place objects)
+    → IsSomeAnd (slice_get objects place) (λ o. find refuses (loaded_from loaded 0 objects) ≡ Some (place, o))
+    → before_first refuses (loaded_from loaded 0 objects) ≡ loaded_from loaded 0 (take place objects)
 refused-before loaded objects place refused = refused_at loaded objects place (slice_get objects place) refused
 
 -- the setting stays, whatever ran
-pub setting-kept : (managed : Managed) (calls : List Call) (state : State) → setting_of (record managed { catalog = after_runs managed.catalog calls; state = state }) ≡ setting_of managed
-setting-kept managed calls state = ap (λ (k : Catalog). setting_of (record managed { catalog = k; state = state })) (after_runs-keeps managed.catalog calls)
+pub setting-stays : (managed : Managed) (calls : List Call) (state : State) → setting_of (record managed { catalog = after_runs managed.catalog calls; state = state }) ≡ setting_of managed
+setting-stays managed calls state = ap (λ (k : Catalog). setting_of (record managed { catalog = k; state = state })) (after_runs-keeps managed.catalog calls)

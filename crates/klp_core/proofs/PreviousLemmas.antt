@@ -7,7 +7,7 @@ use Rattle.klp_types.specs.Compatible.{SystemState, version_among}
 use Rattle.klp_types.specs.World.{Installed, World, installed_before, names_state, previous_patch}
 use Rattle.klp_catalog.specs.Catalog.{Catalog}
 use Rattle.klp_catalog.specs.States as states
-use Rattle.klp_core.specs.Kept.{stored_ids, named_ids}
+use Rattle.klp_core.specs.Invariant.{stored_ids, named_ids}
 use Rattle.klp_core.proofs.StateLemmas.{Row, row_of, named_value}
 
 turned : {A B : Type 0} (f : A → B) (xs : List A) → map f (reverse xs) ≡ reverse (map f xs)
@@ -75,14 +75,14 @@ found_named catalog id (first ∷ rest) =
       | false ↦ found_named catalog id rest
     ]
 
-pub previous_told : (catalog : Catalog) (world : World) (patch id : ℕ) (patches : List ℕ) → stored_ids world ≡ named_ids catalog patches
+pub previous_agrees : (catalog : Catalog) (world : World) (patch id : ℕ) (patches : List ℕ) → stored_ids world ≡ named_ids catalog patches
     → previous_patch world patch id ≡ states.previous_state catalog patch id patches
-previous_told catalog world patch id patches stated =
+previous_agrees catalog world patch id patches stated =
     let older = installed_before patch world.installed in
-    let told = states.installed_before patch patches in
+    let named = states.installed_before patch patches in
     found_stored id (reverse older)
     ∙ ap (first_with id)
     (turned row_of older
     ∙ ap reverse (before_stored patch world.installed ∙ ap (rows_before patch) stated ∙ before_named catalog patch patches)
-    ∙ sym (turned (λ p. (p, states.state_ids catalog p)) told))
-    ∙ found_named catalog id (reverse told)
+    ∙ sym (turned (λ p. (p, states.state_ids catalog p)) named))
+    ∙ found_named catalog id (reverse named)

@@ -1,30 +1,17 @@
 -- One run of a callback.
-use Rattle.std.proofs.Common.{◌≡◌, ℕ, ◌+◌, ◌*◌, ◌≤◌, Bool, true, false, cond, List, [], ◌∷◌, length, Option, Some, None, refl, sym, ap, ◌∙◌, arith, zero, suc, le-ltb, inl, inr}
-use Rattle.std.specs.Prelude.{slice_get, find, option_map, unwrap_or, not, IfSome, nat_lt}
+use Rattle.std.proofs.Common.{◌≡◌, ℕ, ◌≤◌, true, cond, List, [], ◌∷◌, length, Option, Some, None, refl, sym, ap, ◌∙◌, zero, suc, le-ltb, inl, inr}
+use Rattle.std.specs.Prelude.{slice_get, find, option_map, unwrap_or}
 use Rattle.std.specs.List.{position_or_len}
 use Rattle.std.proofs.lemmas.List.Folds.{find_at}
 use Rattle.std.proofs.lemmas.Option.{slice_get_cases}
-use Rattle.std.specs.FinMap as finite
 use Rattle.klp_types.specs.declared.callback.Which.{Which}
-use Rattle.klp_types.specs.declared.limits.TheConstants.{MAX_VARIABLES}
 use Rattle.klp_types.specs.Setting.{Callback, PatchObject}
-use Rattle.klp_types.specs.World.{World}
-use Rattle.klp_types.specs.Records.{RecordList, spare_of}
-use Rattle.klp_types.specs.Script.{Script, effect}
+use Rattle.klp_types.specs.Script.{Script}
 use Rattle.klp_types.specs.Callbacks.{script_for, is_kind, call_of}
-use Rattle.klp_world.specs.Noted.{rows_of_script}
 use Rattle.klp_modules.specs.Names.{ModuleTable}
 use Rattle.klp_catalog.specs.Catalog.{Catalog}
-use Rattle.klp_catalog.specs.Runs.{number_of, change_at, counted_at, callbacks_of, objects_at, after_run, after_runs}
-use Rattle.klp_core.specs.Due.{is_loaded_in, due_call, call_for}
-
--- a run notes no more than there is room for, once nothing else is noted
-pub rows_fit : (patch : ℕ) (world : World) (script : Option Script) (log : RecordList)
-    → ((s : Script) → length (rows_of_script patch world s) + finite.len (effect patch world s).shadow ≤ finite.len world.shadow + 2 * length s.edits)
-    → finite.len world.shadow ≤ MAX_VARIABLES → IfSome script (λ (s : Script). length s.edits ≤ 16) → 4096 ≤ spare_of log
-    → IfSome script (λ (s : Script). length (rows_of_script patch world s) ≤ spare_of log)
-rows_fit patch world None log few variables short room = tt
-rows_fit patch world (Some script) log few variables short room = let own = few script in omega (arith, own, variables, short, room)
+use Rattle.klp_catalog.specs.Runs.{number_of, change_at, counted_at, callbacks_of, objects_at, script_at, after_run, after_runs}
+use Rattle.klp_core.specs.Loaded.{is_loaded_in, loaded_call, call_for}
 
 unchanged : {A : Type 0} (change : A → A) → ((x : A) → change x ≡ x) → (place : ℕ) (xs : List A) → change_at change place xs ≡ xs
 unchanged change same place [] = refl
@@ -61,17 +48,22 @@ ran_if : (catalog : Catalog) (patch place : ℕ) (which : Which) (script : Optio
 ran_if catalog patch place which None is = uncounted catalog patch place which (no_number which (callbacks_of (slice_get (objects_at catalog patch) place)) is)
 ran_if catalog patch place which (Some script) is = refl
 
-ran_at : (catalog : Catalog) (modules : ModuleTable) (patch place object : ℕ) (which : Which) (found : Option PatchObject) → slice_get (objects_at catalog patch) place ≡ found
-    → Some object ≡ option_map (λ (o : PatchObject). o.object) found → is_loaded_in modules object ≡ true
-    → after_run catalog patch place which ≡ after_runs catalog (call_for (is_loaded_in modules) patch which place found)
-ran_at catalog modules patch place object which None at there loaded = let never : ⊥ = cc in absurd never
-ran_at catalog modules patch place object which (Some o) at there loaded =
-    let own : object ≡ o.object = ap (λ f. unwrap_or f object) there in
-    let due : is_loaded_in modules o.object ≡ true = ap (is_loaded_in modules) (sym own) ∙ loaded in
-    ran_if catalog patch place which (script_for which o.callbacks) (ap (λ f. script_for which (callbacks_of f)) at)
-    ∙ ap (λ b. after_runs catalog (cond b (call_of patch place which (script_for which o.callbacks)) [])) (sym due)
+-- a run counts the callback, where there is one
+pub counted : (catalog : Catalog) (patch place : ℕ) (which : Which)
+    → after_run catalog patch place which ≡ after_runs catalog (call_of patch place which (script_at catalog patch place which))
+counted catalog patch place which = ran_if catalog patch place which (script_at catalog patch place which) refl
 
-pub ran_due : (catalog : Catalog) (modules : ModuleTable) (patch place object : ℕ) (which : Which)
+call_at : (modules : ModuleTable) (patch place object : ℕ) (which : Which) (found : Option PatchObject)
+    → Some object ≡ option_map (λ (o : PatchObject). o.object) found → is_loaded_in modules object ≡ true
+    → call_for (is_loaded_in modules) patch which place found ≡ call_of patch place which (script_for which (callbacks_of found))
+call_at modules patch place object which None there loaded = let never : ⊥ = cc in absurd never
+call_at modules patch place object which (Some o) there loaded =
+    let own : object ≡ o.object = ap (λ f. unwrap_or f object) there in
+    let here : is_loaded_in modules o.object ≡ true = ap (is_loaded_in modules) (sym own) ∙ loaded in
+    ap (λ b. cond b (call_of patch place which (script_for which o.callbacks)) []) here
+
+-- the callback of a loaded object runs
+pub call_there : (catalog : Catalog) (modules : ModuleTable) (patch place object : ℕ) (which : Which)
     → Some object ≡ option_map (λ (o : PatchObject). o.object) (slice_get (objects_at catalog patch) place) → is_loaded_in modules object ≡ true
-    → after_run catalog patch place which ≡ after_runs catalog (due_call catalog modules patch which place)
-ran_due catalog modules patch place object which there loaded = ran_at catalog modules patch place object which (slice_get (objects_at catalog patch) place) refl there loaded
+    → loaded_call catalog modules patch which place ≡ call_of patch place which (script_at catalog patch place which)
+call_there catalog modules patch place object which there loaded = call_at modules patch place object which (slice_get (objects_at catalog patch) place) there loaded

@@ -12,7 +12,7 @@ use Rattle.klp_types.specs.Callbacks.{Call, after_calls}
 use Rattle.klp_types.specs.World.{Installed, World, variable, previous_value, states_of, value_among, state_value, set_among, change_states, taken_out, with_patch, without_patch}
 use Rattle.klp_catalog.specs.Catalog.{Catalog}
 use Rattle.klp_catalog.specs.States.{state_ids}
-use Rattle.klp_core.specs.Kept.{stored_ids, named_ids}
+use Rattle.klp_core.specs.Invariant.{stored_ids, named_ids}
 use borrow.Author.Tests.{eqb-true}
 
 abbrev pub Row : Type 0

@@ -6,7 +6,6 @@ use Rattle.klp_types.specs.Bytes.{patched, patched_from, text_where, text_of}
 use Rattle.klp_types.specs.Setting.{Setting}
 use Rattle.klp_types.specs.State.{State}
 use Rattle.klp_types.specs.Entries.{is_hooked}
-use Rattle.klp_types.proofs.TextLemmas.{slice_get-patched_from}
 use Rattle.klp_text.specs.TextImage.{TextImage, is_hooked_at, bytes_at}
 use Rattle.klp_core.specs.View.{or_none, symbols_at}
 
@@ -14,6 +13,16 @@ length-patched_from : (handler : ℕ) (hooked : ℕ → Bool) (site : ℕ) (symb
     → length (patched_from handler hooked site symbols) ≡ length symbols
 length-patched_from handler hooked site [] = refl
 length-patched_from handler hooked site (symbol ∷ symbols) = ap suc (length-patched_from handler hooked (suc site) symbols)
+
+-- the symbol of a number is patched by its own site
+symbol_patched : (handler : ℕ) (hooked : ℕ → Bool) (site : ℕ) (symbols : List Symbol) (number : ℕ)
+    → slice_get (patched_from handler hooked site symbols) number ≡ option_map (patched handler (hooked (site + number))) (slice_get symbols number)
+symbol_patched handler hooked site [] number = refl
+symbol_patched handler hooked site (symbol ∷ symbols) zero =
+    let here : site + 0 ≡ site = omega arith in rw here refl
+symbol_patched handler hooked site (symbol ∷ symbols) (suc number) =
+    let next : suc site + number ≡ site + suc number = omega arith in
+    rw (← next) (symbol_patched handler hooked (suc site) symbols number)
 
 some_inj : {m n : ℕ} → Some m ≡ Some n → m ≡ n
 some_inj e = cc
@@ -36,7 +45,7 @@ in_object : {A : Type 0} (read : Symbol → A) → ((hooked : Bool) (symbol : Sy
     ≡ option_map read (option_and_then (λ (found : Object). slice_get found.symbols number) object)
 in_object read same handler hooked first number None = refl
 in_object read same handler hooked first number (Some object) =
-    ap (option_map read) (slice_get-patched_from handler hooked first object.symbols number)
+    ap (option_map read) (symbol_patched handler hooked first object.symbols number)
     ∙ unpatched (slice_get object.symbols number)
   where
     unpatched : (symbol : Option Symbol) → option_map read (option_map (patched handler (hooked (first + number))) symbol) ≡ option_map read symbol

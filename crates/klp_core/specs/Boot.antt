@@ -1,10 +1,12 @@
 -- What a manager is booted with, and its opening state.
-use Rattle.std.specs.Prelude.{◌≡◌, ℕ, true, false, List, [], map, length, None, slice_set, replicate}
+use Rattle.std.specs.Prelude.{◌≡◌, ℕ, ◌⊎◌, true, false, List, [], map, length, None, slice_set, replicate}
 use Rattle.std.specs.FinMap as finite
 use Rattle.klp_types.specs.Image.{Object, Image}
 use Rattle.klp_types.specs.State.{State}
 use Rattle.klp_modules.specs.Names.{ObjectNames, ModuleTable, names_of}
 use Rattle.klp_catalog.specs.Catalog.{Catalog}
+use Rattle.klp_core.specs.declared.fault.BootFault.{BootFault}
+use Rattle.klp_core.specs.declared.fault.BootFault.TheVariants.{Mismatch, NoMemory}
 
 -- object 0 alone is loaded, nothing is installed, and there is no shadow variable
 abbrev pub opening_state : Image → State
@@ -31,3 +33,8 @@ pub record IsMatch (image : Image) (modules : ModuleTable) (catalog : Catalog) :
 pub record AreNamed (image : Image) (modules : ModuleTable) (catalog : Catalog) : Type 0 where
   pub modules_named : modules.names ≡ names_of image.objects
   pub catalog_named : catalog.names ≡ names_of image.objects
+
+-- they don't match, or they match and memory ran out
+abbrev pub IsFaultOf : Image → ModuleTable → Catalog → BootFault → Type 0
+IsFaultOf image modules catalog fault =
+    ((IsMatch image modules catalog → ⊥) × (fault ≡ Mismatch)) ⊎ (IsMatch image modules catalog × (fault ≡ NoMemory))

@@ -3,15 +3,15 @@ use Rattle.std.specs.Prelude.{ℕ, Bool, true, false, List, [], ◌∷◌, ◌++
 use Rattle.klp_catalog.specs.Catalog.{CatalogFunction}
 
 -- the site of a function for a loaded object, where it names one
-abbrev pub due_site : Bool → Option ℕ → List ℕ
-due_site loaded None = []
-due_site true (Some site) = site ∷ []
-due_site false (Some site) = []
+abbrev pub loaded_site : Bool → Option ℕ → List ℕ
+loaded_site loaded None = []
+loaded_site true (Some site) = site ∷ []
+loaded_site false (Some site) = []
 
 -- the sites of the functions for loaded objects
-abbrev pub due_sites : (ℕ → Bool) → List CatalogFunction → List ℕ
-due_sites loaded [] = []
-due_sites loaded (function ∷ functions) = due_site (loaded function.object) function.site ++ due_sites loaded functions
+abbrev pub loaded_sites : (ℕ → Bool) → List CatalogFunction → List ℕ
+loaded_sites loaded [] = []
+loaded_sites loaded (function ∷ functions) = loaded_site (loaded function.object) function.site ++ loaded_sites loaded functions
 
 -- the flags of all sites once these are hooked
 abbrev pub hooked_with : List ℕ → List Bool → List Bool

@@ -1,6 +1,8 @@
 pub mod Managed
+pub mod Events
 pub mod Boot
 pub mod Hooks
-pub mod Due
-pub mod Kept
+pub mod Loaded
+pub mod Calls
+pub mod Invariant
 pub mod View

@@ -1,27 +1,36 @@
 //! The callbacks of a patch, object by object (callbacks, "Callbacks").
-ghost use Rattle.std.specs.Prelude.{◌≡◌, ℕ, ◌+◌, ◌≤◌, ◌==◌, false, List, [], ◌∷◌, ◌++◌, length, slice_get, find, take, drop, Some, None, MatchOption, IsSomeAnd};
+ghost use Rattle.std.specs.Prelude.{◌≡◌, ℕ, ◌+◌, ◌<◌, ◌≤◌, ◌==◌, false, List, [], ◌∷◌, ◌++◌, length, slice_get, find, Some, None, MatchOption, IsSomeAnd};
 ghost use Rattle.std.specs.FinMap as finite;
 ghost use Rattle.klp_types.specs.declared.callback.Which.TheVariants.{Pre, PostUn};
 ghost use Rattle.klp_types.specs.declared.event.Reply.TheVariants.{PreFailed};
-ghost use Rattle.klp_types.specs.World.{without_patch};
+ghost use Rattle.klp_types.specs.World.{Installed, with_patch, without_patch};
 ghost use Rattle.std.specs.List.{before_first, list_any};
 ghost use Rattle.klp_types.specs.Setting.{PatchObject as ObjectOf};
 ghost use Rattle.klp_types.specs.Callbacks.{script_for, calls_of, refuses, allocs_of, after_calls};
 ghost use Rattle.klp_types.specs.Step.{status_of};
 ghost use Rattle.klp_catalog.specs.Runs.{after_runs, objects_at};
-ghost use Rattle.klp_core.specs.Due.{is_loaded_in, patches_in, due_from, due_calls, due_call, due_status, refusal_of, pre_calls};
+ghost use Rattle.klp_catalog.specs.States.{state_ids};
+ghost use Rattle.klp_core.specs.Loaded.{is_loaded_in, patches_in, loaded_from, loaded_calls, loaded_call, loaded_status, refusal_of, pre_calls};
+ghost use Rattle.klp_core.specs.Calls.{HaveRun, HasRoomFor, records_of};
 
 use crate::manager::MAX_RECORDS;
 use klp_catalog::Catalog;
 use klp_modules::Modules;
-use klp_types::{MAX_VARIABLES, PatchId, Records, Reply, Which};
+use klp_types::{MAX_PATCHES, MAX_VARIABLES, PatchId, Records, Reply, Which};
 use klp_world::World;
 use klp_world::laws::{installed_patches_stay, records_are_few, variables_are_few};
 
 /// How many shadow variables the callback of one object adds at most, where the object is loaded.
-fn due_allocs(catalog: &Catalog, modules: &Modules, patch: PatchId, which: Which, place: u8) -> u16
-    ensures value { result ≡ allocs_of (due_call catalog.now modules.now patch which place) }
+fn allocs_where_loaded(
+    catalog: &Catalog,
+    modules: &Modules,
+    patch: PatchId,
+    which: Which,
+    place: u8,
+) -> u16
+    ensures value { result ≡ allocs_of (loaded_call catalog.now modules.now patch which place) }
     ensures limit { result ≤ 16 }
+    ensures records { records_of (loaded_call catalog.now modules.now patch which place) ≤ 32 }
 {
     match catalog.target(patch, place) {
         Some(object) if modules.is_loaded(object) => catalog.allocs(patch, place, which),
@@ -31,19 +40,21 @@ fn due_allocs(catalog: &Catalog, modules: &Modules, patch: PatchId, which: Which
 
 /// How many shadow variables the callbacks of a kind for the loaded objects of a patch add at most.
 pub(crate) fn allocs(catalog: &Catalog, modules: &Modules, patch: PatchId, which: Which) -> usize
-    ensures value { result ≡ allocs_of (calls_of patch which (due_from (is_loaded_in modules.now) 0 (objects_at catalog.now patch))) }
+    ensures value { result ≡ allocs_of (calls_of patch which (loaded_from (is_loaded_in modules.now) 0 (objects_at catalog.now patch))) }
     ensures limit { result ≤ 128 }
+    // so they note few records
+    ensures records { records_of (calls_of patch which (loaded_from (is_loaded_in modules.now) 0 (objects_at catalog.now patch))) ≤ 256 }
 {
     let mut sum = 0;
     for place in 0..catalog.targets(patch) {
-        sum += usize::from(due_allocs(catalog, modules, patch, which, place));
+        sum += usize::from(allocs_where_loaded(catalog, modules, patch, which, place));
     }
     sum
 }
 
 /// Runs the callback of one object, where the object is loaded, and answers its status: 0 where
-/// there is none. What it notes isn't kept.
-fn run_due(
+/// there is none.
+fn run_where_loaded(
     catalog: &mut Catalog,
     modules: &Modules,
     patch: PatchId,
@@ -52,23 +63,15 @@ fn run_due(
     world: &mut World,
     log: &mut Records,
 ) -> i32
-    requires room { finite.len world.old.shadow + allocs_of (due_call catalog.old modules.now patch which place) ≤ MAX_VARIABLES }
-    requires log { log.old.room ≡ MAX_RECORDS }
-    ensures status { result ≡ due_status catalog.old modules.now patch which place }
-    ensures catalog { catalog.new ≡ after_runs catalog.old (due_call catalog.old modules.now patch which place) }
-    ensures world { world.new ≡ after_calls world.old (due_call catalog.old modules.now patch which place) }
-    ensures installed { patches_in world.new ≡ patches_in world.old }
-    ensures few { finite.len world.new.shadow ≤ finite.len world.old.shadow + allocs_of (due_call catalog.old modules.now patch which place) }
-    ensures log { log.new.room ≡ MAX_RECORDS }
+    requires { HasRoomFor world.old log.old (loaded_call catalog.old modules.now patch which place) }
+    ensures status { result ≡ loaded_status catalog.old modules.now patch which place }
+    ensures ran { HaveRun catalog.old catalog.new world.old world.new log.old log.new (loaded_call catalog.old modules.now patch which place) }
 {
     variables_are_few();
     records_are_few();
     installed_patches_stay();
     match catalog.target(patch, place) {
         Some(object) if modules.is_loaded(object) => {
-            log.clear();
-            // Its few edits note no more than there is room for.
-            prove!(catalog.allocs(patch, place, which) <= 16);
             catalog.run(patch, place, which, world, log).unwrap_or(0)
         }
         _ => 0,
@@ -86,16 +89,11 @@ pub(crate) fn run_callbacks(
     log: &mut Records,
 )
     requires end { end ≤ length (objects_at catalog.old patch) }
-    requires room { finite.len world.old.shadow + allocs_of (due_calls catalog.old modules.now patch which end) ≤ MAX_VARIABLES }
-    requires log { log.old.room ≡ MAX_RECORDS }
-    ensures catalog { catalog.new ≡ after_runs catalog.old (due_calls catalog.old modules.now patch which end) }
-    ensures world { world.new ≡ after_calls world.old (due_calls catalog.old modules.now patch which end) }
-    ensures installed { patches_in world.new ≡ patches_in world.old }
-    ensures few { finite.len world.new.shadow ≤ finite.len world.old.shadow + allocs_of (due_calls catalog.old modules.now patch which end) }
-    ensures log { log.new.room ≡ MAX_RECORDS }
+    requires room { HasRoomFor world.old log.old (loaded_calls catalog.old modules.now patch which end) }
+    ensures { HaveRun catalog.old catalog.new world.old world.new log.old log.new (loaded_calls catalog.old modules.now patch which end) }
 {
     for place in 0..end {
-        run_due(catalog, modules, patch, which, place, world, log);
+        run_where_loaded(catalog, modules, patch, which, place, world, log);
     }
 }
 
@@ -108,16 +106,11 @@ fn run_pre(
     world: &mut World,
     log: &mut Records,
 ) -> Option<i32>
-    requires room { finite.len world.old.shadow + allocs_of (due_call catalog.old modules.now patch Pre place) ≤ MAX_VARIABLES }
-    requires log { log.old.room ≡ MAX_RECORDS }
-    ensures status { result ≡ refusal_of (due_status catalog.old modules.now patch Pre place) }
-    ensures catalog { catalog.new ≡ after_runs catalog.old (due_call catalog.old modules.now patch Pre place) }
-    ensures world { world.new ≡ after_calls world.old (due_call catalog.old modules.now patch Pre place) }
-    ensures installed { patches_in world.new ≡ patches_in world.old }
-    ensures few { finite.len world.new.shadow ≤ finite.len world.old.shadow + allocs_of (due_call catalog.old modules.now patch Pre place) }
-    ensures log { log.new.room ≡ MAX_RECORDS }
+    requires { HasRoomFor world.old log.old (loaded_call catalog.old modules.now patch Pre place) }
+    ensures status { result ≡ refusal_of (loaded_status catalog.old modules.now patch Pre place) }
+    ensures ran { HaveRun catalog.old catalog.new world.old world.new log.old log.new (loaded_call catalog.old modules.now patch Pre place) }
 {
-    match run_due(catalog, modules, patch, Which::Pre, place, world, log) {
+    match run_where_loaded(catalog, modules, patch, Which::Pre, place, world, log) {
         0 => None,
         status => Some(status),
     }
@@ -132,19 +125,13 @@ pub(crate) fn pre_patch(
     world: &mut World,
     log: &mut Records,
 ) -> Option<(u8, i32)>
-    requires room { finite.len world.old.shadow
-        + allocs_of (calls_of patch Pre (due_from (is_loaded_in modules.now) 0 (objects_at catalog.old patch))) ≤ MAX_VARIABLES }
-    requires log { log.old.room ≡ MAX_RECORDS }
+    requires { HasRoomFor world.old log.old (pre_calls patch (loaded_from (is_loaded_in modules.now) 0 (objects_at catalog.old patch))) }
     ensures refused { MatchOption result
-        (find refuses (due_from (is_loaded_in modules.now) 0 (objects_at catalog.old patch)) ≡ None)
+        (find refuses (loaded_from (is_loaded_in modules.now) 0 (objects_at catalog.old patch)) ≡ None)
         (λ r. (o : ObjectOf) × (slice_get (objects_at catalog.old patch) r.0 ≡ Some o) × (r.1 ≡ status_of (script_for Pre o.callbacks))
-        × (find refuses (due_from (is_loaded_in modules.now) 0 (objects_at catalog.old patch)) ≡ Some (r.0, o))) }
-    ensures catalog { catalog.new ≡ after_runs catalog.old (pre_calls patch (due_from (is_loaded_in modules.now) 0 (objects_at catalog.old patch))) }
-    ensures world { world.new ≡ after_calls world.old (pre_calls patch (due_from (is_loaded_in modules.now) 0 (objects_at catalog.old patch))) }
-    ensures installed { patches_in world.new ≡ patches_in world.old }
-    ensures few { finite.len world.new.shadow
-        ≤ finite.len world.old.shadow + allocs_of (calls_of patch Pre (due_from (is_loaded_in modules.now) 0 (objects_at catalog.old patch))) }
-    ensures log { log.new.room ≡ MAX_RECORDS }
+        × (find refuses (loaded_from (is_loaded_in modules.now) 0 (objects_at catalog.old patch)) ≡ Some (r.0, o))) }
+    ensures ran { HaveRun catalog.old catalog.new world.old world.new log.old log.new
+        (pre_calls patch (loaded_from (is_loaded_in modules.now) 0 (objects_at catalog.old patch))) }
 {
     for place in 0..catalog.targets(patch) {
         if let Some(status) = run_pre(catalog, modules, patch, place, world, log) {
@@ -152,6 +139,20 @@ pub(crate) fn pre_patch(
         }
     }
     None
+}
+
+/// Puts a patch last, with its system states at 0. What was noted before is forgotten.
+pub(crate) fn put_last(catalog: &Catalog, patch: PatchId, world: &mut World, log: &mut Records)
+    requires fresh { list_any (λ (i : Installed). i.patch == patch) world.old.installed ≡ false }
+    requires room { length world.old.installed < MAX_PATCHES }
+    requires log { log.old.room ≡ MAX_RECORDS }
+    ensures world { world.new ≡ with_patch world.old patch (state_ids catalog.now patch) }
+    ensures records { length log.new.noted ≤ 17 }
+    ensures log { log.new.room ≡ MAX_RECORDS }
+{
+    log.clear();
+    let ids = catalog.state_ids(patch);
+    world.add_states(patch, &ids, log);
 }
 
 /// Takes a patch whose pre-patch refused out again: the objects before the one that refused get
@@ -166,22 +167,23 @@ pub(crate) fn take_out(
     log: &mut Records,
 ) -> Reply
     requires refused { IsSomeAnd (slice_get (objects_at catalog.old patch) place) (λ o.
-        find refuses (due_from (is_loaded_in modules.now) 0 (objects_at catalog.old patch)) ≡ Some (place, o)) }
-    requires room { finite.len world.old.shadow
-        + allocs_of (calls_of patch PostUn (due_from (is_loaded_in modules.now) 0 (objects_at catalog.old patch))) ≤ MAX_VARIABLES }
-    requires log { log.old.room ≡ MAX_RECORDS }
+        find refuses (loaded_from (is_loaded_in modules.now) 0 (objects_at catalog.old patch)) ≡ Some (place, o)) }
+    requires room { HasRoomFor world.old log.old
+        (calls_of patch PostUn (before_first refuses (loaded_from (is_loaded_in modules.now) 0 (objects_at catalog.old patch)))) }
+    // for the records of the patch and of its states
+    requires spare { length log.old.noted + finite.len world.old.shadow
+        + records_of (calls_of patch PostUn (before_first refuses (loaded_from (is_loaded_in modules.now) 0 (objects_at catalog.old patch)))) + 17 ≤ log.old.room }
     ensures reply { IsSomeAnd (slice_get (objects_at catalog.old patch) place) (λ o. result ≡ PreFailed patch o.object status) }
     ensures catalog { catalog.new ≡ after_runs catalog.old
-        (calls_of patch PostUn (before_first refuses (due_from (is_loaded_in modules.now) 0 (objects_at catalog.old patch)))) }
+        (calls_of patch PostUn (before_first refuses (loaded_from (is_loaded_in modules.now) 0 (objects_at catalog.old patch)))) }
     ensures world { world.new ≡ without_patch (after_calls world.old
-        (calls_of patch PostUn (before_first refuses (due_from (is_loaded_in modules.now) 0 (objects_at catalog.old patch))))) patch }
+        (calls_of patch PostUn (before_first refuses (loaded_from (is_loaded_in modules.now) 0 (objects_at catalog.old patch))))) patch }
     ensures installed { (before : List ℕ) → patches_in world.old ≡ before ++ patch ∷ [] → list_any (λ p. p == patch) before ≡ false → patches_in world.new ≡ before }
     ensures few { finite.len world.new.shadow ≤ MAX_VARIABLES }
-    ensures log { log.new.room ≡ MAX_RECORDS }
+    ensures room { log.new.room ≡ log.old.room }
 {
     let object = catalog.target(patch, place).unwrap();
     run_callbacks(catalog, modules, patch, Which::PostUn, place, world, log);
-    log.clear();
     prove!(world.drop_records(patch) <= log.spare());
     world.drop_states(patch, log);
     Reply::PreFailed(patch, object, status)

@@ -2,7 +2,7 @@ ghost use Rattle.std.specs.Prelude.{◌≡◌, ◌<◌, IfSome, slice_index_or, 
 ghost use Rattle.std.specs.List.{All};
 ghost use Rattle.klp_text.specs.TextImage.{site_count};
 ghost use Rattle.klp_catalog.specs.Catalog.{CatalogFunction as FunctionOf};
-ghost use Rattle.klp_core.specs.Hooks.{due_sites, hooked_with};
+ghost use Rattle.klp_core.specs.Hooks.{loaded_sites, hooked_with};
 
 use klp_catalog::CatalogFunction;
 use klp_modules::Modules;
@@ -13,7 +13,7 @@ use klp_text::Image;
 pub(crate) fn hook_all(image: &mut Image, modules: &Modules, functions: &[CatalogFunction])
     requires { All (λ (f : FunctionOf). IfSome f.site (λ site. site < site_count image.old.image)) functions.now }
     ensures { image.new ≡ record image.old {
-      hooked = hooked_with (due_sites (λ object. slice_index_or modules.now.loaded object false) functions.now) image.old.hooked;
+      hooked = hooked_with (loaded_sites (λ object. slice_index_or modules.now.loaded object false) functions.now) image.old.hooked;
     } }
 {
     for function in functions {

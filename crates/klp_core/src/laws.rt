@@ -5,7 +5,7 @@ ghost use Rattle.klp_types.specs.World.{previous_patch};
 ghost use Rattle.klp_types.specs.State.{installed_patches};
 ghost use Rattle.klp_catalog.specs.States.{previous_state};
 ghost use Rattle.klp_core.specs.Managed.{Managed};
-ghost use Rattle.klp_core.specs.Kept.{IsAllowed};
+ghost use Rattle.klp_core.specs.Invariant.{IsAllowed};
 
 /// The patch whose state a callback takes over is the one that the catalog tells: the newest of the
 /// patches installed before that names the state. It holds of each state that a manager keeps to.

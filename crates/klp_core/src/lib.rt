@@ -8,8 +8,6 @@ mod hooks;
 pub mod laws;
 mod manager;
 mod shadow;
-#[cfg(test)]
-mod tests;
 mod view;
 
 pub use fault::BootFault;

@@ -1,39 +1,41 @@
-ghost use Rattle.std.specs.Prelude.{◌≡◌, ◌+◌, ◌<◌, ◌≤◌, Some, ◌==◌, ◌&&◌, ◌⊎◌, true, false, count_by, is_ok, is_err, is_none, is_some, option_and_then, Ok, Err, None, IfOk, IfErr, OnErr, IsErr, slice_index_or, slice_set, replicate, length, map};
+ghost use Rattle.std.specs.Prelude.{◌≡◌, ◌+◌, ◌<◌, ◌≤◌, Some, ◌==◌, ◌&&◌, true, false, is_none, is_some, option_and_then, Ok, Err, None, IfOk, IfErr, OnErr, slice_index_or, slice_set, replicate, length};
 ghost use Rattle.std.specs.List.{list_any};
 ghost use Rattle.klp_types.specs.declared.event.Event.TheVariants.{Enable, Poll};
-ghost use Rattle.klp_types.specs.Callbacks.{calls, lacks_room};
+ghost use Rattle.klp_types.specs.Callbacks.{lacks_room, may_run};
 ghost use Rattle.klp_types.specs.declared.limits.TheConstants.{MAX_PATCHES};
 ghost use Rattle.klp_types.specs.Setting.{replaces};
 ghost use Rattle.klp_types.specs.World.{variable, state_value};
 ghost use Rattle.klp_types.specs.State.{is_installed, is_loaded, installed_patches};
 ghost use Rattle.klp_types.specs.Bytes.{text_of};
 ghost use Rattle.klp_types.specs.FirstOf.{first_of};
-ghost use Rattle.klp_types.specs.Step.{is_compatible, lacks_symbol, refusals, enabled, completed, callbacks_of};
-ghost use Rattle.klp_types.specs.Run.{answer, next, run, answers, callbacks_of_run};
-ghost use Rattle.klp_text.specs.TextImage.{opening, IsWithinLimits};
+ghost use Rattle.klp_types.specs.Step.{is_compatible, lacks_symbol, refusals, callbacks_of};
+ghost use Rattle.klp_text.specs.TextImage.{opening};
 ghost use Rattle.klp_modules.specs.Names.{names_of};
 ghost use Rattle.klp_catalog.specs.Catalog.{CatalogFunction as FunctionOf};
-ghost use Rattle.klp_catalog.specs.Runs.{objects_at, place_of, script_at, after_runs, callback_runs};
+ghost use Rattle.klp_catalog.specs.Runs.{objects_at, place_of, script_at, callback_runs};
 ghost use Rattle.klp_catalog.specs.States.{state_ids};
-ghost use Rattle.klp_core.specs.Boot.{IsMatch, AreNamed, opening_state};
+ghost use Rattle.klp_core.specs.Boot.{IsMatch, AreNamed, IsFaultOf, opening_state};
 ghost use Rattle.klp_core.specs.Managed.{setting_of};
-ghost use Rattle.klp_core.specs.declared.fault.BootFault.TheVariants.{Mismatch, NoMemory};
+ghost use Rattle.klp_core.specs.Calls.{records_of};
+ghost use Rattle.klp_core.specs.Events.{Takes, TakesAll, Accepts, AreCounted};
 
-use crate::boot::is_match;
-use crate::callbacks::{allocs, pre_patch, run_callbacks, take_out};
+use crate::boot::room_over;
+use crate::callbacks::{allocs, pre_patch, put_last, run_callbacks, take_out};
 use crate::fault::BootFault;
 use crate::hooks::hook_all;
 use crate::view::TextView;
 use arrayvec::ArrayVec;
+use klp_catalog::laws::counts_grow_by_runs;
 use klp_catalog::{Catalog, CatalogFunction};
 use klp_modules::Modules;
 use klp_text::Image;
+use klp_types::laws::entry_where_patched;
 use klp_types::{
     Event, MAX_PATCHES, MAX_VARIABLES, Move, ObjId, PatchId, Records, Refusal, Reply, ShadowKey,
     Which,
 };
 use klp_world::{InstalledPatches, World};
-use std::alloc::{AllocError, Global};
+use std::alloc::Global;
 use std::marker::Model;
 
 /// How many records one event may note.
@@ -63,12 +65,12 @@ impl Model for Manager {
     ghost coded = { Prim.hlevel (codes, world_code) };
 
     ghost use Rattle.std.specs.Prelude.{◌≡◌};
-    ghost use Rattle.klp_core.specs.Kept.{managed_of, IsKept};
+    ghost use Rattle.klp_core.specs.Invariant.{managed_of, Invariant};
     ghost use Rattle.klp_core.specs.declared.manager.TheConstants.{MAX_RECORDS};
 
     ghost view = { λ m. managed_of m.image m.catalog m.world m.moving };
 
-    ghost invariant = { λ m. IsKept m.image m.modules m.catalog m.world m.moving × (m.log.room ≡ MAX_RECORDS) };
+    ghost invariant = { λ m. Invariant m.image m.modules m.catalog m.world m.moving × (m.log.room ≡ MAX_RECORDS) };
 }
 
 impl Manager {
@@ -86,7 +88,6 @@ impl Manager {
         catalog: Catalog,
     ) -> Result<Manager, BootFault>
         requires image { image ≡ opening image.image.handler image.image.objects }
-        requires limits { IsWithinLimits image.image.objects }
         requires modules { modules.loaded ≡ slice_set (replicate (length modules.names) false) 0 true }
         requires names { IsMatch image.image modules catalog → AreNamed image.image modules catalog }
         ensures ok { IfOk result (λ manager. IsMatch image.image modules catalog × (manager ≡ record {
@@ -94,13 +95,9 @@ impl Manager {
           catalog = catalog;
           state = opening_state image.image;
         })) }
-        ensures fault { IfErr result (λ fault. ((IsMatch image.image modules catalog → ⊥) × (fault ≡ Mismatch)) ⊎ (IsMatch image.image modules catalog × (fault ≡ NoMemory))) }
+        ensures fault { IfErr result (λ fault. IsFaultOf image.image modules catalog fault) }
     {
-        if !is_match(&image, &modules, &catalog) {
-            return Err(BootFault::Mismatch);
-        }
-        let world = World::new(alloc)?;
-        let log = Records::new(alloc, MAX_RECORDS)?;
+        let (world, log) = room_over(alloc, &image, &modules, &catalog)?;
         Ok(Manager {
             image,
             modules,
@@ -114,34 +111,20 @@ impl Manager {
     /// Takes one event: one atomic step. It costs as much as the functions and callbacks of its own
     /// patch, or as a change of the shadow variables.
     pub fn apply(&mut self, event: Event) -> Result<Reply, Refusal>
-        ensures answer { result ≡ answer (setting_of self.old) self.old.state event }
-        ensures state { self.new ≡ record self.old {
-          catalog = after_runs self.old.catalog (callbacks_of (setting_of self.old) self.old.state event);
-          state = next (setting_of self.old) self.old.state event;
-        } }
+        ensures taken { Takes self.old self.new event result }
+        ensures counts { AreCounted self.old.catalog self.new.catalog (callbacks_of (setting_of self.old) self.old.state event) }
         // runs of callbacks change no more than their counts
         ensures setting { setting_of self.new ≡ setting_of self.old }
         ensures refused { OnErr result (self.new ≡ self.old) }
     {
-        match event {
-            Event::Enable(patch) => self.enable(patch),
-            Event::Poll => self.poll(),
-            Event::ShadowAlloc(key, value) => self.shadow_alloc(key, value),
-            Event::ShadowGetOrAlloc(key, value) => self.shadow_get_or_alloc(key, value),
-            Event::ShadowFree(key) => self.shadow_free(key),
-            Event::ShadowFreeAll(id) => self.shadow_free_all(id),
-        }
+        counts_grow_by_runs();
+        self.take(event)
     }
 
     /// Takes events in order, and answers how many of them were accepted and how many refused. A
     /// refused event leaves everything as it was, and the next one is taken.
     pub fn run(&mut self, events: &[Event]) -> (u64, u64)
-        ensures accepted { result.0 ≡ count_by is_ok (answers (setting_of self.old) self.old.state events.now) }
-        ensures refused { result.1 ≡ count_by is_err (answers (setting_of self.old) self.old.state events.now) }
-        ensures state { self.new ≡ record self.old {
-          catalog = after_runs self.old.catalog (callbacks_of_run (setting_of self.old) self.old.state events.now);
-          state = run (setting_of self.old) self.old.state events.now;
-        } }
+        ensures taken { TakesAll self.old self.new events.now result }
         // so runs can be joined
         ensures setting { setting_of self.new ≡ setting_of self.old }
     {
@@ -202,7 +185,9 @@ impl Manager {
 
     /// The catalog that the manager was booted with. Its callbacks have run since.
     pub fn catalog(&self) -> &Catalog
-        ensures { result.now ≡ self.now.catalog }
+        ensures catalog { result.now ≡ self.now.catalog }
+        // so its sites are those of the image
+        ensures names { self.now.catalog.names ≡ names_of self.now.image.objects }
     {
         &self.catalog
     }
@@ -212,6 +197,20 @@ impl Manager {
         ensures { result.now ≡ record { names = names_of self.now.image.objects; loaded = self.now.state.loaded } }
     {
         &self.modules
+    }
+
+    // Each event goes to its own method.
+    fn take(&mut self, event: Event) -> Result<Reply, Refusal>
+        ensures { Takes self.old self.new event result }
+    {
+        match event {
+            Event::Enable(patch) => self.enable(patch),
+            Event::Poll => self.poll(),
+            Event::ShadowAlloc(key, value) => self.shadow_alloc(key, value),
+            Event::ShadowGetOrAlloc(key, value) => self.shadow_get_or_alloc(key, value),
+            Event::ShadowFree(key) => self.shadow_free(key),
+            Event::ShadowFreeAll(id) => self.shadow_free_all(id),
+        }
     }
 
     fn is_installed(&self, patch: PatchId) -> bool
@@ -246,7 +245,8 @@ impl Manager {
 
     // Whether there is no room for what the callbacks that enabling may run add.
     fn lacks_room_to_enable(&self, patch: PatchId) -> bool
-        ensures { result ≡ lacks_room (setting_of self.now) self.now.state (Enable patch) }
+        ensures room { result ≡ lacks_room (setting_of self.now) self.now.state (Enable patch) }
+        ensures records { records_of (may_run (setting_of self.now) self.now.state (Enable patch)) ≤ 512 }
     {
         let pre = allocs(&self.catalog, &self.modules, patch, Which::Pre);
         let post_un = allocs(&self.catalog, &self.modules, patch, Which::PostUn);
@@ -255,7 +255,8 @@ impl Manager {
 
     // Whether there is no room for what the post-patch callbacks of the moving patch add.
     fn lacks_room_to_complete(&self) -> bool
-        ensures { result ≡ lacks_room (setting_of self.now) self.now.state Poll }
+        ensures room { result ≡ lacks_room (setting_of self.now) self.now.state Poll }
+        ensures records { records_of (may_run (setting_of self.now) self.now.state Poll) ≤ 256 }
     {
         let post = match self.moving {
             Some(moving) => allocs(&self.catalog, &self.modules, moving.patch, Which::Post),
@@ -268,6 +269,7 @@ impl Manager {
     fn enable_refusal(&self, patch: PatchId) -> Option<Refusal>
         ensures few { length self.now.catalog.patches ≤ 16 }
         ensures refusal { result ≡ first_of (refusals (setting_of self.now) self.now.state (Enable patch)) }
+        ensures records { result ≡ None → records_of (may_run (setting_of self.now) self.now.state (Enable patch)) ≤ 512 }
     {
         if patch.0 >= self.catalog.patches() {
             Some(Refusal::NoPatch)
@@ -293,15 +295,11 @@ impl Manager {
     fn install(&mut self, patch: PatchId) -> Reply
         requires unrefused { first_of (refusals (setting_of self.old) self.old.state (Enable patch)) ≡ None }
         requires few { length self.old.catalog.patches ≤ 16 }
-        ensures answer { result ≡ (enabled (setting_of self.old) self.old.state patch).0 }
-        ensures state { self.new ≡ record self.old {
-          catalog = after_runs self.old.catalog (calls (setting_of self.old) self.old.state (Enable patch));
-          state = (enabled (setting_of self.old) self.old.state patch).1;
-        } }
+        requires records { records_of (may_run (setting_of self.old) self.old.state (Enable patch)) ≤ 512 }
+        ensures { Accepts self.old self.new (Enable patch) result }
     {
-        self.log.clear();
-        let ids = self.catalog.state_ids(patch);
-        self.world.add_states(patch, &ids, &mut self.log);
+        entry_where_patched();
+        put_last(&self.catalog, patch, &mut self.world, &mut self.log);
         match pre_patch(
             &mut self.catalog,
             &self.modules,
@@ -335,11 +333,7 @@ impl Manager {
 
     // livepatch, Livepatch life-cycle, Enabling.
     fn enable(&mut self, patch: PatchId) -> Result<Reply, Refusal>
-        ensures answer { result ≡ answer (setting_of self.old) self.old.state (Enable patch) }
-        ensures state { self.new ≡ record self.old {
-          catalog = after_runs self.old.catalog (callbacks_of (setting_of self.old) self.old.state (Enable patch));
-          state = next (setting_of self.old) self.old.state (Enable patch);
-        } }
+        ensures { Takes self.old self.new (Enable patch) result }
     {
         match self.enable_refusal(patch) {
             Some(refusal) => Err(refusal),
@@ -350,15 +344,13 @@ impl Manager {
     // The transition ends: post-patch runs object by object.
     fn complete(&mut self) -> Reply
         requires room { lacks_room (setting_of self.old) self.old.state Poll ≡ false }
-        ensures answer { result ≡ (completed (setting_of self.old) self.old.state).0 }
-        ensures state { self.new ≡ record self.old {
-          catalog = after_runs self.old.catalog (calls (setting_of self.old) self.old.state Poll);
-          state = (completed (setting_of self.old) self.old.state).1;
-        } }
+        requires records { records_of (may_run (setting_of self.old) self.old.state Poll) ≤ 256 }
+        ensures { Accepts self.old self.new Poll result }
     {
         let Some(moving) = self.moving else {
             return Reply::Completed(false);
         };
+        self.log.clear();
         let end = self.catalog.targets(moving.patch);
         run_callbacks(
             &mut self.catalog,
@@ -375,11 +367,7 @@ impl Manager {
 
     // A transition to the target 1 is complete at once while there are no tasks.
     fn poll(&mut self) -> Result<Reply, Refusal>
-        ensures answer { result ≡ answer (setting_of self.old) self.old.state Poll }
-        ensures state { self.new ≡ record self.old {
-          catalog = after_runs self.old.catalog (callbacks_of (setting_of self.old) self.old.state Poll);
-          state = next (setting_of self.old) self.old.state Poll;
-        } }
+        ensures { Takes self.old self.new Poll result }
     {
         if self.moving.is_none() {
             return Err(Refusal::NotMoving);

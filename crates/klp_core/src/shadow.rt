@@ -2,8 +2,7 @@
 ghost use Rattle.std.specs.Prelude.{◌≡◌};
 ghost use Rattle.klp_types.specs.declared.event.Event.TheVariants.{ShadowAlloc, ShadowGetOrAlloc, ShadowFree, ShadowFreeAll};
 ghost use Rattle.klp_types.specs.Step.{is_full};
-ghost use Rattle.klp_types.specs.Run.{answer, next};
-ghost use Rattle.klp_core.specs.Managed.{setting_of};
+ghost use Rattle.klp_core.specs.Events.{Takes};
 
 use crate::manager::Manager;
 use klp_types::{MAX_VARIABLES, Refusal, Reply, ShadowKey};
@@ -18,8 +17,7 @@ impl Manager {
 
     // A variable that isn't there is added.
     pub(crate) fn shadow_alloc(&mut self, key: ShadowKey, value: u64) -> Result<Reply, Refusal>
-        ensures answer { result ≡ answer (setting_of self.old) self.old.state (ShadowAlloc key value) }
-        ensures state { self.new ≡ record self.old { state = next (setting_of self.old) self.old.state (ShadowAlloc key value) } }
+        ensures { Takes self.old self.new (ShadowAlloc key value) result }
     {
         if self.world.get(key).is_some() {
             return Err(Refusal::Exists);
@@ -38,8 +36,7 @@ impl Manager {
         key: ShadowKey,
         value: u64,
     ) -> Result<Reply, Refusal>
-        ensures answer { result ≡ answer (setting_of self.old) self.old.state (ShadowGetOrAlloc key value) }
-        ensures state { self.new ≡ record self.old { state = next (setting_of self.old) self.old.state (ShadowGetOrAlloc key value) } }
+        ensures { Takes self.old self.new (ShadowGetOrAlloc key value) result }
     {
         if self.world.get(key).is_none() && self.is_full() {
             return Err(Refusal::Full);
@@ -51,8 +48,7 @@ impl Manager {
 
     // A variable is removed, where it is there.
     pub(crate) fn shadow_free(&mut self, key: ShadowKey) -> Result<Reply, Refusal>
-        ensures answer { result ≡ answer (setting_of self.old) self.old.state (ShadowFree key) }
-        ensures state { self.new ≡ record self.old { state = next (setting_of self.old) self.old.state (ShadowFree key) } }
+        ensures { Takes self.old self.new (ShadowFree key) result }
     {
         self.log.clear();
         let was_there = self.world.free(key, &mut self.log);
@@ -61,8 +57,7 @@ impl Manager {
 
     // All variables of the id are removed.
     pub(crate) fn shadow_free_all(&mut self, id: u64) -> Result<Reply, Refusal>
-        ensures answer { result ≡ answer (setting_of self.old) self.old.state (ShadowFreeAll id) }
-        ensures state { self.new ≡ record self.old { state = next (setting_of self.old) self.old.state (ShadowFreeAll id) } }
+        ensures { Takes self.old self.new (ShadowFreeAll id) result }
     {
         self.log.clear();
         let freed = self.world.free_all(id, &mut self.log);

@@ -30,8 +30,7 @@ returns-clause-matches g c is =
     let n = c.loop-number.number in
     let objects = c.args.image.now.image.objects in
     let past = c.loop-number-test.false in
-    let limit = c.requires.few_objects in
-    let few : length objects < n = omega arith in
+    let few : length objects < n = omega (arith, c.objects-objects.ensures.count) in
     record {
       modules_match = agree_all n (name_counts c.args.modules.now.names) (symbol_counts objects) (few_counts objects n few) c.loop-number.invariant.0;
       catalog_matches = agree_all n (name_counts c.args.catalog.now.names) (symbol_counts objects) (few_counts objects n few) c.loop-number.invariant.1;

@@ -1,79 +1,95 @@
-use Rattle.std.proofs.Common.{rules, w32, to_z, of_z, ◌≡◌, ◌+◌, ◌++◌, ◌∙◌, Bool, true, false, Some, refl, ap, sym, arith, drop}
-use Rattle.std.specs.Prelude.{find, not}
+use Rattle.std.proofs.Common.{rules, w32, to_z, of_z, ◌≡◌, ◌+◌, ◌++◌, [], ◌∙◌, ap, sym, arith, drop}
+use Rattle.std.proofs.lemmas.List.{append-nil}
 use Rattle.klp_types.specs.declared.callback.Which.TheVariants.{Pre}
 use Rattle.klp_types.specs.Script.{is_success}
-use Rattle.klp_types.specs.Callbacks.{allocs_of, after_calls, refuses}
-use Rattle.klp_catalog.specs.Catalog.{Catalog}
-use Rattle.klp_catalog.specs.Runs.{after_runs, objects_at}
-use Rattle.klp_core.specs.Due.{is_loaded_in, due_from, due_call, due_status, pre_calls}
-use Rattle.klp_core.proofs.CallLemmas.{after_calls-append, allocs-append}
-use Rattle.klp_core.proofs.LoopLemmas.{after_runs-append, objects-kept, left_from, turn, turn-goes_on, turn-stops, refusal-is, no_refusal-is}
+use Rattle.klp_catalog.specs.Runs.{objects_at}
+use Rattle.klp_core.specs.Loaded.{is_loaded_in, loaded_from, loaded_call, loaded_status, pre_calls}
+use Rattle.klp_core.proofs.CallLemmas.{from-end}
+use Rattle.klp_core.proofs.LoopLemmas.{turn, turn-goes_on, turn-stops, refusal-is, no_refusal-is}
+use Rattle.klp_core.proofs.RanLemmas.{begins, goes_on, all_ran, room_for_next, objects_so_far, next_pre}
 use Rattle.klp_core.proofs.callbacks.pre_patch.Goals as goal
 
-pub run_pre-requires-clause-room : goal.run_pre-requires-clause-room
-run_pre-requires-clause-room g c =
-    let now = turn c.loop-place.catalog c.args.catalog.now c.args.modules.now c.args.patch c.loop-place.place c.loop-place.invariant.objects
-    (omega (arith, c.loop-place-test.true, c.targets-place-end.ensures.count))
-    in
-    let sum = ap allocs_of now.left ∙ allocs-append (due_call c.loop-place.catalog c.args.modules.now c.args.patch Pre c.loop-place.place)
-    (left_from (is_loaded_in c.args.modules.now) c.args.patch Pre (c.loop-place.place + 1) (objects_at c.args.catalog.now c.args.patch))
-    in
-    omega (arith, sum, c.loop-place.invariant.few, c.requires.room)
+pub loop-place-init : goal.loop-place-init
+loop-place-init g c = record {
+  ran = begins c.args.catalog.now c.args.world.now c.args.log.now (pre_calls c.args.patch (loaded_from (is_loaded_in c.args.modules.now) 0 (objects_at c.args.catalog.now c.args.patch)));
+  refused = search rules;
+}
+
+pub run_pre-requires : goal.run_pre-requires
+run_pre-requires g c =
+    let first = c.args.catalog.now in
+    let now = c.loop-place.catalog in
+    let loaded = is_loaded_in c.args.modules.now in
+    let objects = objects_at first c.args.patch in
+    let left = pre_calls c.args.patch (loaded_from loaded c.loop-place.place (drop c.loop-place.place objects)) in
+    let all = pre_calls c.args.patch (loaded_from loaded 0 objects) in
+    let same = objects_so_far first now c.args.world.now c.loop-place.world c.args.log.now c.loop-place.log left all c.args.patch c.loop-place.invariant.ran in
+    let here = turn now first c.args.modules.now c.args.patch c.loop-place.place same (omega (arith, c.loop-place-test.true, c.targets-place-end.ensures.count)) in
+    let next = next_pre now first c.args.modules.now c.args.patch c.loop-place.place here in
+    room_for_next first now c.args.world.now c.loop-place.world c.args.log.now c.loop-place.log left all
+    (loaded_call now c.args.modules.now c.args.patch Pre c.loop-place.place) next.0 c.requires c.loop-place.invariant.ran next.1
 
 pub returns-in-Some-clause-refused : goal.returns-in-Some-clause-refused
 returns-in-Some-clause-refused g c =
-    let now = turn c.loop-place.catalog c.args.catalog.now c.args.modules.now c.args.patch c.loop-place.place c.loop-place.invariant.objects
-    (omega (arith, c.loop-place-test.true, c.targets-place-end.ensures.count))
-    in
-    let refusal = refusal-is (due_status c.loop-place.catalog c.args.modules.now c.args.patch Pre c.loop-place.place) c.in-Some.status c.in-Some.ensures.status in
-    let last = turn-stops (is_loaded_in c.args.modules.now) c.args.patch (objects_at c.args.catalog.now c.args.patch) c.loop-place.place now.object now.there
-    (ap is_success (sym now.status) ∙ refusal.0)
-    in
+    let first = c.args.catalog.now in
+    let now = c.loop-place.catalog in
+    let loaded = is_loaded_in c.args.modules.now in
+    let objects = objects_at first c.args.patch in
+    let left = pre_calls c.args.patch (loaded_from loaded c.loop-place.place (drop c.loop-place.place objects)) in
+    let all = pre_calls c.args.patch (loaded_from loaded 0 objects) in
+    let same = objects_so_far first now c.args.world.now c.loop-place.world c.args.log.now c.loop-place.log left all c.args.patch c.loop-place.invariant.ran in
+    let here = turn now first c.args.modules.now c.args.patch c.loop-place.place same (omega (arith, c.loop-place-test.true, c.targets-place-end.ensures.count)) in
+    let refusal = refusal-is (loaded_status now c.args.modules.now c.args.patch Pre c.loop-place.place) c.in-Some.status c.in-Some.ensures.status in
+    let last = turn-stops loaded c.args.patch objects c.loop-place.place here.object here.there (ap is_success (sym here.status) ∙ refusal.0) in
     let stored : to_z w32 (of_z w32 c.in-Some.status) ≡ c.in-Some.status = search rules in
-    (now.object, now.there, stored ∙ refusal.1 ∙ now.status ∙ last.status, sym c.loop-place.invariant.refused ∙ last.refused)
+    (here.object, here.there, stored ∙ refusal.1 ∙ here.status ∙ last.status, sym c.loop-place.invariant.refused ∙ last.refused)
 
-pub returns-in-Some-clause-catalog : goal.returns-in-Some-clause-catalog
-returns-in-Some-clause-catalog g c =
-    let now = turn c.loop-place.catalog c.args.catalog.now c.args.modules.now c.args.patch c.loop-place.place c.loop-place.invariant.objects
-    (omega (arith, c.loop-place-test.true, c.targets-place-end.ensures.count))
+pub returns-in-Some-clause-ran : goal.returns-in-Some-clause-ran
+returns-in-Some-clause-ran g c =
+    let first = c.args.catalog.now in
+    let now = c.loop-place.catalog in
+    let loaded = is_loaded_in c.args.modules.now in
+    let objects = objects_at first c.args.patch in
+    let left = pre_calls c.args.patch (loaded_from loaded c.loop-place.place (drop c.loop-place.place objects)) in
+    let all = pre_calls c.args.patch (loaded_from loaded 0 objects) in
+    let call = loaded_call now c.args.modules.now c.args.patch Pre c.loop-place.place in
+    let same = objects_so_far first now c.args.world.now c.loop-place.world c.args.log.now c.loop-place.log left all c.args.patch c.loop-place.invariant.ran in
+    let here = turn now first c.args.modules.now c.args.patch c.loop-place.place same (omega (arith, c.loop-place-test.true, c.targets-place-end.ensures.count)) in
+    let refusal = refusal-is (loaded_status now c.args.modules.now c.args.patch Pre c.loop-place.place) c.in-Some.status c.in-Some.ensures.status in
+    let last = turn-stops loaded c.args.patch objects c.loop-place.place here.object here.there (ap is_success (sym here.status) ∙ refusal.0) in
+    let far = goes_on first now c.run_pre.new.catalog c.args.world.now c.loop-place.world c.run_pre.new.world c.args.log.now c.loop-place.log c.run_pre.new.log left all call []
+    c.loop-place.invariant.ran (last.calls ∙ sym here.call ∙ sym (append-nil call)) c.run_pre.ensures.ran
     in
-    let refusal = refusal-is (due_status c.loop-place.catalog c.args.modules.now c.args.patch Pre c.loop-place.place) c.in-Some.status c.in-Some.ensures.status in
-    let last = turn-stops (is_loaded_in c.args.modules.now) c.args.patch (objects_at c.args.catalog.now c.args.patch) c.loop-place.place now.object now.there
-    (ap is_success (sym now.status) ∙ refusal.0)
-    in
-    c.run_pre.ensures.catalog ∙ ap (after_runs c.loop-place.catalog) (now.due ∙ sym last.calls) ∙ c.loop-place.invariant.catalog
-
-pub returns-in-Some-clause-world : goal.returns-in-Some-clause-world
-returns-in-Some-clause-world g c =
-    let now = turn c.loop-place.catalog c.args.catalog.now c.args.modules.now c.args.patch c.loop-place.place c.loop-place.invariant.objects
-    (omega (arith, c.loop-place-test.true, c.targets-place-end.ensures.count))
-    in
-    let refusal = refusal-is (due_status c.loop-place.catalog c.args.modules.now c.args.patch Pre c.loop-place.place) c.in-Some.status c.in-Some.ensures.status in
-    let last = turn-stops (is_loaded_in c.args.modules.now) c.args.patch (objects_at c.args.catalog.now c.args.patch) c.loop-place.place now.object now.there
-    (ap is_success (sym now.status) ∙ refusal.0)
-    in
-    c.run_pre.ensures.world ∙ ap (after_calls c.loop-place.world) (now.due ∙ sym last.calls) ∙ c.loop-place.invariant.world
+    all_ran first c.run_pre.new.catalog c.args.world.now c.run_pre.new.world c.args.log.now c.run_pre.new.log [] all far (search rules)
 
 pub loop-place-preserved : goal.loop-place-preserved
 loop-place-preserved g c =
+    let first = c.args.catalog.now in
+    let now = c.loop-place.catalog in
     let loaded = is_loaded_in c.args.modules.now in
-    let objects = objects_at c.args.catalog.now c.args.patch in
-    let before = c.loop-place.catalog in
-    let due = due_call before c.args.modules.now c.args.patch Pre c.loop-place.place in
-    let now = turn before c.args.catalog.now c.args.modules.now c.args.patch c.loop-place.place c.loop-place.invariant.objects
-    (omega (arith, c.loop-place-test.true, c.targets-place-end.ensures.count))
+    let objects = objects_at first c.args.patch in
+    let left = pre_calls c.args.patch (loaded_from loaded c.loop-place.place (drop c.loop-place.place objects)) in
+    let rest = pre_calls c.args.patch (loaded_from loaded (c.loop-place.place + 1) (drop (c.loop-place.place + 1) objects)) in
+    let all = pre_calls c.args.patch (loaded_from loaded 0 objects) in
+    let call = loaded_call now c.args.modules.now c.args.patch Pre c.loop-place.place in
+    let same = objects_so_far first now c.args.world.now c.loop-place.world c.args.log.now c.loop-place.log left all c.args.patch c.loop-place.invariant.ran in
+    let here = turn now first c.args.modules.now c.args.patch c.loop-place.place same (omega (arith, c.loop-place-test.true, c.targets-place-end.ensures.count)) in
+    let on = turn-goes_on loaded c.args.patch objects c.loop-place.place here.object here.there
+    (ap is_success (sym here.status) ∙ no_refusal-is (loaded_status now c.args.modules.now c.args.patch Pre c.loop-place.place) c.in_default.ensures.status)
     in
-    let on = turn-goes_on loaded c.args.patch objects c.loop-place.place now.object now.there (ap is_success (sym now.status) ∙ no_refusal-is (due_status c.loop-place.catalog c.args.modules.now c.args.patch Pre c.loop-place.place) c.in_default.ensures.status) in
-    let left = pre_calls c.args.patch (due_from loaded (c.loop-place.place + 1) (drop (c.loop-place.place + 1) objects)) in
-    let calls = on.calls ∙ ap (λ calls. calls ++ left) (sym now.due) in
-    let sum = ap allocs_of now.left ∙ allocs-append due (left_from loaded c.args.patch Pre (c.loop-place.place + 1) objects) in
     record {
-      objects = ap (λ (k : Catalog). objects_at k c.args.patch) c.run_pre.ensures.catalog ∙ objects-kept before due c.args.patch ∙ c.loop-place.invariant.objects;
-      catalog = ap (λ k. after_runs k left) c.run_pre.ensures.catalog ∙ sym (after_runs-append before due left) ∙ ap (after_runs before) (sym calls) ∙ c.loop-place.invariant.catalog;
-      world = ap (λ w. after_calls w left) c.run_pre.ensures.world ∙ sym (after_calls-append c.loop-place.world due left) ∙ ap (after_calls c.loop-place.world) (sym calls)
-          ∙ c.loop-place.invariant.world;
+      ran = goes_on first now c.run_pre.new.catalog c.args.world.now c.loop-place.world c.run_pre.new.world c.args.log.now c.loop-place.log c.run_pre.new.log left all call rest
+          c.loop-place.invariant.ran (on.calls ∙ ap (λ calls. calls ++ rest) (sym here.call)) c.run_pre.ensures.ran;
       refused = sym on.refused ∙ c.loop-place.invariant.refused;
-      installed = c.run_pre.ensures.installed ∙ c.loop-place.invariant.installed;
-      few = omega (arith, sum, c.run_pre.ensures.few, c.loop-place.invariant.few);
-      log = c.run_pre.ensures.log;
     }
+
+pub returns-clause-ran : goal.returns-clause-ran
+returns-clause-ran g c =
+    let first = c.args.catalog.now in
+    let loaded = is_loaded_in c.args.modules.now in
+    let objects = objects_at first c.args.patch in
+    let left = pre_calls c.args.patch (loaded_from loaded c.loop-place.place (drop c.loop-place.place objects)) in
+    let all = pre_calls c.args.patch (loaded_from loaded 0 objects) in
+    let past = c.loop-place-test.false in
+    all_ran first c.loop-place.catalog c.args.world.now c.loop-place.world c.args.log.now c.loop-place.log left all c.loop-place.invariant.ran
+    (ap (pre_calls c.args.patch) (from-end loaded objects c.loop-place.place (omega (arith, past, c.targets-place-end.ensures.count))))

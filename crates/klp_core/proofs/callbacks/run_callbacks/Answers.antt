@@ -1,36 +1,49 @@
-use Rattle.std.proofs.Common.{◌+◌, ◌++◌, ◌∙◌, ap, sym, arith, take}
-use Rattle.klp_types.specs.World.{World}
-use Rattle.klp_types.specs.Callbacks.{allocs_of, after_calls}
-use Rattle.klp_catalog.specs.Catalog.{Catalog}
-use Rattle.klp_catalog.specs.Runs.{after_runs, objects_at}
-use Rattle.klp_core.specs.Due.{is_loaded_in, due_call}
-use Rattle.klp_core.proofs.CallLemmas.{after_calls-append, allocs-append}
-use Rattle.klp_core.proofs.LoopLemmas.{after_runs-append, objects-kept, left_from, next_due}
+use Rattle.std.proofs.Common.{◌+◌, arith, take}
+use Rattle.std.proofs.lemmas.List.{length-take-le}
+use Rattle.klp_catalog.specs.Runs.{objects_at}
+use Rattle.klp_core.specs.Loaded.{is_loaded_in, loaded_call, loaded_calls}
+use Rattle.klp_core.proofs.LoopLemmas.{left_from, next_loaded, none_left}
+use Rattle.klp_core.proofs.RanLemmas.{begins, goes_on, all_ran, room_for_next, objects_so_far}
 use Rattle.klp_core.proofs.callbacks.run_callbacks.Goals as goal
 
-pub run_due-requires-clause-room : goal.run_due-requires-clause-room
-run_due-requires-clause-room g c =
-    let next = next_due c.loop-place.catalog c.args.catalog.now c.args.modules.now c.args.patch c.args.which c.args.end c.loop-place.place
-    c.loop-place.invariant.objects c.loop-place-test.true c.requires.end
-    in
-    let left = left_from (is_loaded_in c.args.modules.now) c.args.patch c.args.which (c.loop-place.place + 1) (take c.args.end (objects_at c.args.catalog.now c.args.patch)) in
-    let sum = ap allocs_of next ∙ allocs-append (due_call c.loop-place.catalog c.args.modules.now c.args.patch c.args.which c.loop-place.place) left in
-    omega (arith, sum, c.loop-place.invariant.few, c.requires.room)
+pub loop-place-init : goal.loop-place-init
+loop-place-init g c = begins c.args.catalog.now c.args.world.now c.args.log.now (loaded_calls c.args.catalog.now c.args.modules.now c.args.patch c.args.which c.args.end)
+
+pub run_where_loaded-requires : goal.run_where_loaded-requires
+run_where_loaded-requires g c =
+    let first = c.args.catalog.now in
+    let now = c.loop-place.catalog in
+    let objects = take c.args.end (objects_at first c.args.patch) in
+    let left = left_from (is_loaded_in c.args.modules.now) c.args.patch c.args.which c.loop-place.place objects in
+    let rest = left_from (is_loaded_in c.args.modules.now) c.args.patch c.args.which (c.loop-place.place + 1) objects in
+    let call = loaded_call now c.args.modules.now c.args.patch c.args.which c.loop-place.place in
+    let all = loaded_calls first c.args.modules.now c.args.patch c.args.which c.args.end in
+    let same = objects_so_far first now c.args.world.now c.loop-place.world c.args.log.now c.loop-place.log left all c.args.patch c.loop-place.invariant in
+    let next = next_loaded now first c.args.modules.now c.args.patch c.args.which c.args.end c.loop-place.place same c.loop-place-test.true c.requires.end in
+    room_for_next first now c.args.world.now c.loop-place.world c.args.log.now c.loop-place.log left all call rest c.requires.room c.loop-place.invariant next
 
 pub loop-place-preserved : goal.loop-place-preserved
 loop-place-preserved g c =
+    let first = c.args.catalog.now in
     let now = c.loop-place.catalog in
-    let next = next_due now c.args.catalog.now c.args.modules.now c.args.patch c.args.which c.args.end c.loop-place.place
-    c.loop-place.invariant.objects c.loop-place-test.true c.requires.end
-    in
-    let due = due_call now c.args.modules.now c.args.patch c.args.which c.loop-place.place in
-    let left = left_from (is_loaded_in c.args.modules.now) c.args.patch c.args.which (c.loop-place.place + 1) (take c.args.end (objects_at c.args.catalog.now c.args.patch)) in
-    let sum = ap allocs_of next ∙ allocs-append due left in
-    record {
-      objects = ap (λ (k : Catalog). objects_at k c.args.patch) c.run_due.ensures.catalog ∙ objects-kept now due c.args.patch ∙ c.loop-place.invariant.objects;
-      catalog = ap (λ k. after_runs k left) c.run_due.ensures.catalog ∙ sym (after_runs-append now due left) ∙ ap (after_runs now) (sym next) ∙ c.loop-place.invariant.catalog;
-      world = ap (λ w. after_calls w left) c.run_due.ensures.world ∙ sym (after_calls-append c.loop-place.world due left) ∙ ap (after_calls c.loop-place.world) (sym next) ∙ c.loop-place.invariant.world;
-      installed = c.run_due.ensures.installed ∙ c.loop-place.invariant.installed;
-      few = omega (arith, sum, c.run_due.ensures.few, c.loop-place.invariant.few);
-      log = c.run_due.ensures.log;
-    }
+    let objects = take c.args.end (objects_at first c.args.patch) in
+    let left = left_from (is_loaded_in c.args.modules.now) c.args.patch c.args.which c.loop-place.place objects in
+    let rest = left_from (is_loaded_in c.args.modules.now) c.args.patch c.args.which (c.loop-place.place + 1) objects in
+    let call = loaded_call now c.args.modules.now c.args.patch c.args.which c.loop-place.place in
+    let all = loaded_calls first c.args.modules.now c.args.patch c.args.which c.args.end in
+    let same = objects_so_far first now c.args.world.now c.loop-place.world c.args.log.now c.loop-place.log left all c.args.patch c.loop-place.invariant in
+    let next = next_loaded now first c.args.modules.now c.args.patch c.args.which c.args.end c.loop-place.place same c.loop-place-test.true c.requires.end in
+    goes_on first now c.run_where_loaded.new.catalog c.args.world.now c.loop-place.world c.run_where_loaded.new.world
+    c.args.log.now c.loop-place.log c.run_where_loaded.new.log left all call rest c.loop-place.invariant next c.run_where_loaded.ensures.ran
+
+pub returns : goal.returns
+returns g c =
+    let first = c.args.catalog.now in
+    let objects = take c.args.end (objects_at first c.args.patch) in
+    let loaded = is_loaded_in c.args.modules.now in
+    let left = left_from loaded c.args.patch c.args.which c.loop-place.place objects in
+    let all = loaded_calls first c.args.modules.now c.args.patch c.args.which c.args.end in
+    let past = c.loop-place-test.false in
+    all_ran first c.loop-place.catalog c.args.world.now c.loop-place.world c.args.log.now c.loop-place.log left all c.loop-place.invariant
+    (none_left loaded c.args.patch c.args.which objects c.loop-place.place
+    (omega (arith, past, length-take-le c.args.end (objects_at first c.args.patch) c.requires.end)))

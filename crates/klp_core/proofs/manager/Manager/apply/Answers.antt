@@ -1,19 +1,18 @@
 use Rattle.std.proofs.Common.{ap, ◌∙◌}
-use Rattle.klp_types.specs.declared.event.Event.TheVariants.{Enable, Poll}
 use Rattle.klp_types.specs.Step.{callbacks_of}
-use Rattle.klp_types.specs.Run.{next}
-use Rattle.klp_core.specs.Managed.{setting_of}
-use Rattle.klp_core.proofs.LoopLemmas.{setting-kept}
+use Rattle.klp_catalog.specs.Runs.{callback_runs}
+use Rattle.klp_core.specs.Managed.{Managed, setting_of}
+use Rattle.klp_core.proofs.EventLemmas.{same_setting, refusal_stays}
 use Rattle.klp_core.proofs.manager.Manager.apply.Goals as goal
 
-pub returns-in-Enable-clause-setting : goal.returns-in-Enable-clause-setting
-returns-in-Enable-clause-setting g c =
-    ap setting_of c.enable.ensures.state
-    ∙ setting-kept c.args.self.now (callbacks_of (setting_of c.args.self.now) c.args.self.now.state (Enable c.in-Enable.patch))
-    (next (setting_of c.args.self.now) c.args.self.now.state (Enable c.in-Enable.patch))
+pub returns-clause-counts : goal.returns-clause-counts
+returns-clause-counts g c = λ patch object place which there few.
+    let own = c.args.self.now in
+    ap (λ (m : Managed). callback_runs m.catalog patch object which) c.take.ensures.left
+    ∙ c.counts_grow_by_runs.ensures.looks own.catalog (callbacks_of (setting_of own) own.state c.args.event) patch object place which there few
 
-pub returns-in-Poll-clause-setting : goal.returns-in-Poll-clause-setting
-returns-in-Poll-clause-setting g c =
-    ap setting_of c.poll.ensures.state
-    ∙ setting-kept c.args.self.now (callbacks_of (setting_of c.args.self.now) c.args.self.now.state Poll)
-    (next (setting_of c.args.self.now) c.args.self.now.state Poll)
+pub returns-clause-setting : goal.returns-clause-setting
+returns-clause-setting g c = ap setting_of c.take.ensures.left ∙ same_setting c.args.self.now c.args.event
+
+pub returns-clause-refused : goal.returns-clause-refused
+returns-clause-refused g c = refusal_stays c.args.self.now c.take.new.self c.args.event c.take.result c.take.ensures

@@ -1,11 +1,10 @@
-use Rattle.std.proofs.Common.{◌≡◌, ℕ, ◌<◌, ◌∙◌, true, List, length, sym, ap, subst, arith, eqb, get_or}
+use Rattle.std.proofs.Common.{◌≡◌, ℕ, ◌<◌, ◌∙◌, true, List, length, sym, ap, subst, eqb, get_or}
 use Rattle.std.specs.List.{list_any}
 use Rattle.std.specs.Cmp.{nat_eq_equiv}
 use Rattle.std.proofs.lemmas.List.Folds.{list_any_at}
 use Rattle.klp_types.specs.State.{installed_patches}
-use Rattle.klp_types.specs.Step.{is_compatible}
 use Rattle.klp_catalog.specs.States as states
-use Rattle.klp_core.specs.Managed.{Managed, setting_of}
+use Rattle.klp_core.specs.Managed.{Managed}
 use Rattle.klp_core.proofs.manager.Manager.is_compatible.Goals as goal
 
 -- each of the installed patches is one of the catalog's

@@ -5,7 +5,7 @@ use Rattle.klp_types.specs.Step.{lacks_symbol}
 use Rattle.klp_modules.specs.Names.{ModuleTable}
 use Rattle.klp_catalog.specs.Catalog.{CatalogFunction}
 use Rattle.klp_core.specs.Managed.{Managed, setting_of}
-use Rattle.klp_core.specs.Kept.{managed_of}
+use Rattle.klp_core.specs.Invariant.{managed_of}
 use Rattle.klp_core.proofs.EnableLemmas.{lacks_symbol-any}
 use Rattle.klp_core.proofs.manager.Manager.lacks_symbol.Goals as goal
 

@@ -5,7 +5,7 @@ use Rattle.klp_types.specs.Records.{RecordList}
 use Rattle.klp_types.specs.World.{variable}
 use Rattle.klp_types.specs.Step.{is_full}
 use Rattle.klp_core.specs.Managed.{Managed}
-use Rattle.klp_core.proofs.WorldLemmas.{kept_allocated}
+use Rattle.klp_core.proofs.WorldLemmas.{invariant_allocated}
 use Rattle.klp_core.proofs.manager.Manager.shadow_get_or_alloc.Goals as goal
 use Rattle.klp_core.proofs.manager.Manager.shadow_get_or_alloc.Goals.{else-is_none-via-then-is_none+else-is_full, else-is_none-via-else-is_none}
 use borrow.Author.Tests.{leb-false, clash}
@@ -21,7 +21,7 @@ invariant_of-self g c =
     ]
     in (
       rw c.get_or_alloc-there.ensures.world
-          (kept_allocated c.self.inside.image c.self.inside.modules c.self.inside.catalog world c.self.inside.moving c.args.key c.args.value
+          (invariant_allocated c.self.inside.image c.self.inside.modules c.self.inside.catalog world c.self.inside.moving c.args.key c.args.value
           (variable world c.args.key) c.self.invariant.0 room),
       ap (λ (l : RecordList). l.room) c.get_or_alloc-there.ensures.noted ∙ ap (λ (l : RecordList). l.room) c.clear.ensures ∙ c.self.invariant.1,
     )

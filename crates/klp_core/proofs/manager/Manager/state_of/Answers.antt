@@ -4,7 +4,7 @@ use Rattle.std.specs.List.{list_any}
 use Rattle.klp_types.specs.State.{is_installed, installed_patches}
 use Rattle.klp_catalog.specs.States.{state_ids}
 use Rattle.klp_core.specs.Managed.{Managed}
-use Rattle.klp_core.specs.Kept.{managed_of}
+use Rattle.klp_core.specs.Invariant.{managed_of}
 use Rattle.klp_core.proofs.EnableLemmas.{any-numbers}
 use Rattle.klp_core.proofs.StateLemmas.{there_where_named}
 use Rattle.klp_core.proofs.manager.Manager.state_of.Goals as goal

@@ -4,7 +4,7 @@ use Rattle.std.proofs.lemmas.List.{length-set, length-replicate}
 use Rattle.klp_types.specs.Bytes.{text_of}
 use Rattle.klp_modules.specs.Names.{ModuleTable}
 use Rattle.klp_core.specs.Managed.{Managed, setting_of}
-use Rattle.klp_core.specs.Kept.{managed_of}
+use Rattle.klp_core.specs.Invariant.{managed_of}
 use Rattle.klp_core.proofs.ViewLemmas.{text_shown}
 use Rattle.klp_core.proofs.manager.Manager.text.Goals as goal
 
