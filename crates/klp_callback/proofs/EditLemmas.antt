@@ -1,5 +1,5 @@
 -- Edits made one after another, and scripts that are the same.
-use Rattle.std.proofs.Common.{◌≡◌, ℕ, ◌+◌, ◌≤◌, Bool, true, false, ◌&&◌, List, [], ◌∷◌, ◌++◌, length, length-append, append_assoc, add-one, drop-cons, drop, get_or, ◌<◌, refl, sym, ap, ◌∙◌, arith}
+use Rattle.std.proofs.Common.{◌≡◌, ℕ, ◌+◌, ◌≤◌, Bool, true, false, cond, ◌&&◌, List, [], ◌∷◌, ◌++◌, length, length-append, append_assoc, add-one, drop-cons, drop, get_or, ◌<◌, refl, sym, ap, ◌∙◌, arith}
 use Rattle.std.specs.FinMap as finite
 use Rattle.klp_types.specs.declared.edit.Edit.{Edit}
 use Rattle.klp_types.specs.declared.edit.Edit.TheVariants.{Alloc, Free, FreeAll, SetData, TakePrev}
@@ -12,14 +12,19 @@ use mir.Syntax.{w32}
 use Rattle.std.proofs.lemmas.Int.{to_z-of_z}
 use lib.IntN.{ℤ}
 use Rattle.std.proofs.lemmas.Bool.{eqb-true, eq-eqb}
-use Rattle.klp_types.specs.Records.{RecordList, spare_of}
+use Rattle.klp_types.specs.Records.{RecordList}
 use Rattle.klp_types.specs.World.{World}
 use Rattle.klp_types.specs.Script.{Script, is_alloc, alloc_count, edited, edited_by}
-use Rattle.klp_types.specs.declared.limits.TheConstants.{MAX_VARIABLES}
 use Rattle.klp_world.specs.Noted.{noting, rows_of_edit, rows_of_edits}
-use Rattle.klp_world.proofs.ScriptLemmas.{edit_room}
+use Rattle.klp_world.specs.Changes.{HasRoom}
 use Rattle.std.proofs.lemmas.List.Recursion.{is_count_by}
 use Rattle.std.specs.List.{count_by}
+
+first_alloc : (edit : Edit) (rest : List Edit) → alloc_count (edit ∷ []) ≤ alloc_count (edit ∷ rest)
+first_alloc edit rest = elim (is_alloc edit) as (λ b. cond b (1 + 0) 0 ≤ cond b (1 + alloc_count rest) (alloc_count rest)) [ true ↦ omega arith | false ↦ omega arith ]
+
+pub next_edit : (edits : List Edit) (i : ℕ) (d : Edit) → i < length edits → drop i edits ≡ get_or edits i d ∷ drop (i + 1) edits
+next_edit edits i d lt = rw add-one (drop-cons edits i d lt)
 
 -- the loop over the edits: one edit is made, and these are left
 module _ (patch : ℕ) (left : List Edit) (edit : Edit) (rest : List Edit) (world new : World) (log new_log : RecordList)
@@ -38,25 +43,31 @@ module _ (patch : ℕ) (left : List Edit) (edit : Edit) (rest : List Edit) (worl
   pub room_step : new_log.room ≡ log.room
   room_step = ap (λ (l : RecordList). l.room) noted
 
-  pub variables_step : finite.len world.shadow + alloc_count left ≤ MAX_VARIABLES → finite.len new.shadow + alloc_count rest ≤ MAX_VARIABLES
-  variables_step few =
-      let more = edit_room patch world edit rest in
-      let same = ap (λ (w : World). finite.len w.shadow) made in
-      let whole = ap alloc_count split in
-      omega arith
-
-  pub records_step : length (rows_of_edits patch world left) ≤ spare_of log → length (rows_of_edits patch new rest) ≤ spare_of new_log
-  records_step few =
+  pub room_left : ((patch : ℕ) (world : World) (edit : Edit) (edits : List Edit) → finite.len (edited patch world edit).shadow + alloc_count edits ≤ finite.len world.shadow + alloc_count (edit ∷ edits))
+      → HasRoom world log (alloc_count left) (rows_of_edits patch world left) → HasRoom new new_log (alloc_count rest) (rows_of_edits patch new rest)
+  room_left keeps few =
+      let fits = keeps patch world edit rest in
+      let variables = ap (λ (w : World). finite.len w.shadow) made in
+      let allocs = ap alloc_count split in
       let rows = ap length rows_left ∙ length-append (rows_of_edit patch world edit) (rows_of_edits patch new rest) in
       let longer = ap (λ (l : RecordList). length l.noted) noted ∙ length-append log.noted (rows_of_edit patch world edit) in
       let same = room_step in
-      omega arith
+      record { variables = omega (arith, few.variables); records = omega (arith, few.records) }
+
+-- there is room for the next edit
+pub room_now : (patch : ℕ) (edits : List Edit) (i : ℕ) (d : Edit) (world : World) (log : RecordList) → i < length edits
+    → HasRoom world log (alloc_count (drop i edits)) (rows_of_edits patch world (drop i edits)) → HasRoom world log (alloc_count (get_or edits i d ∷ [])) (rows_of_edit patch world (get_or edits i d))
+room_now patch edits i d world log lt few =
+    let edit = get_or edits i d in
+    let rest = drop (i + 1) edits in
+    let split = next_edit edits i d lt in
+    let allocs = ap alloc_count split in
+    let one = first_alloc edit rest in
+    let rows = ap (λ l. length (rows_of_edits patch world l)) split ∙ length-append (rows_of_edit patch world edit) (rows_of_edits patch (edited patch world edit) rest) in
+    record { variables = omega (arith, few.variables); records = omega (arith, few.records) }
 
 pub alloc_count_is : (edits : List Edit) → alloc_count edits ≡ count_by is_alloc edits
 alloc_count_is = is_count_by alloc_count is_alloc refl (λ edit edits. refl)
-
-pub next_edit : (edits : List Edit) (i : ℕ) (d : Edit) → i < length edits → drop i edits ≡ get_or edits i d ∷ drop (i + 1) edits
-next_edit edits i d lt = rw add-one (drop-cons edits i d lt)
 
 two_true : (a b : Bool) → (a && b) ≡ true → (a ≡ true) × (b ≡ true)
 two_true true b e = (refl, e)

@@ -1,2 +1,1 @@
 pub mod EditLemmas
-pub mod RunLemmas

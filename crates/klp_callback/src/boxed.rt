@@ -1,24 +1,20 @@
-ghost use Rattle.std.specs.Prelude.{◌≡◌, ℕ, ◌+◌, ◌≤◌, length};
-ghost use Rattle.std.specs.FinMap as finite;
-ghost use Rattle.klp_types.specs.Records.{spare_of};
+ghost use Rattle.std.specs.Prelude.{◌≡◌, ◌≤◌, length};
 ghost use Rattle.klp_types.specs.Script.{alloc_count, effect};
-ghost use Rattle.klp_world.specs.Undo.{undone};
-ghost use Rattle.klp_world.specs.Noted.{noting, rows_of_script};
-ghost use Rattle.klp_callback.specs.Told.{counted, after_run};
+ghost use Rattle.klp_world.specs.Noted.{rows_of_script};
+ghost use Rattle.klp_world.specs.Changes.{Changes, HasRoom};
+ghost use Rattle.klp_callback.specs.Told.{after_run};
 
 use crate::callback::Callback;
-use crate::edits::{allocs_of, is_same, run_script};
+use crate::counted_box::CountedBox;
 use klp_types::{PatchId, Records};
-use klp_world::{MAX_EDITS, MAX_VARIABLES, Script, World};
+use klp_world::{MAX_EDITS, World};
 use std::marker::Model;
 
-/// A boxed callback with its script and the count of its runs, as it told them when it was handed
-/// in: what is known of a value keeps no fact about the inside of a box.
+/// A boxed callback, as its script and the count of its runs. It told both when it was handed in:
+/// what is known of a value keeps no fact about the inside of a box.
 #[derive(Drop)]
 pub struct Boxed {
-    script: Script,
-    runs: u64,
-    callback: Box<dyn Callback>,
+    counted: CountedBox,
 }
 
 impl Model for Boxed {
@@ -26,7 +22,7 @@ impl Model for Boxed {
 
     ghost Value = { Told };
 
-    ghost view = { λ b. record { script = b.script; runs = b.runs } };
+    ghost view = { λ b. record { script = b.counted.script; runs = b.counted.runs } };
 }
 
 impl Boxed {
@@ -35,9 +31,7 @@ impl Boxed {
         ensures { result ≡ record { script = script_of callback; runs = runs_of callback } }
     {
         Self {
-            script: callback.script(),
-            runs: callback.runs(),
-            callback,
+            counted: CountedBox::new(callback),
         }
     }
 
@@ -46,21 +40,12 @@ impl Boxed {
     /// The callback is asked for its script again, which costs one comparison of at most
     /// [`klp_world::MAX_EDITS`] edits.
     pub fn run(&mut self, patch: PatchId, world: &mut World, log: &mut Records) -> i32
-        requires room { finite.len world.old.shadow + alloc_count self.old.script.edits ≤ MAX_VARIABLES }
-        requires records { length (rows_of_script patch world.old self.old.script) ≤ spare_of log.old }
+        requires room { HasRoom world.old log.old (alloc_count self.old.script.edits) (rows_of_script patch world.old self.old.script) }
         ensures status { result ≡ self.old.script.status }
         ensures told { self.new ≡ after_run self.old }
-        ensures world { world.new ≡ effect patch world.old self.old.script }
-        ensures noted { log.new ≡ noting log.old (rows_of_script patch world.old self.old.script) }
-        ensures undo { undone world.new (rows_of_script patch world.old self.old.script) ≡ world.old }
+        ensures changes { Changes world.old world.new log.old log.new (effect patch world.old self.old.script) (rows_of_script patch world.old self.old.script) }
     {
-        self.runs = self.runs.saturating_add(1);
-        if is_same(&self.callback.script(), &self.script) {
-            self.callback.run(patch, world, log)
-        } else {
-            // Never met, since a run leaves the script. The world changes as the callback told.
-            run_script(&self.script, patch, world, log)
-        }
+        self.counted.run(patch, world, log)
     }
 
     /// How many edits of the script add a shadow variable.
@@ -68,13 +53,13 @@ impl Boxed {
         ensures value { result ≡ alloc_count self.now.script.edits }
         ensures limit { length self.now.script.edits ≤ MAX_EDITS }
     {
-        allocs_of(&self.script)
+        self.counted.allocs()
     }
 
     /// How many times the callback ran; the greatest number stays.
     pub fn runs(&self) -> u64
         ensures { result ≡ self.now.runs }
     {
-        self.runs
+        self.counted.runs()
     }
 }

@@ -1,13 +1,11 @@
-ghost use Rattle.std.specs.Prelude.{◌≡◌, ℕ, ◌+◌, ◌≤◌, length};
-ghost use Rattle.std.specs.FinMap as finite;
-ghost use Rattle.klp_types.specs.Records.{spare_of};
+ghost use Rattle.std.specs.Prelude.{◌≡◌, ℕ};
 ghost use Rattle.klp_types.specs.Script.{Script as ScriptOfEdits, alloc_count, effect};
-ghost use Rattle.klp_world.specs.Undo.{undone};
-ghost use Rattle.klp_world.specs.Noted.{noting, rows_of_script};
+ghost use Rattle.klp_world.specs.Noted.{rows_of_script};
+ghost use Rattle.klp_world.specs.Changes.{Changes, HasRoom};
 ghost use Rattle.klp_callback.specs.Told.{counted};
 
 use klp_types::{PatchId, Records};
-use klp_world::{MAX_VARIABLES, Script, World};
+use klp_world::{Script, World};
 
 /// A callback of a patch for one of its objects (callbacks). It means a script, which stays, and a
 /// count of its runs.
@@ -19,14 +17,11 @@ pub trait Callback: Drop + Send {
     /// Runs the callback for the patch: makes the edits of its script, notes every row that they
     /// change, counts the run, and answers the script's status. It takes no memory.
     fn run(&mut self, patch: PatchId, world: &mut World, log: &mut Records) -> i32
-        requires room { finite.len world.old.shadow + alloc_count (script_of self.old).edits ≤ MAX_VARIABLES }
-        requires records { length (rows_of_script patch world.old (script_of self.old)) ≤ spare_of log.old }
+        requires room { HasRoom world.old log.old (alloc_count (script_of self.old).edits) (rows_of_script patch world.old (script_of self.old)) }
         ensures status { result ≡ (script_of self.old).status }
         ensures script { script_of self.new ≡ script_of self.old }
         ensures runs { runs_of self.new ≡ counted (runs_of self.old) }
-        ensures world { world.new ≡ effect patch world.old (script_of self.old) }
-        ensures noted { log.new ≡ noting log.old (rows_of_script patch world.old (script_of self.old)) }
-        ensures undo { undone world.new (rows_of_script patch world.old (script_of self.old)) ≡ world.old };
+        ensures changes { Changes world.old world.new log.old log.new (effect patch world.old (script_of self.old)) (rows_of_script patch world.old (script_of self.old)) };
 
     /// How many edits of the script add a shadow variable.
     fn allocs(&self) -> u16

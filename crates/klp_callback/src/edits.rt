@@ -1,20 +1,18 @@
-ghost use Rattle.std.specs.Prelude.{◌≡◌, ◌+◌, ◌≤◌, [], ◌∷◌, length, count_by, IsTrue};
-ghost use Rattle.std.specs.FinMap as finite;
+ghost use Rattle.std.specs.Prelude.{◌≡◌, ◌≤◌, [], ◌∷◌, length, count_by, IsTrue};
 ghost use Rattle.klp_types.specs.Records.{spare_of};
 ghost use Rattle.klp_types.specs.Script.{alloc_count, is_alloc, edited, edited_by, effect};
-ghost use Rattle.klp_world.specs.Undo.{undone};
 ghost use Rattle.klp_world.specs.Noted.{noting, rows_of_edit, rows_of_edits, rows_of_script};
+ghost use Rattle.klp_world.specs.Changes.{Changes, HasRoom};
 
 use arrayvec::ArrayVec;
 use klp_types::{Edit, PatchId, Records};
-use klp_world::{MAX_EDITS, MAX_VARIABLES, Script, World};
+use klp_world::laws::{edits_keep_to_their_room, scripts_are_undone};
+use klp_world::{MAX_EDITS, Script, World};
 
 /// Makes one edit for the patch.
 fn make_edit(edit: Edit, patch: PatchId, world: &mut World, log: &mut Records)
-    requires room { finite.len world.old.shadow + alloc_count (edit ∷ []) ≤ MAX_VARIABLES }
-    requires records { length (rows_of_edit patch world.old edit) ≤ spare_of log.old }
-    ensures world { world.new ≡ edited patch world.old edit }
-    ensures noted { log.new ≡ noting log.old (rows_of_edit patch world.old edit) }
+    requires room { HasRoom world.old log.old (alloc_count (edit ∷ [])) (rows_of_edit patch world.old edit) }
+    ensures changes { Changes world.old world.new log.old log.new (edited patch world.old edit) (rows_of_edit patch world.old edit) }
 {
     match edit {
         Edit::Alloc(key, value) => {
@@ -34,8 +32,7 @@ fn make_edit(edit: Edit, patch: PatchId, world: &mut World, log: &mut Records)
 /// Gives the patch's state the value that it has in the patch before.
 fn take_previous(patch: PatchId, id: u64, world: &mut World, log: &mut Records)
     requires { length (rows_of_edit patch world.old (Edit.TakePrev id)) ≤ spare_of log.old }
-    ensures world { world.new ≡ edited patch world.old (Edit.TakePrev id) }
-    ensures noted { log.new ≡ noting log.old (rows_of_edit patch world.old (Edit.TakePrev id)) }
+    ensures changes { Changes world.old world.new log.old log.new (edited patch world.old (Edit.TakePrev id)) (rows_of_edit patch world.old (Edit.TakePrev id)) }
 {
     if let Some(older) = world.previous(patch, id) {
         if let Some(value) = world.value(older, id) {
@@ -46,11 +43,11 @@ fn take_previous(patch: PatchId, id: u64, world: &mut World, log: &mut Records)
 
 /// Makes edits one after another.
 fn make_edits(edits: &[Edit], patch: PatchId, world: &mut World, log: &mut Records)
-    requires room { finite.len world.old.shadow + alloc_count edits.now ≤ MAX_VARIABLES }
-    requires records { length (rows_of_edits patch world.old edits.now) ≤ spare_of log.old }
+    requires room { HasRoom world.old log.old (alloc_count edits.now) (rows_of_edits patch world.old edits.now) }
     ensures world { world.new ≡ edited_by patch world.old edits.now }
     ensures noted { log.new ≡ noting log.old (rows_of_edits patch world.old edits.now) }
 {
+    edits_keep_to_their_room();
     for edit in edits {
         make_edit(*edit, patch, world, log);
     }
@@ -58,27 +55,15 @@ fn make_edits(edits: &[Edit], patch: PatchId, world: &mut World, log: &mut Recor
 
 /// Runs a script for the patch, and answers its status, as [`crate::Callback::run`] does.
 pub fn run_script(script: &Script, patch: PatchId, world: &mut World, log: &mut Records) -> i32
-    requires room { finite.len world.old.shadow + alloc_count script.now.edits ≤ MAX_VARIABLES }
-    requires records { length (rows_of_script patch world.old script.now) ≤ spare_of log.old }
+    requires room { HasRoom world.old log.old (alloc_count script.now.edits) (rows_of_script patch world.old script.now) }
     ensures status { result ≡ script.now.status }
-    ensures world { world.new ≡ effect patch world.old script.now }
-    ensures noted { log.new ≡ noting log.old (rows_of_script patch world.old script.now) }
-    ensures undo { undone world.new (rows_of_script patch world.old script.now) ≡ world.old }
+    ensures changes { Changes world.old world.new log.old log.new (effect patch world.old script.now) (rows_of_script patch world.old script.now) }
 {
-    change_world(script, patch, world, log);
-    script.status
-}
-
-/// Makes the edits of a script, if it succeeds.
-fn change_world(script: &Script, patch: PatchId, world: &mut World, log: &mut Records)
-    requires room { finite.len world.old.shadow + alloc_count script.now.edits ≤ MAX_VARIABLES }
-    requires records { length (rows_of_script patch world.old script.now) ≤ spare_of log.old }
-    ensures world { world.new ≡ effect patch world.old script.now }
-    ensures noted { log.new ≡ noting log.old (rows_of_script patch world.old script.now) }
-{
+    scripts_are_undone();
     if script.status == 0 {
         make_edits(&script.edits, patch, world, log);
     }
+    script.status
 }
 
 /// How many edits of the script add a shadow variable.

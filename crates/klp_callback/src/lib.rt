@@ -4,13 +4,15 @@
 
 mod boxed;
 mod callback;
+mod counted_box;
 mod edits;
-mod kinds;
+mod quiet;
+mod refusing;
+mod scripted;
 
 pub use boxed::Boxed;
 pub use callback::Callback;
 pub use edits::{allocs_of, run_script};
-pub use kinds::{Quiet, Refusing, Scripted};
-
-#[cfg(test)]
-mod tests;
+pub use quiet::Quiet;
+pub use refusing::Refusing;
+pub use scripted::Scripted;

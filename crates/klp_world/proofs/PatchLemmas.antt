@@ -2,7 +2,8 @@
 use Rattle.std.proofs.Common.{◌≡◌, ℕ, zero, suc, Bool, cond, List, [], ◌∷◌, ◌++◌, get_or, set, map, reverse, refl, sym, ap, subst, ◌∙◌, Option, Some, None}
 use Rattle.std.specs.Bool.{◌==◌}
 use Rattle.std.specs.Option.{option_map}
-use Rattle.std.specs.List.{remove, position}
+use Rattle.std.specs.List.{insert, remove, position}
+use Rattle.std.proofs.lemmas.List.{map-append, take-map, drop-map}
 use Rattle.klp_types.specs.World.{Installed}
 use Rattle.klp_types.specs.World.{World, Shadow, states_of, state_value, value_among, change_states, taken_out}
 use Rattle.klp_types.specs.declared.record.Record.TheVariants.{InstalledPatch}
@@ -85,11 +86,6 @@ module _ (patch : ℕ) (seen items : Patches) (shadow : Shadow) (now : World) (s
       sym view ∙ ap (λ patches. record { installed = patches; shadow = shadow }) (sym (change_nowhere patch change items (missing_in e)))
       ∙ ap (λ (w : World). record w { installed = change_states patch change w.installed }) view
 
-  pub out_of : (i : ℕ) (new : Patches) → Some i ≡ position (is_patch patch) seen → new ≡ remove items i
-      → ◌≡◌ {A = World} (record { installed = new; shadow = shadow }) (record now { installed = taken_out patch now.installed })
-  out_of i new e is =
-      ap (λ patches. record { installed = patches; shadow = shadow }) (is ∙ out_at patch items i (found_in i e)) ∙ ap (λ (w : World). record w { installed = taken_out patch w.installed }) view
-
   pub not_in : None ≡ position (is_patch patch) seen → now ≡ record now { installed = taken_out patch now.installed }
   not_in e =
       sym view ∙ ap (λ patches. record { installed = patches; shadow = shadow }) (sym (out_nowhere patch items (missing_in e)))
@@ -98,17 +94,40 @@ module _ (patch : ℕ) (seen items : Patches) (shadow : Shadow) (now : World) (s
   pub first_in : (i : ℕ) → Some i ≡ position (is_patch patch) seen → FirstAt (is_patch patch) now.installed i
   first_in i e = subst (λ (w : World). FirstAt (is_patch patch) w.installed i) view (found_in i e)
 
-  pub states_in : (i : ℕ) (read : Installed) → Some i ≡ position (is_patch patch) seen → read ≡ get_or items i read → states_of patch now.installed ≡ read.values
-  states_in i read e is =
-      sym (ap (λ (w : World). states_of patch w.installed) view) ∙ states_at patch items i read (found_in i e) ∙ ap (λ (r : Installed). r.values) (sym is)
+  -- the patch at its place in the world
+  module _ (i : ℕ) (e : Some i ≡ position (is_patch patch) seen) where
+    pub taken_from : ◌≡◌ {A = World} (record now { installed = remove now.installed i }) (record now { installed = taken_out patch now.installed })
+    taken_from = ap (λ patches. record now { installed = patches }) (out_at patch now.installed i (first_in i e))
+
+    pub states_in : (read : Installed) → read ≡ get_or now.installed i read → states_of patch now.installed ≡ read.values
+    states_in read is = states_at patch now.installed i read (first_in i e) ∙ ap (λ (r : Installed). r.values) (sym is)
+
+    pub rows_dropped : (read : Installed) → read ≡ get_or now.installed i read → rows_of_drop now patch ≡ map (state_row patch) (reverse read.values) ++ InstalledPatch patch (Some i) ∷ []
+    rows_dropped read is =
+        ap (λ states. rows_if_dropped patch states (place_of patch now.installed)) (states_in read is)
+        ∙ ap (rows_if_dropped patch read.values) (place_at patch now.installed i (first_in i e))
+
+    pub rows_seen : (read : Installed) → read ≡ get_or items i read → rows_of_drop now patch ≡ map (state_row patch) (reverse read.values) ++ InstalledPatch patch (Some i) ∷ []
+    rows_seen read is = rows_dropped read (is ∙ ap (λ (w : World). get_or w.installed i read) view)
 
   pub nothing_dropped : None ≡ position (is_patch patch) seen → rows_of_drop now patch ≡ []
   nothing_dropped e =
       sym (ap (λ (w : World). rows_of_drop w patch) view) ∙ ap (rows_if_dropped patch (states_of patch items)) (place_nowhere patch items (missing_in e))
 
-  pub rows_dropped : (i : ℕ) (read : Installed) → Some i ≡ position (is_patch patch) seen → read ≡ get_or items i read
-      → rows_of_drop now patch ≡ map (state_row patch) (reverse read.values) ++ InstalledPatch patch (Some i) ∷ []
-  rows_dropped i read e is =
-      ap (λ states. rows_if_dropped patch states (place_of patch now.installed)) (states_in i read e is)
-      ∙ ap (λ (w : World). rows_if_dropped patch read.values (place_of patch w.installed)) (sym view)
-      ∙ ap (rows_if_dropped patch read.values) (place_at patch items i (found_in i e))
+-- the patches by their numbers, once one row is taken out, put in or changed
+abbrev pub numbers : Patches → List ℕ
+numbers patches = map (λ (i : Installed). i.patch) patches
+
+pub numbers-remove : (patches : Patches) (i : ℕ) → numbers (remove patches i) ≡ remove (numbers patches) i
+numbers-remove patches i = simp (map-append, take-map, drop-map)
+
+pub numbers-insert : (patches : Patches) (i : ℕ) (new : Installed) → numbers (insert patches i new) ≡ insert (numbers patches) i new.patch
+numbers-insert patches i new = simp (map-append, take-map, drop-map)
+
+pub numbers-set : (patches : Patches) (i : ℕ) (old new : Installed) → old ≡ get_or patches i old → new.patch ≡ old.patch → numbers (set patches i new) ≡ numbers patches
+numbers-set patches i old new is same = by patches i (same ∙ ap (λ (r : Installed). r.patch) is)
+  where
+    by : (patches : Patches) (i : ℕ) → new.patch ≡ (get_or patches i old).patch → numbers (set patches i new) ≡ numbers patches
+    by [] i same = refl
+    by (first ∷ newer) zero same = ap (λ n. n ∷ numbers newer) same
+    by (first ∷ newer) (suc i) same = ap (first.patch ∷◌) (by newer i same)

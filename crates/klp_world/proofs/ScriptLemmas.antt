@@ -1,5 +1,5 @@
 -- What scripts do to a world, key by key, and how many records they note.
-use Rattle.std.proofs.Common.{◌≡◌, ℕ, ◌+◌, ◌-◌, ◌*◌, ◌≤◌, Bool, true, false, not, ◌&&◌, ◌||◌, cond, List, [], ◌∷◌, length, length-append, map, refl, sym, ap, ◌∙◌, arith, Option, Some, None}
+use Rattle.std.proofs.Common.{◌≡◌, ℕ, suc, ◌+◌, ◌-◌, ◌≤◌, Bool, true, false, not, ◌&&◌, ◌||◌, cond, List, [], ◌∷◌, length, length-append, map, refl, sym, ap, ◌∙◌, arith, Option, Some, None}
 use Rattle.std.specs.Bool.{◌==◌}
 use Rattle.std.specs.Option.{unwrap_or, is_some}
 use Rattle.std.specs.List.{list_any}
@@ -15,11 +15,12 @@ use Rattle.klp_types.specs.declared.record.Record.TheVariants.{StateValue}
 use Rattle.klp_types.specs.declared.edit.Edit.TheVariants.{Alloc, Free, FreeAll, SetData, TakePrev}
 use Rattle.klp_types.specs.World.{Installed}
 use Rattle.klp_types.specs.World.{World, Shadow, key_cmp, variable, state_value, previous_value, states_of, set_among, change_states}
-use Rattle.klp_types.specs.Script.{Script, is_success, alloc_count, is_key, allocated, value_taken, edited, edited_at, edited_by, edits_made, effect, edit_touches, touches}
+use Rattle.klp_types.specs.Script.{Script, is_success, alloc_count, is_alloc, is_key, allocated, value_taken, edited, edited_at, edited_by, edits_made, effect, edit_touches, touches}
 use Rattle.klp_types.specs.declared.limits.TheConstants.{MAX_VARIABLES}
 use Rattle.klp_world.specs.Undo.{undone}
 use Rattle.klp_world.specs.Noted.{rows_of_edit, rows_of_edits, rows_of_take, row_if_set, row_if_added, row_if_removed, rows_of_script}
 use Rattle.klp_world.proofs.SortedLemmas.{key_total, key_antisymmetric}
+use Rattle.klp_world.proofs.ShadowLemmas.{some_there}
 use Rattle.klp_world.proofs.UndoLemmas.{count_parted, undone-append, undone_alloc, undone_free, undone_free_all, undone_set}
 
 tied_if_both : (o p : Ordering) → is_eq (ordering_then o p) ≡ (is_eq o && is_eq p)
@@ -149,31 +150,35 @@ take_few : (world : World) (patch id : ℕ) (o : Option ℕ) → length (rows_of
 take_few world patch id None = omega arith
 take_few world patch id (Some value) = set_few patch id value (state_value world patch id)
 
-edit_few : (patch : ℕ) (world : World) (edit : Edit) → length (rows_of_edit patch world edit) + finite.len (edited patch world edit).shadow ≤ finite.len world.shadow + 2
-edit_few patch world (Alloc key value) =
-    elim (variable world key) as (λ o. length (row_if_added key o) + finite.len (allocated world key value o).shadow ≤ finite.len world.shadow + 2) [
+-- an edit notes and leaves no more than it is and adds
+edit_few : (patch : ℕ) (world : World) (edit : Edit) (edits : List Edit)
+    → length (rows_of_edit patch world edit) + finite.len (edited patch world edit).shadow + alloc_count edits ≤ finite.len world.shadow + 1 + alloc_count (edit ∷ edits)
+edit_few patch world (Alloc key value) edits =
+    let more : alloc_count (Alloc key value ∷ edits) ≡ 1 + alloc_count edits = refl in
+    elim (variable world key) as (λ o. length (row_if_added key o) + finite.len (allocated world key value o).shadow + alloc_count edits ≤ finite.len world.shadow + 1 + alloc_count (Alloc key value ∷ edits)) [
       | Some there ↦ omega arith
       | None ↦ elim (is_some (variable world key)) as (λ b. finite.len (finite.insert world.shadow key value) ≡ cond b (finite.len world.shadow) (finite.len world.shadow + 1)
-          → 1 + finite.len (finite.insert world.shadow key value) ≤ finite.len world.shadow + 2) [ true ↦ λ e. omega arith | false ↦ λ e. omega arith ] (finite.len-insert key_total world.shadow key value)
+          → 1 + finite.len (finite.insert world.shadow key value) + alloc_count edits ≤ finite.len world.shadow + 1 + alloc_count (Alloc key value ∷ edits)) [ true ↦ λ e. omega arith | false ↦ λ e. omega arith ] (finite.len-insert key_total world.shadow key value)
     ]
-edit_few patch world (Free key) =
-    elim (variable world key) as (λ o. finite.len (finite.remove world.shadow key) ≡ cond (is_some o) (finite.len world.shadow - 1) (finite.len world.shadow)
-    → length (row_if_removed key o) + finite.len (finite.remove world.shadow key) ≤ finite.len world.shadow + 2) [
-      | Some was ↦ λ e. omega arith
-      | None ↦ λ e. omega arith
-    ] (finite.len-remove key_total world.shadow key)
-edit_few patch world (FreeAll id) = let parted = count_parted world.shadow id in omega arith
-edit_few patch world (SetData id value) = let few = set_few patch id value (state_value world patch id) in omega arith
-edit_few patch world (TakePrev id) =
+edit_few patch world (Free key) edits =
+    let there = some_there world.shadow key in
+    elim (variable world key) as (λ o. (is_some o ≡ true → 1 ≤ finite.len world.shadow) → finite.len (finite.remove world.shadow key) ≡ cond (is_some o) (finite.len world.shadow - 1) (finite.len world.shadow)
+    → length (row_if_removed key o) + finite.len (finite.remove world.shadow key) + alloc_count edits ≤ finite.len world.shadow + 1 + alloc_count edits) [
+      | Some was ↦ λ some e. let one = some refl in omega arith
+      | None ↦ λ some e. omega arith
+    ] there (finite.len-remove key_total world.shadow key)
+edit_few patch world (FreeAll id) edits = let parted = count_parted world.shadow id in omega arith
+edit_few patch world (SetData id value) edits = let few = set_few patch id value (state_value world patch id) in omega arith
+edit_few patch world (TakePrev id) edits =
     let few = take_few world patch id (previous_value world patch id) in
     let same = ap (λ (s : Shadow). finite.len s) (taken_leaves world patch id (previous_value world patch id)) in
     omega arith
 
 pub few_records : (patch : ℕ) (world : World) (edits : List Edit)
-    → length (rows_of_edits patch world edits) + finite.len (edited_by patch world edits).shadow ≤ finite.len world.shadow + 2 * length edits
+    → length (rows_of_edits patch world edits) + finite.len (edited_by patch world edits).shadow ≤ finite.len world.shadow + length edits + alloc_count edits
 few_records patch world [] = omega arith
 few_records patch world (edit ∷ edits) =
-    let first = edit_few patch world edit in
+    let first = edit_few patch world edit edits in
     let others = few_records patch (edited patch world edit) edits in
     let both = length-append (rows_of_edit patch world edit) (rows_of_edits patch (edited patch world edit) edits) in
     omega arith
@@ -287,9 +292,10 @@ fewer_made true edits = omega arith
 fewer_made false edits = omega arith
 
 pub few_script_records : (patch : ℕ) (world : World) (script : Script)
-    → length (rows_of_script patch world script) + finite.len (effect patch world script).shadow ≤ finite.len world.shadow + 2 * length script.edits
+    → length (rows_of_script patch world script) + finite.len (effect patch world script).shadow ≤ finite.len world.shadow + length script.edits + alloc_count script.edits
 few_script_records patch world script =
     let made = fewer_made (is_success script.status) script.edits in
+    let allocs = made_allocs script in
     let few = few_records patch world (edits_made script) in
     omega arith
 
@@ -299,6 +305,13 @@ edits_room patch world (edit ∷ edits) =
     let first = edit_room patch world edit edits in
     let others = edits_room patch (edited patch world edit) edits in
     omega arith
+
+-- an edit adds at most one variable
+pub few_allocs : (edits : List Edit) → alloc_count edits ≤ length edits
+few_allocs [] = omega arith
+few_allocs (edit ∷ edits) =
+    let few = few_allocs edits in
+    elim (is_alloc edit) as (λ b. cond b (1 + alloc_count edits) (alloc_count edits) ≤ suc (length edits)) [ true ↦ omega arith | false ↦ omega arith ]
 
 -- a script adds no more variables than it has allocs
 pub script_room : (patch : ℕ) (world : World) (script : Script) → finite.len (effect patch world script).shadow ≤ finite.len world.shadow + alloc_count script.edits

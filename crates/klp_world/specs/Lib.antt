@@ -3,3 +3,4 @@ pub mod Undo
 pub mod Noted
 pub mod Sorted
 pub mod Buckets
+pub mod Changes

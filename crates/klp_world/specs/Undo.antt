@@ -3,7 +3,7 @@ use Rattle.std.specs.Prelude.{ℕ, ◌++◌, ◌==◌, nat_lt, List, [], ◌∷�
 use Rattle.std.specs.FinMap as finite
 use Rattle.klp_types.specs.declared.shadow.ShadowKey.{ShadowKey}
 use Rattle.klp_types.specs.declared.record.Record.{Record}
-use Rattle.klp_types.specs.declared.record.Record.TheVariants.{ShadowVariable, StateValue, StateRow, InstalledPatch, LoadedFlag}
+use Rattle.klp_types.specs.declared.record.Record.TheVariants.{ShadowVariable, StateValue, StateRow, InstalledPatch}
 use Rattle.klp_types.specs.World.{Installed}
 use Rattle.klp_types.specs.World.{World, with_variable, without_variable, with_value, change_states, taken_out}
 use Rattle.klp_types.specs.declared.limits.TheConstants.{MAX_VARIABLES, MAX_PATCHES, MAX_STATES}
@@ -29,13 +29,13 @@ put_patch patch None installed = taken_out patch installed
 put_patch patch (Some place) installed =
     if nat_lt (length installed) MAX_PATCHES then insert installed place (record { patch = patch; values = [] }) else installed
 
--- the world with one row as the record tells it; whether an object is loaded is no row of the world
+-- the world with one row as the record tells it; other records are of rows that aren't the world's
 abbrev pub put_back : World → Record → World
 put_back world (ShadowVariable key was) = put_variable world key was
 put_back world (StateValue patch id was) = with_value world patch id was
 put_back world (StateRow patch id was) = record world { installed = change_states patch (put_state id was) world.installed }
 put_back world (InstalledPatch patch place) = record world { installed = put_patch patch place world.installed }
-put_back world (LoadedFlag object was) = world
+put_back world other = world
 
 -- the world once all records are put back, the newest, which stands last, first
 abbrev pub undone : World → List Record → World

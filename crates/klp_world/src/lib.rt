@@ -2,7 +2,6 @@
 //! system states, and the shadow variables.
 #![tactic(auto)]
 
-mod installed;
 pub mod laws;
 mod patch;
 mod script;
@@ -10,7 +9,6 @@ mod shadow;
 mod sorted;
 mod world;
 
-pub use installed::InstalledPatches;
 pub use klp_types::{Edit, MAX_EDITS, MAX_PATCHES, MAX_STATES, MAX_VARIABLES};
 pub use script::Script;
 pub use world::World;

@@ -1,16 +1,17 @@
-ghost use Rattle.std.specs.Prelude.{◌≡◌, ℕ, ◌+◌, ◌<◌, ◌≤◌, ◌==◌, false, List, [], ◌∷◌, ◌++◌, length, map, reverse, is_some, is_none, unwrap_or, IfOk};
+ghost use Rattle.std.specs.Prelude.{◌≡◌, ℕ, ◌+◌, ◌<◌, ◌≤◌, ◌==◌, false, List, [], ◌∷◌, ◌++◌, length, map, reverse, insert, remove, slice_index_or, is_some, is_none, unwrap_or, IfOk};
 ghost use Rattle.std.specs.List.{list_any};
 ghost use Rattle.std.specs.FinMap as finite;
 ghost use Rattle.klp_types.specs.Records.{spare_of};
 ghost use Rattle.klp_types.specs.World.{Installed};
 ghost use Rattle.klp_types.specs.World.{variable, state_value, previous_patch, newest_naming, installed_before, change_states, without_variable, without_id, with_value, with_patch, without_patch};
 ghost use Rattle.klp_types.specs.Script.{allocated};
-ghost use Rattle.klp_world.specs.Undo.{put_variable, put_state, put_patch, put_back, undone};
+ghost use Rattle.klp_world.specs.Changes.{Changes};
+ghost use Rattle.klp_world.specs.Undo.{put_variable, put_state, put_patch, put_back};
 ghost use Rattle.klp_world.specs.Noted.{noting, rows_of_alloc, rows_of_free, rows_of_free_all, variable_rows, state_row, rows_of_set, rows_of_add, rows_of_drop};
 
-use crate::installed::InstalledPatches;
 use crate::patch::{InstalledPatch, SystemState, place_of_patch};
 use crate::shadow::ShadowMap;
+use arrayvec::ArrayVec;
 use klp_types::{MAX_PATCHES, MAX_STATES, MAX_VARIABLES, PatchId, Record, Records, ShadowKey};
 use std::alloc::{AllocError, Global};
 use std::marker::Model;
@@ -24,12 +25,14 @@ use std::marker::Model;
 #[derive(Debug, Drop)]
 pub struct World {
     patches: Vec<InstalledPatch>,
+    /// The patches of `patches`, without their states.
+    installed: ArrayVec<PatchId, MAX_PATCHES>,
     shadow: ShadowMap,
 }
 
 impl Model for World {
-    ghost use Rattle.std.specs.Prelude.{◌≤◌, vec_len, vec_capacity};
-    ghost use Rattle.klp_types.specs.World.{World as WorldOfPatches};
+    ghost use Rattle.std.specs.Prelude.{◌≡◌, ◌≤◌, map, vec_len, vec_capacity};
+    ghost use Rattle.klp_types.specs.World.{Installed, World as WorldOfPatches};
     ghost use Rattle.klp_world.specs.Coded.{world_code};
 
     ghost Value = { WorldOfPatches };
@@ -40,7 +43,7 @@ impl Model for World {
 
     ghost view = { λ w. record { installed = w.patches.items; shadow = w.shadow } };
 
-    ghost invariant = { λ w. (vec_len w.patches ≤ MAX_PATCHES) × (MAX_PATCHES ≤ vec_capacity w.patches) };
+    ghost invariant = { λ w. (vec_len w.patches ≤ MAX_PATCHES) × (MAX_PATCHES ≤ vec_capacity w.patches) × (map (λ (i : Installed). i.patch) w.patches.items ≡ w.installed.items) };
 }
 
 /// Notes the states of a patch, the last first.
@@ -81,6 +84,7 @@ impl World {
     {
         Ok(Self {
             patches: Vec::with_capacity(alloc, MAX_PATCHES)?,
+            installed: ArrayVec::new(),
             shadow: ShadowMap::new(alloc)?,
         })
     }
@@ -101,11 +105,11 @@ impl World {
     }
 
     /// The installed patches, oldest first.
-    pub fn installed(&self) -> InstalledPatches<'_>
-        ensures value { result ≡ map (λ (i : Installed). i.patch) self.now.installed }
-        ensures limit { length result ≤ MAX_PATCHES }
+    pub fn installed(&self) -> &[PatchId]
+        ensures value { result.now ≡ map (λ (i : Installed). i.patch) self.now.installed }
+        ensures limit { length result.now ≤ MAX_PATCHES }
     {
-        InstalledPatches::new(&self.patches)
+        &self.installed
     }
 
     /// Whether the patch is installed.
@@ -142,9 +146,7 @@ impl World {
         requires room { variable self.old key ≡ None → finite.len self.old.shadow < MAX_VARIABLES }
         requires records { length (rows_of_alloc self.old key) ≤ spare_of log.old }
         ensures answer { result ≡ is_none (variable self.old key) }
-        ensures world { self.new ≡ allocated self.old key value (variable self.old key) }
-        ensures noted { log.new ≡ noting log.old (rows_of_alloc self.old key) }
-        ensures undo { undone self.new (rows_of_alloc self.old key) ≡ self.old }
+        ensures changes { Changes self.old self.new log.old log.new (allocated self.old key value (variable self.old key)) (rows_of_alloc self.old key) }
     {
         if self.shadow.get(key).is_some() {
             return false;
@@ -160,9 +162,7 @@ impl World {
         requires room { variable self.old key ≡ None → finite.len self.old.shadow < MAX_VARIABLES }
         requires records { length (rows_of_alloc self.old key) ≤ spare_of log.old }
         ensures answer { result ≡ unwrap_or (variable self.old key) value }
-        ensures world { self.new ≡ allocated self.old key value (variable self.old key) }
-        ensures noted { log.new ≡ noting log.old (rows_of_alloc self.old key) }
-        ensures undo { undone self.new (rows_of_alloc self.old key) ≡ self.old }
+        ensures changes { Changes self.old self.new log.old log.new (allocated self.old key value (variable self.old key)) (rows_of_alloc self.old key) }
     {
         let there = self.get(key);
         self.alloc(key, value, log);
@@ -173,20 +173,16 @@ impl World {
     pub fn free(&mut self, key: ShadowKey, log: &mut Records) -> bool
         requires { length (rows_of_free self.old key) ≤ spare_of log.old }
         ensures answer { result ≡ is_some (variable self.old key) }
-        ensures world { self.new ≡ without_variable self.old key }
-        ensures noted { log.new ≡ noting log.old (rows_of_free self.old key) }
-        ensures undo { undone self.new (rows_of_free self.old key) ≡ self.old }
+        ensures changes { Changes self.old self.new log.old log.new (without_variable self.old key) (rows_of_free self.old key) }
     {
-        match self.shadow.remove(key) {
-            Some(was) => {
-                log.note(Record::ShadowVariable {
-                    key,
-                    was: Some(was),
-                });
-                true
-            }
-            None => false,
-        }
+        let Some(was) = self.shadow.remove(key) else {
+            return false;
+        };
+        log.note(Record::ShadowVariable {
+            key,
+            was: Some(was),
+        });
+        true
     }
 
     /// Removes all shadow variables of the id, whatever their parent objects, and answers how many
@@ -196,9 +192,7 @@ impl World {
         requires { length (rows_of_free_all self.old id) ≤ spare_of log.old }
         ensures answer { result ≡ length (rows_of_free_all self.old id) }
         ensures count { result + finite.len self.new.shadow ≡ finite.len self.old.shadow }
-        ensures world { self.new ≡ without_id self.old id }
-        ensures noted { log.new ≡ noting log.old (rows_of_free_all self.old id) }
-        ensures undo { undone self.new (rows_of_free_all self.old id) ≡ self.old }
+        ensures changes { Changes self.old self.new log.old log.new (without_id self.old id) (rows_of_free_all self.old id) }
     {
         let before = self.shadow.len();
         self.shadow.remove_id(id, log);
@@ -211,9 +205,7 @@ impl World {
         requires room { length self.old.installed < MAX_PATCHES }
         requires states { length ids.now ≤ MAX_STATES }
         requires records { length (rows_of_add patch ids.now) ≤ spare_of log.old }
-        ensures world { self.new ≡ with_patch self.old patch ids.now }
-        ensures noted { log.new ≡ noting log.old (rows_of_add patch ids.now) }
-        ensures undo { undone self.new (rows_of_add patch ids.now) ≡ self.old }
+        ensures changes { Changes self.old self.new log.old log.new (with_patch self.old patch ids.now) (rows_of_add patch ids.now) }
     {
         log.note(Record::InstalledPatch { patch, place: None });
         let mut installed = InstalledPatch::new(patch);
@@ -231,14 +223,12 @@ impl World {
     /// Takes a patch out with its system states, where it is installed. The patches behind it move.
     pub fn drop_states(&mut self, patch: PatchId, log: &mut Records)
         requires { length (rows_of_drop self.old patch) ≤ spare_of log.old }
-        ensures world { self.new ≡ without_patch self.old patch }
-        ensures noted { log.new ≡ noting log.old (rows_of_drop self.old patch) }
-        ensures undo { undone self.new (rows_of_drop self.old patch) ≡ self.old }
+        ensures changes { Changes self.old self.new log.old log.new (without_patch self.old patch) (rows_of_drop self.old patch) }
     {
         let Some(place) = place_of_patch(&self.patches, patch) else {
             return;
         };
-        let installed = self.patches.remove(place);
+        let installed = self.take_out(place);
         note_states(patch, installed.states(), log);
         log.note(Record::InstalledPatch {
             patch,
@@ -262,9 +252,7 @@ impl World {
     /// installed or doesn't name the state.
     pub fn set_value(&mut self, patch: PatchId, id: u64, value: u64, log: &mut Records)
         requires { length (rows_of_set self.old patch id value) ≤ spare_of log.old }
-        ensures world { self.new ≡ with_value self.old patch id value }
-        ensures noted { log.new ≡ noting log.old (rows_of_set self.old patch id value) }
-        ensures undo { undone self.new (rows_of_set self.old patch id value) ≡ self.old }
+        ensures changes { Changes self.old self.new log.old log.new (with_value self.old patch id value) (rows_of_set self.old patch id value) }
     {
         if let Some(was) = self.replace_value(patch, id, value) {
             if was != value {
@@ -286,7 +274,7 @@ impl World {
             }
             Record::StateRow { patch, id, was } => self.put_state(patch, id, was),
             Record::InstalledPatch { patch, place } => self.put_patch(patch, place),
-            Record::LoadedFlag { .. } => {}
+            _ => {}
         }
     }
 
@@ -294,7 +282,26 @@ impl World {
         requires { length self.old.installed < MAX_PATCHES }
         ensures { self.new ≡ record self.old { installed = self.old.installed ++ installed ∷ [] } }
     {
+        self.installed.push(installed.patch());
         let _ = self.patches.push(installed);
+    }
+
+    fn put_at(&mut self, place: usize, installed: InstalledPatch)
+        requires within { place ≤ length self.old.installed }
+        requires room { length self.old.installed < MAX_PATCHES }
+        ensures { self.new ≡ record self.old { installed = insert self.old.installed place installed } }
+    {
+        self.installed.insert(place, installed.patch());
+        let _ = self.patches.insert(place, installed);
+    }
+
+    fn take_out(&mut self, place: usize) -> InstalledPatch
+        requires { place < length self.old.installed }
+        ensures patch { result ≡ slice_index_or self.old.installed place result }
+        ensures world { self.new ≡ record self.old { installed = remove self.old.installed place } }
+    {
+        self.installed.remove(place);
+        self.patches.remove(place)
     }
 
     fn put_variable(&mut self, key: ShadowKey, was: Option<u64>)
@@ -337,13 +344,13 @@ impl World {
         match place {
             None => {
                 if let Some(place) = place_of_patch(&self.patches, patch) {
-                    self.patches.remove(place);
+                    self.take_out(place);
                 }
             }
             Some(place) => {
                 if self.patches.len() < MAX_PATCHES {
                     let place = self.patches.len().min(place as usize);
-                    let _ = self.patches.insert(place, InstalledPatch::new(patch));
+                    self.put_at(place, InstalledPatch::new(patch));
                 }
             }
         }

@@ -1,9 +1,7 @@
-use Rattle.std.proofs.Common.{◌≡◌, ◌+◌, ◌≤◌, ◌++◌, length, drop}
-use Rattle.std.specs.FinMap as finite
-use Rattle.klp_types.specs.Records.{spare_of}
+use Rattle.std.proofs.Common.{◌≡◌, ◌++◌, drop}
 use Rattle.klp_types.specs.Script.{alloc_count, edited_by}
-use Rattle.klp_types.specs.declared.limits.TheConstants.{MAX_VARIABLES}
 use Rattle.klp_world.specs.Noted.{rows_of_edits}
+use Rattle.klp_world.specs.Changes.{HasRoom}
 use Rattle.klp_callback.proofs.edits.make_edits.Given as goal
 
 -- what is done and what is left are all, and there is room for what is left
@@ -12,6 +10,5 @@ invariant-loop-edit l = record {
   world : edited_by l.patch l.world (drop l.edit-index l.edits) ≡ edited_by l.patch l.initial.world l.edits;
   noted : l.log.noted ++ rows_of_edits l.patch l.world (drop l.edit-index l.edits) ≡ l.initial.log.noted ++ rows_of_edits l.patch l.initial.world l.edits;
   same_room : l.log.room ≡ l.initial.log.room;
-  variables : finite.len l.world.shadow + alloc_count (drop l.edit-index l.edits) ≤ MAX_VARIABLES;
-  records : length (rows_of_edits l.patch l.world (drop l.edit-index l.edits)) ≤ spare_of l.log;
+  room : HasRoom l.world l.log (alloc_count (drop l.edit-index l.edits)) (rows_of_edits l.patch l.world (drop l.edit-index l.edits));
 }

@@ -7,52 +7,52 @@ use Rattle.klp_types.specs.declared.limits.TheConstants.{MAX_PATCHES}
 use Rattle.klp_world.proofs.NotedLemmas.{length-states, length-dropped}
 use Rattle.klp_world.specs.Undo.{undone}
 use Rattle.klp_world.specs.Noted.{noting, state_row, rows_of_drop}
-use Rattle.klp_world.proofs.PatchLemmas.{not_in, nothing_dropped, rows_dropped, out_of, first_in, states_in}
+use Rattle.klp_world.proofs.PatchLemmas.{not_in, nothing_dropped, rows_dropped, taken_from, first_in, states_in}
 use Rattle.klp_world.proofs.UndoLemmas.{undone_drop}
 use Rattle.klp_world.proofs.world.World.drop_states.Goals as goal
 
-pub returns-in_default-clause-world : goal.returns-in_default-clause-world
-returns-in_default-clause-world c = not_in c.args.patch c.deref.result.now c.self.inside.patches.items c.self.inside.shadow c.args.self.now c.deref.ensures.value c.self.view_is c.in_default.ensures
-
-pub returns-in_default-clause-noted : goal.returns-in_default-clause-noted
-returns-in_default-clause-noted c =
-    ap (λ noted. record c.args.log.now { noted = noted }) (sym (append-nil c.args.log.now.noted))
-    ∙ ap (noting c.args.log.now) (sym (nothing_dropped c.args.patch c.deref.result.now c.self.inside.patches.items c.self.inside.shadow c.args.self.now c.deref.ensures.value c.self.view_is c.in_default.ensures))
-
-pub returns-in_default-clause-undo : goal.returns-in_default-clause-undo
-returns-in_default-clause-undo c = ap (undone c.args.self.now) (nothing_dropped c.args.patch c.deref.result.now c.self.inside.patches.items c.self.inside.shadow c.args.self.now c.deref.ensures.value c.self.view_is c.in_default.ensures)
+pub returns-in_default : goal.returns-in_default
+returns-in_default c =
+    let nothing = nothing_dropped c.args.patch c.deref.result.now c.self.inside.patches.items c.self.inside.shadow c.args.self.now c.deref.ensures.value c.self.view_is c.in_default.ensures in
+    record {
+      changes = record {
+        world = not_in c.args.patch c.deref.result.now c.self.inside.patches.items c.self.inside.shadow c.args.self.now c.deref.ensures.value c.self.view_is c.in_default.ensures;
+        records = ap (λ noted. record c.args.log.now { noted = noted }) (sym (append-nil c.args.log.now.noted)) ∙ ap (noting c.args.log.now) (sym nothing);
+        undo = ap (undone c.args.self.now) nothing;
+      };
+    }
 
 pub note_states-requires : goal.note_states-requires
 note_states-requires c =
-    let rows = ap length (rows_dropped c.args.patch c.deref.result.now c.self.inside.patches.items c.self.inside.shadow c.args.self.now c.deref.ensures.value c.self.view_is c.in-Some.place c.remove-installed.result c.in-Some.ensures c.remove-installed.ensures.value) ∙ length-dropped c.args.patch c.remove-installed.result.values c.in-Some.place in
+    let rows = ap length (rows_dropped c.args.patch c.deref.result.now c.self.inside.patches.items c.self.inside.shadow c.args.self.now c.deref.ensures.value c.self.view_is c.in-Some.place c.in-Some.ensures c.take_out-installed.result c.take_out-installed.ensures.patch) ∙ length-dropped c.args.patch c.take_out-installed.result.values c.in-Some.place in
     let seen = ap length c.states.ensures.value in
     omega (arith, c.requires)
 
 pub note-requires : goal.note-requires
 note-requires c =
-    let rows = ap length (rows_dropped c.args.patch c.deref.result.now c.self.inside.patches.items c.self.inside.shadow c.args.self.now c.deref.ensures.value c.self.view_is c.in-Some.place c.remove-installed.result c.in-Some.ensures c.remove-installed.ensures.value) ∙ length-dropped c.args.patch c.remove-installed.result.values c.in-Some.place in
+    let rows = ap length (rows_dropped c.args.patch c.deref.result.now c.self.inside.patches.items c.self.inside.shadow c.args.self.now c.deref.ensures.value c.self.view_is c.in-Some.place c.in-Some.ensures c.take_out-installed.result c.take_out-installed.ensures.patch) ∙ length-dropped c.args.patch c.take_out-installed.result.values c.in-Some.place in
     let seen = ap length c.states.ensures.value in
     let room = ap (λ (l : RecordList). l.room) c.note_states.ensures in
     let noted = ap (λ (l : RecordList). length l.noted) c.note_states.ensures ∙ length-append c.args.log.now.noted _ in
     let states = length-states c.args.patch c.states.result.now in
     omega (arith, c.requires)
 
-pub returns-clause-world : goal.returns-clause-world
-returns-clause-world c = out_of c.args.patch c.deref.result.now c.self.inside.patches.items c.self.inside.shadow c.args.self.now c.deref.ensures.value c.self.view_is c.in-Some.place c.remove-installed.new.self.items c.in-Some.ensures c.remove-installed.ensures.items
-
-pub returns-clause-noted : goal.returns-clause-noted
-returns-clause-noted c =
-    let rows = rows_dropped c.args.patch c.deref.result.now c.self.inside.patches.items c.self.inside.shadow c.args.self.now c.deref.ensures.value c.self.view_is c.in-Some.place c.remove-installed.result c.in-Some.ensures c.remove-installed.ensures.value in
+pub returns : goal.returns
+returns c =
+    let rows = rows_dropped c.args.patch c.deref.result.now c.self.inside.patches.items c.self.inside.shadow c.args.self.now c.deref.ensures.value c.self.view_is c.in-Some.place c.in-Some.ensures c.take_out-installed.result c.take_out-installed.ensures.patch in
     let last = InstalledPatch c.args.patch (Some c.in-Some.place) ∷ [] in
-    c.note.ensures ∙ ap (λ (l : RecordList). record { noted = l.noted ++ last; room = l.room }) c.note_states.ensures
-    ∙ ap (λ (noted : List Record). record c.args.log.now { noted = noted })
-    (append_assoc c.args.log.now.noted _ last ∙ ap (c.args.log.now.noted ++◌) (ap (λ states. map (state_row c.args.patch) (reverse states) ++ last) c.states.ensures.value ∙ sym rows))
-
-pub returns-clause-undo : goal.returns-clause-undo
-returns-clause-undo c =
     let same = ap length c.deref.ensures.value in
     let few_patches = subst (λ (w : World). length w.installed ≤ MAX_PATCHES) c.self.view_is (omega (arith, c.deref.ensures.len, c.self.invariant.0)) in
-    let states = ap length (states_in c.args.patch c.deref.result.now c.self.inside.patches.items c.self.inside.shadow c.args.self.now c.deref.ensures.value c.self.view_is c.in-Some.place c.remove-installed.result c.in-Some.ensures c.remove-installed.ensures.value) in
+    let states = ap length (states_in c.args.patch c.deref.result.now c.self.inside.patches.items c.self.inside.shadow c.args.self.now c.deref.ensures.value c.self.view_is c.in-Some.place c.in-Some.ensures c.take_out-installed.result c.take_out-installed.ensures.patch) in
     let seen = ap length c.states.ensures.value in
-    ap (λ (w : World). undone w (rows_of_drop c.args.self.now c.args.patch)) (out_of c.args.patch c.deref.result.now c.self.inside.patches.items c.self.inside.shadow c.args.self.now c.deref.ensures.value c.self.view_is c.in-Some.place c.remove-installed.new.self.items c.in-Some.ensures c.remove-installed.ensures.items)
-    ∙ undone_drop c.args.self.now c.args.patch c.in-Some.place (first_in c.args.patch c.deref.result.now c.self.inside.patches.items c.self.inside.shadow c.args.self.now c.deref.ensures.value c.self.view_is c.in-Some.place c.in-Some.ensures) few_patches (omega (arith, c.states.ensures.limit))
+    let taken = c.take_out-installed.ensures.world ∙ taken_from c.args.patch c.deref.result.now c.self.inside.patches.items c.self.inside.shadow c.args.self.now c.deref.ensures.value c.self.view_is c.in-Some.place c.in-Some.ensures in
+    record {
+      changes = record {
+        world = taken;
+        records = c.note.ensures ∙ ap (λ (l : RecordList). record { noted = l.noted ++ last; room = l.room }) c.note_states.ensures
+            ∙ ap (λ (noted : List Record). record c.args.log.now { noted = noted })
+            (append_assoc c.args.log.now.noted _ last ∙ ap (c.args.log.now.noted ++◌) (ap (λ states. map (state_row c.args.patch) (reverse states) ++ last) c.states.ensures.value ∙ sym rows));
+        undo = ap (λ (w : World). undone w (rows_of_drop c.args.self.now c.args.patch)) taken
+            ∙ undone_drop c.args.self.now c.args.patch c.in-Some.place (first_in c.args.patch c.deref.result.now c.self.inside.patches.items c.self.inside.shadow c.args.self.now c.deref.ensures.value c.self.view_is c.in-Some.place c.in-Some.ensures) few_patches (omega (arith, c.states.ensures.limit));
+      };
+    }

@@ -1,4 +1,4 @@
-use Rattle.std.proofs.Common.{ap, subst, ◌∙◌, ◌≤◌, length, arith}
+use Rattle.std.proofs.Common.{ap, subst, ◌∙◌, ◌≤◌, length, arith, rules}
 use Rattle.std.specs.FinMap as finite
 use Rattle.klp_types.specs.World.{World, Shadow, without_id}
 use Rattle.klp_world.specs.Undo.{undone}
@@ -27,8 +27,11 @@ returns-clause-count c =
     let before = ap (λ (w : World). finite.len w.shadow) c.self.view_is in
     omega (arith, c.len.ensures.value, c.len-before.ensures.value)
 
-pub returns-clause-undo : goal.returns-clause-undo
-returns-clause-undo c =
-    ap (λ (w : World). undone w (rows_of_free_all c.args.self.now c.args.id))
-    (ap (λ (s : Shadow). record { installed = c.self.inside.patches.items; shadow = s }) c.remove_id.ensures.map ∙ ap (λ (w : World). without_id w c.args.id) c.self.view_is)
-    ∙ undone_free_all c.args.self.now c.args.id (subst (λ (w : World). finite.len w.shadow ≤ MAX_VARIABLES) c.self.view_is c.remove_id.ensures.bound)
+pub returns-clause-changes : goal.returns-clause-changes
+returns-clause-changes c = record {
+  world = search rules;
+  records = search rules;
+  undo = ap (λ (w : World). undone w (rows_of_free_all c.args.self.now c.args.id))
+      (ap (λ (s : Shadow). record { installed = c.self.inside.patches.items; shadow = s }) c.remove_id.ensures.map ∙ ap (λ (w : World). without_id w c.args.id) c.self.view_is)
+      ∙ undone_free_all c.args.self.now c.args.id (subst (λ (w : World). finite.len w.shadow ≤ MAX_VARIABLES) c.self.view_is c.remove_id.ensures.bound);
+}

@@ -1,11 +1,12 @@
 use Rattle.std.proofs.Common.{sym, ap, ◌∙◌, ℕ, Option}
 use Rattle.klp_world.specs.Undo.{put_patch}
-use Rattle.klp_world.proofs.PatchLemmas.{out_of, not_in}
+use Rattle.klp_world.proofs.PatchLemmas.{taken_from, not_in}
 use Rattle.klp_world.proofs.world.World.put_patch.Goals as goal
 
 pub returns-in-Some-place_of_patch : goal.returns-in-Some-place_of_patch
 returns-in-Some-place_of_patch c =
-    out_of c.args.patch c.deref.result.now c.self.inside.patches.items c.self.inside.shadow c.args.self.now c.deref.ensures.value c.self.view_is c.in-Some-place_of_patch.place c.remove.new.self.items c.in-Some-place_of_patch.ensures c.remove.ensures.items
+    c.take_out.ensures.world
+    ∙ taken_from c.args.patch c.deref.result.now c.self.inside.patches.items c.self.inside.shadow c.args.self.now c.deref.ensures.value c.self.view_is c.in-Some-place_of_patch.place c.in-Some-place_of_patch.ensures
     ∙ ap (λ (place : Option ℕ). record c.args.self.now { installed = put_patch c.args.patch place c.args.self.now.installed }) (sym c.in-None.is)
 
 pub returns-in_default : goal.returns-in_default

@@ -1,0 +1,70 @@
+ghost use Rattle.std.specs.Prelude.{◌≡◌, ◌≤◌, length};
+ghost use Rattle.klp_types.specs.Script.{alloc_count, effect};
+ghost use Rattle.klp_world.specs.Noted.{rows_of_script};
+ghost use Rattle.klp_world.specs.Changes.{Changes, HasRoom};
+ghost use Rattle.klp_callback.specs.Told.{counted};
+
+use crate::callback::Callback;
+use crate::edits::{allocs_of, is_same, run_script};
+use klp_types::{PatchId, Records};
+use klp_world::{MAX_EDITS, Script, World};
+
+/// A callback in its box, beside the script and the count that it told.
+///
+/// A model can't ask a box, so [`crate::Boxed`] shows what stands beside it. Nothing outside this file
+/// can write that: the count grows by [`CountedBox::run`] alone, of which a clause says that the
+/// callback in the box ran as well.
+#[derive(Drop)]
+pub(crate) struct CountedBox {
+    script: Script,
+    runs: u64,
+    callback: Box<dyn Callback>,
+}
+
+impl CountedBox {
+    /// Takes a callback, and asks it for its script and its count.
+    pub(crate) fn new(callback: Box<dyn Callback>) -> Self
+        ensures script { result.script ≡ script_of callback }
+        ensures runs { result.runs ≡ runs_of callback }
+    {
+        Self {
+            script: callback.script(),
+            runs: callback.runs(),
+            callback,
+        }
+    }
+
+    /// Runs the callback in the box, which is asked for its script again: where that were another
+    /// one, which the trait's contract rules out, the world would change as the callback told.
+    pub(crate) fn run(&mut self, patch: PatchId, world: &mut World, log: &mut Records) -> i32
+        requires room { HasRoom world.old log.old (alloc_count self.old.script.edits) (rows_of_script patch world.old self.old.script) }
+        ensures status { result ≡ self.old.script.status }
+        ensures script { self.new.script ≡ self.old.script }
+        ensures runs { self.new.runs ≡ counted self.old.runs }
+        ensures box_script { script_of self.new.callback ≡ script_of self.old.callback }
+        ensures box_runs { script_of self.old.callback ≡ self.old.script → runs_of self.new.callback ≡ counted (runs_of self.old.callback) }
+        ensures changes { Changes world.old world.new log.old log.new (effect patch world.old self.old.script) (rows_of_script patch world.old self.old.script) }
+    {
+        self.runs = self.runs.saturating_add(1);
+        if is_same(&self.callback.script(), &self.script) {
+            self.callback.run(patch, world, log)
+        } else {
+            run_script(&self.script, patch, world, log)
+        }
+    }
+
+    /// How many edits of the script add a shadow variable.
+    pub(crate) fn allocs(&self) -> u16
+        ensures value { result ≡ alloc_count self.now.script.edits }
+        ensures limit { length self.now.script.edits ≤ MAX_EDITS }
+    {
+        allocs_of(&self.script)
+    }
+
+    /// How many times the callback ran; the greatest number stays.
+    pub(crate) fn runs(&self) -> u64
+        ensures { result ≡ self.now.runs }
+    {
+        self.runs
+    }
+}

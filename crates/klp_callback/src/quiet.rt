@@ -1,0 +1,56 @@
+ghost use Rattle.std.specs.Prelude.{◌≡◌, pos, []};
+
+use crate::callback::Callback;
+use arrayvec::ArrayVec;
+use klp_types::{PatchId, Records};
+use klp_world::{Script, World};
+use std::marker::Model;
+
+/// A callback that edits nothing and succeeds.
+#[derive(Debug, Drop)]
+pub struct Quiet {
+    runs: u64,
+}
+
+impl Model for Quiet {
+    ghost use Rattle.std.specs.Prelude.{ℕ};
+
+    ghost Value = { ℕ };
+
+    ghost view = { λ q. q.runs };
+}
+
+impl Quiet {
+    /// A callback that never ran.
+    pub fn new() -> Self
+        ensures { result ≡ 0 }
+    {
+        Self { runs: 0 }
+    }
+}
+
+impl Callback for Quiet {
+    ghost script_of = { λ _. record { edits = []; status = pos 0 } };
+
+    ghost runs_of = { λ runs. runs };
+
+    fn run(&mut self, _patch: PatchId, _world: &mut World, _log: &mut Records) -> i32 {
+        self.runs = self.runs.saturating_add(1);
+        0
+    }
+
+    fn allocs(&self) -> u16 {
+        0
+    }
+
+    fn runs(&self) -> u64 {
+        self.runs
+    }
+
+    fn script(&self) -> Script {
+        Script {
+            edits: ArrayVec::new(),
+            status: 0,
+        }
+    }
+}

@@ -1,0 +1,57 @@
+ghost use Rattle.std.specs.Prelude.{◌≡◌, []};
+
+use crate::callback::Callback;
+use arrayvec::ArrayVec;
+use klp_types::{PatchId, Records};
+use klp_world::{Script, World};
+use std::marker::Model;
+
+/// A callback that edits nothing and answers a status.
+#[derive(Debug, Drop)]
+pub struct Refusing {
+    status: i32,
+    runs: u64,
+}
+
+impl Model for Refusing {
+    ghost use Rattle.klp_callback.specs.Told.{Refusal};
+
+    ghost Value = { Refusal };
+
+    ghost view = { λ r. record { status = r.status; runs = r.runs } };
+}
+
+impl Refusing {
+    /// A callback that never ran.
+    pub fn new(status: i32) -> Self
+        ensures { result ≡ record { status = status; runs = 0 } }
+    {
+        Self { status, runs: 0 }
+    }
+}
+
+impl Callback for Refusing {
+    ghost script_of = { λ r. record { edits = []; status = r.status } };
+
+    ghost runs_of = { λ r. r.runs };
+
+    fn run(&mut self, _patch: PatchId, _world: &mut World, _log: &mut Records) -> i32 {
+        self.runs = self.runs.saturating_add(1);
+        self.status
+    }
+
+    fn allocs(&self) -> u16 {
+        0
+    }
+
+    fn runs(&self) -> u64 {
+        self.runs
+    }
+
+    fn script(&self) -> Script {
+        Script {
+            edits: ArrayVec::new(),
+            status: self.status,
+        }
+    }
+}
