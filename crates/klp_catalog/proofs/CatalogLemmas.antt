@@ -17,7 +17,9 @@ use Rattle.klp_plan.specs.Parts.{function_count}
 use Rattle.klp_catalog.specs.Catalog.{Catalog, site_of, resolved_function, functions_of_target, functions_of_patch, targets_of_patch, setting_function, patch_object, setting_patch, has_same_site, some_same_site}
 use Rattle.klp_catalog.specs.States as states
 use Rattle.klp_catalog.specs.Assembled.{IsInObject, LiesInObject}
-use Rattle.klp_catalog.specs.Stored.{IsWithin, StoredPatch, patches_in, patch_counts_in, functions_in, functions_of_plan, stored_functions, stored_states, stored_replaces, states_at, can_live_with_patch, newest_naming, symbol_count, IsStored}
+use Rattle.klp_types.specs.Script.{Script}
+use Rattle.klp_catalog.specs.Limits.{IsWithin}
+use Rattle.klp_catalog.specs.Stored.{StoredPatch, patch_in, patches_in, target_in, patch_size, stored_patches, targets_at, stored_functions, stored_states, stored_replaces, states_at, can_live_with_patch, newest_naming, symbol_count, IsStored}
 
 -- ---- lists
 
@@ -120,48 +122,43 @@ objects_in_patch : (names : List ObjectNames) (found : Option PlanPatch) → pat
 objects_in_patch names None = refl
 objects_in_patch names (Some patch) = refl
 
--- what contracts see of the patches that are kept
-abbrev pub catalog_of : List ObjectNames → List StoredPatch → Catalog
-catalog_of names stored = record { names = names; patches = patches_in stored; runs = patch_counts_in stored }
+-- what contracts see of what is kept
+abbrev pub catalog_of : List ObjectNames → List StoredPatch → List Script → List ℕ → Catalog
+catalog_of names stored scripts counts = record { names = names; patches = patches_in scripts stored; runs = counts }
 
--- a patch as the manager has it
-pub setting_at : (names : List ObjectNames) (stored : List StoredPatch) (p : ℕ)
-    → slice_get (map (setting_patch names) (patches_in stored)) p ≡ option_map (setting_patch names) (option_map (λ (s : StoredPatch). s.plan) (slice_get stored p))
-setting_at names stored p =
-    slice_get-map (setting_patch names) (patches_in stored) p ∙ ap (option_map (setting_patch names)) (slice_get-map (λ (s : StoredPatch). s.plan) stored p)
+module _ (names : List ObjectNames) (stored : List StoredPatch) (scripts : List Script) (counts : List ℕ) where
+  -- a patch as the manager has it
+  pub setting_at : (p : ℕ) → slice_get (map (setting_patch names) (patches_in scripts stored)) p ≡ option_map (setting_patch names) (option_map (patch_in scripts) (slice_get stored p))
+  setting_at p = slice_get-map (setting_patch names) (patches_in scripts stored) p ∙ ap (option_map (setting_patch names)) (slice_get-map (patch_in scripts) stored p)
 
-pub states_are : (names : List ObjectNames) (stored : List StoredPatch) (p : ℕ) → states_at stored p ≡ states.states_of (catalog_of names stored) p
-states_are names stored p = by (slice_get stored p) ∙ sym (ap patch_states (setting_at names stored p))
-  where
-    by : (found : Option StoredPatch) → stored_states found ≡ patch_states (option_map (setting_patch names) (option_map (λ (s : StoredPatch). s.plan) found))
-    by None = refl
-    by (Some patch) = refl
+  pub states_are : (p : ℕ) → states_at stored p ≡ states.states_of (catalog_of names stored scripts counts) p
+  states_are p = by (slice_get stored p) ∙ sym (ap patch_states (setting_at p))
+    where
+      by : (found : Option StoredPatch) → stored_states found ≡ patch_states (option_map (setting_patch names) (option_map (patch_in scripts) found))
+      by None = refl
+      by (Some patch) = refl
 
-pub replaces_is : (names : List ObjectNames) (stored : List StoredPatch) (p : ℕ) → stored_replaces (slice_get stored p) ≡ states.is_cumulative (catalog_of names stored) p
-replaces_is names stored p = by (slice_get stored p) ∙ sym (ap patch_replaces (setting_at names stored p))
-  where
-    by : (found : Option StoredPatch) → stored_replaces found ≡ patch_replaces (option_map (setting_patch names) (option_map (λ (s : StoredPatch). s.plan) found))
-    by None = refl
-    by (Some patch) = refl
+  replaces_is : (p : ℕ) → stored_replaces (slice_get stored p) ≡ states.is_cumulative (catalog_of names stored scripts counts) p
+  replaces_is p = by (slice_get stored p) ∙ sym (ap patch_replaces (setting_at p))
+    where
+      by : (found : Option StoredPatch) → stored_replaces found ≡ patch_replaces (option_map (setting_patch names) (option_map (patch_in scripts) found))
+      by None = refl
+      by (Some patch) = refl
 
-live_with-same : (names : List ObjectNames) (stored : List StoredPatch) (p other : ℕ) → can_live_with_patch stored p other
-    ≡ list_all (λ (s : SystemState). can_live_with (states.is_cumulative (catalog_of names stored) p) s (version_among s.id (states.states_of (catalog_of names stored) p)))
-    (states.states_of (catalog_of names stored) other)
-live_with-same names stored p other =
-    ap (λ b. list_all (λ (s : SystemState). can_live_with b s (version_among s.id (states_at stored p))) (states_at stored other)) (replaces_is names stored p)
-    ∙ ap (λ own. list_all (λ (s : SystemState). can_live_with (states.is_cumulative (catalog_of names stored) p) s (version_among s.id own)) (states_at stored other)) (states_are names stored p)
-    ∙ ap (list_all (λ (s : SystemState). can_live_with (states.is_cumulative (catalog_of names stored) p) s (version_among s.id (states.states_of (catalog_of names stored) p)))) (states_are names stored other)
+  live_with-same : (p other : ℕ) → can_live_with_patch stored p other
+      ≡ list_all (λ (s : SystemState). can_live_with (states.is_cumulative (catalog_of names stored scripts counts) p) s (version_among s.id (states.states_of (catalog_of names stored scripts counts) p)))
+      (states.states_of (catalog_of names stored scripts counts) other)
+  live_with-same p other =
+      λ i. list_all (λ (s : SystemState). can_live_with (replaces_is p i) s (version_among s.id (states_are p i))) (states_are other i)
 
-pub compatible-same : (names : List ObjectNames) (stored : List StoredPatch) (p : ℕ) (installed : List ℕ) → list_all (can_live_with_patch stored p) installed
-    ≡ states.is_compatible (catalog_of names stored) p installed
-compatible-same names stored p installed =
-    list_all-same (can_live_with_patch stored p) _ (live_with-same names stored p) installed
-    ∙ sym (list_all-map (list_all (λ (s : SystemState). can_live_with (states.is_cumulative (catalog_of names stored) p) s (version_among s.id (states.states_of (catalog_of names stored) p))))
-    (states.states_of (catalog_of names stored)) installed)
+  pub compatible-same : (p : ℕ) (installed : List ℕ) → list_all (can_live_with_patch stored p) installed ≡ states.is_compatible (catalog_of names stored scripts counts) p installed
+  compatible-same p installed =
+      list_all-same (can_live_with_patch stored p) _ (live_with-same p) installed
+      ∙ sym (list_all-map (list_all (λ (s : SystemState). can_live_with (states.is_cumulative (catalog_of names stored scripts counts) p) s (version_among s.id (states.states_of (catalog_of names stored scripts counts) p))))
+      (states.states_of (catalog_of names stored scripts counts)) installed)
 
-pub newest-same : (names : List ObjectNames) (stored : List StoredPatch) (id : ℕ) (before : List ℕ) → newest_naming stored id before
-    ≡ find (states.names_state (catalog_of names stored) id) (reverse before)
-newest-same names stored id before = find-same _ _ (λ p. ap (λ s. is_some (version_among id s)) (states_are names stored p)) (reverse before)
+  pub newest-same : (id : ℕ) (before : List ℕ) → newest_naming stored id before ≡ find (states.names_state (catalog_of names stored scripts counts) id) (reverse before)
+  newest-same id before = find-same _ _ (λ p. ap (λ s. is_some (version_among id s)) (states_are p)) (reverse before)
 
 pub in_setting : (names : List ObjectNames) (patches : List PlanPatch) (p : ℕ) → map setting_function (functions_of_patch names (targets_of_patch (slice_get patches p)))
     ≡ all_functions (patch_objects (slice_get (map (setting_patch names) patches) p))
@@ -169,26 +166,43 @@ in_setting names patches p =
     setting-functions names (targets_of_patch (slice_get patches p))
     ∙ ap all_functions (sym (ap patch_objects (slice_get-map (setting_patch names) patches p) ∙ objects_in_patch names (slice_get patches p)))
 
-module _ {names : List ObjectNames} {symbols : List ℕ} {patch_names : List (List ℕ)} (stored : List StoredPatch)
-    (kept : IsStored names symbols patch_names (patches_in stored) (functions_in stored) (patch_counts_in stored)) where
-  pub functions_are : (p : ℕ) → stored_functions (slice_get stored p) ≡ functions_of_patch names (targets_of_patch (slice_get (patches_in stored) p))
-  functions_are p =
-      by (slice_get stored p) (slice_get (patches_in stored) p)
-      (sym (slice_get-map (λ (s : StoredPatch). s.functions) stored p) ∙ ap (λ xs. slice_get xs p) kept.resolved
-      ∙ slice_get-map (functions_of_plan names) (patches_in stored) p)
-    where
-      by : (s : Option StoredPatch) (q : Option PlanPatch) → option_map (λ (s : StoredPatch). s.functions) s ≡ option_map (functions_of_plan names) q
-          → stored_functions s ≡ functions_of_patch names (targets_of_patch q)
-      by None None e = refl
-      by None (Some q) e = cc
-      by (Some s) None e = cc
-      by (Some s) (Some q) e = cc
+-- the functions that are kept of patches
+kept_functions : (names : List ObjectNames) (n : ℕ) (patches : List PlanPatch) (p : ℕ)
+    → stored_functions (slice_get (stored_patches names n patches) p) ≡ functions_of_patch names (targets_of_patch (slice_get patches p))
+kept_functions names n [] p = refl
+kept_functions names n (patch ∷ patches) zero = refl
+kept_functions names n (patch ∷ patches) (suc p) = kept_functions names (n + patch_size patch) patches p
 
-  pub few_functions : (p : ℕ) → length (functions_of_patch names (targets_of_patch (slice_get (patches_in stored) p))) ≤ 64
-  few_functions p = omega (arith, length-functions names (targets_of_patch (slice_get (patches_in stored) p)), few_in_patch (patches_in stored) p kept.few.each_within)
+module _ {names : List ObjectNames} {symbols : List ℕ} {patch_names : List (List ℕ)} (stored : List StoredPatch) (scripts : List Script) {counts : List ℕ}
+    (kept : IsStored names symbols patch_names stored scripts counts) where
+  pub functions_are : (p : ℕ) → stored_functions (slice_get stored p) ≡ functions_of_patch names (targets_of_patch (slice_get (patches_in scripts stored) p))
+  functions_are p = ap (λ s. stored_functions (slice_get s p)) kept.kept ∙ kept_functions names 0 (patches_in scripts stored) p
 
-  pub apart_functions : (p : ℕ) → has_same_site (functions_of_patch names (targets_of_patch (slice_get (patches_in stored) p))) ≡ false
-  apart_functions p = apart_in_patch names (patches_in stored) p kept.apart
+  pub few_functions : (p : ℕ) → length (functions_of_patch names (targets_of_patch (slice_get (patches_in scripts stored) p))) ≤ 64
+  few_functions p = omega (arith, length-functions names (targets_of_patch (slice_get (patches_in scripts stored) p)), few_in_patch (patches_in scripts stored) p kept.few.each_within)
+
+  pub apart_functions : (p : ℕ) → has_same_site (functions_of_patch names (targets_of_patch (slice_get (patches_in scripts stored) p))) ≡ false
+  apart_functions p = apart_in_patch names (patches_in scripts stored) p kept.apart
+
+-- ---- the objects of a patch
+
+few_targets_at : (scripts : List Script) (stored : List StoredPatch) (p : ℕ) → AllByRecursion IsWithin (patches_in scripts stored) → length (targets_at (slice_get stored p)) ≤ 8
+few_targets_at scripts [] p small = omega arith
+few_targets_at scripts (patch ∷ stored) zero small = omega (arith, small.0.few_targets, length-map patch.targets (target_in scripts))
+few_targets_at scripts (patch ∷ stored) (suc p) small = few_targets_at scripts stored p small.1
+
+few_states_at : (scripts : List Script) (stored : List StoredPatch) (p : ℕ) → AllByRecursion IsWithin (patches_in scripts stored) → length (states_at stored p) ≤ 16
+few_states_at scripts [] p small = omega arith
+few_states_at scripts (patch ∷ stored) zero small = small.0.few_states
+few_states_at scripts (patch ∷ stored) (suc p) small = few_states_at scripts stored p small.1
+
+module _ {names : List ObjectNames} {symbols : List ℕ} {patch_names : List (List ℕ)} (stored : List StoredPatch) (scripts : List Script) {counts : List ℕ} (p : ℕ)
+    (kept : IsStored names symbols patch_names stored scripts counts) where
+  pub few_targets : length (targets_at (slice_get stored p)) ≤ 8
+  few_targets = few_targets_at scripts stored p kept.few.each_within
+
+  pub few_states : length (states_at stored p) ≤ 16
+  few_states = few_states_at scripts stored p kept.few.each_within
 
 -- ---- counts of symbols
 

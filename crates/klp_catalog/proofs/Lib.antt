@@ -1,5 +1,5 @@
-pub mod CatalogLemmas
-pub mod RunLemmas
 pub mod AssembleLemmas
+pub mod CatalogLemmas
 pub mod CountLemmas
-pub mod ShapeLemmas
+pub mod NumberLemmas
+pub mod RunLemmas

@@ -1,5 +1,5 @@
 -- When a plan becomes a catalog, and where the functions of a catalog lie.
-use Rattle.std.specs.Prelude.{◌≡◌, ℕ, ◌+◌, ◌<◌, ◌≤◌, ◌≢◌, pos, true, List, [], ◌∷◌, ◌++◌, length, map, slice_get, IfSome}
+use Rattle.std.specs.Prelude.{◌≡◌, ℕ, ◌+◌, ◌<◌, ◌≤◌, ◌≢◌, pos, true, List, [], length, map, slice_get, IfSome}
 use Rattle.klp_modules.specs.Names.{ObjectNames, first_site, symbol_names}
 use Rattle.klp_catalog.specs.declared.assemble.AssembleFault.{AssembleFault}
 use Rattle.klp_catalog.specs.declared.assemble.AssembleFault.TheVariants.{WrongCallbacks, SameSite, NoMemory}
@@ -20,16 +20,6 @@ target_without_scripts target = record target { callbacks = map without_script t
 abbrev pub without_scripts : PlanPatch → PlanPatch
 without_scripts patch = record patch { targets = map target_without_scripts patch.targets }
 
--- the counts of a patch's callbacks, over its objects in order
-abbrev pub counts_of_patch : List (List ℕ) → List ℕ
-counts_of_patch [] = []
-counts_of_patch (runs ∷ others) = runs ++ counts_of_patch others
-
--- the counts of all callbacks, in the order of the text
-abbrev pub counts_of : List (List (List ℕ)) → List ℕ
-counts_of [] = []
-counts_of (runs ∷ others) = counts_of_patch runs ++ counts_of others
-
 -- the scripts and the counts that callbacks tell
 abbrev pub scripts_told : List Told → List Script
 scripts_told callbacks = map (λ (t : Told). t.script) callbacks
@@ -44,7 +34,7 @@ IsAssembleFault names patches callbacks WrongCallbacks = length (scripts_of patc
 IsAssembleFault names patches callbacks SameSite = (length (scripts_of patches) ≡ callbacks) × (some_same_site names patches ≡ true)
 IsAssembleFault names patches callbacks NoMemory = Unit {0}
 
--- why callbacks aren't given out: there are fewer of them than scripts
+-- why numbers aren't given out to callbacks: there are fewer callbacks than scripts
 abbrev pub IsShort : ℕ → ℕ → AssembleFault → Type 0
 IsShort scripts callbacks WrongCallbacks = callbacks < scripts
 IsShort scripts callbacks SameSite = ⊥

@@ -17,12 +17,11 @@ pub record CatalogFunction : Type 0 where
   pub address : ℕ
 
 -- what contracts see of a catalog: the names of the objects and symbols that it was assembled over, the patches of its plan
--- with the scripts of the callbacks that were handed in, and for each patch, each of its objects and each of its callbacks
--- how often it ran
+-- with the scripts of the callbacks that were handed in, and how often each callback ran, in the order of the text
 pub record Catalog : Type 0 where
   pub names : List ObjectNames
   pub patches : List PlanPatch
-  pub runs : List (List (List ℕ))
+  pub runs : List ℕ
 
 -- the site that a function's name and position pick in an object, if they pick one
 abbrev pub site_of : List ObjectNames → ℕ → PlanFunction → Option ℕ

@@ -1,5 +1,6 @@
 pub mod Catalog
 pub mod States
+pub mod Limits
 pub mod Runs
 pub mod Assembled
 pub mod Stored

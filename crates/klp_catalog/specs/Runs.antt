@@ -1,15 +1,15 @@
 -- The callbacks of a catalog's patches, and how often each of them ran.
-use Rattle.std.specs.Prelude.{◌≡◌, ℕ, zero, suc, ◌==◌, List, [], ◌∷◌, length, map, position, slice_get, Option, Some, None, option_and_then, slice_index_or}
+use Rattle.std.specs.Prelude.{◌≡◌, ℕ, ◌+◌, ◌==◌, List, [], ◌∷◌, ◌++◌, length, map, position, slice_get, Option, Some, None, option_and_then}
 use Rattle.klp_types.specs.declared.callback.Which.{Which}
 use Rattle.klp_types.specs.declared.record.Record.{Record}
 use Rattle.klp_types.specs.Setting.{PatchObject, Callback, patch_objects}
-use Rattle.klp_types.specs.Callbacks.{Call, is_kind, script_for}
-use Rattle.klp_types.specs.Script.{Script, alloc_count, effect}
+use Rattle.klp_types.specs.Callbacks.{Call, script_for}
+use Rattle.klp_types.specs.Script.{Script, alloc_count}
 use Rattle.klp_types.specs.World.{World}
 use Rattle.klp_world.specs.Noted.{rows_of_script}
-use Rattle.klp_callback.specs.Told.{counted}
 use Rattle.klp_plan.specs.Plan.{PlanTarget, PlanPatch}
 use Rattle.klp_catalog.specs.Catalog.{Catalog, patches_of}
+use Rattle.klp_catalog.specs.Counts.{CallbackId, is_callback, counts_after}
 
 -- an object that isn't there has no callbacks
 abbrev pub callbacks_of : Option PatchObject → List Callback
@@ -33,52 +33,38 @@ abbrev pub allocs_if : Option Script → ℕ
 allocs_if None = 0
 allocs_if (Some script) = alloc_count script.edits
 
--- what a script does, where there is one
-abbrev pub effect_if : ℕ → World → Option Script → World
-effect_if patch world None = world
-effect_if patch world (Some script) = effect patch world script
-
 -- what a run of a script notes, where there is one
 abbrev pub rows_if : ℕ → World → Option Script → List Record
 rows_if patch world None = []
 rows_if patch world (Some script) = rows_of_script patch world script
 
--- which of the callbacks is the one of this kind, counted from 0
-abbrev pub number_of : Which → List Callback → Option ℕ
-number_of which callbacks = position (λ (c : Callback). is_kind c.which which) callbacks
+-- what each item gives by its number, one after another
+abbrev pub by_number : {A B : Type 0} → (ℕ → A → List B) → ℕ → List A → List B
+by_number gives n [] = []
+by_number gives n (item ∷ items) = gives n item ++ by_number gives (n + 1) items
 
--- the item at a place changes, where there is one
-abbrev pub change_at : {A : Type 0} → (A → A) → ℕ → List A → List A
-change_at change place [] = []
-change_at change zero (item ∷ items) = change item ∷ items
-change_at change (suc place) (item ∷ items) = item ∷ change_at change place items
+abbrev pub target_ids : ℕ → ℕ → PlanTarget → List CallbackId
+target_ids patch place target = map (λ (c : Callback). record { patch = patch; place = place; which = c.which }) target.callbacks
 
--- one run more of the callback of this number
-abbrev pub counted_at : Option ℕ → List ℕ → List ℕ
-counted_at None runs = runs
-counted_at (Some number) runs = change_at counted number runs
+abbrev pub patch_ids : ℕ → PlanPatch → List CallbackId
+patch_ids number patch = by_number (target_ids number) 0 patch.targets
 
--- there is a count for each callback of each patch for each of its objects
-abbrev pub HasCounts : List PlanPatch → List (List (List ℕ)) → Type 0
-HasCounts patches runs = map (map length) runs ≡ map (λ (p : PlanPatch). map (λ (t : PlanTarget). length t.callbacks) p.targets) patches
+-- the callbacks of patches, in the order of the text
+abbrev pub callback_ids : List PlanPatch → List CallbackId
+callback_ids patches = by_number patch_ids 0 patches
 
--- a callback ran: its count is one more, and everything else stays; nothing changes where there is no such callback
-abbrev pub after_run : Catalog → ℕ → ℕ → Which → Catalog
-after_run catalog patch place which =
-    record catalog { runs = change_at (change_at (counted_at (number_of which (callbacks_at catalog patch place))) place) patch catalog.runs }
+-- there is a count for each callback
+abbrev pub HasCounts : List PlanPatch → List ℕ → Type 0
+HasCounts patches runs = length runs ≡ length (callback_ids patches)
 
--- callbacks ran, one after another
+-- callbacks ran: each count grows by as often as its callback is among them, and everything else stays
 abbrev pub after_runs : Catalog → List Call → Catalog
-after_runs catalog [] = catalog
-after_runs catalog (call ∷ calls) = after_runs (after_run catalog call.patch call.place call.which) calls
-
--- the counts of a patch's callbacks for one of its objects
-abbrev pub runs_at : Catalog → ℕ → ℕ → List ℕ
-runs_at catalog patch place = slice_index_or (slice_index_or catalog.runs patch []) place []
+after_runs catalog calls = record catalog { runs = counts_after calls (callback_ids catalog.patches) catalog.runs }
 
 -- how often the callback of a kind ran, if the patch has one for the object at this place
 abbrev pub runs_of : Catalog → ℕ → ℕ → Which → Option ℕ
-runs_of catalog patch place which = option_and_then (slice_get (runs_at catalog patch place)) (number_of which (callbacks_at catalog patch place))
+runs_of catalog patch place which =
+    option_and_then (slice_get catalog.runs) (position (is_callback patch place which) (callback_ids catalog.patches))
 
 -- the place of an object among those of a patch
 abbrev pub place_of : ℕ → List PatchObject → Option ℕ
@@ -87,3 +73,8 @@ place_of object objects = position (λ (o : PatchObject). o.object == object) ob
 -- how often the callback of a kind ran for this object, if the patch has one
 abbrev pub callback_runs : Catalog → ℕ → ℕ → Which → Option ℕ
 callback_runs catalog patch object which = option_and_then (λ place. runs_of catalog patch place which) (place_of object (objects_at catalog patch))
+
+-- runs that follow one another grow the counts as all of them together, and no run changes nothing
+pub record RunsAddUp : Type 0 where
+  pub none : (catalog : Catalog) → after_runs catalog [] ≡ catalog
+  pub more : (catalog : Catalog) (calls others : List Call) → after_runs catalog (calls ++ others) ≡ after_runs (after_runs catalog calls) others

@@ -1,86 +1,105 @@
 -- What a catalog keeps of its patches, and of the objects.
-use Rattle.std.specs.Prelude.{◌≡◌, ℕ, ◌≤◌, Bool, false, List, [], length, map, take, find, reverse, slice_get, is_some, Option, Some, None}
-use Rattle.std.specs.List.{AllByRecursion, list_all}
+use Rattle.std.specs.Prelude.{◌≡◌, ℕ, ◌+◌, Bool, false, pos, List, [], ◌∷◌, length, map, take, find, reverse, position, slice_get, slice_index_or, is_some, Option, Some, None, option_map, option_and_then}
+use Rattle.std.specs.List.{list_all}
 use Rattle.klp_types.specs.declared.callback.Which.{Which}
 use Rattle.klp_types.specs.Setting.{Callback}
-use Rattle.klp_types.specs.Callbacks.{script_for}
+use Rattle.klp_types.specs.Callbacks.{is_kind}
 use Rattle.klp_types.specs.Script.{Script}
 use Rattle.klp_types.specs.Compatible.{SystemState, version_among, can_live_with}
 use Rattle.klp_modules.specs.Names.{ObjectNames}
-use Rattle.klp_plan.specs.Plan.{PlanTarget, PlanPatch}
-use Rattle.klp_plan.specs.declared.limit.TheConstants.{MAX_TARGETS, MAX_FUNCTIONS}
-use Rattle.klp_plan.specs.Parts.{function_count}
-use Rattle.klp_plan.specs.Limits.{has_same, target_number}
-use Rattle.klp_types.specs.declared.limits.TheConstants.{MAX_PATCHES, MAX_STATES}
+use Rattle.klp_plan.specs.Plan.{PlanFunction, PlanTarget, PlanPatch}
+use Rattle.klp_plan.specs.Scripts.{scripts_of_targets}
 use Rattle.klp_plan.specs.Draft.{patch_names_of}
 use Rattle.klp_catalog.specs.Catalog.{CatalogFunction, functions_of_patch, some_same_site}
-use Rattle.klp_catalog.specs.Runs.{number_of, counted_at, change_at, HasCounts}
+use Rattle.klp_catalog.specs.Limits.{AreWithin}
+use Rattle.klp_catalog.specs.Runs.{HasCounts}
 
--- a callback with the script of its box, and how often it ran
-pub record StoredCallback : Type 0 where
-  pub callback : Callback
-  pub runs : ℕ
-
--- an object of a patch, its callbacks with the scripts of their boxes, and how often each of these ran
+-- an object of a patch: the number of its first callback among all of the catalog, and the kinds of its callbacks
 pub record StoredTarget : Type 0 where
-  pub plan : PlanTarget
-  pub runs : List ℕ
+  pub object : ℕ
+  pub functions : List PlanFunction
+  pub first : ℕ
+  pub kinds : List Which
 
--- a patch, its callbacks with the scripts of their boxes, the new functions in all of its objects, and how often each callback ran
+-- a patch, with the new functions in all of its objects
 pub record StoredPatch : Type 0 where
-  pub plan : PlanPatch
+  pub name : List ℕ
+  pub replace : Bool
+  pub targets : List StoredTarget
   pub functions : List CatalogFunction
-  pub runs : List (List ℕ)
+  pub states : List SystemState
 
-abbrev pub callbacks_in : List StoredCallback → List Callback
-callbacks_in stored = map (λ (c : StoredCallback). c.callback) stored
+-- ---- what is kept, with the scripts of all callbacks in the order of the text
 
-abbrev pub counts_in : List StoredCallback → List ℕ
-counts_in stored = map (λ (c : StoredCallback). c.runs) stored
+-- the script of the callback of this number
+abbrev pub script_number : List Script → ℕ → Script
+script_number scripts n = slice_index_or scripts n (record { edits = []; status = pos 0 })
 
-abbrev pub targets_in : List StoredTarget → List PlanTarget
-targets_in stored = map (λ (t : StoredTarget). t.plan) stored
+-- callbacks of these kinds, which begin with this number
+abbrev pub callbacks_from : List Script → ℕ → List Which → List Callback
+callbacks_from scripts n [] = []
+callbacks_from scripts n (which ∷ kinds) = record { which = which; script = script_number scripts n } ∷ callbacks_from scripts (n + 1) kinds
 
-abbrev pub target_counts_in : List StoredTarget → List (List ℕ)
-target_counts_in stored = map (λ (t : StoredTarget). t.runs) stored
+abbrev pub target_in : List Script → StoredTarget → PlanTarget
+target_in scripts target =
+    record { object = target.object; functions = target.functions; callbacks = callbacks_from scripts target.first target.kinds }
 
-abbrev pub patches_in : List StoredPatch → List PlanPatch
-patches_in stored = map (λ (p : StoredPatch). p.plan) stored
+abbrev pub patch_in : List Script → StoredPatch → PlanPatch
+patch_in scripts patch =
+    record { name = patch.name; replace = patch.replace; targets = map (target_in scripts) patch.targets; states = patch.states }
 
-abbrev pub patch_counts_in : List StoredPatch → List (List (List ℕ))
-patch_counts_in stored = map (λ (p : StoredPatch). p.runs) stored
+abbrev pub patches_in : List Script → List StoredPatch → List PlanPatch
+patches_in scripts stored = map (patch_in scripts) stored
 
-abbrev pub functions_in : List StoredPatch → List (List CatalogFunction)
-functions_in stored = map (λ (p : StoredPatch). p.functions) stored
+-- ---- what is kept of the patches of a plan
 
--- the callbacks of a patch for one of its objects
-abbrev pub target_callbacks : Option PlanTarget → List Callback
-target_callbacks None = []
-target_callbacks (Some target) = target.callbacks
+-- each item, made with the number that it begins at: the numbers go up by the size of each
+abbrev pub placed : {A B : Type 0} → (ℕ → A → B) → (A → ℕ) → ℕ → List A → List B
+placed make size n [] = []
+placed make size n (item ∷ items) = make n item ∷ placed make size (n + size item) items
 
-abbrev pub plan_callbacks : PlanPatch → ℕ → List Callback
-plan_callbacks plan place = target_callbacks (slice_get plan.targets place)
+abbrev pub target_size : PlanTarget → ℕ
+target_size target = length target.callbacks
 
--- one run more of a target's callback, or of a patch's for one of its objects
-abbrev pub target_after : Which → StoredTarget → StoredTarget
-target_after which target = record target { runs = counted_at (number_of which target.plan.callbacks) target.runs }
+abbrev pub patch_size : PlanPatch → ℕ
+patch_size patch = length (scripts_of_targets patch.targets)
 
-abbrev pub patch_after : ℕ → Which → StoredPatch → StoredPatch
-patch_after place which patch = record patch { runs = change_at (counted_at (number_of which (plan_callbacks patch.plan place))) place patch.runs }
+abbrev pub stored_target : ℕ → PlanTarget → StoredTarget
+stored_target first target = record {
+  object = target.object;
+  functions = target.functions;
+  first = first;
+  kinds = map (λ (c : Callback). c.which) target.callbacks;
+}
 
--- a patch that isn't there has no callbacks
-abbrev pub stored_callbacks : ℕ → Option StoredPatch → List Callback
-stored_callbacks place None = []
-stored_callbacks place (Some patch) = plan_callbacks patch.plan place
+abbrev pub stored_targets : ℕ → List PlanTarget → List StoredTarget
+stored_targets first targets = placed stored_target target_size first targets
 
--- the script of a patch's callback of a kind for one of its objects
-abbrev pub stored_script : Which → ℕ → Option StoredPatch → Option Script
-stored_script which place patch = script_for which (stored_callbacks place patch)
+abbrev pub functions_of_plan : List ObjectNames → PlanPatch → List CatalogFunction
+functions_of_plan names patch = functions_of_patch names patch.targets
+
+abbrev pub stored_patch : List ObjectNames → ℕ → PlanPatch → StoredPatch
+stored_patch names first patch = record {
+  name = patch.name;
+  replace = patch.replace;
+  targets = stored_targets first patch.targets;
+  functions = functions_of_plan names patch;
+  states = patch.states;
+}
+
+abbrev pub stored_patches : List ObjectNames → ℕ → List PlanPatch → List StoredPatch
+stored_patches names first patches = placed (stored_patch names) patch_size first patches
+
+-- ---- looks
+
+-- the number of a callback among all of the catalog, if there is one of this kind
+abbrev pub number_in : Which → StoredTarget → Option ℕ
+number_in which target = option_map (λ place. target.first + place) (position (λ (w : Which). is_kind w which) target.kinds)
 
 -- a patch that isn't there changes nothing, and names no states
-abbrev pub stored_targets : Option StoredPatch → List PlanTarget
-stored_targets None = []
-stored_targets (Some patch) = patch.plan.targets
+abbrev pub targets_at : Option StoredPatch → List StoredTarget
+targets_at None = []
+targets_at (Some patch) = patch.targets
 
 abbrev pub stored_functions : Option StoredPatch → List CatalogFunction
 stored_functions None = []
@@ -88,14 +107,18 @@ stored_functions (Some patch) = patch.functions
 
 abbrev pub stored_states : Option StoredPatch → List SystemState
 stored_states None = []
-stored_states (Some patch) = patch.plan.states
+stored_states (Some patch) = patch.states
 
 abbrev pub stored_replaces : Option StoredPatch → Bool
 stored_replaces None = false
-stored_replaces (Some patch) = patch.plan.replace
+stored_replaces (Some patch) = patch.replace
 
 abbrev pub states_at : List StoredPatch → ℕ → List SystemState
 states_at stored patch = stored_states (slice_get stored patch)
+
+-- the number of the callback of a kind, of a patch for its object at a place
+abbrev pub number_of : List StoredPatch → ℕ → ℕ → Which → Option ℕ
+number_of stored patch place which = option_and_then (number_in which) (slice_get (targets_at (slice_get stored patch)) place)
 
 -- whether a patch can live with all states of an installed one
 abbrev pub can_live_with_patch : List StoredPatch → ℕ → ℕ → Bool
@@ -110,26 +133,12 @@ newest_naming stored id installed = find (λ p. is_some (version_among id (state
 abbrev pub symbol_count : ObjectNames → ℕ
 symbol_count object = length object.symbols
 
-abbrev pub functions_of_plan : List ObjectNames → PlanPatch → List CatalogFunction
-functions_of_plan names patch = functions_of_patch names patch.targets
-
--- limits that a plan's patches keep to, whatever their callbacks are, and that a patch has each object once
-pub record IsWithin (patch : PlanPatch) : Type 0 where
-  pub few_targets : length patch.targets ≤ MAX_TARGETS
-  pub distinct_targets : has_same target_number patch.targets ≡ false
-  pub few_functions : function_count patch.targets ≤ MAX_FUNCTIONS
-  pub few_states : length patch.states ≤ MAX_STATES
-
-pub record AreWithin (patches : List PlanPatch) : Type 0 where
-  pub few_patches : length patches ≤ MAX_PATCHES
-  pub each_within : AllByRecursion IsWithin patches
-
--- the names of the objects are known to contracts alone; what is kept agrees with them
-pub record IsStored (names : List ObjectNames) (symbols : List ℕ) (patch_names : List (List ℕ)) (patches : List PlanPatch) (functions : List (List CatalogFunction)) (runs : List (List (List ℕ))) : Type 0 where
+-- the names of the objects are known to contracts alone; what is kept agrees with them, with these scripts and counts of callbacks
+pub record IsStored (names : List ObjectNames) (symbols : List ℕ) (patch_names : List (List ℕ)) (stored : List StoredPatch) (scripts : List Script) (counts : List ℕ) : Type 0 where
   -- as many as an `ObjId` can name
-  pub counts : symbols ≡ take 256 (map symbol_count names)
-  pub by_name : patch_names ≡ patch_names_of patches
-  pub resolved : functions ≡ map (functions_of_plan names) patches
-  pub few : AreWithin patches
-  pub apart : some_same_site names patches ≡ false
-  pub counted : HasCounts patches runs
+  pub sizes : symbols ≡ take 256 (map symbol_count names)
+  pub by_name : patch_names ≡ patch_names_of (patches_in scripts stored)
+  pub kept : stored ≡ stored_patches names 0 (patches_in scripts stored)
+  pub few : AreWithin (patches_in scripts stored)
+  pub apart : some_same_site names (patches_in scripts stored) ≡ false
+  pub counted : HasCounts (patches_in scripts stored) counts

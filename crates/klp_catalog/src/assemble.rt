@@ -1,27 +1,22 @@
 //! From a plan to the patches of a catalog.
 
-ghost use Rattle.std.specs.Prelude.{◌≡◌, ◌+◌, ◌++◌, false, length, take, map, OnOk, IfOk, IfErr};
-ghost use Rattle.klp_types.specs.Setting.{Callback as CallbackValue};
-ghost use Rattle.klp_types.specs.Script.{Script as ScriptOfEdits};
-ghost use Rattle.klp_plan.specs.Plan.{PlanTarget as TargetValue};
-ghost use Rattle.klp_plan.specs.Scripts.{scripts_of_target, scripts_of_targets, scripts_of};
+ghost use Rattle.std.specs.Prelude.{◌≡◌, ◌+◌, ◌≤◌, ◌++◌, false, length, take, map, OnOk, IfOk, IfErr};
 ghost use Rattle.std.specs.List.{list_any};
+ghost use Rattle.klp_types.specs.Setting.{Callback as CallbackValue};
+ghost use Rattle.klp_plan.specs.Scripts.{scripts_of};
 ghost use Rattle.klp_catalog.specs.Catalog as catalog;
 ghost use Rattle.klp_catalog.specs.Catalog.{CatalogFunction as FunctionValue, resolved_function, functions_of_target, some_same_site};
-ghost use Rattle.klp_catalog.specs.Assembled.{IsAssembleFault, IsShort, without_script, target_without_scripts, without_scripts, counts_of_patch, counts_of, scripts_told, counts_told};
-ghost use Rattle.klp_catalog.specs.Stored.{symbol_count, callbacks_in, counts_in, patches_in, patch_counts_in, functions_in, functions_of_plan};
-ghost use Rattle.klp_catalog.specs.Runs.{HasCounts};
+ghost use Rattle.klp_catalog.specs.Assembled.{IsAssembleFault, IsShort};
+ghost use Rattle.klp_catalog.specs.Stored.{symbol_count, target_size, patch_size, stored_target, stored_patch, stored_patches};
 ghost use Rattle.klp_catalog.specs.declared.assemble.AssembleFault.TheVariants.{NoMemory};
 
-use crate::boxes::Boxes;
-use crate::callbacks::CatalogCallback;
 use crate::function::CatalogFunction;
+use crate::numbers::Numbers;
 use crate::patch::CatalogPatch;
 use crate::target::CatalogTarget;
-use klp_callback::Boxed;
 use klp_modules::Modules;
 use klp_plan::{PlanCallback, PlanFunction, PlanPatch, PlanTarget};
-use klp_types::{ObjId, Site};
+use klp_types::{ObjId, Site, Which};
 use std::alloc::{AllocError, AllocFailed, Global};
 use std::snapshot::Snapshot;
 use thiserror::Error;
@@ -105,24 +100,15 @@ fn push_functions(
     Ok(())
 }
 
-/// Gives each callback of an object the next box.
-fn take_boxes(
-    alloc: Global,
-    given: Vec<PlanCallback>,
-    boxes: &mut Boxes,
-) -> Result<Vec<CatalogCallback>, AssembleFault>
-    ensures kinds { IfOk result (λ taken. map without_script (callbacks_in taken.items) ≡ map without_script given.items) }
-    ensures scripts { IfOk result (λ taken. map {B = ScriptOfEdits} (λ (c : CallbackValue). c.script) (callbacks_in taken.items) ++ scripts_told boxes.new ≡ scripts_told boxes.old) }
-    ensures counts { IfOk result (λ taken. counts_in taken.items ++ counts_told boxes.new ≡ counts_told boxes.old) }
-    ensures number { OnOk result (length boxes.new + length given.items ≡ length boxes.old) }
-    ensures fault { IfErr result (IsShort (length given.items) (length boxes.old)) }
+/// The kinds of callbacks, in order.
+fn kinds_of(alloc: Global, callbacks: &[PlanCallback]) -> Result<Vec<Which>, AllocError>
+    ensures { IfOk result (λ kinds. kinds.items ≡ map (λ (c : CallbackValue). c.which) callbacks.now) }
 {
-    let mut taken = Vec::new(alloc);
-    for callback in given {
-        let boxed = boxes.take().ok_or(AssembleFault::WrongCallbacks)?;
-        taken.push(CatalogCallback::new(callback.which, boxed))?;
+    let mut kinds = Vec::new(alloc);
+    for callback in callbacks {
+        kinds.push(callback.which)?;
     }
-    Ok(taken)
+    Ok(kinds)
 }
 
 fn is_same_site(one: Option<Site>, other: Option<Site>) -> bool
@@ -157,51 +143,50 @@ fn has_same_site(functions: &[CatalogFunction]) -> bool
     false
 }
 
-/// An object with its boxes; its functions go behind the others.
+/// An object with the numbers of its callbacks; its functions go behind the others.
 fn assemble_target(
     alloc: Global,
     modules: &Modules,
     target: PlanTarget,
-    boxes: &mut Boxes,
+    numbers: &mut Numbers,
     functions: &mut Vec<CatalogFunction>,
 ) -> Result<CatalogTarget, AssembleFault>
-    ensures target { IfOk result (λ made. target_without_scripts made.plan ≡ target_without_scripts target) }
+    requires { numbers.old.next ≤ numbers.old.end }
+    ensures target { IfOk result (λ made. made ≡ stored_target numbers.old.next target) }
     ensures functions { OnOk result (functions.new.items ≡ functions.old.items ++ functions_of_target modules.now.names target) }
-    ensures scripts { IfOk result (λ made. scripts_of_target made.plan ++ scripts_told boxes.new ≡ scripts_told boxes.old) }
-    ensures counts { IfOk result (λ made. made.runs ++ counts_told boxes.new ≡ counts_told boxes.old) }
-    ensures shape { IfOk result (λ made. length made.runs ≡ length made.plan.callbacks) }
-    ensures number { OnOk result (length boxes.new + length target.callbacks ≡ length boxes.old) }
-    ensures fault { IfErr result (IsShort (length target.callbacks) (length boxes.old)) }
+    ensures numbers { OnOk result (numbers.new ≡ record numbers.old { next = numbers.old.next + target_size target }) }
+    ensures within { OnOk result (numbers.new.next ≤ numbers.new.end) }
+    ensures fault { IfErr result (IsShort (numbers.old.next + target_size target) numbers.old.end) }
 {
     let PlanTarget {
         object,
         functions: given,
         callbacks,
     } = target;
-    let callbacks = take_boxes(alloc, callbacks, boxes)?;
+    let first = numbers.take(callbacks.len())?;
+    let kinds = kinds_of(alloc, &callbacks)?;
     let planned = Snapshot::of(&given);
     push_functions(modules, object, given, functions)?;
     Ok(CatalogTarget {
         object,
         functions: planned,
-        callbacks,
+        first,
+        kinds,
     })
 }
 
-/// The patch with its functions resolved and its boxes.
+/// The patch with its functions resolved and the numbers of its callbacks.
 fn assemble_patch(
     alloc: Global,
     modules: &Modules,
     patch: PlanPatch,
-    boxes: &mut Boxes,
+    numbers: &mut Numbers,
 ) -> Result<CatalogPatch, AssembleFault>
-    ensures patch { IfOk result (λ made. without_scripts made.plan ≡ without_scripts patch) }
-    ensures functions { IfOk result (λ made. made.functions ≡ functions_of_plan modules.now.names patch) }
-    ensures scripts { IfOk result (λ made. scripts_of_targets made.plan.targets ++ scripts_told boxes.new ≡ scripts_told boxes.old) }
-    ensures counts { IfOk result (λ made. counts_of_patch made.runs ++ counts_told boxes.new ≡ counts_told boxes.old) }
-    ensures shape { IfOk result (λ made. map length made.runs ≡ map (λ (t : TargetValue). length t.callbacks) made.plan.targets) }
-    ensures number { OnOk result (length boxes.new + length (scripts_of_targets patch.targets) ≡ length boxes.old) }
-    ensures fault { IfErr result (IsShort (length (scripts_of_targets patch.targets)) (length boxes.old)) }
+    requires { numbers.old.next ≤ numbers.old.end }
+    ensures patch { IfOk result (λ made. made ≡ stored_patch modules.now.names numbers.old.next patch) }
+    ensures numbers { OnOk result (numbers.new ≡ record numbers.old { next = numbers.old.next + patch_size patch }) }
+    ensures within { OnOk result (numbers.new.next ≤ numbers.new.end) }
+    ensures fault { IfErr result (IsShort (numbers.old.next + patch_size patch) numbers.old.end) }
 {
     let PlanPatch {
         name,
@@ -212,7 +197,7 @@ fn assemble_patch(
     let mut targets = Vec::new(alloc);
     let mut functions = Vec::new(alloc);
     for target in given {
-        targets.push(assemble_target(alloc, modules, target, boxes, &mut functions)?)?;
+        targets.push(assemble_target(alloc, modules, target, numbers, &mut functions)?)?;
     }
     Ok(CatalogPatch {
         name: Snapshot::of(&name),
@@ -223,34 +208,34 @@ fn assemble_patch(
     })
 }
 
-/// The patches in order, each with its functions resolved and the boxes given out in order.
+/// The patches in order, each with its functions resolved and the numbers of its callbacks, of
+/// which there are so many.
 ///
-/// That two functions are for one site is told only once all boxes are given out, since a wrong
-/// number of them is looked at first.
+/// That two functions are for one site is told only once all numbers are given out, since a wrong
+/// number of callbacks is looked at first.
 pub(crate) fn assemble_patches(
     alloc: Global,
     modules: &Modules,
     given: Vec<PlanPatch>,
-    callbacks: Vec<Boxed>,
+    callbacks: usize,
 ) -> Result<Vec<CatalogPatch>, AssembleFault>
-    ensures patches { IfOk result (λ made. map without_scripts (patches_in made.items) ≡ map without_scripts given.items) }
-    ensures functions { IfOk result (λ made. functions_in made.items ≡ map (functions_of_plan modules.now.names) given.items) }
-    ensures scripts { IfOk result (λ made. scripts_of (patches_in made.items) ≡ scripts_told callbacks.items) }
-    ensures counts { IfOk result (λ made. counts_of (patch_counts_in made.items) ≡ counts_told callbacks.items) }
-    ensures shape { IfOk result (λ made. HasCounts (patches_in made.items) (patch_counts_in made.items)) }
-    ensures number { OnOk result (length (scripts_of given.items) ≡ length callbacks.items) }
+    ensures patches { IfOk result (λ made. made.items ≡ stored_patches modules.now.names 0 given.items) }
+    ensures number { OnOk result (length (scripts_of given.items) ≡ callbacks) }
     ensures apart { OnOk result (some_same_site modules.now.names given.items ≡ false) }
-    ensures fault { IfErr result (IsAssembleFault modules.now.names given.items (length callbacks.items)) }
+    ensures fault { IfErr result (IsAssembleFault modules.now.names given.items callbacks) }
 {
-    let mut boxes = Boxes::new(callbacks);
+    let mut numbers = Numbers {
+        next: 0,
+        end: callbacks,
+    };
     let mut same_site = false;
     let mut patches = Vec::new(alloc);
     for patch in given {
-        let assembled = assemble_patch(alloc, modules, patch, &mut boxes)?;
+        let assembled = assemble_patch(alloc, modules, patch, &mut numbers)?;
         same_site |= has_same_site(&assembled.functions);
         patches.push(assembled)?;
     }
-    if boxes.take().is_some() {
+    if numbers.next < callbacks {
         return Err(AssembleFault::WrongCallbacks);
     }
     if same_site {

@@ -1,5 +1,5 @@
 ghost use Rattle.std.specs.Prelude.{◌≡◌, ℕ, ◌<◌, ◌≤◌, false, List, Option, length, map, position, bytes_eq, slice_get, option_map, ◌+◌, is_some, option_and_then, IfOk, IfErr, IfSome};
-ghost use Rattle.std.specs.List.{All, AllByRecursion};
+ghost use Rattle.std.specs.List.{All};
 ghost use Rattle.klp_types.specs.Setting.{all_functions, patch_objects};
 ghost use Rattle.klp_modules.specs.Names.{ObjectNames};
 ghost use Rattle.klp_types.specs.Setting.{PatchObject};
@@ -10,15 +10,15 @@ ghost use Rattle.klp_world.specs.Undo.{undone};
 ghost use Rattle.klp_world.specs.Noted.{noting, rows_of_script};
 ghost use Rattle.klp_plan.specs.Plan.{PlanPatch as PatchValue};
 ghost use Rattle.klp_plan.specs.Text.{plan_of, IsFaultOf};
-ghost use Rattle.klp_plan.specs.Limits.{has_same, target_number};
 ghost use Rattle.klp_plan.specs.Within.{AreTargetsWithin};
 ghost use Rattle.klp_plan.specs.Draft.{patch_names_of};
 ghost use Rattle.klp_catalog.specs.Catalog.{CatalogFunction as FunctionValue, catalog_functions, setting_function, patches_of, has_same_site, some_same_site};
 ghost use Rattle.klp_catalog.specs.States as states;
-ghost use Rattle.klp_catalog.specs.Runs.{HasCounts, objects_at, place_of, script_at, allocs_if, rows_if, after_run, callback_runs};
+ghost use Rattle.klp_catalog.specs.Runs.{HasCounts, objects_at, place_of, script_at, allocs_if, rows_if, after_runs, callback_runs};
+ghost use Rattle.klp_catalog.specs.Limits.{AreWithin};
 ghost use Rattle.klp_plan.specs.Scripts.{scripts_of};
 ghost use Rattle.std.specs.FinMap as finite;
-ghost use Rattle.klp_catalog.specs.Assembled.{IsAssembleFault, LiesInObject, without_scripts, counts_of, scripts_told, counts_told};
+ghost use Rattle.klp_catalog.specs.Assembled.{IsAssembleFault, LiesInObject, without_scripts, scripts_told, counts_told};
 
 use crate::assemble::{AssembleFault, assemble_patches, symbol_counts};
 use crate::function::CatalogFunction;
@@ -49,17 +49,20 @@ pub struct Catalog {
     symbols: Vec<u16>,
     names: Names,
     patches: Vec<CatalogPatch>,
+    /// Those of all patches, in the order of the text.
+    callbacks: Vec<Boxed>,
 }
 
 impl Model for Catalog {
     ghost use Rattle.klp_catalog.specs.Catalog.{Catalog};
-    ghost use Rattle.klp_catalog.specs.Stored.{IsStored, patches_in, functions_in, patch_counts_in};
+    ghost use Rattle.klp_catalog.specs.Assembled.{scripts_told, counts_told};
+    ghost use Rattle.klp_catalog.specs.Stored.{IsStored, patches_in};
 
     ghost Value = { Catalog };
 
-    ghost view = { λ c. record { names = c.over.value.names; patches = patches_in c.patches.items; runs = patch_counts_in c.patches.items } };
+    ghost view = { λ c. record { names = c.over.value.names; patches = patches_in (scripts_told c.callbacks.items) c.patches.items; runs = counts_told c.callbacks.items } };
 
-    ghost invariant = { λ c. IsStored c.over.value.names c.symbols.items c.names (patches_in c.patches.items) (functions_in c.patches.items) (patch_counts_in c.patches.items) };
+    ghost invariant = { λ c. IsStored c.over.value.names c.symbols.items c.names c.patches.items (scripts_told c.callbacks.items) (counts_told c.callbacks.items) };
 }
 
 impl Catalog {
@@ -95,21 +98,23 @@ impl Catalog {
         ensures names { IfOk result (λ catalog. catalog.names ≡ modules.now.names) }
         ensures patches { IfOk result (λ catalog. map without_scripts catalog.patches ≡ map without_scripts plan.patches) }
         ensures scripts { IfOk result (λ catalog. scripts_of catalog.patches ≡ scripts_told callbacks.items) }
-        ensures counts { IfOk result (λ catalog. counts_of catalog.runs ≡ counts_told callbacks.items) }
+        ensures counts { IfOk result (λ catalog. catalog.runs ≡ counts_told callbacks.items) }
         ensures shape { IfOk result (λ catalog. HasCounts catalog.patches catalog.runs) }
-        ensures once { IfOk result (λ catalog. AllByRecursion (λ (p : PatchValue). has_same target_number p.targets ≡ false) catalog.patches) }
+        ensures limits { IfOk result (λ catalog. AreWithin catalog.patches) }
         ensures number { IfOk result (λ catalog. length (scripts_of plan.patches) ≡ length callbacks.items) }
         ensures distinct { IfOk result (λ catalog. some_same_site modules.now.names plan.patches ≡ false) }
         ensures fault { IfErr result (λ fault. IsAssembleFault modules.now.names plan.patches (length callbacks.items) fault) }
     {
         let symbols = symbol_counts(alloc, modules)?;
         let over = Snapshot::of(modules);
-        let (patches, names) = plan.into_patches();
+        let (given, names) = plan.into_patches();
+        let patches = assemble_patches(alloc, modules, given, callbacks.len())?;
         Ok(Catalog {
             over,
             symbols,
             names,
-            patches: assemble_patches(alloc, modules, patches, callbacks)?,
+            patches,
+            callbacks,
         })
     }
 
@@ -117,6 +122,8 @@ impl Catalog {
     pub fn patches(&self) -> u8
         ensures count { result ≡ length self.now.patches }
         ensures limit { result ≤ MAX_PATCHES }
+        // what each patch keeps to
+        ensures limits { AreWithin self.now.patches }
     {
         self.patches.len() as u8
     }
@@ -213,16 +220,14 @@ impl Catalog {
         requires room { IfSome (script_at self.old patch place which) (λ script. finite.len world.old.shadow + alloc_count script.edits ≤ MAX_VARIABLES) }
         requires records { IfSome (script_at self.old patch place which) (λ script. length (rows_of_script patch world.old script) ≤ spare_of log.old) }
         ensures status { result ≡ option_map (λ (s : ScriptOfEdits). s.status) (script_at self.old patch place which) }
-        ensures catalog { self.new ≡ after_run self.old patch place which }
+        // one run of the callback, if there is one
+        ensures catalog { self.new ≡ after_runs self.old (call_of patch place which (script_at self.old patch place which)) }
         ensures world { world.new ≡ after_calls world.old (call_of patch place which (script_at self.old patch place which)) }
         ensures noted { log.new ≡ noting log.old (rows_if patch world.old (script_at self.old patch place which)) }
         ensures undo { undone world.new (rows_if patch world.old (script_at self.old patch place which)) ≡ world.old }
     {
-        let number = usize::from(patch.0);
-        if self.patches.len() <= number {
-            return None;
-        }
-        self.patches[number].run(patch, place, which, world, log)
+        let number = patch::number_of(&self.patches, patch, usize::from(place), which)?;
+        Some(self.callbacks[number].run(patch, world, log))
     }
 
     /// How many shadow variables such a run adds at most. 0 where there is no such callback.
@@ -232,8 +237,8 @@ impl Catalog {
         // so a run notes few rows
         ensures edits { IfSome (script_at self.now patch place which) (λ script. length script.edits ≤ MAX_EDITS) }
     {
-        match self.patches.get(usize::from(patch.0)) {
-            Some(patch) => patch.allocs(place, which),
+        match patch::number_of(&self.patches, patch, usize::from(place), which) {
+            Some(number) => self.callbacks[number].allocs(),
             None => 0,
         }
     }
@@ -244,8 +249,9 @@ impl Catalog {
         ensures runs { result ≡ callback_runs self.now patch object which }
         ensures there { is_some result ≡ is_some (option_and_then (λ place. script_at self.now patch place which) (place_of object (objects_at self.now patch))) }
     {
-        let patch = self.patches.get(usize::from(patch.0))?;
-        patch.callback_runs(object, which)
+        let place = patch::place_of(patch::targets_of(&self.patches, patch), object)?;
+        let number = patch::number_of(&self.patches, patch, place, which)?;
+        Some(self.callbacks[number].runs())
     }
 
     /// The new functions of a patch, over its objects in order. A patch that isn't there has none.

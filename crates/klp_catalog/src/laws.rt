@@ -1,9 +1,9 @@
 //! What is proved of the counts of callbacks. A function here does nothing: its contract is the law.
-ghost use Rattle.std.specs.Prelude.{◌≡◌, ℕ, ◌-◌, ◌≤◌, ◌^◌, List, Some, option_map, IfSome};
+ghost use Rattle.std.specs.Prelude.{◌≡◌, ℕ, List, Some, option_map};
 ghost use Rattle.klp_types.specs.declared.callback.Which.{Which};
 ghost use Rattle.klp_types.specs.Callbacks.{Call};
 ghost use Rattle.klp_catalog.specs.Catalog.{Catalog};
-ghost use Rattle.klp_catalog.specs.Runs.{objects_at, place_of, after_runs, runs_of, callback_runs};
+ghost use Rattle.klp_catalog.specs.Runs.{objects_at, place_of, after_runs, runs_of, callback_runs, RunsAddUp};
 ghost use Rattle.klp_catalog.specs.Counts.{times, grown};
 
 /// When callbacks ran, each callback's count has grown by the number of times that it stands among
@@ -11,12 +11,15 @@ ghost use Rattle.klp_catalog.specs.Counts.{times, grown};
 /// `looks` says the same of a patch's callback for an object, by the object's place in the patch.
 pub fn counts_grow_by_runs()
     ensures counts { (catalog : Catalog) (calls : List Call) (patch place : ℕ) (which : Which)
-        → IfSome (runs_of catalog patch place which) (λ runs. runs ≤ 2 ^ 64 - 1)
         → runs_of (after_runs catalog calls) patch place which ≡ option_map (grown (times patch place which calls)) (runs_of catalog patch place which) }
     ensures looks { (catalog : Catalog) (calls : List Call) (patch object place : ℕ) (which : Which)
         → place_of object (objects_at catalog patch) ≡ Some place
-        → IfSome (callback_runs catalog patch object which) (λ runs. runs ≤ 2 ^ 64 - 1)
         → callback_runs (after_runs catalog calls) patch object which ≡ option_map (grown (times patch place which calls)) (callback_runs catalog patch object which) }
     ensures names { (catalog : Catalog) (calls : List Call) → (after_runs catalog calls).names ≡ catalog.names }
     ensures patches { (catalog : Catalog) (calls : List Call) → (after_runs catalog calls).patches ≡ catalog.patches }
+{}
+
+/// Runs that follow one another grow the counts as all of them together, and no run changes nothing.
+pub fn runs_add_up()
+    ensures { RunsAddUp }
 {}

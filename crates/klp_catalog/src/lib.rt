@@ -5,11 +5,10 @@
 #![tactic(auto)]
 
 mod assemble;
-mod boxes;
-mod callbacks;
 mod catalog;
 mod function;
 pub mod laws;
+mod numbers;
 mod patch;
 mod target;
 

@@ -1,25 +1,16 @@
-ghost use Rattle.std.specs.Prelude.{◌≡◌, ℕ, ◌+◌, ◌≤◌, [], length, map, position, slice_get, slice_index_or, option_map, option_and_then, IfSome, ◌==◌};
+ghost use Rattle.std.specs.Prelude.{◌≡◌, ◌≤◌, ◌==◌, length, map, position, slice_get};
 ghost use Rattle.std.specs.List.{list_all};
-ghost use Rattle.std.specs.FinMap as finite;
 ghost use Rattle.klp_types.specs.Compatible as compatible;
 ghost use Rattle.klp_types.specs.Compatible.{SystemState as StateValue};
-ghost use Rattle.klp_types.specs.Records.{spare_of};
-ghost use Rattle.klp_types.specs.Callbacks.{script_for};
-ghost use Rattle.klp_types.specs.Script.{Script as ScriptOfEdits, alloc_count};
-ghost use Rattle.klp_world.specs.Undo.{undone};
-ghost use Rattle.klp_world.specs.Noted.{noting, rows_of_script};
-ghost use Rattle.klp_plan.specs.Plan.{PlanTarget as TargetValue};
-ghost use Rattle.klp_catalog.specs.Runs.{number_of, change_at, allocs_if, rows_if, effect_if};
 ghost use Rattle.klp_catalog.specs.Stored as stored;
-ghost use Rattle.klp_catalog.specs.Stored.{StoredTarget, plan_callbacks, patch_after, stored_script, targets_in, stored_targets, stored_functions, stored_replaces, states_at, can_live_with_patch};
+ghost use Rattle.klp_catalog.specs.Stored.{StoredTarget, targets_at, stored_functions, stored_replaces, states_at, can_live_with_patch};
 ghost use Rattle.klp_catalog.specs.States.{installed_before};
 
 use crate::function::CatalogFunction;
 use crate::target::CatalogTarget;
 use arrayvec::ArrayVec;
 use klp_plan::SystemState;
-use klp_types::{MAX_EDITS, MAX_STATES, MAX_VARIABLES, ObjId, PatchId, Records, Which};
-use klp_world::World;
+use klp_types::{MAX_STATES, ObjId, PatchId, Which};
 use std::marker::Model;
 use std::snapshot::Snapshot;
 
@@ -38,79 +29,37 @@ pub(crate) struct CatalogPatch {
 
 impl Model for CatalogPatch {
     ghost use Rattle.std.specs.Prelude.{string_bytes};
-    ghost use Rattle.klp_catalog.specs.Stored.{StoredPatch, targets_in, target_counts_in};
+    ghost use Rattle.klp_catalog.specs.Stored.{StoredPatch};
 
     ghost Value = { StoredPatch };
 
-    ghost view = { λ p. record {
-      plan = record { name = string_bytes p.name.value; replace = p.replace; targets = targets_in p.targets.items; states = p.states.items };
-      functions = p.functions.items;
-      runs = target_counts_in p.targets.items;
-    } };
+    ghost view = { λ p. record { name = string_bytes p.name.value; replace = p.replace; targets = p.targets.items; functions = p.functions.items; states = p.states.items } };
 }
 
-impl CatalogPatch {
-    /// Runs the callback of a kind for one of its objects, if there is one, and answers its status.
-    pub(crate) fn run(
-        &mut self,
-        patch: PatchId,
-        place: u8,
-        which: Which,
-        world: &mut World,
-        log: &mut Records,
-    ) -> Option<i32>
-        requires room { IfSome (script_for which (plan_callbacks self.old.plan place)) (λ script. finite.len world.old.shadow + alloc_count script.edits ≤ MAX_VARIABLES) }
-        requires records { IfSome (script_for which (plan_callbacks self.old.plan place)) (λ script. length (rows_of_script patch world.old script) ≤ spare_of log.old) }
-        ensures status { result ≡ option_map (λ (s : ScriptOfEdits). s.status) (script_for which (plan_callbacks self.old.plan place)) }
-        ensures patch { self.new ≡ patch_after place which self.old }
-        ensures world { world.new ≡ effect_if patch world.old (script_for which (plan_callbacks self.old.plan place)) }
-        ensures noted { log.new ≡ noting log.old (rows_if patch world.old (script_for which (plan_callbacks self.old.plan place))) }
-        ensures undo { undone world.new (rows_if patch world.old (script_for which (plan_callbacks self.old.plan place))) ≡ world.old }
-    {
-        let place = usize::from(place);
-        if self.targets.len() <= place {
-            return None;
-        }
-        self.targets[place].run(patch, which, world, log)
-    }
-
-    /// How many shadow variables the callback of a kind for one of its objects adds at most.
-    pub(crate) fn allocs(&self, place: u8, which: Which) -> u16
-        ensures value { result ≡ allocs_if (script_for which (plan_callbacks self.now.plan place)) }
-        ensures limit { result ≤ MAX_EDITS }
-        ensures edits { IfSome (script_for which (plan_callbacks self.now.plan place)) (λ script. length script.edits ≤ MAX_EDITS) }
-    {
-        match self.targets.get(usize::from(place)) {
-            Some(target) => target.allocs(which),
-            None => 0,
-        }
-    }
-
-    /// How often the callback of a kind for this object ran.
-    pub(crate) fn callback_runs(&self, object: ObjId, which: Which) -> Option<u64>
-        ensures { result ≡ option_and_then (λ place. option_and_then (slice_get (slice_index_or self.now.runs place [])) (number_of which (plan_callbacks self.now.plan place)))
-            (position (λ (t : TargetValue). t.object == object) self.now.plan.targets) }
-    {
-        let place = place_of(&self.targets, object)?;
-        self.targets[place].callback_runs(which)
-    }
+/// The number of a patch's callback among all of the catalog, if it has one of the kind for the
+/// object at this place.
+pub(crate) fn number_of(
+    patches: &[CatalogPatch],
+    patch: PatchId,
+    place: usize,
+    which: Which,
+) -> Option<usize>
+    ensures { result ≡ stored.number_of patches.now patch place which }
+{
+    let target = targets_of(patches, patch).get(place)?;
+    target.number(which)
 }
 
 /// The place of an object among those that a patch changes.
-fn place_of(targets: &[CatalogTarget], object: ObjId) -> Option<usize>
-    ensures { result ≡ position (λ (t : StoredTarget). t.plan.object == object) targets.now }
+pub(crate) fn place_of(targets: &[CatalogTarget], object: ObjId) -> Option<usize>
+    ensures { result ≡ position (λ (t : StoredTarget). t.object == object) targets.now }
 {
-    for (place, target) in targets.iter().enumerate() {
-        if target.object == object {
-            return Some(place);
-        }
-    }
-    None
+    targets.iter().position(|target| target.object == object)
 }
 
 /// The objects that a patch changes, if it is there.
 pub(crate) fn targets_of(patches: &[CatalogPatch], patch: PatchId) -> &[CatalogTarget]
-    ensures { targets_in result.now ≡ stored_targets (slice_get patches.now patch) }
+    ensures { result.now ≡ targets_at (slice_get patches.now patch) }
 {
     match patches.get(usize::from(patch.0)) {
         Some(patch) => &patch.targets,

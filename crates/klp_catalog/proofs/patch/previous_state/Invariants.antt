@@ -5,7 +5,7 @@ use Rattle.klp_catalog.proofs.patch.previous_state.Given as goal
 
 -- the patches so far are before this one, and the newest of them that names the state is known
 abbrev pub invariant-loop-other : goal.invariant-loop-other
-invariant-loop-other g l = record {
+invariant-loop-other l = record {
   newest : l.newest ≡ newest_naming l.patches l.id (take l.other-index l.installed);
   before : installed_before l.patch l.installed ≡ take l.other-index l.installed ++ installed_before l.patch (drop l.other-index l.installed);
 }
