@@ -27,9 +27,10 @@ use crate::patch::CatalogPatch;
 use arrayvec::ArrayVec;
 use klp_callback::Boxed;
 use klp_modules::Modules;
-use klp_plan::{MAX_FUNCTIONS, MAX_TARGETS, Names, Plan, TextFault};
+use klp_plan::{Names, Plan, TextFault};
 use klp_types::{
-    MAX_EDITS, MAX_PATCHES, MAX_STATES, MAX_VARIABLES, ObjId, PatchId, Records, Site, Which,
+    MAX_EDITS, MAX_FUNCTIONS, MAX_PATCHES, MAX_STATES, MAX_TARGETS, MAX_VARIABLES, ObjId, PatchId,
+    Records, Site, Which,
 };
 use klp_world::World;
 use std::alloc::Global;
@@ -118,7 +119,7 @@ impl Catalog {
         })
     }
 
-    /// How many patches there are, at most [`MAX_PATCHES`](crate::MAX_PATCHES).
+    /// How many patches there are, at most [`MAX_PATCHES`](klp_types::MAX_PATCHES).
     pub fn patches(&self) -> u8
         ensures count { result ≡ length self.now.patches }
         ensures limit { result ≤ MAX_PATCHES }
@@ -181,7 +182,7 @@ impl Catalog {
         Some(patch.replace)
     }
 
-    /// How many objects a patch changes, at most [`MAX_TARGETS`](crate::MAX_TARGETS). A patch that
+    /// How many objects a patch changes, at most [`MAX_TARGETS`](klp_types::MAX_TARGETS). A patch that
     /// isn't there changes none.
     pub fn targets(&self, patch: PatchId) -> u8
         ensures count { result ≡ length (objects_at self.now patch) }

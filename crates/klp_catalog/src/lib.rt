@@ -15,7 +15,4 @@ mod target;
 pub use assemble::AssembleFault;
 pub use catalog::Catalog;
 pub use function::CatalogFunction;
-pub use klp_plan::{
-    MAX_ADDRESS_DIGITS, MAX_BODY, MAX_FUNCTIONS, MAX_LINE, MAX_NAME, MAX_OBJECTS, MAX_PATCHES,
-    MAX_SYMBOL_NAME, MAX_SYMBOLS, MAX_TARGETS, Plan, TextFault, TextFaultKind,
-};
+pub use klp_plan::{Plan, TextFault, TextFaultKind};

@@ -13,40 +13,30 @@ use Rattle.klp_types.specs.Callbacks.{Call, calls}
 use Rattle.klp_types.specs.Step.{refusals, accepted, calls_unless, callbacks_of}
 use Rattle.klp_types.specs.Run.{answer_of, state_after, answer, next, run, answers, callbacks_of_run}
 use Rattle.klp_catalog.specs.Catalog.{Catalog}
-use Rattle.klp_catalog.specs.Runs.{after_runs}
+use Rattle.klp_catalog.specs.Runs.{after_runs, RunsAddUp}
 use Rattle.klp_core.specs.Managed.{Managed, setting_of}
 use Rattle.klp_core.specs.Events.{Takes, after_event, after_events, answers_to}
-use Rattle.klp_core.proofs.LoopLemmas.{after_runs-append, setting-stays}
 
 pub next_event : {A : Type 0} (xs : List A) (i : ℕ) (x : A) → i < length xs → x ≡ get_or xs i x → drop i xs ≡ x ∷ drop (i + 1) xs
 next_event xs i x below is =
     let next : suc i ≡ i + 1 = omega arith in
     drop-cons xs i x below ∙ ap (λ y. y ∷ drop (suc i) xs) (sym is) ∙ ap (λ n. x ∷ drop n xs) next
 
-pub same_setting : (managed : Managed) (event : Event) → setting_of (after_event managed event) ≡ setting_of managed
-same_setting managed event = setting-stays managed (callbacks_of (setting_of managed) managed.state event) (next (setting_of managed) managed.state event)
-
-one_left : (managed : Managed) (event : Event) (rest : List Event) → after_events (after_event managed event) rest ≡ after_events managed (event ∷ rest)
-one_left managed event rest =
+one_left : RunsAddUp → (managed : Managed) (event : Event) (rest : List Event) → after_events (after_event managed event) rest ≡ after_events managed (event ∷ rest)
+one_left adds managed event rest =
     let setting = setting_of managed in
     let state = next setting managed.state event in
     let calls = callbacks_of setting managed.state event in
-    ap (λ (s : Setting). record managed { catalog = after_runs (after_runs managed.catalog calls) (callbacks_of_run s state rest); state = run s state rest }) (same_setting managed event)
-    ∙ ap (λ (k : Catalog). record managed { catalog = k; state = run setting state rest }) (sym (after_runs-append managed.catalog calls (callbacks_of_run setting state rest)))
+    ap (λ (k : Catalog). record managed { catalog = k; state = run setting state rest }) (sym (adds.more managed.catalog calls (callbacks_of_run setting state rest)))
 
-pub turn_left : (managed new : Managed) (event : Event) (all rest : List Event) → new ≡ after_event managed event → all ≡ event ∷ rest → after_events new rest ≡ after_events managed all
-turn_left managed new event all rest is split = ap (λ m. after_events m rest) is ∙ one_left managed event rest ∙ ap (after_events managed) (sym split)
-
-one_answer : (managed : Managed) (event : Event) (rest : List Event) → answers_to managed (event ∷ rest) ≡ answer (setting_of managed) managed.state event ∷ answers_to (after_event managed event) rest
-one_answer managed event rest =
-    ap (λ (s : Setting). answer (setting_of managed) managed.state event ∷ answers s (next (setting_of managed) managed.state event) rest) (sym (same_setting managed event))
+pub turn_left : RunsAddUp → (managed new : Managed) (event : Event) (all rest : List Event) → new ≡ after_event managed event → all ≡ event ∷ rest → after_events new rest ≡ after_events managed all
+turn_left adds managed new event all rest is split = ap (λ m. after_events m rest) is ∙ one_left adds managed event rest ∙ ap (after_events managed) (sym split)
 
 pub turn_answers : (test : Result Reply Refusal → Bool) (managed new : Managed) (event : Event) (result : Result Reply Refusal) (all rest : List Event)
     → new ≡ after_event managed event → all ≡ event ∷ rest → result ≡ answer (setting_of managed) managed.state event
     → count_by test (answers_to managed all) ≡ cond (test result) 1 0 + count_by test (answers_to new rest)
 turn_answers test managed new event result all rest is split given =
     ap (λ es. count_by test (answers_to managed es)) split
-    ∙ ap (count_by test) (one_answer managed event rest)
     ∙ sum_by-cons (λ r. cond (test r) 1 0) (answer (setting_of managed) managed.state event) (answers_to (after_event managed event) rest)
     ∙ ap (λ r. cond (test r) 1 0 + count_by test (answers_to (after_event managed event) rest)) (sym given)
     ∙ ap (λ m. cond (test result) 1 0 + count_by test (answers_to m rest)) (sym is)

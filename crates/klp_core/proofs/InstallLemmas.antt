@@ -16,13 +16,12 @@ use Rattle.klp_types.specs.Step.{status_of, enabled_or_gone, enabled}
 use Rattle.klp_text.specs.TextImage.{TextImage}
 use Rattle.klp_modules.specs.Names.{ModuleTable}
 use Rattle.klp_catalog.specs.Catalog.{Catalog}
-use Rattle.klp_catalog.specs.Runs.{after_runs, objects_at}
+use Rattle.klp_catalog.specs.Runs.{after_runs, objects_at, RunsAddUp}
 use Rattle.klp_core.specs.Loaded.{is_loaded_in, loaded_from, pre_calls}
 use Rattle.klp_core.specs.Managed.{Managed, setting_of}
 use Rattle.klp_core.specs.Events.{Accepts, after_accepted}
 use Rattle.klp_core.specs.Invariant.{managed_of, Invariant}
 use Rattle.klp_core.proofs.CallLemmas.{clean_calls, enable-parts, after_calls-append}
-use Rattle.klp_core.proofs.LoopLemmas.{after_runs-append, objects-stay}
 use Rattle.klp_core.proofs.RoomLemmas.{same_objects}
 
 -- the objects of the patch that are loaded
@@ -66,7 +65,7 @@ replied patch status o None reply is said = absurd said
 replied patch status o (Some other) reply is said = said ∙ ap (λ (f : Option PatchObject). PreFailed patch (object_in f) status) is
 
 -- one of them did
-pub fails : (text : TextImage) (modules : ModuleTable) (catalog tried now : Catalog) (world after gone : World) (moving : Option Move) (managed : Managed) (patch place : ℕ) (status : ℤ) (o : PatchObject) (reply : Reply)
+pub fails : RunsAddUp → (text : TextImage) (modules : ModuleTable) (catalog tried now : Catalog) (world after gone : World) (moving : Option Move) (managed : Managed) (patch place : ℕ) (status : ℤ) (o : PatchObject) (reply : Reply)
     → managed_of text catalog world moving ≡ managed → Invariant text modules catalog world moving
     → slice_get (objects_at catalog patch) place ≡ Some o → status ≡ status_of (script_for Pre o.callbacks) → find refuses (loaded_in modules catalog patch) ≡ Some (place, o)
     → tried ≡ after_runs catalog (pre_calls patch (loaded_in modules catalog patch))
@@ -75,7 +74,7 @@ pub fails : (text : TextImage) (modules : ModuleTable) (catalog tried now : Cata
     → gone ≡ without_patch (after_calls after (calls_of patch PostUn (before_first refuses (loaded_in modules tried patch)))) patch
     → IsSomeAnd (slice_get (objects_at tried patch) place) (λ (o : PatchObject). reply ≡ PreFailed patch o.object status)
     → Accepts managed (managed_of text now gone moving) (Enable patch) reply
-fails text modules catalog tried now world after gone moving managed patch place status o reply view holds there says refused runs made cleaned left said =
+fails adds text modules catalog tried now world after gone moving managed patch place status o reply view holds there says refused runs made cleaned left said =
     let own = managed_of text catalog world moving in
     let setting = setting_of own in
     let state = own.state in
@@ -85,13 +84,13 @@ fails text modules catalog tried now world after gone moving managed patch place
     let found = ap (find refuses) (sym same) ∙ refused in
     let pre = pre_calls patch (loaded_in modules catalog patch) in
     let clean = calls_of patch PostUn (before_first refuses (loaded_in modules catalog patch)) in
-    let objects_stay = ap (λ (k : Catalog). objects_at k patch) runs ∙ objects-stay catalog pre patch in
+    let objects_stay = ap (λ (k : Catalog). objects_at k patch) runs in
     let same_clean = ap (λ os. calls_of patch PostUn (before_first refuses (loaded_from (is_loaded_in modules) 0 os))) objects_stay in
     let calls : enable_calls patch objects ≡ pre ++ clean =
     all_calls patch objects (Some (place, o)) found ∙ ap (λ os. pre_calls patch os ++ calls_of patch PostUn (before_first refuses os)) (sym same)
     in
     let all_runs : now ≡ after_runs catalog (enable_calls patch objects) =
-    cleaned ∙ ap (after_runs tried) same_clean ∙ ap (λ k. after_runs k clean) runs ∙ sym (after_runs-append catalog pre clean) ∙ ap (after_runs catalog) (sym calls)
+    cleaned ∙ ap (after_runs tried) same_clean ∙ ap (λ k. after_runs k clean) runs ∙ sym (adds.more catalog pre clean) ∙ ap (after_runs catalog) (sym calls)
     in
     let all_made : gone ≡ without_patch (after_calls first (enable_calls patch objects)) patch =
     left ∙ ap (λ cs. without_patch (after_calls after cs) patch) same_clean ∙ ap (λ w. without_patch (after_calls w clean) patch) made

@@ -11,24 +11,12 @@ use Rattle.klp_types.specs.Script.{Script, is_success}
 use Rattle.klp_types.specs.Callbacks.{Call, script_for, call_of, calls_of, is_refusing, refuses}
 use Rattle.klp_types.specs.Step.{status_of}
 use Rattle.klp_catalog.specs.Catalog.{Catalog}
-use Rattle.klp_catalog.specs.Runs.{after_run, after_runs, objects_at}
+use Rattle.klp_catalog.specs.Runs.{objects_at}
 use Rattle.klp_modules.specs.Names.{ModuleTable}
 use Rattle.klp_core.specs.Loaded.{is_loaded_in, loaded_from, loaded_call, loaded_status, call_for, status_for, refusal_of, pre_calls}
 use Rattle.klp_types.specs.State.{State}
 use Rattle.klp_core.specs.Managed.{Managed, setting_of}
 use Rattle.klp_core.proofs.CallLemmas.{from-loaded, from-unloaded, from-end, before-refusing}
-
-pub after_runs-append : (catalog : Catalog) (xs ys : List Call) → after_runs catalog (xs ++ ys) ≡ after_runs (after_runs catalog xs) ys
-after_runs-append catalog [] ys = refl
-after_runs-append catalog (x ∷ xs) ys = after_runs-append (after_run catalog x.patch x.place x.which) xs ys
-
--- runs change counts alone
-pub after_runs-keeps : (catalog : Catalog) (xs : List Call) → after_runs catalog xs ≡ record catalog { runs = (after_runs catalog xs).runs }
-after_runs-keeps catalog [] = refl
-after_runs-keeps catalog (x ∷ xs) = after_runs-keeps (after_run catalog x.patch x.place x.which) xs
-
-pub objects-stay : (catalog : Catalog) (xs : List Call) (patch : ℕ) → objects_at (after_runs catalog xs) patch ≡ objects_at catalog patch
-objects-stay catalog xs patch = ap (λ (c : Catalog). objects_at c patch) (after_runs-keeps catalog xs)
 
 pub object_in-take : (objects : List PatchObject) (end k : ℕ) → k < end → end ≤ length objects → slice_get (take end objects) k ≡ slice_get objects k
 object_in-take [] end k below fits = absurd (omega (arith, below, fits))
@@ -184,7 +172,3 @@ pub refused-before : (loaded : ℕ → Bool) (objects : List PatchObject) (place
     → IsSomeAnd (slice_get objects place) (λ o. find refuses (loaded_from loaded 0 objects) ≡ Some (place, o))
     → before_first refuses (loaded_from loaded 0 objects) ≡ loaded_from loaded 0 (take place objects)
 refused-before loaded objects place refused = refused_at loaded objects place (slice_get objects place) refused
-
--- the setting stays, whatever ran
-pub setting-stays : (managed : Managed) (calls : List Call) (state : State) → setting_of (record managed { catalog = after_runs managed.catalog calls; state = state }) ≡ setting_of managed
-setting-stays managed calls state = ap (λ (k : Catalog). setting_of (record managed { catalog = k; state = state })) (after_runs-keeps managed.catalog calls)

@@ -13,14 +13,16 @@ use Rattle.klp_types.specs.Setting.{PatchObject}
 use Rattle.klp_types.specs.World.{World}
 use Rattle.klp_types.specs.Script.{Script, alloc_count, effect, is_success}
 use Rattle.klp_types.specs.Callbacks.{Call, script_for, call_of, calls_of, refuses, allocs_of, after_calls}
+use Rattle.klp_types.specs.declared.edit.Edit.{Edit}
 use Rattle.klp_world.specs.Noted.{noting, rows_of_script}
+use Rattle.klp_world.specs.Changes.{HasRoom}
 use Rattle.klp_catalog.specs.Catalog.{Catalog}
-use Rattle.klp_catalog.specs.Runs.{after_runs, objects_at, rows_if}
+use Rattle.klp_catalog.specs.Runs.{after_runs, objects_at, rows_if, RunsAddUp}
 use Rattle.klp_modules.specs.Names.{ModuleTable}
 use Rattle.klp_core.specs.Loaded.{is_loaded_in, patches_in, loaded_from, loaded_call, status_for, pre_calls}
 use Rattle.klp_core.specs.Calls.{records_of, HaveRun, HasRoomFor}
 use Rattle.klp_core.proofs.CallLemmas.{after_calls-append, allocs-append}
-use Rattle.klp_core.proofs.LoopLemmas.{after_runs-append, objects-stay, IsTurn, turn-goes_on, turn-stops}
+use Rattle.klp_core.proofs.LoopLemmas.{IsTurn, turn-goes_on, turn-stops}
 
 pub records-append : (xs ys : List Call) → records_of (xs ++ ys) ≡ records_of xs + records_of ys
 records-append xs ys = sum_by-append (λ (c : Call). 2 * length c.script.edits) xs ys
@@ -37,13 +39,13 @@ none_ran catalog world log = record {
 }
 
 -- some ran, and then others
-pub then_ran : (first next last : Catalog) (w0 w1 w2 : World) (l0 l1 l2 : RecordList) (xs ys : List Call)
+pub then_ran : RunsAddUp → (first next last : Catalog) (w0 w1 w2 : World) (l0 l1 l2 : RecordList) (xs ys : List Call)
     → HaveRun first next w0 w1 l0 l1 xs → HaveRun next last w1 w2 l1 l2 ys → HaveRun first last w0 w2 l0 l2 (xs ++ ys)
-then_ran first next last w0 w1 w2 l0 l1 l2 xs ys old new =
+then_ran adds first next last w0 w1 w2 l0 l1 l2 xs ys old new =
     let allocs = allocs-append xs ys in
     let records = records-append xs ys in
     record {
-      catalog = new.catalog ∙ ap (λ k. after_runs k ys) old.catalog ∙ sym (after_runs-append first xs ys);
+      catalog = new.catalog ∙ ap (λ k. after_runs k ys) old.catalog ∙ sym (adds.more first xs ys);
       world = new.world ∙ ap (λ w. after_calls w ys) old.world ∙ sym (after_calls-append w0 xs ys);
       installed = new.installed ∙ old.installed;
       variables = omega (arith, allocs, old.variables, new.variables);
@@ -60,12 +62,12 @@ pub record SoFar (first now : Catalog) (w0 w1 : World) (l0 l1 : RecordList) (lef
 pub begins : (catalog : Catalog) (world : World) (log : RecordList) (all : List Call) → SoFar catalog catalog world world log log all all
 begins catalog world log all = record { done = []; ran = none_ran catalog world log; whole = refl }
 
-pub goes_on : (first now later : Catalog) (w0 w1 w2 : World) (l0 l1 l2 : RecordList) (left all calls rest : List Call)
+pub goes_on : RunsAddUp → (first now later : Catalog) (w0 w1 w2 : World) (l0 l1 l2 : RecordList) (left all calls rest : List Call)
     → SoFar first now w0 w1 l0 l1 left all → left ≡ calls ++ rest → HaveRun now later w1 w2 l1 l2 calls
     → SoFar first later w0 w2 l0 l2 rest all
-goes_on first now later w0 w1 w2 l0 l1 l2 left all calls rest far split new = record {
+goes_on adds first now later w0 w1 w2 l0 l1 l2 left all calls rest far split new = record {
   done = far.done ++ calls;
-  ran = then_ran first now later w0 w1 w2 l0 l1 l2 far.done calls far.ran new;
+  ran = then_ran adds first now later w0 w1 w2 l0 l1 l2 far.done calls far.ran new;
   whole = append_assoc far.done calls rest ∙ ap (λ more. far.done ++ more) (sym split) ∙ far.whole;
 }
 
@@ -90,7 +92,7 @@ room_for_next first now w0 w1 l0 l1 left all calls rest room far split =
 
 pub objects_so_far : (first now : Catalog) (w0 w1 : World) (l0 l1 : RecordList) (left all : List Call) (patch : ℕ)
     → SoFar first now w0 w1 l0 l1 left all → objects_at now patch ≡ objects_at first patch
-objects_so_far first now w0 w1 l0 l1 left all patch far = ap (λ (k : Catalog). objects_at k patch) far.ran.catalog ∙ objects-stay first far.done patch
+objects_so_far first now w0 w1 l0 l1 left all patch far = ap (λ (k : Catalog). objects_at k patch) far.ran.catalog
 
 -- the first of them have room, and once they ran so have the others
 pub room_for_first : (world : World) (log : RecordList) (xs ys : List Call) → HasRoomFor world log (xs ++ ys) → HasRoomFor world log xs
@@ -113,37 +115,36 @@ VariablesAreFew = (patch : ℕ) (world : World) (script : Script) → finite.len
 
 abbrev pub RecordsAreFew : Type 0
 RecordsAreFew = (patch : ℕ) (world : World) (script : Script)
-    → length (rows_of_script patch world script) + finite.len (effect patch world script).shadow ≤ finite.len world.shadow + 2 * length script.edits
+    → length (rows_of_script patch world script) + finite.len (effect patch world script).shadow ≤ finite.len world.shadow + length script.edits + alloc_count script.edits
+
+abbrev pub AllocsAreEdits : Type 0
+AllocsAreEdits = (edits : List Edit) → alloc_count edits ≤ length edits
 
 abbrev pub PatchesStay : Type 0
 PatchesStay = (patch : ℕ) (world : World) (script : Script) → patches_in (effect patch world script) ≡ patches_in world
 
--- a run notes no more than there is room for
-pub rows_fit : RecordsAreFew → (patch place : ℕ) (which : Which) (world : World) (log : RecordList) (script : Option Script) (calls : List Call)
+-- a run adds and notes no more than there is room for
+pub room_fits : RecordsAreFew → AllocsAreEdits → (patch place : ℕ) (which : Which) (world : World) (log : RecordList) (script : Option Script) (calls : List Call)
     → calls ≡ call_of patch place which script → HasRoomFor world log calls
-    → IfSome script (λ (s : Script). length (rows_of_script patch world s) ≤ spare_of log)
-rows_fit law patch place which world log None calls is room = tt
-rows_fit law patch place which world log (Some script) calls is room =
-    let own = ap records_of is in
-    let few = law patch world script in
-    omega (arith, own, few, room.records)
+    → IfSome script (λ (s : Script). HasRoom world log (alloc_count s.edits) (rows_of_script patch world s))
+room_fits few allocs patch place which world log None calls is room = tt
+room_fits few allocs patch place which world log (Some script) calls is room =
+    let noted = ap records_of is in
+    let added = ap allocs_of is in
+    let own = few patch world script in
+    let edits = allocs script.edits in
+    record {
+      variables = omega (arith, added, room.variables);
+      records = omega (arith, noted, own, edits, room.records);
+    }
 
--- and adds no more than there is room for
-pub variables_fit : (patch place : ℕ) (which : Which) (world : World) (log : RecordList) (script : Option Script) (calls : List Call)
-    → calls ≡ call_of patch place which script → HasRoomFor world log calls
-    → IfSome script (λ (s : Script). finite.len world.shadow + alloc_count s.edits ≤ MAX_VARIABLES)
-variables_fit patch place which world log None calls is room = tt
-variables_fit patch place which world log (Some script) calls is room =
-    let own = ap allocs_of is in
-    omega (arith, own, room.variables)
-
-pub one_ran : VariablesAreFew → RecordsAreFew → PatchesStay → (before after : Catalog) (patch place : ℕ) (which : Which) (world changed : World) (log noted : RecordList)
+pub one_ran : VariablesAreFew → RecordsAreFew → AllocsAreEdits → PatchesStay → (before after : Catalog) (patch place : ℕ) (which : Which) (world changed : World) (log noted : RecordList)
     (script : Option Script)
     → after ≡ after_runs before (call_of patch place which script)
     → changed ≡ after_calls world (call_of patch place which script)
     → noted ≡ noting log (rows_if patch world script)
     → HaveRun before after world changed log noted (call_of patch place which script)
-one_ran few_variables few_records stay before after patch place which world changed log noted None counted did notes =
+one_ran few_variables few_records allocs stay before after patch place which world changed log noted None counted did notes =
     let same = ap (λ (w : World). finite.len w.shadow) did in
     let count = ap (λ (l : RecordList). length l.noted) notes ∙ ap length (append-nil log.noted) in
     record {
@@ -154,17 +155,18 @@ one_ran few_variables few_records stay before after patch place which world chan
       records = omega (arith, same, count);
       room = ap (λ (l : RecordList). l.room) notes;
     }
-one_ran few_variables few_records stay before after patch place which world changed log noted (Some script) counted did notes =
+one_ran few_variables few_records allocs stay before after patch place which world changed log noted (Some script) counted did notes =
     let same = ap (λ (w : World). finite.len w.shadow) did in
     let count = ap (λ (l : RecordList). length l.noted) notes ∙ length-append log.noted (rows_of_script patch world script) in
     let variables = few_variables patch world script in
     let records = few_records patch world script in
+    let edits = allocs script.edits in
     record {
       catalog = counted;
       world = did;
       installed = ap patches_in did ∙ stay patch world script;
       variables = omega (arith, same, variables);
-      records = omega (arith, same, count, records);
+      records = omega (arith, same, count, records, edits);
       room = ap (λ (l : RecordList). l.room) notes;
     }
 

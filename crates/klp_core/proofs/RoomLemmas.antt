@@ -18,7 +18,7 @@ use Rattle.klp_modules.specs.Names.{ModuleTable}
 use Rattle.klp_catalog.specs.Catalog.{Catalog}
 use Rattle.klp_core.specs.Loaded.{is_loaded_in, loaded_from, loaded_calls, pre_calls}
 use Rattle.klp_core.specs.Calls.{records_of, HaveRun, HasRoomFor}
-use Rattle.klp_core.specs.declared.manager.TheConstants.{MAX_RECORDS}
+use Rattle.klp_types.specs.declared.limits.TheConstants.{MAX_RECORDS}
 use Rattle.klp_catalog.specs.Runs.{objects_at}
 use Rattle.klp_catalog.specs.States.{state_ids}
 use Rattle.klp_core.specs.Managed.{Managed, setting_of}

@@ -12,8 +12,6 @@ use Rattle.klp_types.specs.Script.{allocated}
 use Rattle.klp_text.specs.TextImage.{TextImage}
 use Rattle.klp_modules.specs.Names.{ModuleTable}
 use Rattle.klp_catalog.specs.Catalog.{Catalog}
-use Rattle.klp_world.specs.Noted.{rows_of_free_all}
-use Rattle.klp_world.proofs.UndoLemmas.{count_parted}
 use Rattle.klp_core.specs.Managed.{setting_of}
 use Rattle.klp_core.specs.Invariant.{managed_of, stored_ids, named_ids, Invariant}
 use Rattle.klp_core.proofs.EnableLemmas.{numbers_of, same_patches_same_site}
@@ -62,6 +60,3 @@ invariant_allocated text modules catalog world moving key value None holds room 
     invariant_over text modules catalog world (with_variable world key value) moving holds refl refl
     (one_more (finite.contains_key world.shadow key) (finite.len world.shadow) (finite.len (finite.insert world.shadow key value)) MAX_VARIABLES
     (finite.len-insert key_total world.shadow key value) (room refl))
-
-pub few_freed : (world : World) (id : ℕ) → length (rows_of_free_all world id) ≤ finite.len world.shadow
-few_freed world id = let parted = count_parted world.shadow id in omega arith

@@ -1,5 +1,5 @@
 -- What events answer, and what they leave.
-use Rattle.std.specs.Prelude.{◌≡◌, ℕ, ◌^◌, ◌-◌, ◌≤◌, List, Result, Some, count_by, is_ok, is_err, option_map, IfSome}
+use Rattle.std.specs.Prelude.{◌≡◌, ℕ, List, Result, Some, count_by, is_ok, is_err, option_map}
 use Rattle.klp_types.specs.declared.callback.Which.{Which}
 use Rattle.klp_types.specs.declared.event.Event.{Event}
 use Rattle.klp_types.specs.declared.event.Reply.{Reply}
@@ -58,5 +58,4 @@ pub record TakesAll (before after : Managed) (events : List Event) (counts : ℕ
 abbrev pub AreCounted : Catalog → Catalog → List Call → Type 0
 AreCounted before after runs = (patch object place : ℕ) (which : Which)
     → place_of object (objects_at before patch) ≡ Some place
-    → IfSome (callback_runs before patch object which) (λ count. count ≤ 2 ^ 64 - 1)
     → callback_runs after patch object which ≡ option_map (grown (times patch place which runs)) (callback_runs before patch object which)

@@ -4,11 +4,10 @@ ghost use Rattle.klp_text.specs.TextImage.{IsWithinLimits};
 ghost use Rattle.klp_core.specs.Boot.{IsMatch, IsFaultOf};
 
 use crate::fault::BootFault;
-use crate::manager::MAX_RECORDS;
 use klp_catalog::Catalog;
 use klp_modules::Modules;
 use klp_text::Image;
-use klp_types::{ObjId, Records};
+use klp_types::{MAX_RECORDS, ObjId, Records};
 use klp_world::World;
 use std::alloc::Global;
 

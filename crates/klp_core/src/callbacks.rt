@@ -13,12 +13,14 @@ ghost use Rattle.klp_catalog.specs.States.{state_ids};
 ghost use Rattle.klp_core.specs.Loaded.{is_loaded_in, patches_in, loaded_from, loaded_calls, loaded_call, loaded_status, refusal_of, pre_calls};
 ghost use Rattle.klp_core.specs.Calls.{HaveRun, HasRoomFor, records_of};
 
-use crate::manager::MAX_RECORDS;
 use klp_catalog::Catalog;
+use klp_catalog::laws::runs_add_up;
 use klp_modules::Modules;
-use klp_types::{MAX_PATCHES, MAX_VARIABLES, PatchId, Records, Reply, Which};
+use klp_types::{MAX_PATCHES, MAX_RECORDS, MAX_VARIABLES, PatchId, Records, Reply, Which};
 use klp_world::World;
-use klp_world::laws::{installed_patches_stay, records_are_few, variables_are_few};
+use klp_world::laws::{
+    allocs_are_edits, installed_patches_stay, records_are_few, variables_are_few,
+};
 
 /// How many shadow variables the callback of one object adds at most, where the object is loaded.
 fn allocs_where_loaded(
@@ -69,6 +71,7 @@ fn run_where_loaded(
 {
     variables_are_few();
     records_are_few();
+    allocs_are_edits();
     installed_patches_stay();
     match catalog.target(patch, place) {
         Some(object) if modules.is_loaded(object) => {
@@ -92,6 +95,7 @@ pub(crate) fn run_callbacks(
     requires room { HasRoomFor world.old log.old (loaded_calls catalog.old modules.now patch which end) }
     ensures { HaveRun catalog.old catalog.new world.old world.new log.old log.new (loaded_calls catalog.old modules.now patch which end) }
 {
+    runs_add_up();
     for place in 0..end {
         run_where_loaded(catalog, modules, patch, which, place, world, log);
     }
@@ -133,6 +137,7 @@ pub(crate) fn pre_patch(
     ensures ran { HaveRun catalog.old catalog.new world.old world.new log.old log.new
         (pre_calls patch (loaded_from (is_loaded_in modules.now) 0 (objects_at catalog.old patch))) }
 {
+    runs_add_up();
     for place in 0..catalog.targets(patch) {
         if let Some(status) = run_pre(catalog, modules, patch, place, world, log) {
             return Some((place, status));

@@ -25,21 +25,18 @@ use crate::fault::BootFault;
 use crate::hooks::hook_all;
 use crate::view::TextView;
 use arrayvec::ArrayVec;
-use klp_catalog::laws::counts_grow_by_runs;
+use klp_catalog::laws::{counts_grow_by_runs, runs_add_up};
 use klp_catalog::{Catalog, CatalogFunction};
 use klp_modules::Modules;
 use klp_text::Image;
 use klp_types::laws::entry_where_patched;
 use klp_types::{
-    Event, MAX_PATCHES, MAX_VARIABLES, Move, ObjId, PatchId, Records, Refusal, Reply, ShadowKey,
-    Which,
+    Event, MAX_PATCHES, MAX_RECORDS, MAX_VARIABLES, Move, ObjId, PatchId, Records, Refusal, Reply,
+    ShadowKey, Which,
 };
-use klp_world::{InstalledPatches, World};
+use klp_world::World;
 use std::alloc::Global;
 use std::marker::Model;
-
-/// How many records one event may note.
-pub(crate) const MAX_RECORDS: usize = 4096;
 
 /// The live patching manager: the image with its text, the catalog with its patches, which of them
 /// are installed and in transition, and the shadow variables.
@@ -66,7 +63,7 @@ impl Model for Manager {
 
     ghost use Rattle.std.specs.Prelude.{◌≡◌};
     ghost use Rattle.klp_core.specs.Invariant.{managed_of, Invariant};
-    ghost use Rattle.klp_core.specs.declared.manager.TheConstants.{MAX_RECORDS};
+    ghost use Rattle.klp_types.specs.declared.limits.TheConstants.{MAX_RECORDS};
 
     ghost view = { λ m. managed_of m.image m.catalog m.world m.moving };
 
@@ -128,6 +125,7 @@ impl Manager {
         // so runs can be joined
         ensures setting { setting_of self.new ≡ setting_of self.old }
     {
+        runs_add_up();
         let mut accepted = 0;
         let mut refused = 0;
         for event in events {
@@ -240,7 +238,7 @@ impl Manager {
         requires { patch < length self.now.catalog.patches }
         ensures { result ≡ is_compatible (setting_of self.now) self.now.state patch }
     {
-        self.catalog.is_compatible(patch, &self.installed())
+        self.catalog.is_compatible(patch, self.world.installed())
     }
 
     // Whether there is no room for what the callbacks that enabling may run add.
@@ -299,6 +297,7 @@ impl Manager {
         ensures { Accepts self.old self.new (Enable patch) result }
     {
         entry_where_patched();
+        runs_add_up();
         put_last(&self.catalog, patch, &mut self.world, &mut self.log);
         match pre_patch(
             &mut self.catalog,
@@ -395,13 +394,11 @@ fn lack_symbol(modules: &Modules, functions: &[CatalogFunction]) -> bool
         .any(|function| lacks_site(modules, function))
 }
 
-fn copy_of(patches: InstalledPatches<'_>) -> ArrayVec<PatchId, MAX_PATCHES>
-    requires { length patches ≤ MAX_PATCHES }
-    ensures { result.items ≡ patches.entry }
+fn copy_of(patches: &[PatchId]) -> ArrayVec<PatchId, MAX_PATCHES>
+    requires { length patches.now ≤ MAX_PATCHES }
+    ensures { result.items ≡ patches.now }
 {
     let mut copy = ArrayVec::new();
-    for patch in patches {
-        copy.push(patch);
-    }
+    let _ = copy.try_extend_from_slice(patches);
     copy
 }

@@ -6,6 +6,7 @@ ghost use Rattle.klp_core.specs.Events.{Takes};
 
 use crate::manager::Manager;
 use klp_types::{MAX_VARIABLES, Refusal, Reply, ShadowKey};
+use klp_world::laws::freed_and_left_are_all;
 
 impl Manager {
     // Whether no shadow variable can be added.
@@ -59,6 +60,7 @@ impl Manager {
     pub(crate) fn shadow_free_all(&mut self, id: u64) -> Result<Reply, Refusal>
         ensures { Takes self.old self.new (ShadowFreeAll id) result }
     {
+        freed_and_left_are_all();
         self.log.clear();
         let freed = self.world.free_all(id, &mut self.log);
         Ok(Reply::Freed(freed))

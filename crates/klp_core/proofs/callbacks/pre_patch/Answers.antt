@@ -57,7 +57,7 @@ returns-in-Some-clause-ran g c =
     let here = turn now first c.args.modules.now c.args.patch c.loop-place.place same (omega (arith, c.loop-place-test.true, c.targets-place-end.ensures.count)) in
     let refusal = refusal-is (loaded_status now c.args.modules.now c.args.patch Pre c.loop-place.place) c.in-Some.status c.in-Some.ensures.status in
     let last = turn-stops loaded c.args.patch objects c.loop-place.place here.object here.there (ap is_success (sym here.status) ∙ refusal.0) in
-    let far = goes_on first now c.run_pre.new.catalog c.args.world.now c.loop-place.world c.run_pre.new.world c.args.log.now c.loop-place.log c.run_pre.new.log left all call []
+    let far = goes_on c.runs_add_up.ensures first now c.run_pre.new.catalog c.args.world.now c.loop-place.world c.run_pre.new.world c.args.log.now c.loop-place.log c.run_pre.new.log left all call []
     c.loop-place.invariant.ran (last.calls ∙ sym here.call ∙ sym (append-nil call)) c.run_pre.ensures.ran
     in
     all_ran first c.run_pre.new.catalog c.args.world.now c.run_pre.new.world c.args.log.now c.run_pre.new.log [] all far (search rules)
@@ -78,7 +78,7 @@ loop-place-preserved g c =
     (ap is_success (sym here.status) ∙ no_refusal-is (loaded_status now c.args.modules.now c.args.patch Pre c.loop-place.place) c.in_default.ensures.status)
     in
     record {
-      ran = goes_on first now c.run_pre.new.catalog c.args.world.now c.loop-place.world c.run_pre.new.world c.args.log.now c.loop-place.log c.run_pre.new.log left all call rest
+      ran = goes_on c.runs_add_up.ensures first now c.run_pre.new.catalog c.args.world.now c.loop-place.world c.run_pre.new.world c.args.log.now c.loop-place.log c.run_pre.new.log left all call rest
           c.loop-place.invariant.ran (on.calls ∙ ap (λ calls. calls ++ rest) (sym here.call)) c.run_pre.ensures.ran;
       refused = sym on.refused ∙ c.loop-place.invariant.refused;
     }

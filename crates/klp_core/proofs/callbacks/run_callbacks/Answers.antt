@@ -33,7 +33,7 @@ loop-place-preserved g c =
     let all = loaded_calls first c.args.modules.now c.args.patch c.args.which c.args.end in
     let same = objects_so_far first now c.args.world.now c.loop-place.world c.args.log.now c.loop-place.log left all c.args.patch c.loop-place.invariant in
     let next = next_loaded now first c.args.modules.now c.args.patch c.args.which c.args.end c.loop-place.place same c.loop-place-test.true c.requires.end in
-    goes_on first now c.run_where_loaded.new.catalog c.args.world.now c.loop-place.world c.run_where_loaded.new.world
+    goes_on c.runs_add_up.ensures first now c.run_where_loaded.new.catalog c.args.world.now c.loop-place.world c.run_where_loaded.new.world
     c.args.log.now c.loop-place.log c.run_where_loaded.new.log left all call rest c.loop-place.invariant next c.run_where_loaded.ensures.ran
 
 pub returns : goal.returns

@@ -1,25 +1,17 @@
-use Rattle.std.proofs.Common.{subst, sym, ◌∙◌}
+use Rattle.std.proofs.Common.{List, subst, sym, ◌∙◌}
 use Rattle.klp_types.specs.Callbacks.{Call}
-use Rattle.std.proofs.Common.{List}
 use Rattle.klp_catalog.specs.Runs.{script_at}
 use Rattle.klp_core.specs.Loaded.{loaded_call}
 use Rattle.klp_core.specs.Calls.{HaveRun}
-use Rattle.klp_core.proofs.RunLemmas.{call_there, counted}
-use Rattle.klp_core.proofs.RanLemmas.{rows_fit, variables_fit, one_ran}
+use Rattle.klp_core.proofs.RunLemmas.{call_there}
+use Rattle.klp_core.proofs.RanLemmas.{room_fits, one_ran}
 use Rattle.klp_core.proofs.callbacks.run_where_loaded.Goals as goal
 
-pub run-requires-clause-room : goal.run-requires-clause-room
-run-requires-clause-room g c =
+pub run-requires : goal.run-requires
+run-requires g c =
     let script = script_at c.args.catalog.now c.args.patch c.args.place c.args.which in
     let call = call_there c.args.catalog.now c.args.modules.now c.args.patch c.args.place c.in-Some.object c.args.which c.in-Some.ensures (sym c.is_loaded.ensures ∙ c.if-is_loaded.true) in
-    variables_fit c.args.patch c.args.place c.args.which c.args.world.now c.args.log.now script
-    (loaded_call c.args.catalog.now c.args.modules.now c.args.patch c.args.which c.args.place) call c.requires
-
-pub run-requires-clause-records : goal.run-requires-clause-records
-run-requires-clause-records g c =
-    let script = script_at c.args.catalog.now c.args.patch c.args.place c.args.which in
-    let call = call_there c.args.catalog.now c.args.modules.now c.args.patch c.args.place c.in-Some.object c.args.which c.in-Some.ensures (sym c.is_loaded.ensures ∙ c.if-is_loaded.true) in
-    rows_fit c.records_are_few.ensures c.args.patch c.args.place c.args.which c.args.world.now c.args.log.now script
+    room_fits c.records_are_few.ensures c.allocs_are_edits.ensures c.args.patch c.args.place c.args.which c.args.world.now c.args.log.now script
     (loaded_call c.args.catalog.now c.args.modules.now c.args.patch c.args.which c.args.place) call c.requires
 
 pub returns-in-Some-clause-ran : goal.returns-in-Some-clause-ran
@@ -27,6 +19,6 @@ returns-in-Some-clause-ran g c =
     let script = script_at c.args.catalog.now c.args.patch c.args.place c.args.which in
     let call = call_there c.args.catalog.now c.args.modules.now c.args.patch c.args.place c.in-Some.object c.args.which c.in-Some.ensures (sym c.is_loaded.ensures ∙ c.if-is_loaded.true) in
     subst (λ (calls : List Call). HaveRun c.args.catalog.now c.run.new.self c.args.world.now c.run.new.world c.args.log.now c.run.new.log calls) (sym call)
-    (one_ran c.variables_are_few.ensures c.records_are_few.ensures c.installed_patches_stay.ensures c.args.catalog.now c.run.new.self c.args.patch c.args.place c.args.which
+    (one_ran c.variables_are_few.ensures c.records_are_few.ensures c.allocs_are_edits.ensures c.installed_patches_stay.ensures c.args.catalog.now c.run.new.self c.args.patch c.args.place c.args.which
     c.args.world.now c.run.new.world c.args.log.now c.run.new.log script
-    (c.run.ensures.catalog ∙ counted c.args.catalog.now c.args.patch c.args.place c.args.which) c.run.ensures.world c.run.ensures.noted)
+    c.run.ensures.catalog c.run.ensures.changes.world c.run.ensures.changes.records)

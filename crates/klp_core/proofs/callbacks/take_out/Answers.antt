@@ -39,11 +39,11 @@ returns-clause-world g c =
     let same = ap (calls_of c.args.patch PostUn) (refused-before (is_loaded_in c.args.modules.now) (objects_at c.args.catalog.now c.args.patch) c.args.place c.requires.refused) in
     let ran : HaveRun c.args.catalog.now c.run_callbacks.new.catalog c.args.world.now c.run_callbacks.new.world c.args.log.now c.run_callbacks.new.log clean =
     subst (λ (calls : List Call). HaveRun c.args.catalog.now c.run_callbacks.new.catalog c.args.world.now c.run_callbacks.new.world c.args.log.now c.run_callbacks.new.log calls) (sym same) c.run_callbacks.ensures in
-    c.drop_states.ensures.world ∙ ap (λ w. without_patch w c.args.patch) ran.world
+    c.drop_states.ensures.changes.world ∙ ap (λ w. without_patch w c.args.patch) ran.world
 
 pub returns-clause-installed : goal.returns-clause-installed
 returns-clause-installed g c = λ before last apart.
-    ap patches_in c.drop_states.ensures.world ∙ gone-again c.args.patch c.run_callbacks.new.world before (c.run_callbacks.ensures.installed ∙ last) apart
+    ap patches_in c.drop_states.ensures.changes.world ∙ gone-again c.args.patch c.run_callbacks.new.world before (c.run_callbacks.ensures.installed ∙ last) apart
 
 pub returns-clause-few : goal.returns-clause-few
 returns-clause-few g c =
@@ -51,8 +51,8 @@ returns-clause-few g c =
     let same = ap (calls_of c.args.patch PostUn) (refused-before (is_loaded_in c.args.modules.now) (objects_at c.args.catalog.now c.args.patch) c.args.place c.requires.refused) in
     let ran : HaveRun c.args.catalog.now c.run_callbacks.new.catalog c.args.world.now c.run_callbacks.new.world c.args.log.now c.run_callbacks.new.log clean =
     subst (λ (calls : List Call). HaveRun c.args.catalog.now c.run_callbacks.new.catalog c.args.world.now c.run_callbacks.new.world c.args.log.now c.run_callbacks.new.log calls) (sym same) c.run_callbacks.ensures in
-    let left = ap (λ (w : World). finite.len w.shadow) c.drop_states.ensures.world in
+    let left = ap (λ (w : World). finite.len w.shadow) c.drop_states.ensures.changes.world in
     omega (arith, left, ran.variables, c.requires.room.variables)
 
 pub returns-clause-room : goal.returns-clause-room
-returns-clause-room g c = ap (λ (l : RecordList). l.room) c.drop_states.ensures.noted ∙ c.run_callbacks.ensures.room
+returns-clause-room g c = ap (λ (l : RecordList). l.room) c.drop_states.ensures.changes.records ∙ c.run_callbacks.ensures.room

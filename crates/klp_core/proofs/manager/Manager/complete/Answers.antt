@@ -6,7 +6,6 @@ use Rattle.klp_catalog.specs.Runs.{after_runs}
 use Rattle.klp_core.specs.Loaded.{loaded_calls}
 use Rattle.klp_core.specs.Invariant.{Invariant, stored_ids}
 use Rattle.klp_core.proofs.StateLemmas.{calls_keep}
-use Rattle.klp_core.proofs.LoopLemmas.{after_runs-keeps}
 use Rattle.klp_core.proofs.RoomLemmas.{room_to_complete}
 use Rattle.klp_core.proofs.EnableLemmas.{invariant_at_rest}
 use Rattle.klp_core.proofs.manager.Manager.complete.Goals as goal
@@ -29,6 +28,6 @@ invariant_of-self g c =
     (after_runs c.self.inside.catalog runs).runs c.self.invariant.0 c.run_callbacks.ensures.installed
     (ap stored_ids c.run_callbacks.ensures.world ∙ calls_keep c.self.inside.world runs) (omega (arith, room.variables, c.run_callbacks.ensures.variables))
     in (
-      subst (λ (k : Catalog). Invariant c.self.inside.image c.self.inside.modules k c.run_callbacks.new.world None) (sym (c.run_callbacks.ensures.catalog ∙ after_runs-keeps c.self.inside.catalog runs)) holds,
+      subst (λ (k : Catalog). Invariant c.self.inside.image c.self.inside.modules k c.run_callbacks.new.world None) (sym c.run_callbacks.ensures.catalog) holds,
       c.run_callbacks.ensures.room ∙ cleared,
     )

@@ -15,7 +15,6 @@ use Rattle.klp_catalog.specs.Assembled.{LiesInObject}
 use Rattle.klp_core.specs.Loaded.{is_loaded_in, loaded_from, pre_calls}
 use Rattle.klp_core.specs.Managed.{Managed}
 use Rattle.klp_core.specs.Invariant.{managed_of, stored_ids, Invariant}
-use Rattle.klp_core.proofs.LoopLemmas.{after_runs-append, after_runs-keeps, objects-stay}
 use Rattle.klp_core.proofs.RoomLemmas.{room_to_install, spare_to_take_out}
 use Rattle.klp_core.proofs.RanLemmas.{room_for_first, room_for_others}
 use Rattle.klp_core.specs.Calls.{records_of, HasRoomFor}
@@ -50,7 +49,7 @@ pre_patch-requires g c =
 pub hook_all-requires : goal.hook_all-requires
 hook_all-requires g c =
     let pre = pre_calls c.args.patch (loaded_from (is_loaded_in c.self.inside.modules) 0 (objects_at c.self.inside.catalog c.args.patch)) in
-    let names = ap (λ (k : Catalog). k.names) (c.pre_patch.ensures.ran.catalog ∙ after_runs-keeps c.self.inside.catalog pre) in
+    let names = ap (λ (k : Catalog). k.names) (c.pre_patch.ensures.ran.catalog) in
     each_below c.self.inside.image.image c.functions.result.now
     (subst (λ (names : List ObjectNames). All (LiesInObject names) c.functions.result.now) (names ∙ c.self.invariant.0.text_of_state.catalog_names) c.functions.ensures.in_object)
 
@@ -64,7 +63,7 @@ invariant_of-self g c =
     let objects = loaded_from (is_loaded_in c.self.inside.modules) 0 (objects_at c.self.inside.catalog c.args.patch) in
     let clean = calls_of c.args.patch PostUn (before_first refuses objects) in
     let pre = pre_calls c.args.patch (loaded_from (is_loaded_in c.self.inside.modules) 0 (objects_at c.self.inside.catalog c.args.patch)) in
-    let same = c.pre_patch.ensures.ran.catalog ∙ after_runs-keeps c.self.inside.catalog pre in
+    let same = c.pre_patch.ensures.ran.catalog in
     let names = ap (λ (k : Catalog). k.names) same in
     let inside = subst (λ (names : List ObjectNames). All (LiesInObject names) c.functions.result.now) (names ∙ c.self.invariant.0.text_of_state.catalog_names) c.functions.ensures.in_object in
     let own = c.functions.ensures.setting ∙ ap (λ (k : Catalog). all_functions (objects_at k c.args.patch)) same in
@@ -85,7 +84,7 @@ invariant_of-self g c =
 pub take_out-requires-clause-refused : goal.take_out-requires-clause-refused
 take_out-requires-clause-refused g c =
     let pre = pre_calls c.args.patch (loaded_from (is_loaded_in c.self.inside.modules) 0 (objects_at c.self.inside.catalog c.args.patch)) in
-    let same = ap (λ (k : Catalog). objects_at k c.args.patch) c.pre_patch.ensures.ran.catalog ∙ objects-stay c.self.inside.catalog pre c.args.patch in
+    let same = ap (λ (k : Catalog). objects_at k c.args.patch) c.pre_patch.ensures.ran.catalog in
     let refused = c.in-Some.ensures.refused in
     subst (λ os. IsSomeAnd (slice_get os c.in-Some.place) (λ o. find refuses (loaded_from (is_loaded_in c.self.inside.modules) 0 os) ≡ Some (c.in-Some.place, o))) (sym same)
     (subst (λ found. IsSomeAnd found (λ o. find refuses (loaded_from (is_loaded_in c.self.inside.modules) 0 (objects_at c.self.inside.catalog c.args.patch)) ≡ Some (c.in-Some.place, o)))
@@ -101,7 +100,7 @@ take_out-requires-clause-room g c =
     let objects = loaded_from (is_loaded_in c.self.inside.modules) 0 (objects_at c.self.inside.catalog c.args.patch) in
     let clean = calls_of c.args.patch PostUn (before_first refuses objects) in
     let pre = pre_calls c.args.patch objects in
-    let same = ap (λ (k : Catalog). objects_at k c.args.patch) c.pre_patch.ensures.ran.catalog ∙ objects-stay c.self.inside.catalog pre c.args.patch in
+    let same = ap (λ (k : Catalog). objects_at k c.args.patch) c.pre_patch.ensures.ran.catalog in
     subst (λ os. HasRoomFor c.pre_patch.new.world c.pre_patch.new.log (calls_of c.args.patch PostUn (before_first refuses (loaded_from (is_loaded_in c.self.inside.modules) 0 os)))) (sym same)
     (room_for_others c.self.inside.catalog c.pre_patch.new.catalog c.put_last.new.world c.pre_patch.new.world c.put_last.new.log c.pre_patch.new.log pre clean roomy.room c.pre_patch.ensures.ran)
 
@@ -115,7 +114,7 @@ take_out-requires-clause-spare g c =
     let objects = loaded_from (is_loaded_in c.self.inside.modules) 0 (objects_at c.self.inside.catalog c.args.patch) in
     let clean = calls_of c.args.patch PostUn (before_first refuses objects) in
     let pre = pre_calls c.args.patch objects in
-    let same = ap (λ (k : Catalog). objects_at k c.args.patch) c.pre_patch.ensures.ran.catalog ∙ objects-stay c.self.inside.catalog pre c.args.patch in
+    let same = ap (λ (k : Catalog). objects_at k c.args.patch) c.pre_patch.ensures.ran.catalog in
     let calls = ap (λ os. records_of (calls_of c.args.patch PostUn (before_first refuses (loaded_from (is_loaded_in c.self.inside.modules) 0 os)))) same in
     let spare = spare_to_take_out c.self.inside.catalog c.pre_patch.new.catalog c.put_last.new.world c.pre_patch.new.world c.put_last.new.log c.pre_patch.new.log c.self.inside.modules c.args.patch roomy
     c.pre_patch.ensures.ran in
@@ -128,8 +127,7 @@ invariant_of-self-in-Some g c =
     let loaded = is_loaded_in c.self.inside.modules in
     let pre = pre_calls c.args.patch (loaded_from loaded 0 (objects_at c.self.inside.catalog c.args.patch)) in
     let clean = calls_of c.args.patch PostUn (before_first refuses (loaded_from loaded 0 (objects_at c.pre_patch.new.catalog c.args.patch))) in
-    let runs = c.take_out.ensures.catalog ∙ ap (λ k. after_runs k clean) c.pre_patch.ensures.ran.catalog ∙ sym (after_runs-append c.self.inside.catalog pre clean)
-    ∙ after_runs-keeps c.self.inside.catalog (pre ++ clean)
+    let runs = c.take_out.ensures.catalog ∙ ap (λ k. after_runs k clean) c.pre_patch.ensures.ran.catalog ∙ sym (c.runs_add_up.ensures.more c.self.inside.catalog pre clean)
     in
     let more_ids = ap stored_ids c.pre_patch.ensures.ran.world ∙ calls_keep c.put_last.new.world pre ∙ ap stored_ids c.put_last.ensures.world
     ∙ put_last c.self.inside.world c.args.patch (state_ids c.self.inside.catalog c.args.patch)
@@ -165,7 +163,7 @@ pub returns-in-Some : goal.returns-in-Some
 returns-in-Some g c =
     let refused = c.in-Some.ensures.refused in
     let stored : to_z w32 (of_z w32 c.in-Some.status) ≡ c.in-Some.status = search rules in
-    fails c.self.inside.image c.self.inside.modules c.self.inside.catalog c.pre_patch.new.catalog c.take_out.new.catalog c.self.inside.world c.pre_patch.new.world c.take_out.new.world
+    fails c.runs_add_up.ensures c.self.inside.image c.self.inside.modules c.self.inside.catalog c.pre_patch.new.catalog c.take_out.new.catalog c.self.inside.world c.pre_patch.new.world c.take_out.new.world
     c.self.inside.moving c.args.self.now c.args.patch c.in-Some.place (to_z w32 (of_z w32 c.in-Some.status)) refused.0 c.take_out.result c.self.view_is c.self.invariant.0
     refused.1 (stored ∙ refused.2) refused.3 c.pre_patch.ensures.ran.catalog
     (c.pre_patch.ensures.ran.world ∙ ap (λ w. after_calls w (pre_calls c.args.patch (loaded_from (is_loaded_in c.self.inside.modules) 0 (objects_at c.self.inside.catalog c.args.patch))))

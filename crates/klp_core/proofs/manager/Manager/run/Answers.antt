@@ -14,7 +14,7 @@ loop-event-preserved g c =
     let split = next_event events c.loop-event.event-index event c.loop-event-test.true c.event-item.is in
     let accepted = turn_answers is_ok now new event c.apply.result (drop c.loop-event.event-index events) rest c.apply.ensures.taken.left split c.apply.ensures.taken.answered in
     let refused = turn_answers is_err now new event c.apply.result (drop c.loop-event.event-index events) rest c.apply.ensures.taken.left split c.apply.ensures.taken.answered in
-    let left = turn_left now new event (drop c.loop-event.event-index events) rest c.apply.ensures.taken.left split ∙ c.loop-event.invariant.2 in
+    let left = turn_left c.runs_add_up.ensures now new event (drop c.loop-event.event-index events) rest c.apply.ensures.taken.left split ∙ c.loop-event.invariant.2 in
     let setting = c.apply.ensures.setting ∙ c.loop-event.invariant.5 in
     elim c.match-apply.branch [
       | in-Ok w ↦

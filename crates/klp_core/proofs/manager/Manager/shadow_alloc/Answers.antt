@@ -13,8 +13,8 @@ pub invariant_of-self : goal.invariant_of-self
 invariant_of-self g c =
     let world = c.self.inside.world in
     let room = leb-false MAX_VARIABLES (finite.len world.shadow) (ap (λ (m : Managed). is_full m.state.world) c.self.view_is ∙ sym c.if-is_full.ensures) in (
-      rw c.alloc.ensures.world
+      rw c.alloc.ensures.changes.world
           (invariant_allocated c.self.inside.image c.self.inside.modules c.self.inside.catalog world c.self.inside.moving c.args.key c.args.value
           (variable world c.args.key) c.self.invariant.0 (λ none. room)),
-      ap (λ (l : RecordList). l.room) c.alloc.ensures.noted ∙ ap (λ (l : RecordList). l.room) c.clear.ensures ∙ c.self.invariant.1,
+      ap (λ (l : RecordList). l.room) c.alloc.ensures.changes.records ∙ ap (λ (l : RecordList). l.room) c.clear.ensures ∙ c.self.invariant.1,
     )

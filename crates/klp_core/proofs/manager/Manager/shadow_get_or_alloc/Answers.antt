@@ -20,8 +20,8 @@ invariant_of-self g c =
       | else-is_none-via-else-is_none w ↦ λ none. absurd (clash (sym (ap is_some (c.get.ensures ∙ none)) ∙ w.if-is_none.ensures))
     ]
     in (
-      rw c.get_or_alloc-there.ensures.world
+      rw c.get_or_alloc-there.ensures.changes.world
           (invariant_allocated c.self.inside.image c.self.inside.modules c.self.inside.catalog world c.self.inside.moving c.args.key c.args.value
           (variable world c.args.key) c.self.invariant.0 room),
-      ap (λ (l : RecordList). l.room) c.get_or_alloc-there.ensures.noted ∙ ap (λ (l : RecordList). l.room) c.clear.ensures ∙ c.self.invariant.1,
+      ap (λ (l : RecordList). l.room) c.get_or_alloc-there.ensures.changes.records ∙ ap (λ (l : RecordList). l.room) c.clear.ensures ∙ c.self.invariant.1,
     )
