@@ -11,10 +11,10 @@ use Rattle.klp_types.specs.Callbacks.{is_kind, script_for, call_of, after_calls}
 use Rattle.klp_types.specs.World.{World}
 use Rattle.klp_types.specs.Records.{RecordList}
 use Rattle.klp_types.specs.declared.record.Record.{Record}
-use Rattle.klp_world.specs.Noted.{noting}
-use Rattle.klp_world.specs.Undo.{undone}
+use Rattle.klp_world.specs.Noted.{rows_of_script}
+use Rattle.klp_world.specs.Changes.{Changes}
 use Rattle.std.proofs.lemmas.List.{append-nil}
-use Rattle.klp_types.specs.Script.{Script, alloc_count, is_alloc}
+use Rattle.klp_types.specs.Script.{Script, alloc_count, is_alloc, effect}
 use Rattle.klp_types.specs.declared.edit.Edit.{Edit}
 use Rattle.klp_modules.specs.Names.{ObjectNames}
 use Rattle.klp_callback.specs.Told.{Told, counted}
@@ -206,15 +206,17 @@ module _ {names : List ObjectNames} {symbols : List ℕ} {patch_names : List (Li
               );
             })
 
--- ---- nothing runs
+-- ---- what a run changes
 
-module _ (patch : ℕ) (script : Option Script) (none : script ≡ None) where
-  pub idle_world : (place : ℕ) (which : Which) (world : World) → world ≡ after_calls world (call_of patch place which script)
-  idle_world place which world = sym (ap (λ s. after_calls world (call_of patch place which s)) none)
+-- nothing, where nothing runs
+pub idle_changes : (patch place : ℕ) (which : Which) (world : World) (log : RecordList) (script : Option Script) → script ≡ None
+    → Changes world world log log (after_calls world (call_of patch place which script)) (rows_if patch world script)
+idle_changes patch place which world log script none =
+    subst (λ s. Changes world world log log (after_calls world (call_of patch place which s)) (rows_if patch world s)) (sym none)
+    (record { world = refl; records = ap (λ (rows : List Record). record log { noted = rows }) (sym (append-nil log.noted)); undo = refl })
 
-  pub idle_noted : (world : World) (log : RecordList) → log ≡ noting log (rows_if patch world script)
-  idle_noted world log =
-      ap (λ (rows : List Record). record log { noted = rows }) (sym (append-nil log.noted)) ∙ sym (ap (λ s. noting log (rows_if patch world s)) none)
-
-  pub idle_undo : (world : World) → undone world (rows_if patch world script) ≡ world
-  idle_undo world = ap (λ s. undone world (rows_if patch world s)) none
+pub run_changes : (patch place : ℕ) (which : Which) (world after : World) (log logged : RecordList) (script : Option Script) (own : Script) → script ≡ Some own
+    → Changes world after log logged (effect patch world own) (rows_of_script patch world own)
+    → Changes world after log logged (after_calls world (call_of patch place which script)) (rows_if patch world script)
+run_changes patch place which world after log logged script own some changes =
+    subst (λ s. Changes world after log logged (after_calls world (call_of patch place which s)) (rows_if patch world s)) (sym some) changes

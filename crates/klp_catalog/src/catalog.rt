@@ -3,11 +3,10 @@ ghost use Rattle.std.specs.List.{All};
 ghost use Rattle.klp_types.specs.Setting.{all_functions, patch_objects};
 ghost use Rattle.klp_modules.specs.Names.{ObjectNames};
 ghost use Rattle.klp_types.specs.Setting.{PatchObject};
-ghost use Rattle.klp_types.specs.Records.{spare_of};
 ghost use Rattle.klp_types.specs.Callbacks.{call_of, after_calls};
 ghost use Rattle.klp_types.specs.Script.{Script as ScriptOfEdits, alloc_count};
-ghost use Rattle.klp_world.specs.Undo.{undone};
-ghost use Rattle.klp_world.specs.Noted.{noting, rows_of_script};
+ghost use Rattle.klp_world.specs.Changes.{Changes, HasRoom};
+ghost use Rattle.klp_world.specs.Noted.{rows_of_script};
 ghost use Rattle.klp_plan.specs.Plan.{PlanPatch as PatchValue};
 ghost use Rattle.klp_plan.specs.Text.{plan_of, IsFaultOf};
 ghost use Rattle.klp_plan.specs.Within.{AreTargetsWithin};
@@ -17,7 +16,6 @@ ghost use Rattle.klp_catalog.specs.States as states;
 ghost use Rattle.klp_catalog.specs.Runs.{HasCounts, objects_at, place_of, script_at, allocs_if, rows_if, after_runs, callback_runs};
 ghost use Rattle.klp_catalog.specs.Limits.{AreWithin};
 ghost use Rattle.klp_plan.specs.Scripts.{scripts_of};
-ghost use Rattle.std.specs.FinMap as finite;
 ghost use Rattle.klp_catalog.specs.Assembled.{IsAssembleFault, LiesInObject, without_scripts, scripts_told, counts_told};
 
 use crate::assemble::{AssembleFault, assemble_patches, symbol_counts};
@@ -29,8 +27,8 @@ use klp_callback::Boxed;
 use klp_modules::Modules;
 use klp_plan::{Names, Plan, TextFault};
 use klp_types::{
-    MAX_EDITS, MAX_FUNCTIONS, MAX_PATCHES, MAX_STATES, MAX_TARGETS, MAX_VARIABLES, ObjId, PatchId,
-    Records, Site, Which,
+    MAX_EDITS, MAX_FUNCTIONS, MAX_PATCHES, MAX_STATES, MAX_TARGETS, ObjId, PatchId, Records, Site,
+    Which,
 };
 use klp_world::World;
 use std::alloc::Global;
@@ -218,14 +216,12 @@ impl Catalog {
         world: &mut World,
         log: &mut Records,
     ) -> Option<i32>
-        requires room { IfSome (script_at self.old patch place which) (λ script. finite.len world.old.shadow + alloc_count script.edits ≤ MAX_VARIABLES) }
-        requires records { IfSome (script_at self.old patch place which) (λ script. length (rows_of_script patch world.old script) ≤ spare_of log.old) }
+        requires room { IfSome (script_at self.old patch place which) (λ script. HasRoom world.old log.old (alloc_count script.edits) (rows_of_script patch world.old script)) }
         ensures status { result ≡ option_map (λ (s : ScriptOfEdits). s.status) (script_at self.old patch place which) }
         // one run of the callback, if there is one
         ensures catalog { self.new ≡ after_runs self.old (call_of patch place which (script_at self.old patch place which)) }
-        ensures world { world.new ≡ after_calls world.old (call_of patch place which (script_at self.old patch place which)) }
-        ensures noted { log.new ≡ noting log.old (rows_if patch world.old (script_at self.old patch place which)) }
-        ensures undo { undone world.new (rows_if patch world.old (script_at self.old patch place which)) ≡ world.old }
+        ensures changes { let script = script_at self.old patch place which in
+            Changes world.old world.new log.old log.new (after_calls world.old (call_of patch place which script)) (rows_if patch world.old script) }
     {
         let number = patch::number_of(&self.patches, patch, usize::from(place), which)?;
         Some(self.callbacks[number].run(patch, world, log))
