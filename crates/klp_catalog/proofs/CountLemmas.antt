@@ -12,7 +12,7 @@ use Rattle.klp_callback.specs.Told.{Told, counted}
 use Rattle.klp_catalog.specs.Assembled.{counts_told}
 use Rattle.klp_catalog.specs.Catalog.{Catalog}
 use Rattle.klp_catalog.specs.Runs.{callback_ids, objects_at, place_of, after_runs, runs_of, callback_runs, RunsAddUp}
-use Rattle.klp_catalog.specs.Counts.{CallbackId, is_callback, times, grown, counts_after}
+use Rattle.klp_catalog.specs.Counts.{CallbackId, is_callback, times, grown, counts_after, runs_after}
 use Rattle.klp_catalog.proofs.NumberLemmas.{Case, Nowhere, IsOnly, only-within, same-kind}
 
 -- ---- runs that follow one another
@@ -59,11 +59,23 @@ counts-append calls others (id ∷ ids) (count ∷ counts) =
     ∙ ap (λ n. n ∷ counts_after (calls ++ others) ids counts) (grown-twice more rest count)
     ∙ ap (grown rest (grown more count) ∷◌) (counts-append calls others ids counts)
 
+as_counts : (calls : List Call) (ids : List CallbackId) (counts : List ℕ) → runs_after calls ids counts ≡ counts_after calls ids counts
+as_counts [] ids counts = sym (counts-none ids counts)
+as_counts (call ∷ calls) ids counts = refl
+
+runs-append : (calls others : List Call) (ids : List CallbackId) (counts : List ℕ)
+    → runs_after (calls ++ others) ids counts ≡ runs_after others ids (runs_after calls ids counts)
+runs-append calls others ids counts =
+    as_counts (calls ++ others) ids counts
+    ∙ counts-append calls others ids counts
+    ∙ ap (counts_after others ids) (sym (as_counts calls ids counts))
+    ∙ sym (as_counts others ids (runs_after calls ids counts))
+
 pub add_up : RunsAddUp
 add_up = record {
-  none = λ catalog. ap (λ (runs : List ℕ). record catalog { runs = runs }) (counts-none (callback_ids catalog.patches) catalog.runs);
+  none = λ catalog. refl;
   more = λ catalog calls others.
-      ap (λ (runs : List ℕ). record catalog { runs = runs }) (counts-append calls others (callback_ids catalog.patches) catalog.runs);
+      ap (λ (runs : List ℕ). record catalog { runs = runs }) (runs-append calls others (callback_ids catalog.patches) catalog.runs);
 }
 
 -- ---- the count of one callback
@@ -93,7 +105,9 @@ counts_at calls (id ∷ ids) (count ∷ counts) (suc n) d lt = counts_at calls i
 
 pub counts_grow : (catalog : Catalog) (calls : List Call) (patch place : ℕ) (which : Which)
     → runs_of (after_runs catalog calls) patch place which ≡ option_map (grown (times patch place which calls)) (runs_of catalog patch place which)
-counts_grow catalog calls patch place which = by (position (is_callback patch place which) ids) refl
+counts_grow catalog calls patch place which =
+    ap (λ counts. option_and_then (slice_get counts) (position (is_callback patch place which) ids)) (as_counts calls ids catalog.runs)
+    ∙ by (position (is_callback patch place which) ids) refl
   where
     ids : List CallbackId
     ids = callback_ids catalog.patches

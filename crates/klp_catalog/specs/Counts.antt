@@ -29,3 +29,8 @@ abbrev pub counts_after : List Call → List CallbackId → List ℕ → List �
 counts_after calls [] runs = runs
 counts_after calls (id ∷ ids) [] = []
 counts_after calls (id ∷ ids) (count ∷ counts) = grown (times id.patch id.place id.which calls) count ∷ counts_after calls ids counts
+
+-- the same; where none ran, the counts stay whatever the callbacks are
+abbrev pub runs_after : List Call → List CallbackId → List ℕ → List ℕ
+runs_after [] ids runs = runs
+runs_after (call ∷ calls) ids runs = counts_after (call ∷ calls) ids runs

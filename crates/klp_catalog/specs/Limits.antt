@@ -1,8 +1,7 @@
 -- The limits that a catalog's patches keep to, and what no patch has twice.
 use Rattle.std.specs.Prelude.{◌≡◌, ◌≤◌, false, List, length}
 use Rattle.std.specs.List.{AllByRecursion}
-use Rattle.klp_types.specs.declared.limits.TheConstants.{MAX_PATCHES, MAX_STATES}
-use Rattle.klp_types.specs.declared.limits.TheConstants.{MAX_TARGETS, MAX_FUNCTIONS}
+use Rattle.klp_types.specs.declared.limits.TheConstants.{MAX_PATCHES, MAX_TARGETS, MAX_FUNCTIONS, MAX_STATES}
 use Rattle.klp_plan.specs.Plan.{PlanTarget, PlanPatch}
 use Rattle.klp_plan.specs.Parts.{function_count}
 use Rattle.klp_plan.specs.Limits.{has_same, callback_number, target_number, state_number}

@@ -9,7 +9,7 @@ use Rattle.klp_types.specs.World.{World}
 use Rattle.klp_world.specs.Noted.{rows_of_script}
 use Rattle.klp_plan.specs.Plan.{PlanTarget, PlanPatch}
 use Rattle.klp_catalog.specs.Catalog.{Catalog, patches_of}
-use Rattle.klp_catalog.specs.Counts.{CallbackId, is_callback, counts_after}
+use Rattle.klp_catalog.specs.Counts.{CallbackId, is_callback, runs_after}
 
 -- an object that isn't there has no callbacks
 abbrev pub callbacks_of : Option PatchObject → List Callback
@@ -59,7 +59,7 @@ HasCounts patches runs = length runs ≡ length (callback_ids patches)
 
 -- callbacks ran: each count grows by as often as its callback is among them, and everything else stays
 abbrev pub after_runs : Catalog → List Call → Catalog
-after_runs catalog calls = record catalog { runs = counts_after calls (callback_ids catalog.patches) catalog.runs }
+after_runs catalog calls = record catalog { runs = runs_after calls (callback_ids catalog.patches) catalog.runs }
 
 -- how often the callback of a kind ran, if the patch has one for the object at this place
 abbrev pub runs_of : Catalog → ℕ → ℕ → Which → Option ℕ

@@ -247,7 +247,7 @@ or-last : (old same : Bool) → same ≡ true → (old || (same || false)) ≡ t
 or-last true same h = refl
 or-last false same h = ap (λ b. b || false) h
 
-pub invariant_after : EntriesArePatched → (text : TextImage) (modules : ModuleTable) (catalog : Catalog) (world after : World) (moving : Option Move) (runs : List (List (List ℕ))) (patch : ℕ) (functions : List CatalogFunction)
+pub invariant_after : EntriesArePatched → (text : TextImage) (modules : ModuleTable) (catalog : Catalog) (world after : World) (moving : Option Move) (runs : List ℕ) (patch : ℕ) (functions : List CatalogFunction)
     → Invariant text modules catalog world moving → IsInstallable text catalog world moving patch
     → AreFunctions (setting_of (managed_of text catalog world moving)) patch functions
     → numbers_of after ≡ numbers_of world ++ patch ∷ [] → stored_ids after ≡ stored_ids world ++ (patch, state_ids catalog patch) ∷ []
@@ -306,7 +306,7 @@ same_patches_same_site setting old new site flags same =
     ∙ ap (λ (ps : List ℕ). not (is_empty (cond (is_site_loaded setting new site) (entries_from setting site (reverse ps)) []))) same
 
 -- the same patches are installed, and nothing moves
-pub invariant_at_rest : (text : TextImage) (modules : ModuleTable) (catalog : Catalog) (world after : World) (moving : Option Move) (runs : List (List (List ℕ)))
+pub invariant_at_rest : (text : TextImage) (modules : ModuleTable) (catalog : Catalog) (world after : World) (moving : Option Move) (runs : List ℕ)
     → Invariant text modules catalog world moving → numbers_of after ≡ numbers_of world → stored_ids after ≡ stored_ids world
     → finite.len after.shadow ≤ MAX_VARIABLES → Invariant text modules (record catalog { runs = runs }) after None
 invariant_at_rest text modules catalog world after moving runs holds same same_ids few =

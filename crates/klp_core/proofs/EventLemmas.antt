@@ -6,12 +6,11 @@ use Rattle.std.proofs.lemmas.List.Sums.{sum_by-cons}
 use Rattle.klp_types.specs.declared.event.Event.{Event}
 use Rattle.klp_types.specs.declared.event.Reply.{Reply}
 use Rattle.klp_types.specs.declared.event.Refusal.{Refusal}
-use Rattle.klp_types.specs.Setting.{Setting}
 use Rattle.klp_types.specs.State.{State}
 use Rattle.klp_types.specs.FirstOf.{first_of, unless}
 use Rattle.klp_types.specs.Callbacks.{Call, calls}
 use Rattle.klp_types.specs.Step.{refusals, accepted, calls_unless, callbacks_of}
-use Rattle.klp_types.specs.Run.{answer_of, state_after, answer, next, run, answers, callbacks_of_run}
+use Rattle.klp_types.specs.Run.{answer_of, state_after, answer, next, run, callbacks_of_run}
 use Rattle.klp_catalog.specs.Catalog.{Catalog}
 use Rattle.klp_catalog.specs.Runs.{after_runs, RunsAddUp}
 use Rattle.klp_core.specs.Managed.{Managed, setting_of}

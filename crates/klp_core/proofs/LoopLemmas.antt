@@ -14,8 +14,6 @@ use Rattle.klp_catalog.specs.Catalog.{Catalog}
 use Rattle.klp_catalog.specs.Runs.{objects_at}
 use Rattle.klp_modules.specs.Names.{ModuleTable}
 use Rattle.klp_core.specs.Loaded.{is_loaded_in, loaded_from, loaded_call, loaded_status, call_for, status_for, refusal_of, pre_calls}
-use Rattle.klp_types.specs.State.{State}
-use Rattle.klp_core.specs.Managed.{Managed, setting_of}
 use Rattle.klp_core.proofs.CallLemmas.{from-loaded, from-unloaded, from-end, before-refusing}
 
 pub object_in-take : (objects : List PatchObject) (end k : ℕ) → k < end → end ≤ length objects → slice_get (take end objects) k ≡ slice_get objects k

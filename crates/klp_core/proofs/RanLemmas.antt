@@ -1,19 +1,17 @@
 -- Runs of callbacks one after another, and the room for them.
-use Rattle.std.proofs.Common.{◌≡◌, ℕ, ◌+◌, ◌*◌, ◌≤◌, Bool, true, false, cond, List, [], ◌∷◌, ◌++◌, length, drop, Option, Some, None, refl, sym, ap, subst, ◌∙◌, append_assoc, arith}
+use Rattle.std.proofs.Common.{◌≡◌, ℕ, ◌+◌, ◌≤◌, Bool, true, false, cond, List, [], ◌∷◌, ◌++◌, length, drop, Option, Some, None, refl, sym, ap, subst, ◌∙◌, append_assoc, arith}
 use Rattle.std.specs.Prelude.{IfSome}
 use Rattle.std.specs.List.{sum_by}
 use Rattle.std.proofs.lemmas.List.{append-nil, length-append}
 use Rattle.std.proofs.lemmas.List.Sums.{sum_by-append}
 use Rattle.std.specs.FinMap as finite
-use Rattle.klp_types.specs.declared.limits.TheConstants.{MAX_VARIABLES}
 use Rattle.klp_types.specs.declared.callback.Which.{Which}
 use Rattle.klp_types.specs.declared.callback.Which.TheVariants.{Pre}
-use Rattle.klp_types.specs.Records.{RecordList, spare_of}
+use Rattle.klp_types.specs.Records.{RecordList}
 use Rattle.klp_types.specs.Setting.{PatchObject}
 use Rattle.klp_types.specs.World.{World}
 use Rattle.klp_types.specs.Script.{Script, alloc_count, effect, is_success}
 use Rattle.klp_types.specs.Callbacks.{Call, script_for, call_of, calls_of, refuses, allocs_of, after_calls}
-use Rattle.klp_types.specs.declared.edit.Edit.{Edit}
 use Rattle.klp_world.specs.Noted.{noting, rows_of_script}
 use Rattle.klp_world.specs.Changes.{HasRoom}
 use Rattle.klp_catalog.specs.Catalog.{Catalog}
@@ -25,7 +23,7 @@ use Rattle.klp_core.proofs.CallLemmas.{after_calls-append, allocs-append}
 use Rattle.klp_core.proofs.LoopLemmas.{IsTurn, turn-goes_on, turn-stops}
 
 pub records-append : (xs ys : List Call) → records_of (xs ++ ys) ≡ records_of xs + records_of ys
-records-append xs ys = sum_by-append (λ (c : Call). 2 * length c.script.edits) xs ys
+records-append xs ys = sum_by-append (λ (c : Call). length c.script.edits + alloc_count c.script.edits) xs ys
 
 -- none ran
 pub none_ran : (catalog : Catalog) (world : World) (log : RecordList) → HaveRun catalog catalog world world log log []
@@ -117,34 +115,30 @@ abbrev pub RecordsAreFew : Type 0
 RecordsAreFew = (patch : ℕ) (world : World) (script : Script)
     → length (rows_of_script patch world script) + finite.len (effect patch world script).shadow ≤ finite.len world.shadow + length script.edits + alloc_count script.edits
 
-abbrev pub AllocsAreEdits : Type 0
-AllocsAreEdits = (edits : List Edit) → alloc_count edits ≤ length edits
-
 abbrev pub PatchesStay : Type 0
 PatchesStay = (patch : ℕ) (world : World) (script : Script) → patches_in (effect patch world script) ≡ patches_in world
 
 -- a run adds and notes no more than there is room for
-pub room_fits : RecordsAreFew → AllocsAreEdits → (patch place : ℕ) (which : Which) (world : World) (log : RecordList) (script : Option Script) (calls : List Call)
+pub room_fits : RecordsAreFew → (patch place : ℕ) (which : Which) (world : World) (log : RecordList) (script : Option Script) (calls : List Call)
     → calls ≡ call_of patch place which script → HasRoomFor world log calls
     → IfSome script (λ (s : Script). HasRoom world log (alloc_count s.edits) (rows_of_script patch world s))
-room_fits few allocs patch place which world log None calls is room = tt
-room_fits few allocs patch place which world log (Some script) calls is room =
+room_fits few patch place which world log None calls is room = tt
+room_fits few patch place which world log (Some script) calls is room =
     let noted = ap records_of is in
     let added = ap allocs_of is in
     let own = few patch world script in
-    let edits = allocs script.edits in
     record {
       variables = omega (arith, added, room.variables);
-      records = omega (arith, noted, own, edits, room.records);
+      records = omega (arith, noted, own, room.records);
     }
 
-pub one_ran : VariablesAreFew → RecordsAreFew → AllocsAreEdits → PatchesStay → (before after : Catalog) (patch place : ℕ) (which : Which) (world changed : World) (log noted : RecordList)
+pub one_ran : VariablesAreFew → RecordsAreFew → PatchesStay → (before after : Catalog) (patch place : ℕ) (which : Which) (world changed : World) (log noted : RecordList)
     (script : Option Script)
     → after ≡ after_runs before (call_of patch place which script)
     → changed ≡ after_calls world (call_of patch place which script)
     → noted ≡ noting log (rows_if patch world script)
     → HaveRun before after world changed log noted (call_of patch place which script)
-one_ran few_variables few_records allocs stay before after patch place which world changed log noted None counted did notes =
+one_ran few_variables few_records stay before after patch place which world changed log noted None counted did notes =
     let same = ap (λ (w : World). finite.len w.shadow) did in
     let count = ap (λ (l : RecordList). length l.noted) notes ∙ ap length (append-nil log.noted) in
     record {
@@ -155,18 +149,17 @@ one_ran few_variables few_records allocs stay before after patch place which wor
       records = omega (arith, same, count);
       room = ap (λ (l : RecordList). l.room) notes;
     }
-one_ran few_variables few_records allocs stay before after patch place which world changed log noted (Some script) counted did notes =
+one_ran few_variables few_records stay before after patch place which world changed log noted (Some script) counted did notes =
     let same = ap (λ (w : World). finite.len w.shadow) did in
     let count = ap (λ (l : RecordList). length l.noted) notes ∙ length-append log.noted (rows_of_script patch world script) in
     let variables = few_variables patch world script in
     let records = few_records patch world script in
-    let edits = allocs script.edits in
     record {
       catalog = counted;
       world = did;
       installed = ap patches_in did ∙ stay patch world script;
       variables = omega (arith, same, variables);
-      records = omega (arith, same, count, records, edits);
+      records = omega (arith, same, count, records);
       room = ap (λ (l : RecordList). l.room) notes;
     }
 
@@ -186,7 +179,7 @@ pub pre_adds_few : (patch : ℕ) (objects : List (ℕ × PatchObject)) → alloc
 pre_adds_few patch objects = weight_of_pre (λ (c : Call). alloc_count c.script.edits) patch objects
 
 pub pre_notes_few : (patch : ℕ) (objects : List (ℕ × PatchObject)) → records_of (pre_calls patch objects) ≤ records_of (calls_of patch Pre objects)
-pre_notes_few patch objects = weight_of_pre (λ (c : Call). 2 * length c.script.edits) patch objects
+pre_notes_few patch objects = weight_of_pre (λ (c : Call). length c.script.edits + alloc_count c.script.edits) patch objects
 
 -- the next callback of pre-patch, and what may be left behind it
 

@@ -1,5 +1,5 @@
 -- The callbacks of loaded objects, as the definitions list them, and the room for them.
-use Rattle.std.proofs.Common.{◌≡◌, ℕ, ◌+◌, ◌*◌, ◌≤◌, ◌++◌, Bool, false, ltb, ltb-false, List, length, take, Option, Some, None, sym, ap, subst, ◌∙◌, arith}
+use Rattle.std.proofs.Common.{◌≡◌, ℕ, ◌+◌, ◌≤◌, ◌++◌, Bool, false, ltb, ltb-false, List, length, take, Option, Some, None, sym, ap, subst, ◌∙◌, arith}
 use Rattle.std.specs.Prelude.{slice_index_or}
 use Rattle.std.specs.FinMap as finite
 use Rattle.std.proofs.Math.Seq.{take-length}
@@ -130,7 +130,7 @@ room_to_install text modules catalog world put moving managed patch log view hol
     let pre_allocs = pre_adds_few patch objects in
     let pre_records = pre_notes_few patch objects in
     let clean_allocs = clean-few (λ (c : Call). alloc_count c.script.edits) patch objects in
-    let clean_records = clean-few (λ (c : Call). 2 * length c.script.edits) patch objects in
+    let clean_records = clean-few (λ (c : Call). length c.script.edits + alloc_count c.script.edits) patch objects in
     let variables = ap (λ (w : World). finite.len w.shadow) is in
     let total : length log.noted + finite.len put.shadow + records_of (install_calls modules catalog patch) + 17 ≤ log.room =
     omega (arith, fits, short, same, both, records, pre_records, clean_records, variables, noted, room) in

@@ -1,13 +1,9 @@
 -- One run of a callback.
-use Rattle.std.proofs.Common.{◌≡◌, ℕ, ◌≤◌, true, cond, List, [], ◌∷◌, length, Option, Some, None, refl, sym, ap, ◌∙◌, zero, suc, le-ltb, inl, inr}
-use Rattle.std.specs.Prelude.{slice_get, find, option_map, unwrap_or}
-use Rattle.std.specs.List.{position_or_len}
-use Rattle.std.proofs.lemmas.List.Folds.{find_at}
-use Rattle.std.proofs.lemmas.Option.{slice_get_cases}
+use Rattle.std.proofs.Common.{◌≡◌, ℕ, true, cond, [], Option, Some, None, sym, ap, ◌∙◌}
+use Rattle.std.specs.Prelude.{slice_get, option_map, unwrap_or}
 use Rattle.klp_types.specs.declared.callback.Which.{Which}
-use Rattle.klp_types.specs.Setting.{Callback, PatchObject}
-use Rattle.klp_types.specs.Script.{Script}
-use Rattle.klp_types.specs.Callbacks.{script_for, is_kind, call_of}
+use Rattle.klp_types.specs.Setting.{PatchObject}
+use Rattle.klp_types.specs.Callbacks.{script_for, call_of}
 use Rattle.klp_modules.specs.Names.{ModuleTable}
 use Rattle.klp_catalog.specs.Catalog.{Catalog}
 use Rattle.klp_catalog.specs.Runs.{callbacks_of, objects_at, script_at}

@@ -1,18 +1,20 @@
 -- What runs of callbacks leave, and the room that they need.
-use Rattle.std.specs.Prelude.{◌≡◌, ℕ, ◌+◌, ◌*◌, ◌≤◌, List, length}
+use Rattle.std.specs.Prelude.{◌≡◌, ℕ, ◌+◌, ◌≤◌, List, length}
 use Rattle.std.specs.List.{sum_by}
 use Rattle.std.specs.FinMap as finite
 use Rattle.klp_types.specs.declared.limits.TheConstants.{MAX_VARIABLES}
 use Rattle.klp_types.specs.Records.{RecordList}
+use Rattle.klp_types.specs.Script.{alloc_count}
 use Rattle.klp_types.specs.World.{World}
 use Rattle.klp_types.specs.Callbacks.{Call, allocs_of, after_calls}
 use Rattle.klp_catalog.specs.Catalog.{Catalog}
 use Rattle.klp_catalog.specs.Runs.{after_runs}
 use Rattle.klp_core.specs.Loaded.{patches_in}
 
--- how many records callbacks note at most, beside one for each shadow variable that is gone afterwards
+-- how many records callbacks note at most, beside one for each shadow variable that is gone afterwards: one for each edit, and
+-- one more for each that adds a variable
 abbrev pub records_of : List Call → ℕ
-records_of calls = sum_by (λ (c : Call). 2 * length c.script.edits) calls
+records_of calls = sum_by (λ (c : Call). length c.script.edits + alloc_count c.script.edits) calls
 
 -- these callbacks ran, in this order
 pub record HaveRun (before after : Catalog) (world_before world_after : World) (log_before log_after : RecordList) (calls : List Call) : Type 0 where

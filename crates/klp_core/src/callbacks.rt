@@ -18,9 +18,7 @@ use klp_catalog::laws::runs_add_up;
 use klp_modules::Modules;
 use klp_types::{MAX_PATCHES, MAX_RECORDS, MAX_VARIABLES, PatchId, Records, Reply, Which};
 use klp_world::World;
-use klp_world::laws::{
-    allocs_are_edits, installed_patches_stay, records_are_few, variables_are_few,
-};
+use klp_world::laws::{installed_patches_stay, records_are_few, variables_are_few};
 
 /// How many shadow variables the callback of one object adds at most, where the object is loaded.
 fn allocs_where_loaded(
@@ -71,7 +69,6 @@ fn run_where_loaded(
 {
     variables_are_few();
     records_are_few();
-    allocs_are_edits();
     installed_patches_stay();
     match catalog.target(patch, place) {
         Some(object) if modules.is_loaded(object) => {

@@ -1,10 +1,21 @@
 -- Lists whose last item changes, and names that are found in a list.
-use Rattle.std.proofs.Common.{◌≡◌, ℕ, zero, suc, ◌+◌, ◌≤◌, Bool, true, false, not, nat_lt, cond, List, [], ◌∷◌, ◌++◌, length, get_or, set, map, position, Some, None, Result, Ok, Err, OnOk, is_ok, ◌||◌, string_bytes, String, if◌then◌else◌, bytes_eq, refl, ap, ◌∙◌, arith}
+use Rattle.std.proofs.Common.{◌≡◌, ℕ, zero, suc, ◌+◌, ◌<◌, ◌≤◌, ◌==◌, Bool, true, false, not, nat_lt, cond, List, [], ◌∷◌, ◌++◌, length, get_or, set, map, position, Some, None, Result, Ok, Err, OnOk, is_ok, ◌||◌, string_bytes, String, if◌then◌else◌, bytes_eq, refl, ap, ◌∙◌, arith}
 use Rattle.std.specs.List.{list_any, position_or_len, prefix_len}
 use Rattle.std.specs.String.{string_eq}
 use Rattle.std.specs.declared.alloc.Global.{Global}
 use Rattle.klp_plan.specs.Parts.{on_last}
-use Rattle.klp_line.proofs.WordLemmas.{missing_from}
+use Rattle.std.proofs.lemmas.Bool.Decides.{nat_tests}
+
+pub positive : (n : ℕ) → false ≡ (n == 0) → 0 < n
+positive n h = grind (arith, nat_tests)
+
+missing_by : (m n : ℕ) (b : Bool) → b ≡ nat_lt m n → cond b (Some m) None ≡ None → n ≤ m
+missing_by m n true e h = absurd cc
+missing_by m n false e h = grind (arith, nat_tests)
+
+-- where none passes, the search ends behind the last
+missing_from : {A : Type 0} (p : A → Bool) (xs : List A) → position p xs ≡ None → length xs ≤ position_or_len p xs
+missing_from p xs h = missing_by (position_or_len p xs) (length xs) (nat_lt (position_or_len p xs) (length xs)) refl h
 
 -- a write at the last place changes the last item
 pub set_last : {A : Type 0} (change : A → A) (xs : List A) (n : ℕ) (x y : A) → n + 1 ≡ length xs → x ≡ get_or xs n x → y ≡ change x → set xs n y ≡ on_last change xs

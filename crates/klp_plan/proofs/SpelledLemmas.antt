@@ -1,5 +1,5 @@
 -- A script is read back from its words.
-use Rattle.std.proofs.Common.{◌≡◌, ℕ, ℤ, suc, pos, negsuc, neg_ℤ, ◌+◌, ◌<◌, ◌^◌, ◌==◌, Bool, true, false, not, List, [], ◌∷◌, length, map, Some, Ok, refl, ap, ◌∙◌, arith}
+use Rattle.std.proofs.Common.{◌≡◌, ℕ, ℤ, suc, pos, negsuc, neg_ℤ, ◌+◌, ◌<◌, ◌^◌, ◌==◌, ◌&&◌, Bool, true, false, not, List, [], ◌∷◌, length, map, Some, Ok, refl, ap, ◌∙◌, arith, rules}
 use Rattle.std.specs.Prelude.{FitsSigned, codes}
 use Rattle.std.proofs.lemmas.Bool.Decides.{nat_tests}
 use Rattle.std.proofs.lemmas.List.Elements.{All-cons, All-nil}
@@ -16,7 +16,24 @@ use Rattle.klp_types.specs.Script.{Script, is_success}
 use Rattle.klp_line.specs.Words.{status_of}
 use Rattle.klp_line.specs.Edits.{edit_number, alloc_of, free_of, free_all_of, set_of, take_prev_of, edit_of_parts, edit_of, edits_of, failure_of, script_with, script_of}
 use Rattle.klp_plan.specs.Spelled.{edit_word, script_words, IsEdit, IsScript}
-use Rattle.klp_line.proofs.NumberLemmas.{own, is_decimal_at, and_left, and_right}
+use Rattle.std.proofs.lemmas.Str.Parse.{IsNumeralModel, numerals_by_value}
+use Rattle.klp_line.specs.Words.{is_decimal}
+
+-- ---- digits
+
+and_left : (a b : Bool) → (a && b) ≡ true → a ≡ true
+and_left true b h = refl
+and_left false b h = h
+
+and_right : (a b : Bool) → (a && b) ≡ true → b ≡ true
+and_right true b h = h
+and_right false b h = absurd cc
+
+own : IsNumeralModel (λ ds. list_all is_ascii_digit ds ≡ true) (digits_value 10)
+own = numerals_by_value _ (search rules)
+
+is_decimal_at : (limit : ℕ) (word : List ℕ) → 0 < length word → list_all is_ascii_digit word ≡ true → digits_value 10 word < limit → is_decimal limit word ≡ true
+is_decimal_at limit word some digits small = grind (arith, nat_tests)
 
 -- ---- words without a colon
 

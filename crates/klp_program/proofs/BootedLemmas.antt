@@ -14,7 +14,7 @@ use Rattle.klp_callback.specs.Told.{Told}
 use Rattle.klp_plan.specs.Plan.{Plan}
 use Rattle.klp_plan.specs.Scripts.{scripts_of}
 use Rattle.klp_catalog.specs.declared.assemble.AssembleFault.{AssembleFault}
-use Rattle.klp_catalog.specs.Assembled.{without_scripts, counts_of, scripts_told, counts_told, IsAssembleFault}
+use Rattle.klp_catalog.specs.Assembled.{without_scripts, scripts_told, counts_told, IsAssembleFault}
 use Rattle.klp_catalog.specs.Catalog.{Catalog, some_same_site}
 use Rattle.klp_catalog.specs.Runs.{HasCounts}
 use Rattle.klp_core.specs.declared.fault.BootFault.{BootFault}
@@ -36,7 +36,7 @@ pub booted_over : (plan after : Plan) (handler : ℕ) (objects : List Object) (c
     → callbacks ≡ map never_ran (scripts_of plan.patches)
     → image ≡ text.opening handler objects → modules ≡ names.opening image.image.objects
     → catalog.names ≡ modules.names → map without_scripts catalog.patches ≡ map without_scripts after.patches
-    → scripts_of catalog.patches ≡ scripts_told callbacks → HasCounts catalog.patches catalog.runs → counts_of catalog.runs ≡ counts_told callbacks
+    → scripts_of catalog.patches ≡ scripts_told callbacks → HasCounts catalog.patches catalog.runs → catalog.runs ≡ counts_told callbacks
     → manager ≡ record { image = image.image; catalog = catalog; state = opening_state image.image }
     → IsBootedOver plan manager
 booted_over plan after handler objects callbacks image modules catalog manager rest taken handled given made numbered named patched scripted shaped counted booted =
@@ -47,7 +47,7 @@ booted_over plan after handler objects callbacks image modules catalog manager r
       patches = ap (λ (m : Managed). map without_scripts m.catalog.patches) booted ∙ patched ∙ ap (λ (p : Plan). map without_scripts p.patches) rest;
       scripts = ap (λ (m : Managed). scripts_of m.catalog.patches) booted ∙ scripted ∙ ap scripts_told given ∙ scripts_made (scripts_of plan.patches);
       shape = subst (λ (m : Managed). HasCounts m.catalog.patches m.catalog.runs) (sym booted) shaped;
-      counts = ap (λ (m : Managed). counts_of m.catalog.runs) booted ∙ counted ∙ ap counts_told given;
+      counts = ap (λ (m : Managed). m.catalog.runs) booted ∙ counted ∙ ap counts_told given;
       state = ap (λ (m : Managed). m.state) booted ∙ ap opening_state over;
     }
 

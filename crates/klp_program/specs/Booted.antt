@@ -8,7 +8,7 @@ use Rattle.klp_modules.specs.Names.{names_of}
 use Rattle.klp_callback.specs.Told.{Told}
 use Rattle.klp_plan.specs.Plan.{Plan}
 use Rattle.klp_plan.specs.Scripts.{scripts_of}
-use Rattle.klp_catalog.specs.Assembled.{without_scripts, counts_of, counts_told, IsAssembleFault}
+use Rattle.klp_catalog.specs.Assembled.{without_scripts, counts_told, IsAssembleFault}
 use Rattle.klp_catalog.specs.Runs.{HasCounts}
 use Rattle.klp_core.specs.declared.fault.BootFault.TheVariants as boot
 use Rattle.klp_core.specs.Boot.{opening_state}
@@ -32,7 +32,7 @@ pub record IsBootedOver (plan : Plan) (manager : Managed) : Type 0 where
   pub patches : map without_scripts manager.catalog.patches ≡ map without_scripts plan.patches
   pub scripts : scripts_of manager.catalog.patches ≡ scripts_of plan.patches
   pub shape : HasCounts manager.catalog.patches manager.catalog.runs
-  pub counts : counts_of manager.catalog.runs ≡ counts_told (map never_ran (scripts_of plan.patches))
+  pub counts : manager.catalog.runs ≡ counts_told (map never_ran (scripts_of plan.patches))
   pub state : manager.state ≡ opening_state (image_of plan)
 
 -- why a plan isn't booted: a fault of the image; else one of the catalog, which has the names of that image and a

@@ -4,8 +4,16 @@
 #![tactic(auto)]
 
 #[cfg(test)]
+mod callback;
+#[cfg(test)]
+mod manager;
+#[cfg(test)]
 mod modules;
+#[cfg(test)]
+mod program;
 #[cfg(test)]
 mod records;
 #[cfg(test)]
 mod text;
+#[cfg(test)]
+mod world;

@@ -12,6 +12,3 @@ mod world;
 pub use klp_types::{Edit, MAX_EDITS, MAX_PATCHES, MAX_STATES, MAX_VARIABLES};
 pub use script::Script;
 pub use world::World;
-
-#[cfg(test)]
-mod tests;

@@ -14,12 +14,11 @@ each_known installed many k d known below =
 
 pub is_compatible-requires-clause-installed : goal.is_compatible-requires-clause-installed
 is_compatible-requires-clause-installed g c = λ k d below.
-    let own = c.deref.ensures.0 ∙ c.installed.ensures ∙ ap (λ (m : Managed). installed_patches m.state) (sym c.self.view_is) in
-    subst (λ (ps : List ℕ). k < length ps → get_or ps k d < length c.self.inside.catalog.patches) (sym own)
+    subst (λ (ps : List ℕ). k < length ps → get_or ps k d < length c.self.inside.catalog.patches) (sym c.installed.ensures.value)
     (λ there. each_known _ (length c.self.inside.catalog.patches) k d c.self.invariant.0.allowed.known there) below
 
 pub returns : goal.returns
 returns g c =
     c.is_compatible.ensures
-    ∙ ap (states.is_compatible c.self.inside.catalog c.args.patch) (c.deref.ensures.0 ∙ c.installed.ensures)
-    ∙ ap (λ (m : Managed). states.is_compatible m.catalog c.args.patch (installed_patches c.args.self.now.state)) c.self.view_is
+    ∙ ap (states.is_compatible c.self.inside.catalog c.args.patch) c.installed.ensures.value
+    ∙ ap (λ (m : Managed). states.is_compatible m.catalog c.args.patch (installed_patches m.state)) c.self.view_is

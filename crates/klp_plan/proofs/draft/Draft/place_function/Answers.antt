@@ -1,7 +1,7 @@
 use Rattle.std.proofs.Common.{length, ap, arith}
 use Rattle.klp_plan.specs.Parts.{last_of, targets_of}
 use Rattle.klp_plan.proofs.DraftLemmas.{kept-function}
-use Rattle.klp_line.proofs.LineLemmas.{positive}
+use Rattle.klp_plan.proofs.ListLemmas.{positive}
 use Rattle.klp_plan.proofs.draft.Draft.place_function.Goals as goal
 
 pub invariant_of-self-2 : goal.invariant_of-self-2

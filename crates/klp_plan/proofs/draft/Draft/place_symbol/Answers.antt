@@ -1,6 +1,6 @@
 use Rattle.std.proofs.Common.{arith}
 use Rattle.klp_plan.proofs.DraftLemmas.{kept-symbol}
-use Rattle.klp_line.proofs.LineLemmas.{positive}
+use Rattle.klp_plan.proofs.ListLemmas.{positive}
 use Rattle.klp_plan.proofs.draft.Draft.place_symbol.Goals as goal
 
 pub invariant_of-self-2 : goal.invariant_of-self-2

@@ -4,7 +4,7 @@ use Rattle.std.specs.List.{list_any}
 use Rattle.klp_plan.specs.Plan.{PlanTarget}
 use Rattle.klp_plan.specs.Parts.{last_of, targets_of}
 use Rattle.klp_plan.proofs.DraftLemmas.{kept-target, found_within}
-use Rattle.klp_line.proofs.LineLemmas.{positive}
+use Rattle.klp_plan.proofs.ListLemmas.{positive}
 use Rattle.klp_plan.proofs.draft.Draft.place_target.Goals as goal
 
 pub invariant_of-self-2 : goal.invariant_of-self-2

@@ -1,5 +1,6 @@
-use crate::{MAX_VARIABLES, World};
-use klp_types::{Record, Records, ShadowKey};
+//! A world that is full, and one that memory was refused for.
+use klp_types::{MAX_VARIABLES, Record, Records, ShadowKey};
+use klp_world::World;
 use std::alloc::{AllocError, Global};
 use std::test::Fail;
 
