@@ -6,6 +6,8 @@
 #[cfg(test)]
 mod callback;
 #[cfg(test)]
+mod catalog;
+#[cfg(test)]
 mod manager;
 #[cfg(test)]
 mod modules;
