@@ -203,7 +203,10 @@ fn the_newest_patch_stands_last(rt: HostRuntime) -> Result<(), Fail> {
     ];
     let seen = outcome(rt.alloc(), two_patches_text(), &events, &[])?;
     assert_eq!(rt; seen.counts, (3, 3));
-    assert_eq!(rt; seen.installed.as_slice(), [PatchId(1), PatchId(0)].as_slice());
+    assert_eq!(rt;
+        seen.installed.as_slice(),
+        [PatchId(1), PatchId(0)].as_slice()
+    );
     Ok(())
 }
 
@@ -222,7 +225,10 @@ fn a_patch_takes_a_state_over(rt: HostRuntime) -> Result<(), Fail> {
     ];
     let seen = outcome(rt.alloc(), handover_text(), &events, &states)?;
     assert_eq!(rt; seen.counts, (3, 0));
-    assert_eq!(rt; seen.states.as_slice(), [Some(9), Some(9), None, None].as_slice());
+    assert_eq!(rt;
+        seen.states.as_slice(),
+        [Some(9), Some(9), None, None].as_slice()
+    );
     Ok(())
 }
 

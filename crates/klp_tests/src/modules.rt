@@ -88,14 +88,16 @@ fn check_objects(rt: &impl Abort, modules: &Modules) {
 
 // The symbol of a site: its object, its name, and its position among those of the name.
 fn check_symbols(rt: &impl Abort, modules: &Modules) {
-    let rows = [
-        (Site(3), Some((ObjId(0), "d", 2))),
-        (Site(5), Some((ObjId(1), "d", 1))),
-        (Site(6), None),
-    ];
-    for (site, want) in rows {
-        assert!(rt; modules.symbol(site) == want);
+    for (site, object, name, position) in [
+        (Site(3), ObjId(0), "d", 2),
+        (Site(5), ObjId(1), "d", 1),
+    ] {
+        assert!(rt;
+            modules.symbol(site) == Some((object, name, position)),
+            "{site:?}"
+        );
     }
+    assert!(rt; modules.symbol(Site(6)).is_none());
 }
 
 #[test]
