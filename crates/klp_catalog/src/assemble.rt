@@ -22,7 +22,7 @@ use std::snapshot::Snapshot;
 use thiserror::Error;
 
 /// Why a plan becomes no catalog. The numbers are this project's own, and stay.
-#[derive(Clone, Copy, Debug, PartialEq, Eq, Hash, Error)]
+#[derive(Clone, Copy, Debug, PartialEq, Eq, Error)]
 pub enum AssembleFault {
     /// There isn't one callback for each script of the plan. This is looked at first.
     #[error("WrongCallbacks")]

@@ -5,7 +5,7 @@ use std::alloc::AllocError;
 use thiserror::Error;
 
 /// Why a manager can't be booted. The numbers are this project's own, and stay.
-#[derive(Clone, Copy, Debug, PartialEq, Eq, Hash, Error)]
+#[derive(Clone, Copy, Debug, PartialEq, Eq, Error)]
 pub enum BootFault {
     /// Image, modules and catalog don't have the same number of symbols for each object.
     #[error("Mismatch")]

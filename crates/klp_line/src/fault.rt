@@ -9,7 +9,7 @@ use thiserror::Error;
 /// In a line that has more than one fault, the first of these is told: `NotAscii`, `LineTooLong`,
 /// `UnknownWord`, `WrongCount`, then the words from left to right (`BadNumber` to `BadEdit`), then
 /// `OutOfPlace`, `UnknownObject`, `Twice` and `TooMany`.
-#[derive(Clone, Copy, Debug, PartialEq, Eq, Hash, Error)]
+#[derive(Clone, Copy, Debug, PartialEq, Eq, Error)]
 pub enum TextFaultKind {
     /// A byte of a line that isn't a comment is no ASCII.
     #[error("NotAscii")]

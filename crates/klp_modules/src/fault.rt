@@ -2,7 +2,7 @@ use thiserror::Error;
 
 /// Why a name and a position pick no symbol of an object. The numbers are this project's own, and
 /// stay.
-#[derive(Clone, Copy, Debug, PartialEq, Eq, Hash, Error)]
+#[derive(Clone, Copy, Debug, PartialEq, Eq, Error)]
 pub enum SymbolFault {
     /// No symbol has the name.
     #[error("Missing")]

@@ -5,7 +5,7 @@ use std::alloc::AllocError;
 use thiserror::Error;
 
 /// Why objects make no image. The numbers are this project's own, and stay.
-#[derive(Clone, Copy, Debug, PartialEq, Eq, Hash, Error)]
+#[derive(Clone, Copy, Debug, PartialEq, Eq, Error)]
 pub enum ImageFault {
     /// A symbol lies on an address of an earlier one of any object, or ends beyond the last
     /// address of 64 bits.

@@ -1,5 +1,5 @@
 /// When a callback of a patch runs for an object (callbacks, Callbacks).
-#[derive(Clone, Copy, Debug, PartialEq, Eq, Hash)]
+#[derive(Clone, Copy, Debug, PartialEq, Eq)]
 pub enum Which {
     /// Before the object is patched. A status other than 0 stops the patch.
     Pre,

@@ -3,7 +3,7 @@ use crate::shadow::ShadowKey;
 use thiserror::Error;
 
 /// What may happen to the manager. One event is one atomic step.
-#[derive(Clone, Copy, Debug, PartialEq, Eq, Hash)]
+#[derive(Clone, Copy, Debug, PartialEq, Eq)]
 pub enum Event {
     /// The patch is loaded and enabled: its transition starts.
     Enable(PatchId),
@@ -22,7 +22,7 @@ pub enum Event {
 }
 
 /// What an accepted event answers.
-#[derive(Clone, Copy, Debug, PartialEq, Eq, Hash)]
+#[derive(Clone, Copy, Debug, PartialEq, Eq)]
 pub enum Reply {
     /// The event did what it says.
     Done,
@@ -40,7 +40,7 @@ pub enum Reply {
 }
 
 /// Why an event is refused. The numbers are this project's own, and stay.
-#[derive(Clone, Copy, Debug, PartialEq, Eq, Hash, Error)]
+#[derive(Clone, Copy, Debug, PartialEq, Eq, Error)]
 pub enum Refusal {
     /// The catalog has no such patch.
     #[error("NoPatch")]

@@ -1,7 +1,7 @@
 use crate::number::{PatchId, Site};
 
 /// Which code answers a call of a function.
-#[derive(Clone, Copy, Debug, PartialEq, Eq, Hash)]
+#[derive(Clone, Copy, Debug, PartialEq, Eq)]
 pub enum Version {
     /// The function that the site was built with.
     Original(Site),
@@ -10,7 +10,7 @@ pub enum Version {
 }
 
 /// A version with the address that a call jumps to.
-#[derive(Clone, Copy, Debug, PartialEq, Eq, Hash)]
+#[derive(Clone, Copy, Debug, PartialEq, Eq)]
 pub struct Target {
     pub version: Version,
     /// The address of the new function, or the one behind the entry site of an original.
@@ -18,7 +18,7 @@ pub struct Target {
 }
 
 /// An entry of a function stack: what one installed patch does with a site.
-#[derive(Clone, Copy, Debug, PartialEq, Eq, Hash)]
+#[derive(Clone, Copy, Debug, PartialEq, Eq)]
 pub struct Entry {
     pub patch: PatchId,
     /// The function of the patch that stands in for the site's own. `None` is a nop: a cumulative
@@ -27,7 +27,7 @@ pub struct Entry {
 }
 
 /// The patch in transition.
-#[derive(Clone, Copy, Debug, PartialEq, Eq, Hash)]
+#[derive(Clone, Copy, Debug, PartialEq, Eq)]
 pub struct Move {
     pub patch: PatchId,
     /// The state that tasks are brought to: `true` to run the patch, `false` to leave it.
