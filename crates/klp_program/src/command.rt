@@ -33,36 +33,41 @@ fn number(word: &str) -> Option<u64> {
     word.parse().ok()
 }
 
-fn key(obj: &str, id: &str) -> Option<ShadowKey> {
-    Some(ShadowKey {
-        obj: number(obj)?,
-        id: number(id)?,
-    })
+// The change of a shadow variable that `shadow` and a verb ask for, with a value.
+fn change(verb: &str, key: ShadowKey, value: u64) -> Option<Event> {
+    match verb {
+        "alloc" => Some(Event::ShadowAlloc(key, value)),
+        "getalloc" => Some(Event::ShadowGetOrAlloc(key, value)),
+        _ => None,
+    }
 }
 
-// What the words behind `shadow` ask for.
+// What `shadow` and a verb ask for of one shadow variable.
+fn of_variable<'a>(verb: &str, key: ShadowKey) -> Option<Command<'a>> {
+    match verb {
+        "free" => Some(Command::Event(Event::ShadowFree(key))),
+        "get" => Some(Command::ShadowGet(key)),
+        _ => None,
+    }
+}
+
+// What the words behind `shadow` ask for. All but the verb are numbers.
 fn shadow<'a>(
     verb: &str,
     first: Option<&str>,
     second: Option<&str>,
     third: Option<&str>,
 ) -> Option<Command<'a>> {
-    match (verb, first, second, third) {
-        ("alloc", Some(obj), Some(id), Some(value)) => Some(Command::Event(Event::ShadowAlloc(
-            key(obj, id)?,
-            number(value)?,
-        ))),
-        ("getalloc", Some(obj), Some(id), Some(value)) => Some(Command::Event(
-            Event::ShadowGetOrAlloc(key(obj, id)?, number(value)?),
-        )),
-        ("free", Some(obj), Some(id), None) => {
-            Some(Command::Event(Event::ShadowFree(key(obj, id)?)))
-        }
-        ("freeall", Some(id), None, None) => {
-            Some(Command::Event(Event::ShadowFreeAll(number(id)?)))
-        }
-        ("get", Some(obj), Some(id), None) => Some(Command::ShadowGet(key(obj, id)?)),
-        _ => None,
+    let obj = number(first?)?;
+    let Some(second) = second else {
+        let all = Command::Event(Event::ShadowFreeAll(obj));
+        return (verb == "freeall" && third.is_none()).then_some(all);
+    };
+    let id = number(second)?;
+    let key = ShadowKey { obj, id };
+    match third {
+        Some(value) => Some(Command::Event(change(verb, key, number(value)?)?)),
+        None => of_variable(verb, key),
     }
 }
 
