@@ -33,11 +33,24 @@ fn number(word: &str) -> Option<u64> {
     word.parse().ok()
 }
 
-// The change of a shadow variable that `shadow` and a verb ask for, with a value.
-fn change(verb: &str, key: ShadowKey, value: u64) -> Option<Event> {
+fn key(obj: u64, id: &str) -> Option<ShadowKey> {
+    let id = number(id)?;
+    Some(ShadowKey { obj, id })
+}
+
+// What `shadow` and a verb ask for of all variables of a number.
+fn all_variables<'a>(verb: &str, id: u64) -> Option<Command<'a>> {
     match verb {
-        "alloc" => Some(Event::ShadowAlloc(key, value)),
-        "getalloc" => Some(Event::ShadowGetOrAlloc(key, value)),
+        "freeall" => Some(Command::Event(Event::ShadowFreeAll(id))),
+        _ => None,
+    }
+}
+
+// The change of a shadow variable that `shadow` and a verb ask for, with a value.
+fn change<'a>(verb: &str, key: ShadowKey, value: u64) -> Option<Command<'a>> {
+    match verb {
+        "alloc" => Some(Command::Event(Event::ShadowAlloc(key, value))),
+        "getalloc" => Some(Command::Event(Event::ShadowGetOrAlloc(key, value))),
         _ => None,
     }
 }
@@ -58,16 +71,12 @@ fn shadow<'a>(
     second: Option<&str>,
     third: Option<&str>,
 ) -> Option<Command<'a>> {
-    let obj = number(first?)?;
-    let Some(second) = second else {
-        let all = Command::Event(Event::ShadowFreeAll(obj));
-        return (verb == "freeall" && third.is_none()).then_some(all);
-    };
-    let id = number(second)?;
-    let key = ShadowKey { obj, id };
-    match third {
-        Some(value) => Some(Command::Event(change(verb, key, number(value)?)?)),
-        None => of_variable(verb, key),
+    let first = number(first?)?;
+    match (second, third) {
+        (None, None) => all_variables(verb, first),
+        (Some(id), None) => of_variable(verb, key(first, id)?),
+        (Some(id), Some(value)) => change(verb, key(first, id)?, number(value)?),
+        (None, Some(_)) => None,
     }
 }
 
