@@ -1,1 +1,2 @@
 pub mod Booted
+pub mod Kinds

@@ -33,36 +33,50 @@ fn number(word: &str) -> Option<u64> {
     word.parse().ok()
 }
 
-fn key(obj: &str, id: &str) -> Option<ShadowKey> {
-    Some(ShadowKey {
-        obj: number(obj)?,
-        id: number(id)?,
-    })
+fn key(obj: u64, id: &str) -> Option<ShadowKey> {
+    let id = number(id)?;
+    Some(ShadowKey { obj, id })
 }
 
-// What the words behind `shadow` ask for.
+// What `shadow` and a verb ask for of all variables of a number.
+fn all_variables<'a>(verb: &str, id: u64) -> Option<Command<'a>> {
+    match verb {
+        "freeall" => Some(Command::Event(Event::ShadowFreeAll(id))),
+        _ => None,
+    }
+}
+
+// The change of a shadow variable that `shadow` and a verb ask for, with a value.
+fn change<'a>(verb: &str, key: ShadowKey, value: u64) -> Option<Command<'a>> {
+    match verb {
+        "alloc" => Some(Command::Event(Event::ShadowAlloc(key, value))),
+        "getalloc" => Some(Command::Event(Event::ShadowGetOrAlloc(key, value))),
+        _ => None,
+    }
+}
+
+// What `shadow` and a verb ask for of one shadow variable.
+fn of_variable<'a>(verb: &str, key: ShadowKey) -> Option<Command<'a>> {
+    match verb {
+        "free" => Some(Command::Event(Event::ShadowFree(key))),
+        "get" => Some(Command::ShadowGet(key)),
+        _ => None,
+    }
+}
+
+// What the words behind `shadow` ask for. All but the verb are numbers.
 fn shadow<'a>(
     verb: &str,
     first: Option<&str>,
     second: Option<&str>,
     third: Option<&str>,
 ) -> Option<Command<'a>> {
-    match (verb, first, second, third) {
-        ("alloc", Some(obj), Some(id), Some(value)) => Some(Command::Event(Event::ShadowAlloc(
-            key(obj, id)?,
-            number(value)?,
-        ))),
-        ("getalloc", Some(obj), Some(id), Some(value)) => Some(Command::Event(
-            Event::ShadowGetOrAlloc(key(obj, id)?, number(value)?),
-        )),
-        ("free", Some(obj), Some(id), None) => {
-            Some(Command::Event(Event::ShadowFree(key(obj, id)?)))
-        }
-        ("freeall", Some(id), None, None) => {
-            Some(Command::Event(Event::ShadowFreeAll(number(id)?)))
-        }
-        ("get", Some(obj), Some(id), None) => Some(Command::ShadowGet(key(obj, id)?)),
-        _ => None,
+    let first = number(first?)?;
+    match (second, third) {
+        (None, None) => all_variables(verb, first),
+        (Some(id), None) => of_variable(verb, key(first, id)?),
+        (Some(id), Some(value)) => change(verb, key(first, id)?, number(value)?),
+        (None, Some(_)) => None,
     }
 }
 

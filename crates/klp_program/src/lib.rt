@@ -6,6 +6,7 @@ mod arguments;
 mod booted;
 mod command;
 mod fault;
+mod kind;
 mod sample;
 mod serve;
 mod wanted;

@@ -1,19 +1,17 @@
-ghost use Rattle.std.specs.Prelude.{◌≡◌, ◌⊎◌, slice_get};
-ghost use Rattle.klp_plan.specs.Scripts.{scripts_of};
+ghost use Rattle.std.specs.Prelude.{◌≡◌, ◌⊎◌};
+ghost use Rattle.klp_core.specs.Boot.{opening_state};
 
 use crate::arguments::told;
 use crate::booted::boot;
 use crate::command::{Command, Line, read};
 use crate::fault::Fault;
-use arrayvec::ArrayVec;
-use klp_callback::{Boxed, Quiet, Refusing, Scripted};
+use crate::kind::{Kind, callback_of};
+use klp_callback::Boxed;
 use klp_catalog::Catalog;
 use klp_core::Manager;
-use klp_plan::Plan;
 use klp_types::{Event, ObjId, PatchId, Refusal, Reply, Which};
-use klp_world::Script;
 use std::alloc::Global;
-use std::io::{BufRead, Write};
+use std::io::{self, BufRead, Write};
 
 // The number that the console gives a refusal: that of an error of Linux with a like meaning.
 fn number(refusal: Refusal) -> u8 {
@@ -29,6 +27,14 @@ fn number(refusal: Refusal) -> u8 {
     }
 }
 
+// What is told where a write to the output fails.
+fn wrote(written: io::Result<()>) -> Result<(), Fault> {
+    match written {
+        Ok(()) => Ok(()),
+        Err(_) => Err(Fault::Write),
+    }
+}
+
 // That the pre-patch callback of a patch for an object answered a status. Both are the catalog's.
 fn write_failed<W: Write>(
     manager: &Manager,
@@ -39,7 +45,7 @@ fn write_failed<W: Write>(
 ) -> Result<(), Fault> {
     let patch = manager.catalog().patch_name(patch).unwrap_or("");
     let object = manager.modules().object_name(object).unwrap_or("");
-    writeln!(output, "prefailed {patch} {object} {status}").map_err(|_| Fault::Write)
+    wrote(writeln!(output, "prefailed {patch} {object} {status}"))
 }
 
 fn write_reply<W: Write>(manager: &Manager, reply: Reply, output: &mut W) -> Result<(), Fault> {
@@ -53,7 +59,7 @@ fn write_reply<W: Write>(manager: &Manager, reply: Reply, output: &mut W) -> Res
         Reply::Value(value) => writeln!(output, "value {value}"),
         Reply::Freed(count) => writeln!(output, "freed {count}"),
     };
-    written.map_err(|_| Fault::Write)
+    wrote(written)
 }
 
 // What an event answered.
@@ -64,9 +70,7 @@ fn write_answer<W: Write>(
 ) -> Result<(), Fault> {
     match answer {
         Ok(reply) => write_reply(manager, reply, output),
-        Err(refusal) => {
-            writeln!(output, "error {} {refusal}", number(refusal)).map_err(|_| Fault::Write)
-        }
+        Err(refusal) => wrote(writeln!(output, "error {} {refusal}", number(refusal))),
     }
 }
 
@@ -82,12 +86,12 @@ fn write_text<W: Write>(
         None => None,
     };
     let Some(text) = text else {
-        return writeln!(output, "error 2 NoModule").map_err(|_| Fault::Write);
+        return wrote(writeln!(output, "error 2 NoModule"));
     };
     for number in 0..text.len() {
         if let Some((name, address, body)) = text.get(number) {
             let body = hex::encode(alloc, body)?;
-            writeln!(output, "{name} {address:016x} {body}").map_err(|_| Fault::Write)?;
+            wrote(writeln!(output, "{name} {address:016x} {body}"))?;
         }
     }
     Ok(())
@@ -105,15 +109,15 @@ fn write_counts<W: Write>(
     object: ObjId,
     output: &mut W,
 ) -> Result<(), Fault> {
-    write!(output, "runs").map_err(|_| Fault::Write)?;
+    wrote(write!(output, "runs"))?;
     for which in [Which::Pre, Which::Post, Which::PreUn, Which::PostUn] {
         let written = match manager.callback_runs(patch, object, which) {
             Some(count) => write!(output, " {count}"),
             None => write!(output, " -"),
         };
-        written.map_err(|_| Fault::Write)?;
+        wrote(written)?;
     }
-    writeln!(output).map_err(|_| Fault::Write)
+    wrote(writeln!(output))
 }
 
 // The counts of the callbacks of a patch for an object, both given by name.
@@ -124,13 +128,13 @@ fn write_runs<W: Write>(
     output: &mut W,
 ) -> Result<(), Fault> {
     let Some(patch) = manager.catalog().patch(patch) else {
-        return writeln!(output, "error 2 NoPatch").map_err(|_| Fault::Write);
+        return wrote(writeln!(output, "error 2 NoPatch"));
     };
     let Some(object) = manager.modules().object(object) else {
-        return writeln!(output, "error 2 NoModule").map_err(|_| Fault::Write);
+        return wrote(writeln!(output, "error 2 NoModule"));
     };
     if !is_target(manager.catalog(), patch, object) {
-        return writeln!(output, "error 2 NotFound").map_err(|_| Fault::Write);
+        return wrote(writeln!(output, "error 2 NotFound"));
     }
     write_counts(manager, patch, object, output)
 }
@@ -154,14 +158,12 @@ fn write_look<W: Write>(
     match line {
         Line::Command(Command::Text(object)) => write_text(alloc, manager, object, output),
         Line::Command(Command::Runs(patch, object)) => write_runs(manager, patch, object, output),
-        Line::Command(Command::Load(_)) => {
-            writeln!(output, "error 2 NoPatch").map_err(|_| Fault::Write)
-        }
+        Line::Command(Command::Load(_)) => wrote(writeln!(output, "error 2 NoPatch")),
         Line::Command(Command::ShadowGet(key)) => match manager.shadow_get(*key) {
-            Some(value) => writeln!(output, "value {value}").map_err(|_| Fault::Write),
-            None => writeln!(output, "none").map_err(|_| Fault::Write),
+            Some(value) => wrote(writeln!(output, "value {value}")),
+            None => wrote(writeln!(output, "none")),
         },
-        Line::Bad => writeln!(output, "error 22 BadLine").map_err(|_| Fault::Write),
+        Line::Bad => wrote(writeln!(output, "error 22 BadLine")),
         Line::Empty | Line::Command(Command::Event(_)) => Ok(()),
     }
 }
@@ -169,26 +171,10 @@ fn write_look<W: Write>(
 // Reads the next line, with its line feed if it has one. Nothing is read at the end of the input.
 fn read_line<R: BufRead>(input: &mut R, line: &mut Vec<u8>) -> Result<usize, Fault> {
     line.clear();
-    input.read_until(b'\n', line).map_err(|_| Fault::Read)
-}
-
-fn copy_of(script: &Script) -> Script
-    ensures { result ≡ script.now }
-{
-    let mut edits = ArrayVec::new();
-    let _ = edits.try_extend_from_slice(&script.edits);
-    Script {
-        edits,
-        status: script.status,
+    match input.read_until(b'\n', line) {
+        Ok(count) => Ok(count),
+        Err(_) => Err(Fault::Read),
     }
-}
-
-// The script of this number, in the order of the text.
-fn script_at(plan: &Plan, number: usize) -> Option<Script>
-    ensures { result ≡ slice_get (scripts_of plan.now.patches) number }
-{
-    let script = plan.script(number)?;
-    Some(copy_of(script))
 }
 
 // Writes what the last event answered, and then answers lines until one asks for an event, which is
@@ -203,7 +189,7 @@ fn next_event<R: BufRead, W: Write>(
 ) -> Result<Option<Event>, Fault> {
     if let Some(answer) = answer {
         write_answer(manager, answer, out)?;
-        out.flush().map_err(|_| Fault::Write)?;
+        wrote(out.flush())?;
     }
     for _ in 0..u64::MAX {
         if read_line(input, line)? == 0 {
@@ -215,16 +201,40 @@ fn next_event<R: BufRead, W: Write>(
             return Ok(event);
         }
         write_look(alloc, manager, &asked, out)?;
-        out.flush().map_err(|_| Fault::Write)?;
+        wrote(out.flush())?;
     }
     Ok(None)
 }
 
-// Answers line after line until the input ends.
+// Answers line after line until the input ends. The manager was just booted.
+fn serve_lines<R: BufRead, W: Write>(
+    alloc: Global,
+    manager: &mut Manager,
+    input: &mut R,
+    out: &mut W,
+) -> Result<(), Fault>
+    requires { manager.old.state ≡ opening_state manager.old.image }
+{
+    let mut line = Vec::new(alloc);
+    let mut answer = None;
+    for _ in 0..u64::MAX {
+        match next_event(alloc, manager, answer, input, &mut line, out)? {
+            Some(event) => answer = Some(manager.apply(event)),
+            None => break,
+        }
+    }
+    Ok(())
+}
+
+// Drops the manager: a function of its own, since what that does to all that a manager owns is
+// proved faster where nothing is generic.
+fn close(_manager: Manager) {}
+
+// Boots a manager over the catalog's text, and serves the input.
 //
-// Each script of the text gets a callback of the simplest kind that means it. The boxes are made
-// here, and the manager lives here, since a function that hands out a box which it made hides what
-// is proved of boxes.
+// Each script of the text gets a callback of the simplest kind that means it. The boxes of any
+// callback are made here, and the manager lives here, since a function that hands out such a box
+// which it made hides what is proved of boxes.
 fn served<R: BufRead, W: Write>(
     alloc: Global,
     catalog: &[u8],
@@ -233,30 +243,17 @@ fn served<R: BufRead, W: Write>(
 ) -> Result<(), Fault> {
     let plan = Catalog::read(alloc, catalog)?;
     let mut callbacks = Vec::new(alloc);
-    while let Some(script) = script_at(&plan, callbacks.len()) {
-        let callback = if !script.edits.is_empty() {
-            Boxed::new(Box::new(alloc, Scripted::new(script))?)
-        } else if script.status != 0 {
-            Boxed::new(Box::new(alloc, Refusing::new(script.status))?)
-        } else {
-            Boxed::new(Box::new(alloc, Quiet::new())?)
+    while let Some(kind) = callback_of(alloc, &plan, callbacks.len())? {
+        let callback = match kind {
+            Kind::Scripted(callback) => Boxed::new(callback),
+            Kind::Refusing(callback) => Boxed::new(callback),
+            Kind::Quiet(callback) => Boxed::new(callback),
         };
         callbacks.push(callback)?;
     }
     let mut manager = boot(alloc, plan, callbacks)?;
-    let mut line = Vec::new(alloc);
-    let mut answer = None;
-    let mut ended = Ok(());
-    for _ in 0..u64::MAX {
-        match next_event(alloc, &manager, answer, input, &mut line, out) {
-            Ok(Some(event)) => answer = Some(manager.apply(event)),
-            Ok(None) => break,
-            Err(fault) => {
-                ended = Err(fault);
-                break;
-            }
-        }
-    }
+    let ended = serve_lines(alloc, &mut manager, input, out);
+    close(manager);
     ended
 }
 

@@ -4,13 +4,9 @@ use Rattle.klp_program.proofs.ServeLemmas.{first_made}
 use Rattle.klp_program.proofs.serve.served.Given as goal
 
 -- there is a callback for each script so far
-abbrev pub invariant-loop-script : goal.invariant-loop-script
-invariant-loop-script g l = l.callbacks.items ≡ first_made l.callbacks.items (scripts_of l.plan-inside.patches.items)
+abbrev pub invariant-loop-callbacks : goal.invariant-loop-callbacks
+invariant-loop-callbacks g l = l.callbacks.items ≡ first_made l.callbacks.items (scripts_of l.plan-inside.patches.items)
 
 -- how many scripts are left
-abbrev pub decreases-loop-script : goal.decreases-loop-script
-decreases-loop-script g l = length (scripts_of l.plan-inside.patches.items) - length l.callbacks.items
-
--- any line may come at any time
-abbrev pub invariant-loop : goal.invariant-loop
-invariant-loop g l = Unit {0}
+abbrev pub decreases-loop-callbacks : goal.decreases-loop-callbacks
+decreases-loop-callbacks g l = length (scripts_of l.plan-inside.patches.items) - length l.callbacks.items

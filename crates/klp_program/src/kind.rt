@@ -1,0 +1,62 @@
+ghost use Rattle.std.specs.Prelude.{◌≡◌, option_map, slice_get, IfOk};
+ghost use Rattle.klp_plan.specs.Scripts.{scripts_of};
+ghost use Rattle.klp_program.specs.Booted.{never_ran};
+ghost use Rattle.klp_program.specs.Kinds.{told_by};
+
+use arrayvec::ArrayVec;
+use klp_callback::{Quiet, Refusing, Scripted};
+use klp_plan::Plan;
+use klp_world::Script;
+use std::alloc::{AllocError, Global};
+
+/// A callback of one of the kinds that scripts get, in its box.
+///
+/// The box names the kind: what a function makes for a box of any callback that leaves with its
+/// result, the check can't follow. So who boots a manager turns the one box into the other.
+#[derive(Drop)]
+pub(crate) enum Kind {
+    Scripted(Box<Scripted>),
+    Refusing(Box<Refusing>),
+    Quiet(Box<Quiet>),
+}
+
+fn copy_of(script: &Script) -> Script
+    ensures { result ≡ script.now }
+{
+    let mut edits = ArrayVec::new();
+    let _ = edits.try_extend_from_slice(&script.edits);
+    Script {
+        edits,
+        status: script.status,
+    }
+}
+
+// A callback of the simplest kind that means the script.
+fn kind_of(alloc: Global, script: &Script) -> Result<Kind, AllocError>
+    ensures { IfOk result (λ kind. told_by kind ≡ never_ran script.now) }
+{
+    if !script.edits.is_empty() {
+        let scripted = Scripted::new(copy_of(script));
+        Ok(Kind::Scripted(Box::new(alloc, scripted)?))
+    } else if script.status != 0 {
+        let refusing = Refusing::new(script.status);
+        Ok(Kind::Refusing(Box::new(alloc, refusing)?))
+    } else {
+        Ok(Kind::Quiet(Box::new(alloc, Quiet::new())?))
+    }
+}
+
+/// A callback for the script of this number, in the order of the text. `None` where the plan has no
+/// such script.
+pub(crate) fn callback_of(
+    alloc: Global,
+    plan: &Plan,
+    number: usize,
+) -> Result<Option<Kind>, AllocError>
+    ensures { IfOk result (λ kind. option_map told_by kind ≡ option_map never_ran (slice_get (scripts_of plan.now.patches) number)) }
+{
+    match plan.script(number) {
+        Some(script) => Ok(Some(kind_of(alloc, script)?)),
+        None => Ok(None),
+    }
+}
