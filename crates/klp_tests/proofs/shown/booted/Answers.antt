@@ -1,11 +1,11 @@
 -- The modules have the names of the plan's objects.
-use Rattle.std.proofs.Common.{◌≡◌, length, ap, sym, subst, ◌∙◌}
+use Rattle.std.proofs.Common.{◌≡◌, length, map, ap, sym, subst, ◌∙◌}
 use Rattle.std.proofs.lemmas.List.{length-map}
 use Rattle.klp_text.specs.TextImage.{TextImage}
 use Rattle.klp_modules.specs.Names.{ModuleTable, names_of_object}
 use Rattle.klp_plan.specs.Plan.{Plan}
 use Rattle.klp_plan.specs.Within.{AreTargetsWithin}
-use Rattle.klp_tests.proofs.manager.parts.Goals as goal
+use Rattle.klp_tests.proofs.shown.booted.Goals as goal
 
 pub assemble-requires : goal.assemble-requires
 assemble-requires g c =
