@@ -1,5 +1,5 @@
 -- The modules have the names of the plan's objects.
-use Rattle.std.proofs.Common.{◌≡◌, length, map, ap, sym, subst, ◌∙◌}
+use Rattle.std.proofs.Common.{◌≡◌, length, ap, sym, subst, ◌∙◌}
 use Rattle.std.proofs.lemmas.List.{length-map}
 use Rattle.klp_text.specs.TextImage.{TextImage}
 use Rattle.klp_modules.specs.Names.{ModuleTable, names_of_object}
