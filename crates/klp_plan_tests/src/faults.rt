@@ -3,7 +3,6 @@ use klp_types::MAX_LINE;
 use std::alloc::{AllocError, Global};
 use std::fmt;
 use std::fmt::Write;
-use std::process::Abort;
 use std::test::Fail;
 
 /// Three lines: what may stand before the first patch.
@@ -33,73 +32,99 @@ postun 0
 state 7 2
 ";
 
+/// The same, and another patch.
+const CLOSED: &str = "handler 1
+object vmlinux
+symbol f 1000 e800000000
+patch p
+target vmlinux
+pre 0
+post 0 alloc:1:9:5
+preun -1
+postun 0
+state 7 2
+patch q
+";
+
+/// Writes lines that are numbered from 0.
+fn put_numbered(out: &mut String, before: &str, count: u8, behind: &str) -> Result<(), fmt::Error> {
+    for i in 0..count {
+        write!(out, "{before}{i}{behind}")?;
+    }
+    Ok(())
+}
+
+/// Writes the same again and again.
+fn put_repeated(out: &mut String, text: &str, count: usize) -> Result<(), fmt::Error> {
+    for _ in 0..count {
+        out.push_str(text)?;
+    }
+    Ok(())
+}
+
 /// As many objects and symbols as there may be.
-fn full_image(alloc: Global) -> Result<String, fmt::Error> {
-    let mut out = String::from_str(alloc, "handler 1\n")?;
-    for i in 0..17 {
-        writeln!(out, "object o{i}")?;
-    }
-    for _ in 0..256 {
-        writeln!(out, "symbol s 1 00")?;
-    }
-    Ok(out)
+fn put_image(out: &mut String) -> Result<(), fmt::Error> {
+    out.push_str("handler 1\n")?;
+    put_numbered(out, "object o", 17, "\n")?;
+    put_repeated(out, "symbol s 1 00\n", 256)
 }
 
 /// As many patches as there may be, the last with as many targets, functions and states, and in its
 /// last target with as many callbacks and edits.
-fn full_catalog(alloc: Global) -> Result<String, fmt::Error> {
-    let mut out = full_image(alloc)?;
-    for i in 0..16 {
-        writeln!(out, "patch p{i}")?;
+fn put_catalog(out: &mut String) -> Result<(), fmt::Error> {
+    put_image(out)?;
+    put_numbered(out, "patch p", 16, "\n")?;
+    put_numbered(out, "target o", 8, "\n")?;
+    put_repeated(out, "func .klp.sym.o7.s,0 f 1\n", 64)?;
+    for keyword in ["pre 0", "\npost 0", "\npreun 0", "\npostun 0"] {
+        out.push_str(keyword)?;
+        put_numbered(out, " set:", 16, ":1")?;
     }
-    for i in 0..8 {
-        writeln!(out, "target o{i}")?;
+    out.push_str("\n")?;
+    put_numbered(out, "state ", 16, " 1\n")
+}
+
+/// Writes what stands before the line of a row.
+fn put_start(out: &mut String, name: &str) -> Result<(), fmt::Error> {
+    match name {
+        "image" => put_image(out),
+        "catalog" => put_catalog(out),
+        "start" => put_repeated(out, START, 1),
+        "open" => put_repeated(out, OPEN, 1),
+        "called" => put_repeated(out, CALLED, 1),
+        "closed" => put_repeated(out, CLOSED, 1),
+        _ => Ok(()),
     }
-    for _ in 0..64 {
-        writeln!(out, "func .klp.sym.o7.s,0 f 1")?;
-    }
-    for keyword in ["pre", "post", "preun", "postun"] {
-        write!(out, "{keyword} 0")?;
-        for i in 0..16 {
-            write!(out, " set:{i}:1")?;
-        }
-        writeln!(out)?;
-    }
-    for i in 0..16 {
-        writeln!(out, "state {i} 1")?;
-    }
-    Ok(out)
 }
 
 /// What stands before the line of a row.
-fn before(alloc: Global, name: &str) -> Result<String, fmt::Error> {
-    match name {
-        "image" => full_image(alloc),
-        "catalog" => full_catalog(alloc),
-        "start" => Ok(String::from_str(alloc, START)?),
-        "open" => Ok(String::from_str(alloc, OPEN)?),
-        "called" => Ok(String::from_str(alloc, CALLED)?),
-        "closed" => Ok(format!(in alloc; "{CALLED}patch q\n")?),
-        _ => Ok(String::new(alloc)),
-    }
-}
-
-/// The line of a row, in which two stars stand for 16 edits.
-fn spelled(alloc: Global, line: &str) -> Result<String, AllocError> {
-    let Some((front, behind)) = line.split_once("**") else {
-        return String::from_str(alloc, line);
-    };
-    let mut out = String::from_str(alloc, front)?;
-    for _ in 0..16 {
-        out.push_str("set:1:1 ")?;
-    }
-    out.push_str(behind)?;
+fn start_of(alloc: Global, name: &str) -> Result<String, fmt::Error> {
+    let mut out = String::new(alloc);
+    put_start(&mut out, name)?;
     Ok(out)
 }
 
+/// Adds the line of a row, in which two stars stand for 16 edits, and then spaces and an end.
+fn put_line(text: &mut Vec<u8>, line: &str, spaces: usize, end: &[u8]) -> Result<(), AllocError> {
+    let (front, edits, behind) = match line.split_once("**") {
+        Some((front, behind)) => (front, 16, behind),
+        None => (line, 0, ""),
+    };
+    text.extend_from_slice(front.as_bytes())?;
+    for _ in 0..edits {
+        text.extend_from_slice(b"set:1:1 ")?;
+    }
+    text.extend_from_slice(behind.as_bytes())?;
+    for _ in 0..spaces {
+        text.push(b' ')?;
+    }
+    text.extend_from_slice(end)
+}
+
 /// Which line follows the text.
-fn next_line(text: &str) -> usize {
-    text.lines().count().saturating_add(1)
+fn next_line(text: &str) -> u64 {
+    let lines = text.lines().count() as u64;
+    lines.saturating_add(1)
 }
 
 /// What stands before a faulty line (nothing, `START`, `OPEN`, a full image or a full catalog), the
@@ -261,84 +286,138 @@ start OutOfPlace pre 0 **free:1:9
 called Twice pre 0 **free:1:9
 catalog Twice state 3 1";
 
-/// The fault of a text as it is printed, or nothing.
-fn printed_fault(alloc: Global, text: &[u8]) -> Result<String, AllocError> {
-    match read(alloc, text) {
-        Ok(_) => Ok(String::new(alloc)),
-        Err(fault) => fault.to_string(alloc),
-    }
+/// The fault of a text of which the last line is this one, with these spaces and this end.
+fn fault_behind(
+    alloc: Global,
+    start: &str,
+    line: &str,
+    spaces: usize,
+    end: &[u8],
+) -> Result<Option<TextFault>, AllocError> {
+    let mut text = Vec::from_slice(alloc, start.as_bytes())?;
+    put_line(&mut text, line, spaces, end)?;
+    Ok(read(alloc, &text).err())
 }
 
-/// Reads what stands before the row's line and the line, and compares what is told.
-fn check_row(rt: &impl Abort, alloc: Global, row: &str) -> Result<(), Fail> {
-    let (name, rest) = row.split_once(' ').ok_or("row")?;
-    let (kind, line) = rest.split_once(' ').ok_or("row")?;
-    let before = before(alloc, name)?;
-    let number = next_line(before.as_str());
-    let mut text = Vec::from_slice(alloc, before.as_bytes())?;
-    text.extend_from_slice(spelled(alloc, line)?.as_bytes())?;
-    let told = printed_fault(alloc, &text)?;
-    let wanted = format!(in alloc; "line {number}: {kind}")?;
-    assert_eq!(rt; told, wanted, "{row}");
+/// Whether the fault is of this line, and has a kind of this name.
+fn is_fault(
+    alloc: Global,
+    fault: Option<TextFault>,
+    line: u64,
+    kind: &str,
+) -> Result<bool, AllocError> {
+    let Some(fault) = fault else {
+        return Ok(false);
+    };
+    let name = fault.kind.to_string(alloc)?;
+    Ok(fault.line == line && name.as_str() == kind)
+}
 
-    // It comes after the two faults of the whole line.
-    let not_ascii = format!(in alloc; "line {number}: NotAscii")?;
-    text.push(0x80)?;
-    let told = printed_fault(alloc, &text)?;
-    assert_eq!(rt; told, not_ascii, "{row}");
-    let _ = text.pop();
-    text.extend_from_slice(&[b' '; MAX_LINE])?;
-    let told = printed_fault(alloc, &text)?;
-    let wanted = format!(in alloc; "line {number}: LineTooLong")?;
-    assert_eq!(rt; told, wanted, "{row}");
-    text.push(0x80)?;
-    let told = printed_fault(alloc, &text)?;
-    assert_eq!(rt; told, not_ascii, "{row}");
-    Ok(())
+/// Whether a line behind this start is told as one of this kind. It comes after the two faults of
+/// the whole line.
+fn is_told(alloc: Global, start: &str, kind: &str, line: &str) -> Result<bool, AllocError> {
+    let number = next_line(start);
+    let rows: [(usize, &[u8], &str); 4] = [
+        (0, b"", kind),
+        (0, b"\x80", "NotAscii"),
+        (MAX_LINE, b"", "LineTooLong"),
+        (MAX_LINE, b"\x80", "NotAscii"),
+    ];
+    let mut right = true;
+    for (spaces, end, wanted) in rows {
+        let fault = fault_behind(alloc, start, line, spaces, end)?;
+        right = right && is_fault(alloc, fault, number, wanted)?;
+    }
+    Ok(right)
+}
+
+/// Whether a row tells its fault.
+fn is_right(alloc: Global, row: &str) -> Result<bool, fmt::Error> {
+    let (name, rest) = row.split_once(' ').unwrap_or((row, ""));
+    let (kind, line) = rest.split_once(' ').unwrap_or((rest, ""));
+    let start = start_of(alloc, name)?;
+    Ok(is_told(alloc, start.as_str(), kind, line)?)
+}
+
+/// The first of these rows that tells another fault.
+fn wrong_row<'a>(alloc: Global, rows: &'a str) -> Result<Option<&'a str>, fmt::Error> {
+    let mut wrong = None;
+    for row in rows.lines() {
+        if wrong.is_none() && !is_right(alloc, row)? {
+            wrong = Some(row);
+        }
+    }
+    Ok(wrong)
 }
 
 #[test]
 fn tells_each_fault(rt: HostRuntime) -> Result<(), Fail> {
-    for row in FAULTS.lines() {
-        check_row(&rt, rt.alloc(), row)?;
+    assert_eq!(rt; wrong_row(rt.alloc(), FAULTS)?, None);
+    assert_eq!(rt; wrong_row(rt.alloc(), CALLBACK_FAULTS)?, None);
+    Ok(())
+}
+
+/// The fault of a text, if it has one.
+pub fn fault_of(alloc: Global, text: &[u8]) -> Option<TextFault> {
+    read(alloc, text).err()
+}
+
+/// Adds a line in which something is repeated so often.
+fn put_long(
+    out: &mut String,
+    before: &str,
+    repeated: &str,
+    count: usize,
+    behind: &[&str],
+) -> Result<(), fmt::Error> {
+    put_repeated(out, before, 1)?;
+    put_repeated(out, repeated, count)?;
+    for text in behind {
+        put_repeated(out, text, 1)?;
     }
     Ok(())
 }
 
-#[test]
-fn tells_each_fault_of_callbacks_and_states(rt: HostRuntime) -> Result<(), Fail> {
-    for row in CALLBACK_FAULTS.lines() {
-        check_row(&rt, rt.alloc(), row)?;
-    }
-    Ok(())
+/// The fault of such a line.
+fn fault_of_long(
+    alloc: Global,
+    before: &str,
+    repeated: &str,
+    count: usize,
+    behind: &[&str],
+) -> Result<Option<TextFault>, fmt::Error> {
+    let mut text = String::from_str(alloc, START)?;
+    put_long(&mut text, before, repeated, count, behind)?;
+    Ok(fault_of(alloc, text.as_bytes()))
+}
+
+/// What is repeated in a line and what stands behind it, how often at most, and the fault of one
+/// more.
+const LIMITS: [(&str, &str, &str, usize, TextFaultKind); 5] = [
+    ("object ", "a", "", 55, TextFaultKind::BadName),
+    ("symbol ", "a", " 1 00", 127, TextFaultKind::BadName),
+    ("symbol s ", "0", " 00", 16, TextFaultKind::BadHex),
+    ("symbol s 1 ", "00", "", 256, TextFaultKind::TooMany),
+    ("object m", " ", "", 2040, TextFaultKind::LineTooLong),
+];
+
+/// The fault of a full catalog.
+fn fault_of_full(alloc: Global) -> Result<Option<TextFault>, fmt::Error> {
+    let text = start_of(alloc, "catalog")?;
+    Ok(fault_of(alloc, text.as_bytes()))
 }
 
 #[test]
 fn keeps_to_the_limits(rt: HostRuntime) -> Result<(), Fail> {
-    let catalog = full_catalog(rt.alloc())?;
-    assert_eq!(rt; read(rt.alloc(), catalog.as_bytes()).err(), None);
-    // What is repeated in a line, how often at most, and the fault of one more.
-    let rows = [
-        ("object ", "a", "", 55, TextFaultKind::BadName),
-        ("symbol ", "a", " 1 00", 127, TextFaultKind::BadName),
-        ("symbol s ", "0", " 00", 16, TextFaultKind::BadHex),
-        ("symbol s 1 ", "00", "", 256, TextFaultKind::TooMany),
-        ("object m", " ", "", 2040, TextFaultKind::LineTooLong),
-    ];
-    for (before, repeated, behind, most, kind) in rows {
-        let mut text = Vec::from_slice(rt.alloc(), START.as_bytes())?;
-        text.extend_from_slice(before.as_bytes())?;
-        for _ in 0..most {
-            text.extend_from_slice(repeated.as_bytes())?;
-        }
-        let mut longer = Vec::from_slice(rt.alloc(), &text)?;
-        text.extend_from_slice(behind.as_bytes())?;
-        text.extend_from_slice(b"\r\n")?;
-        assert_eq!(rt; read(rt.alloc(), &text).err(), None, "{before}");
-        longer.extend_from_slice(repeated.as_bytes())?;
-        longer.extend_from_slice(behind.as_bytes())?;
-        let told = read(rt.alloc(), &longer).err();
-        assert_eq!(rt; told, Some(TextFault { line: 4, kind }), "{before}");
+    let alloc = rt.alloc();
+    let full = fault_of_full(alloc)?;
+    assert!(rt; full.is_none());
+    for (before, repeated, behind, most, kind) in LIMITS {
+        let fault = fault_of_long(alloc, before, repeated, most, &[behind, "\r\n"])?;
+        assert!(rt; fault.is_none(), "{before}");
+        let more = most.saturating_add(1);
+        let fault = fault_of_long(alloc, before, repeated, more, &[behind])?;
+        assert!(rt; fault == Some(TextFault { line: 4, kind }), "{before}");
     }
     Ok(())
 }

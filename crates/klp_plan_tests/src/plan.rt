@@ -1,7 +1,8 @@
-use klp_plan::{Plan, PlanPatch, PlanTarget, TextFault, TextFaultKind, read};
-use klp_types::{Edit, ObjectText, ShadowKey, Which};
+use crate::faults::fault_of;
+use klp_plan::{Names, Plan, PlanPatch, PlanTarget, TextFault, TextFaultKind, read};
+use klp_types::{Edit, ObjectText, ShadowKey, SymbolText, Which};
 use klp_world::Script;
-use std::alloc::Global;
+use std::alloc::{AllocError, Global};
 use std::fmt;
 use std::fmt::Write;
 use std::test::Fail;
@@ -68,6 +69,28 @@ target vmlinux
 func .klp.sym.vmlinux.d,0 d_s ffffffffc0007000
 ";
 
+/// An edit's word, and the numbers behind it.
+fn words_of(edit: Edit) -> (&'static str, [Option<u64>; 3]) {
+    match edit {
+        Edit::Alloc(key, value) => ("alloc", [Some(key.obj), Some(key.id), Some(value)]),
+        Edit::Free(key) => ("free", [Some(key.obj), Some(key.id), None]),
+        Edit::FreeAll(id) => ("freeall", [Some(id), None, None]),
+        Edit::SetData(state, value) => ("set", [Some(state), Some(value), None]),
+        Edit::TakePrev(state) => ("takeprev", [Some(state), None, None]),
+    }
+}
+
+fn write_edit(out: &mut String, edit: Edit) -> Result<(), fmt::Error> {
+    let (word, numbers) = words_of(edit);
+    write!(out, " {word}")?;
+    for number in numbers {
+        if let Some(number) = number {
+            write!(out, ":{number}")?;
+        }
+    }
+    Ok(())
+}
+
 /// A callback line of the script.
 fn write_callback(out: &mut String, which: Which, script: &Script) -> Result<(), fmt::Error> {
     let keyword = match which {
@@ -78,13 +101,16 @@ fn write_callback(out: &mut String, which: Which, script: &Script) -> Result<(),
     };
     write!(out, "{keyword} {}", script.status)?;
     for edit in &script.edits {
-        match *edit {
-            Edit::Alloc(key, value) => write!(out, " alloc:{}:{}:{value}", key.obj, key.id)?,
-            Edit::Free(key) => write!(out, " free:{}:{}", key.obj, key.id)?,
-            Edit::FreeAll(id) => write!(out, " freeall:{id}")?,
-            Edit::SetData(state, value) => write!(out, " set:{state}:{value}")?,
-            Edit::TakePrev(state) => write!(out, " takeprev:{state}")?,
-        }
+        write_edit(out, *edit)?;
+    }
+    writeln!(out)?;
+    Ok(())
+}
+
+fn write_symbol(out: &mut String, symbol: &SymbolText) -> Result<(), fmt::Error> {
+    write!(out, "symbol {} {:016x} ", symbol.name, symbol.address)?;
+    for byte in &symbol.body {
+        write!(out, "{byte:02x}")?;
     }
     writeln!(out)?;
     Ok(())
@@ -95,11 +121,7 @@ fn write_objects(out: &mut String, objects: &[ObjectText]) -> Result<(), fmt::Er
     for object in objects {
         writeln!(out, "object {}", object.name)?;
         for symbol in &object.symbols {
-            write!(out, "symbol {} {:016x} ", symbol.name, symbol.address)?;
-            for byte in &symbol.body {
-                write!(out, "{byte:02x}")?;
-            }
-            writeln!(out)?;
+            write_symbol(out, symbol)?;
         }
     }
     Ok(())
@@ -136,17 +158,39 @@ fn write_patch(
     Ok(())
 }
 
-/// The plan, written down as a catalog's text.
-fn written(alloc: Global, mut plan: Plan) -> Result<String, fmt::Error> {
-    let mut out = String::new(alloc);
-    writeln!(out, "handler {:016x}", plan.handler())?;
-    let objects = plan.take_objects();
-    write_objects(&mut out, &objects)?;
-    let (patches, _names) = plan.into_patches();
-    for patch in &patches {
-        write_patch(&mut out, &objects, patch)?;
+fn write_patches(
+    out: &mut String,
+    objects: &[ObjectText],
+    patches: &[PlanPatch],
+) -> Result<(), fmt::Error> {
+    for patch in patches {
+        write_patch(out, objects, patch)?;
     }
-    Ok(out)
+    Ok(())
+}
+
+fn write_all(
+    out: &mut String,
+    handler: u64,
+    objects: &[ObjectText],
+    patches: &[PlanPatch],
+) -> Result<(), fmt::Error> {
+    writeln!(out, "handler {handler:016x}")?;
+    write_objects(out, objects)?;
+    write_patches(out, objects, patches)
+}
+
+/// Whether a text gives a plan that is written down as this catalog's text.
+fn is_written_as(alloc: Global, text: &[u8], wanted: &str) -> bool {
+    let Ok(mut plan) = read(alloc, text) else {
+        return false;
+    };
+    let handler = plan.handler();
+    let objects = plan.take_objects();
+    let (patches, _names) = plan.into_patches();
+    let mut out = String::new(alloc);
+    let written = write_all(&mut out, handler, &objects, &patches);
+    written.is_ok() && out.as_str() == wanted
 }
 
 /// A patch without a target, behind one that has one.
@@ -158,27 +202,31 @@ patch q
 func .klp.sym.n.f,0 g 1
 ";
 
-/// The fault of a text, if it has one.
-fn fault_of(alloc: Global, text: &[u8]) -> Option<TextFault> {
-    read(alloc, text).err()
+/// The handler of the first sample, and how many objects are taken of it twice.
+fn taken(alloc: Global) -> Result<(u64, usize, usize), TextFault> {
+    let mut plan = read(alloc, FIRST.as_bytes())?;
+    let objects = plan.take_objects();
+    let rest = plan.take_objects();
+    Ok((plan.handler(), objects.len(), rest.len()))
 }
 
 #[test]
 fn reads_the_samples(rt: HostRuntime) -> Result<(), Fail> {
     for text in [FIRST, SECOND] {
-        let plan = read(rt.alloc(), text.as_bytes())?;
-        assert_eq!(rt; written(rt.alloc(), plan)?.as_str(), text);
+        let right = is_written_as(rt.alloc(), text.as_bytes(), text);
+        assert!(rt; right);
     }
-    let mut plan = read(rt.alloc(), FIRST.as_bytes())?;
-    assert_eq!(rt; plan.handler(), 0xffff_ffff_8100_0000);
-    assert_eq!(rt; plan.take_objects().len(), 1);
-    assert_eq!(rt; plan.take_objects().len(), 0);
+    let taken = taken(rt.alloc())?;
+    assert!(rt; taken == (0xffff_ffff_8100_0000, 1, 0));
     Ok(())
+}
+
+fn key(obj: u64, id: u64) -> ShadowKey {
+    ShadowKey { obj, id }
 }
 
 /// The scripts of the second sample, in order: the status and the only edit.
 fn sample_scripts() -> [(i32, Option<Edit>); 10] {
-    let key = |obj, id| ShadowKey { obj, id };
     [
         (0, Some(Edit::Alloc(key(1, 9), 5))),
         (0, Some(Edit::Alloc(key(1, 10), 6))),
@@ -193,30 +241,65 @@ fn sample_scripts() -> [(i32, Option<Edit>); 10] {
     ]
 }
 
+/// The first of a plan's scripts that is another, or one that is too many.
+fn wrong_script(plan: &Plan, wanted: &[(i32, Option<Edit>)]) -> Option<usize> {
+    for (number, (status, edit)) in wanted.iter().enumerate() {
+        let Some(script) = plan.script(number) else {
+            return Some(number);
+        };
+        if script.status != *status || script.edits.as_slice() != edit.as_slice() {
+            return Some(number);
+        }
+    }
+    match plan.script(wanted.len()) {
+        Some(_) => Some(wanted.len()),
+        None => None,
+    }
+}
+
+fn wrong_script_of(
+    alloc: Global,
+    text: &str,
+    wanted: &[(i32, Option<Edit>)],
+) -> Result<Option<usize>, TextFault> {
+    let plan = read(alloc, text.as_bytes())?;
+    Ok(wrong_script(&plan, wanted))
+}
+
 #[test]
 fn shows_the_scripts(rt: HostRuntime) -> Result<(), Fail> {
-    let plan = read(rt.alloc(), SECOND.as_bytes())?;
-    for (number, (status, edit)) in sample_scripts().into_iter().enumerate() {
-        let script = plan.script(number).ok_or("script")?;
-        assert_eq!(rt; script.status, status, "{number}");
-        assert!(rt; script.edits.as_slice() == edit.as_slice(), "{number}");
-    }
-    assert!(rt; plan.script(10).is_none());
-    let small = read(rt.alloc(), FIRST.as_bytes())?;
-    assert!(rt; small.script(0).is_none());
+    let wrong = wrong_script_of(rt.alloc(), SECOND, &sample_scripts())?;
+    assert_eq!(rt; wrong, None);
+    let wrong = wrong_script_of(rt.alloc(), FIRST, &[])?;
+    assert_eq!(rt; wrong, None);
     Ok(())
+}
+
+/// Whether these are the patches of the second sample.
+fn are_patches(patches: &[PlanPatch], names: &Names) -> bool {
+    patches.len() == 7
+        && names.number("x") == Some(3)
+        && names.number("z").is_none()
+        && names.name(6) == Some("s")
+        && names.name(7).is_none()
+}
+
+/// The first state of the first patch.
+fn first_state(patches: &[PlanPatch]) -> Option<(u64, u32)> {
+    let state = patches.first()?.states.first()?;
+    Some((state.id, state.version))
+}
+
+fn handed_out(alloc: Global) -> Result<(bool, Option<(u64, u32)>), TextFault> {
+    let plan = read(alloc, SECOND.as_bytes())?;
+    let (patches, names) = plan.into_patches();
+    Ok((are_patches(&patches, &names), first_state(&patches)))
 }
 
 #[test]
 fn hands_out_the_patches(rt: HostRuntime) -> Result<(), Fail> {
-    let plan = read(rt.alloc(), SECOND.as_bytes())?;
-    let (patches, names) = plan.into_patches();
-    assert_eq!(rt; patches.len(), 7);
-    assert_eq!(rt; (names.number("x"), names.number("z")), (Some(3), None));
-    assert_eq!(rt; (names.name(6), names.name(7)), (Some("s"), None));
-    let first = patches.first().ok_or("patch")?;
-    let state = first.states.first().ok_or("state")?;
-    assert_eq!(rt; (state.id, state.version), (7, 2));
+    let told = handed_out(rt.alloc())?;
+    assert!(rt; told == (true, Some((7, 2))));
     Ok(())
 }
 
@@ -248,14 +331,19 @@ postun 0 freeall:7 set:1:2 takeprev:18446744073709551615
 
 #[test]
 fn reads_extreme_numbers(rt: HostRuntime) -> Result<(), Fail> {
-    let plan = read(rt.alloc(), EXTREMES.as_bytes())?;
-    assert_eq!(rt; written(rt.alloc(), plan)?.as_str(), EXTREMES_WRITTEN);
+    let right = is_written_as(rt.alloc(), EXTREMES.as_bytes(), EXTREMES_WRITTEN);
+    assert!(rt; right);
     Ok(())
 }
 
-#[test]
-fn reads_any_layout(rt: HostRuntime) -> Result<(), Fail> {
-    let mut text = Vec::new(rt.alloc());
+/// The first sample in another layout, without a line feed at its end, and then this.
+fn layout(alloc: Global, end: &[u8]) -> Result<Vec<u8>, AllocError> {
+    let mut text = Vec::new(alloc);
+    put_layout(&mut text, end)?;
+    Ok(text)
+}
+
+fn put_layout(text: &mut Vec<u8>, end: &[u8]) -> Result<(), AllocError> {
     text.extend_from_slice(b"#")?;
     text.extend_from_slice(&[0xff; 3000])?;
     text.extend_from_slice(&[b'\n'; 2])?;
@@ -265,33 +353,59 @@ fn reads_any_layout(rt: HostRuntime) -> Result<(), Fail> {
         symbol f ffffffff81001000 E80000000090C3\r\npatch p\r\ntarget vmlinux\n\
         func .klp.sym.vmlinux.f,000 f_p ffffffffc0001000",
     )?;
-    let plan = read(rt.alloc(), &text)?;
-    assert_eq!(rt; written(rt.alloc(), plan)?.as_str(), FIRST);
+    text.extend_from_slice(end)
+}
 
-    // A carriage return is dropped only before a line feed.
-    text.push(b'\r')?;
-    let fault = fault_of(rt.alloc(), &text).ok_or("read")?;
-    assert_eq!(rt; (fault.line, fault.kind), (10, TextFaultKind::BadHex));
-    Ok(())
+fn is_read_in_layout(alloc: Global) -> Result<bool, AllocError> {
+    let text = layout(alloc, b"")?;
+    Ok(is_written_as(alloc, &text, FIRST))
+}
+
+fn fault_in_layout(alloc: Global, end: &[u8]) -> Result<Option<TextFault>, AllocError> {
+    let text = layout(alloc, end)?;
+    Ok(fault_of(alloc, &text))
 }
 
 #[test]
+fn reads_any_layout(rt: HostRuntime) -> Result<(), Fail> {
+    let right = is_read_in_layout(rt.alloc())?;
+    assert!(rt; right);
+
+    // A carriage return is dropped only before a line feed.
+    let fault = fault_in_layout(rt.alloc(), b"\r")?;
+    let kind = TextFaultKind::BadHex;
+    assert!(rt; fault == Some(TextFault { line: 10, kind }));
+    Ok(())
+}
+
+/// Whether a text has a fault that is printed so.
+fn has_fault(alloc: Global, text: &str, printed: &str) -> Result<bool, AllocError> {
+    let Some(fault) = fault_of(alloc, text.as_bytes()) else {
+        return Ok(false);
+    };
+    let told = fault.to_string(alloc)?;
+    Ok(told.as_str() == printed)
+}
+
+/// Texts, and how their faults are printed.
+const WHOLE: [(&str, &str); 6] = [
+    ("", "line 0: Missing"),
+    ("handler 1", "line 0: Missing"),
+    ("object vmlinux", "line 0: Missing"),
+    ("object \u{e9}", "line 1: NotAscii"),
+    ("\n# none\nhandler z\n", "line 3: BadHex"),
+    // A patch closes the open target.
+    (CLOSED, "line 6: OutOfPlace"),
+];
+
+#[test]
 fn tells_faults_of_whole_texts(rt: HostRuntime) -> Result<(), Fail> {
-    let rows = [
-        ("", "line 0: Missing"),
-        ("handler 1", "line 0: Missing"),
-        ("object vmlinux", "line 0: Missing"),
-        ("object \u{e9}", "line 1: NotAscii"),
-        ("\n# none\nhandler z\n", "line 3: BadHex"),
-        // A patch closes the open target.
-        (CLOSED, "line 6: OutOfPlace"),
-    ];
-    for (text, printed) in rows {
-        let fault = fault_of(rt.alloc(), text.as_bytes()).ok_or("read")?;
-        assert_eq!(rt; fault.to_string(rt.alloc())?.as_str(), printed);
+    for (text, printed) in WHOLE {
+        let right = has_fault(rt.alloc(), text, printed)?;
+        assert!(rt; right);
     }
     let (cut, _) = FIRST.split_once(" f_p").ok_or("cut")?;
-    let fault = fault_of(rt.alloc(), cut.as_bytes()).ok_or("read")?;
-    assert_eq!(rt; fault.to_string(rt.alloc())?.as_str(), "line 6: WrongCount");
+    let right = has_fault(rt.alloc(), cut, "line 6: WrongCount")?;
+    assert!(rt; right);
     Ok(())
 }

@@ -1,7 +1,8 @@
 //! What scripts make of the states of patches, by values from outside, and that each box that is
 //! handed in is run.
-ghost use Rattle.std.specs.Prelude.{◌≡◌, [], ◌∷◌, pos};
+ghost use Rattle.std.specs.Prelude.{◌≡◌};
 
+use crate::world::opened;
 use arrayvec::ArrayVec;
 use klp_callback::{Boxed, Callback, allocs_of, run_script};
 use klp_types::{Edit, PatchId, Records, ShadowKey};
@@ -20,12 +21,21 @@ fn key(obj: u64, id: u64) -> ShadowKey {
 }
 
 /// A script of one edit.
-fn script_of(edit: Edit) -> Script
-    ensures { result ≡ record { edits = edit ∷ []; status = pos 0 } }
-{
+fn script_of(edit: Edit) -> Script {
     let mut edits = ArrayVec::new();
     edits.push(edit);
     Script { edits, status: 0 }
+}
+
+pub fn copy_of(script: &Script) -> Script
+    ensures { result ≡ script.now }
+{
+    let mut edits = ArrayVec::new();
+    let _ = edits.try_extend_from_slice(&script.edits);
+    Script {
+        edits,
+        status: script.status,
+    }
 }
 
 /// Puts a patch last, where there is room for it.
@@ -69,91 +79,75 @@ fn undo(world: &mut World, log: &mut Records) {
     }
 }
 
-/// What is seen after each of these edits.
-#[derive(Drop)]
-struct Seen {
-    steps: Vec<(usize, Option<u64>, Option<u64>)>,
-    /// The patches and the variables once all is put back.
-    left: (usize, u16),
+/// An edit of a patch, and what is seen after it.
+type Row = (PatchId, Edit, (usize, Option<u64>, Option<u64>));
+
+/// Makes the edits of these rows one after another, and answers the first after which something else
+/// is seen.
+fn wrong_step(rows: &[Row], world: &mut World, log: &mut Records) -> Option<usize> {
+    let mut wrong = None;
+    for (number, &(patch, edit, wanted)) in rows.iter().enumerate() {
+        if step(patch, edit, world, log) != wanted && wrong.is_none() {
+            wrong = Some(number);
+        }
+    }
+    wrong
 }
 
-/// Makes edits one after another, where patch 0 has the states 3 and 6, and patch 1 the states 3 and 4.
-fn seen_after(alloc: Global, edits: &[(PatchId, Edit)]) -> Result<Seen, AllocError> {
-    let mut steps = Vec::with_capacity(alloc, edits.len())?;
-    let mut log = Records::new(alloc, ROOM)?;
-    let mut world = World::new(alloc)?;
+/// The first wrong one of these rows, where patch 0 has the states 3 and 6, and patch 1 the states 3
+/// and 4; and how many patches and variables are left once all is put back.
+fn seen_after(alloc: Global, rows: &[Row]) -> Result<(Option<usize>, usize, u16), AllocError> {
+    let (mut world, mut log) = opened(alloc, ROOM)?;
     install(PatchId(0), &[3, 6], &mut world, &mut log);
     install(PatchId(1), &[3, 4], &mut world, &mut log);
-    for &(patch, edit) in edits {
-        let _ = steps.push(step(patch, edit, &mut world, &mut log));
-    }
+    let wrong = wrong_step(rows, &mut world, &mut log);
     undo(&mut world, &mut log);
-    let left = (world.installed().len(), world.count());
-    Ok(Seen { steps, left })
+    Ok((wrong, world.installed().len(), world.count()))
 }
 
 #[test]
 fn edits_change_states_and_are_put_back(rt: HostRuntime) -> Result<(), Fail> {
-    let edits = [
-        (PatchId(0), Edit::SetData(3, 7)),
-        (PatchId(1), Edit::SetData(3, 9)),
-        (PatchId(1), Edit::SetData(3, 9)),
-        (PatchId(1), Edit::SetData(6, 9)),
-        (PatchId(1), Edit::SetData(4, 2)),
-        (PatchId(1), Edit::TakePrev(4)),
-        (PatchId(1), Edit::TakePrev(6)),
-        (PatchId(1), Edit::TakePrev(3)),
-        (PatchId(1), Edit::TakePrev(3)),
-        (PatchId(0), Edit::TakePrev(3)),
-        (PatchId(1), Edit::Alloc(key(1, 9), 5)),
-        (PatchId(1), Edit::Alloc(key(2, 9), 6)),
-        (PatchId(1), Edit::FreeAll(9)),
+    let (first, second) = (PatchId(0), PatchId(1));
+    let rows = [
+        (first, Edit::SetData(3, 7), (1, Some(0), Some(0))),
+        (second, Edit::SetData(3, 9), (1, Some(9), Some(0))),
+        (second, Edit::SetData(3, 9), (0, Some(9), Some(0))),
+        (second, Edit::SetData(6, 9), (0, Some(9), Some(0))),
+        (second, Edit::SetData(4, 2), (1, Some(9), Some(2))),
+        (second, Edit::TakePrev(4), (0, Some(9), Some(2))),
+        (second, Edit::TakePrev(6), (0, Some(9), Some(2))),
+        (second, Edit::TakePrev(3), (1, Some(7), Some(2))),
+        (second, Edit::TakePrev(3), (0, Some(7), Some(2))),
+        (first, Edit::TakePrev(3), (0, Some(7), Some(2))),
+        (second, Edit::Alloc(key(1, 9), 5), (1, Some(7), Some(2))),
+        (second, Edit::Alloc(key(2, 9), 6), (1, Some(7), Some(2))),
+        (second, Edit::FreeAll(9), (2, Some(7), Some(2))),
     ];
-    let seen = seen_after(rt.alloc(), &edits)?;
-    let steps = [
-        (1, Some(0), Some(0)),
-        (1, Some(9), Some(0)),
-        (0, Some(9), Some(0)),
-        (0, Some(9), Some(0)),
-        (1, Some(9), Some(2)),
-        (0, Some(9), Some(2)),
-        (0, Some(9), Some(2)),
-        (1, Some(7), Some(2)),
-        (0, Some(7), Some(2)),
-        (0, Some(7), Some(2)),
-        (1, Some(7), Some(2)),
-        (1, Some(7), Some(2)),
-        (2, Some(7), Some(2)),
-    ];
-    assert_eq!(rt; seen.steps.as_slice(), steps.as_slice());
-    assert_eq!(rt; seen.left, (0, 0));
+    assert_eq!(rt; seen_after(rt.alloc(), &rows)?, (None, 0, 0));
     Ok(())
 }
 
 /// A callback of the test's own, which counts its runs outside too.
 #[derive(Drop)]
 struct Watched {
-    value: u64,
+    script: Script,
     runs: u64,
     seen: Arc<AtomicU64>,
 }
 
 impl Callback for Watched {
-    ghost use Rattle.std.specs.Prelude.{[], ◌∷◌, pos};
-    ghost use Rattle.klp_types.specs.declared.edit.Edit.TheVariants.{SetData};
-
-    ghost script_of = { λ w. record { edits = SetData 3 w.value ∷ []; status = pos 0 } };
+    ghost script_of = { λ w. w.script };
 
     ghost runs_of = { λ w. w.runs };
 
     fn run(&mut self, patch: PatchId, world: &mut World, log: &mut Records) -> i32 {
         self.seen.fetch_add(1, Ordering::SeqCst);
         self.runs = self.runs.saturating_add(1);
-        run_script(&script_of(Edit::SetData(3, self.value)), patch, world, log)
+        run_script(&self.script, patch, world, log)
     }
 
     fn allocs(&self) -> u16 {
-        0
+        allocs_of(&self.script)
     }
 
     fn runs(&self) -> u64 {
@@ -161,50 +155,65 @@ impl Callback for Watched {
     }
 
     fn script(&self) -> Script {
-        script_of(Edit::SetData(3, self.value))
+        copy_of(&self.script)
     }
 }
 
-/// Runs a callback twice, where there is room for what it adds and notes.
-fn run_twice(callback: &mut Boxed, world: &mut World, log: &mut Records) {
+/// Runs a callback twice, where there is room for what it adds and notes, and answers its count and
+/// the value of the state 3.
+fn run_twice(callback: &mut Boxed, world: &mut World, log: &mut Records) -> (u64, Option<u64>) {
     records_are_few();
+    install(PatchId(0), &[3], world, log);
     for _ in 0..2 {
         let most = world.count() as usize + callback.allocs() as usize;
         if most <= MAX_VARIABLES && log.spare() >= most + MAX_EDITS {
             callback.run(PatchId(0), world, log);
         }
     }
+    (callback.runs(), world.value(PatchId(0), 3))
 }
 
-/// How often a callback was run, by its own count outside and by that of its box, and what it left:
-/// it had run so many times before.
-fn runs_of(alloc: Global, runs: u64) -> Result<(u64, u64, Option<u64>), AllocError> {
-    let seen = Arc::new(alloc, AtomicU64::new(0))?;
+/// How often a callback that had run so many times was run by its own count, that of its box, and
+/// what it left.
+fn runs_in_box(
+    alloc: Global,
+    runs: u64,
+    seen: Arc<AtomicU64>,
+    world: &mut World,
+    log: &mut Records,
+) -> Result<(u64, Option<u64>), AllocError> {
     let watched = Watched {
-        value: 4,
+        script: script_of(Edit::SetData(3, 4)),
         runs,
-        seen: seen.clone()?,
+        seen,
     };
     let mut callback = Boxed::new(Box::new(alloc, watched)?);
-    let mut log = Records::new(alloc, ROOM)?;
-    let mut world = World::new(alloc)?;
-    install(PatchId(0), &[3], &mut world, &mut log);
-    run_twice(&mut callback, &mut world, &mut log);
-    Ok((
-        seen.load(Ordering::SeqCst),
-        callback.runs(),
-        world.value(PatchId(0), 3),
-    ))
+    Ok(run_twice(&mut callback, world, log))
+}
+
+/// The same, and before it how often it was run by a count outside of the box.
+fn runs_beside(
+    alloc: Global,
+    runs: u64,
+    world: &mut World,
+    log: &mut Records,
+) -> Result<(u64, (u64, Option<u64>)), AllocError> {
+    let seen = Arc::new(alloc, AtomicU64::new(0))?;
+    let told = runs_in_box(alloc, runs, seen.clone()?, world, log)?;
+    Ok((seen.load(Ordering::SeqCst), told))
+}
+
+/// The same in a new world.
+fn runs_of(alloc: Global, runs: u64) -> Result<(u64, (u64, Option<u64>)), AllocError> {
+    let (mut world, mut log) = opened(alloc, ROOM)?;
+    runs_beside(alloc, runs, &mut world, &mut log)
 }
 
 #[test]
 fn the_box_itself_is_run_and_its_greatest_count_stays(rt: HostRuntime) -> Result<(), Fail> {
     for (before, after) in [(0, 2), (u64::MAX - 1, u64::MAX), (u64::MAX, u64::MAX)] {
-        assert_eq!(rt;
-            runs_of(rt.alloc(), before)?,
-            (2, after, Some(4)),
-            "at {before}"
-        );
+        let told = runs_of(rt.alloc(), before)?;
+        assert!(rt; told == (2, (after, Some(4))));
     }
     Ok(())
 }

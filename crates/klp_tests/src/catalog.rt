@@ -1,11 +1,10 @@
 //! What only calls tell of a catalog: looks by number, what system states decide, and which faults
 //! another number of callbacks has. What a catalog and a script show stands beside the examples.
-use klp_callback::{Boxed, Quiet};
+use crate::shown::outcome;
 use klp_catalog::{AssembleFault, Catalog};
-use klp_modules::Modules;
-use klp_text::Image;
+use klp_program::Fault;
 use klp_types::{ObjId, PatchId, Site};
-use std::alloc::Global;
+use std::alloc::{AllocError, Global};
 use std::test::Fail;
 
 /// Two objects with a symbol of one name, and a name that two symbols of the first one have.
@@ -34,17 +33,11 @@ patch y
 state 7 1
 ";
 
-/// Reads and assembles a text that has no other fault.
-fn assembled(
-    alloc: Global,
-    text: &str,
-    callbacks: Vec<Boxed>,
-) -> Result<Result<Catalog, AssembleFault>, Fail> {
-    let mut plan = Catalog::read(alloc, text.as_bytes())?;
-    let objects = plan.take_objects();
-    let image = Image::new(alloc, objects, plan.handler())?;
-    let modules = Modules::new(alloc, &image)?;
-    Ok(Catalog::assemble(alloc, &modules, plan, callbacks))
+/// A catalog's text: the objects, and then these patches.
+fn text_of(alloc: Global, patches: &str) -> Result<String, AllocError> {
+    let mut text = String::from_str(alloc, OBJECTS)?;
+    text.push_str(patches)?;
+    Ok(text)
 }
 
 /// The number of a patch by its name, its name by its number, and whether it is cumulative.
@@ -55,40 +48,35 @@ fn is_told(catalog: &Catalog, number: u8, name: &str, replaces: bool) -> bool {
         && catalog.replaces(patch) == Some(replaces)
 }
 
-/// The first of these patches that is told in another way.
-fn wrong_patch(alloc: Global) -> Result<Option<u8>, Fail> {
-    let text = format!(in alloc; "{OBJECTS}{PATCHES}")?;
-    let catalog = assembled(alloc, text.as_str(), Vec::new(alloc))??;
-    let mut wrong = None;
-    for (number, name, replaces) in [
-        (0, "p", false),
-        (1, "q", false),
-        (2, "c", true),
-        (3, "x", true),
-        (4, "y", false),
-    ] {
-        if wrong.is_none() && !is_told(&catalog, number, name, replaces) {
-            wrong = Some(number);
-        }
-    }
-    Ok(wrong)
+/// Whether the five patches are told so.
+fn are_named(catalog: &Catalog) -> bool {
+    catalog.patches() == 5
+        && is_told(catalog, 0, "p", false)
+        && is_told(catalog, 1, "q", false)
+        && is_told(catalog, 2, "c", true)
+        && is_told(catalog, 3, "x", true)
+        && is_told(catalog, 4, "y", false)
 }
 
-#[test]
-fn patches_have_names_and_numbers(rt: HostRuntime) -> Result<(), Fail> {
-    assert_eq!(rt; wrong_patch(rt.alloc())?, None);
-    Ok(())
+/// How many symbols objects have, one more than there are.
+fn are_counted(catalog: &Catalog) -> bool {
+    let symbols = [
+        catalog.symbols(ObjId(0)),
+        catalog.symbols(ObjId(1)),
+        catalog.symbols(ObjId(2)),
+    ];
+    symbols == [Some(3), Some(1), None]
 }
 
-/// What a catalog tells of objects and functions.
-#[derive(Clone, Copy, Debug, PartialEq, Eq)]
-struct Looks {
-    patches: u8,
-    symbols: [Option<u16>; 3],
-    /// Those of the first patch, one more than it has, and the first of a patch that isn't there.
-    objects: [Option<ObjId>; 4],
-    /// Whether the functions of the first patch are told as they should be, and no more of them.
-    functions: [bool; 4],
+/// The objects of the first patch, one more than it has, and the first of a patch that isn't there.
+fn are_targets(catalog: &Catalog) -> bool {
+    let objects = [
+        catalog.target(PatchId(0), 0),
+        catalog.target(PatchId(0), 1),
+        catalog.target(PatchId(0), 2),
+        catalog.target(PatchId(5), 0),
+    ];
+    objects == [Some(ObjId(1)), Some(ObjId(0)), None, None]
 }
 
 /// A function of the first patch.
@@ -100,48 +88,6 @@ fn is_function(
     address: u64,
 ) -> bool {
     catalog.function(PatchId(0), number) == Some((site, name, address))
-}
-
-fn seen_in(catalog: &Catalog) -> Looks {
-    Looks {
-        patches: catalog.patches(),
-        symbols: [
-            catalog.symbols(ObjId(0)),
-            catalog.symbols(ObjId(1)),
-            catalog.symbols(ObjId(2)),
-        ],
-        objects: [
-            catalog.target(PatchId(0), 0),
-            catalog.target(PatchId(0), 1),
-            catalog.target(PatchId(0), 2),
-            catalog.target(PatchId(5), 0),
-        ],
-        functions: [
-            is_function(catalog, 0, Some(Site(3)), "f_m", 1),
-            is_function(catalog, 1, Some(Site(2)), "d_p", 2),
-            // two symbols have its name
-            is_function(catalog, 2, None, "unresolved", 3),
-            catalog.function(PatchId(0), 3).is_none(),
-        ],
-    }
-}
-
-fn seen(alloc: Global) -> Result<Looks, Fail> {
-    let text = format!(in alloc; "{OBJECTS}{PATCHES}")?;
-    let catalog = assembled(alloc, text.as_str(), Vec::new(alloc))??;
-    Ok(seen_in(&catalog))
-}
-
-#[test]
-fn objects_and_functions_have_numbers(rt: HostRuntime) -> Result<(), Fail> {
-    let wanted = Looks {
-        patches: 5,
-        symbols: [Some(3), Some(1), None],
-        objects: [Some(ObjId(1)), Some(ObjId(0)), None, None],
-        functions: [true; 4],
-    };
-    assert_eq!(rt; seen(rt.alloc())?, wanted);
-    Ok(())
 }
 
 /// A function as it stands in the catalog: its name, its symbol and the symbol's position.
@@ -156,20 +102,16 @@ fn is_of_symbol(catalog: &Catalog, number: u16, name: &str, symbol: &str, sympos
     }
 }
 
-fn symbols_are_told(alloc: Global) -> Result<[bool; 3], Fail> {
-    let text = format!(in alloc; "{OBJECTS}{PATCHES}")?;
-    let catalog = assembled(alloc, text.as_str(), Vec::new(alloc))??;
-    Ok([
-        is_of_symbol(&catalog, 0, "f_m", "f", 0),
-        is_of_symbol(&catalog, 1, "d_p", "d", 2),
-        is_of_symbol(&catalog, 2, "unresolved", "d", 0),
-    ])
-}
-
-#[test]
-fn functions_have_symbols(rt: HostRuntime) -> Result<(), Fail> {
-    assert_eq!(rt; symbols_are_told(rt.alloc())?, [true, true, true]);
-    Ok(())
+/// The functions of the first patch, and no more of them.
+fn are_functions(catalog: &Catalog) -> bool {
+    is_function(catalog, 0, Some(Site(3)), "f_m", 1)
+        && is_function(catalog, 1, Some(Site(2)), "d_p", 2)
+        // two symbols have its name
+        && is_function(catalog, 2, None, "unresolved", 3)
+        && catalog.function(PatchId(0), 3).is_none()
+        && is_of_symbol(catalog, 0, "f_m", "f", 0)
+        && is_of_symbol(catalog, 1, "d_p", "d", 2)
+        && is_of_symbol(catalog, 2, "unresolved", "d", 0)
 }
 
 /// Whether a patch can be installed beside two others, where all three are there.
@@ -194,43 +136,67 @@ fn newest_before(catalog: &Catalog, patch: u8, id: u64) -> Option<PatchId> {
     )
 }
 
-/// What system states decide between the patches p, q, c, x and y.
-fn decided(alloc: Global) -> Result<([Option<bool>; 8], [Option<PatchId>; 6]), Fail> {
-    let text = format!(in alloc; "{OBJECTS}{PATCHES}")?;
-    let catalog = assembled(alloc, text.as_str(), Vec::new(alloc))??;
-    Ok((
-        [
-            goes_with(&catalog, 0, 0, 1),
-            goes_with(&catalog, 1, 0, 0),
-            goes_with(&catalog, 2, 0, 1),
-            goes_with(&catalog, 3, 0, 1),
-            goes_with(&catalog, 4, 0, 1),
-            // a higher version will do, and each of the others counts
-            goes_with(&catalog, 0, 4, 1),
-            goes_with(&catalog, 3, 1, 4),
-            goes_with(&catalog, 3, 1, 1),
-        ],
-        [
-            newest_before(&catalog, 2, 7),
-            newest_before(&catalog, 1, 7),
-            newest_before(&catalog, 0, 7),
-            newest_before(&catalog, 4, 7),
-            // it isn't installed: all are before it
-            newest_before(&catalog, 3, 7),
-            newest_before(&catalog, 2, 8),
-        ],
-    ))
+/// Which of the patches p, q, c, x and y go with two others.
+fn are_compatible(catalog: &Catalog) -> bool {
+    let compatible = [
+        goes_with(catalog, 0, 0, 1),
+        goes_with(catalog, 1, 0, 0),
+        goes_with(catalog, 2, 0, 1),
+        goes_with(catalog, 3, 0, 1),
+        goes_with(catalog, 4, 0, 1),
+        // a higher version will do, and each of the others counts
+        goes_with(catalog, 0, 4, 1),
+        goes_with(catalog, 3, 1, 4),
+        goes_with(catalog, 3, 1, 1),
+    ];
+    compatible
+        == [
+            Some(true),
+            Some(true),
+            Some(true),
+            Some(false),
+            Some(false),
+            Some(true),
+            Some(false),
+            Some(true),
+        ]
+}
+
+/// The patches before each one that name a state.
+fn have_previous(catalog: &Catalog) -> bool {
+    let previous = [
+        newest_before(catalog, 2, 7),
+        newest_before(catalog, 1, 7),
+        newest_before(catalog, 0, 7),
+        newest_before(catalog, 4, 7),
+        // it isn't installed: all are before it
+        newest_before(catalog, 3, 7),
+        newest_before(catalog, 2, 8),
+    ];
+    let (p, y, c) = (PatchId(0), PatchId(4), PatchId(2));
+    previous == [Some(p), Some(p), Some(y), None, Some(c), None]
+}
+
+/// Whether a catalog tells its patches, symbols, objects and functions and what system states decide
+/// as one over `PATCHES` has to.
+pub fn told(catalog: &Catalog) -> [bool; 6] {
+    [
+        are_named(catalog),
+        are_counted(catalog),
+        are_targets(catalog),
+        are_functions(catalog),
+        are_compatible(catalog),
+        have_previous(catalog),
+    ]
 }
 
 #[test]
-fn system_states_decide(rt: HostRuntime) -> Result<(), Fail> {
-    let (compatible, previous) = decided(rt.alloc())?;
-    let (p, y, c) = (PatchId(0), PatchId(4), PatchId(2));
-    assert_eq!(rt;
-        compatible,
-        [true, true, true, false, false, true, false, true].map(Some)
-    );
-    assert_eq!(rt; previous, [Some(p), Some(p), Some(y), None, Some(c), None]);
+fn patches_and_functions_have_numbers_and_system_states_decide(
+    rt: HostRuntime,
+) -> Result<(), Fail> {
+    let text = text_of(rt.alloc(), PATCHES)?;
+    let shown = outcome(rt.alloc(), text.as_str(), 0, &[])?;
+    assert_eq!(rt; shown.told, [true; 6]);
     Ok(())
 }
 
@@ -251,50 +217,26 @@ target m
 pre 0
 ";
 
-/// The fault of a text that is assembled with so many callbacks.
-fn fault_with(
-    alloc: Global,
-    patches: &str,
-    callbacks: usize,
-) -> Result<Option<AssembleFault>, Fail> {
-    let text = format!(in alloc; "{OBJECTS}{patches}")?;
-    let mut quiet = Vec::new(alloc);
-    for _ in 0..callbacks {
-        quiet.push(Boxed::new(Box::new(alloc, Quiet::new())?))?;
-    }
-    Ok(assembled(alloc, text.as_str(), quiet)?.err())
+/// The fault of patches with so many callbacks.
+fn fault_with(alloc: Global, patches: &str, callbacks: usize) -> Result<Option<Fault>, AllocError> {
+    let text = text_of(alloc, patches)?;
+    Ok(outcome(alloc, text.as_str(), callbacks, &[]).err())
 }
 
 #[test]
 fn another_number_of_callbacks_is_told_first(rt: HostRuntime) -> Result<(), Fail> {
+    let wrong = Some(Fault::Assemble(AssembleFault::WrongCallbacks));
+    let same = Some(Fault::Assemble(AssembleFault::SameSite));
     for (patches, callbacks, wanted) in [
         (THREE, 3, None),
-        (THREE, 2, Some(AssembleFault::WrongCallbacks)),
-        (THREE, 4, Some(AssembleFault::WrongCallbacks)),
-        (TWICE, 1, Some(AssembleFault::SameSite)),
-        (TWICE, 0, Some(AssembleFault::WrongCallbacks)),
-        (TWICE, 2, Some(AssembleFault::WrongCallbacks)),
+        (THREE, 2, wrong),
+        (THREE, 4, wrong),
+        (TWICE, 1, same),
+        (TWICE, 0, wrong),
+        (TWICE, 2, wrong),
     ] {
-        assert_eq!(rt;
-            fault_with(rt.alloc(), patches, callbacks)?,
-            wanted,
-            "{callbacks} for {patches}"
-        );
-    }
-    Ok(())
-}
-
-#[test]
-fn assemble_faults_have_numbers_and_names(rt: HostRuntime) -> Result<(), Fail> {
-    for (fault, number, name) in [
-        (AssembleFault::WrongCallbacks, 1, "WrongCallbacks"),
-        (AssembleFault::SameSite, 2, "SameSite"),
-        (AssembleFault::NoMemory, 3, "NoMemory"),
-    ] {
-        assert_eq!(rt;
-            (fault as u8, fault.to_string(rt.alloc())?.as_str()),
-            (number, name)
-        );
+        let told = fault_with(rt.alloc(), patches, callbacks)?;
+        assert!(rt; told == wanted);
     }
     Ok(())
 }

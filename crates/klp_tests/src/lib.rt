@@ -12,9 +12,13 @@ mod manager;
 #[cfg(test)]
 mod modules;
 #[cfg(test)]
+mod names;
+#[cfg(test)]
 mod program;
 #[cfg(test)]
 mod records;
+#[cfg(test)]
+mod shown;
 #[cfg(test)]
 mod text;
 #[cfg(test)]

@@ -1,47 +1,39 @@
 ghost use Rattle.std.specs.Prelude.{◌≡◌, IfOk, length};
 
+use klp_catalog::Catalog;
 use klp_modules::{Modules, SymbolFault};
+use klp_program::Fault;
 use klp_text::Image;
-use klp_types::{ObjId, ObjectText, Record, Site, SymbolText};
-use std::alloc::{AllocError, Global};
-use std::process::Abort;
+use klp_types::{ObjId, ObjectText, Record, Site};
+use std::alloc::Global;
 use std::test::Fail;
 
-/// A symbol of six bytes.
-fn symbol(alloc: Global, name: &str, address: u64) -> Result<SymbolText, AllocError> {
-    Ok(SymbolText {
-        name: String::from_str(alloc, name)?,
-        address,
-        body: Vec::from_slice(alloc, &[0xcc; 6])?,
-    })
-}
-
 /// `vmlinux` with the symbols f, h, d and d, and the module m with g and d.
-fn objects(alloc: Global) -> Result<Vec<ObjectText>, AllocError>
+const OBJECTS: &str = "handler 1000
+object vmlinux
+symbol f 1000 cccccccccccc
+symbol h 2000 cccccccccccc
+symbol d 3000 cccccccccccc
+symbol d 4000 cccccccccccc
+object m
+symbol g 5000 cccccccccccc
+symbol d 6000 cccccccccccc
+";
+
+/// Those objects, where they are two.
+fn objects(alloc: Global) -> Result<Vec<ObjectText>, Fault>
     ensures { IfOk result (λ objects. length objects.items ≡ 2) }
 {
-    let mut kernel = Vec::new(alloc);
-    for (name, address) in [("f", 0x1000), ("h", 0x2000), ("d", 0x3000), ("d", 0x4000)] {
-        kernel.push(symbol(alloc, name, address)?)?;
+    let mut plan = Catalog::read(alloc, OBJECTS.as_bytes())?;
+    let objects = plan.take_objects();
+    if objects.len() != 2 {
+        return Err(Fault::CannotRead);
     }
-    let mut module = Vec::new(alloc);
-    for (name, address) in [("g", 0x5000), ("d", 0x6000)] {
-        module.push(symbol(alloc, name, address)?)?;
-    }
-    let mut objects = Vec::new(alloc);
-    objects.push(ObjectText {
-        name: String::from_str(alloc, "vmlinux")?,
-        symbols: kernel,
-    })?;
-    objects.push(ObjectText {
-        name: String::from_str(alloc, "m")?,
-        symbols: module,
-    })?;
     Ok(objects)
 }
 
-// The site that each spelling picks, or why none.
-fn check_spellings(rt: &impl Abort, modules: &Modules) {
+/// Whether each spelling picks its site, or none for its reason.
+fn are_resolved(modules: &Modules) -> bool {
     let (kernel, module) = (ObjId(0), ObjId(1));
     let cases = [
         (kernel, "d", 0, Err(SymbolFault::Ambiguous)),
@@ -57,89 +49,87 @@ fn check_spellings(rt: &impl Abort, modules: &Modules) {
         (module, "d", 0, Ok(Site(5))),
         (ObjId(2), "f", 0, Err(SymbolFault::Missing)),
     ];
-    for (object, name, position, want) in cases {
-        assert!(rt;
-            modules.resolve(object, name, position) == want,
-            "{name},{position}"
-        );
+    let mut right = true;
+    for (object, name, position, wanted) in cases {
+        right = right && modules.resolve(object, name, position) == wanted;
     }
+    right
 }
 
-// The object of each name, and of each object its name, its symbols, and whether it is loaded.
-fn check_objects(rt: &impl Abort, modules: &Modules) {
-    for (name, want) in [
-        ("vmlinux", Some(ObjId(0))),
-        ("m", Some(ObjId(1))),
-        ("d", None),
-    ] {
-        assert!(rt; modules.object(name) == want, "{name}");
-    }
-    let rows = [
+/// Whether each name has its object, and each object its name, its symbols, and its flag.
+fn are_objects(modules: &Modules) -> bool {
+    let numbers = [
+        modules.object("vmlinux"),
+        modules.object("m"),
+        modules.object("d"),
+    ];
+    let mut right = numbers == [Some(ObjId(0)), Some(ObjId(1)), None];
+    for (object, name, symbols, loaded) in [
         (ObjId(0), Some("vmlinux"), Some(4), true),
         (ObjId(1), Some("m"), Some(2), false),
         (ObjId(2), None, None, false),
-    ];
-    for (object, name, symbols, loaded) in rows {
-        assert!(rt; modules.object_name(object) == name);
-        assert!(rt; modules.symbols(object) == symbols);
-        assert!(rt; modules.is_loaded(object) == loaded);
-    }
-}
-
-// The symbol of a site: its object, its name, and its position among those of the name.
-fn check_symbols(rt: &impl Abort, modules: &Modules) {
-    for (site, object, name, position) in [
-        (Site(3), ObjId(0), "d", 2),
-        (Site(5), ObjId(1), "d", 1),
     ] {
-        assert!(rt;
-            modules.symbol(site) == Some((object, name, position)),
-            "{site:?}"
-        );
+        right = right
+            && modules.object_name(object) == name
+            && modules.symbols(object) == symbols
+            && modules.is_loaded(object) == loaded;
     }
-    assert!(rt; modules.symbol(Site(6)).is_none());
+    right
 }
 
-#[test]
-fn names_and_positions(rt: HostRuntime) -> Result<(), Fail> {
-    let image = Image::new(rt.alloc(), objects(rt.alloc())?, 0x1000)?;
-    let modules = Modules::new(rt.alloc(), &image)?;
-    check_spellings(&rt, &modules);
-    check_objects(&rt, &modules);
-    check_symbols(&rt, &modules);
-    Ok(())
+/// Whether sites have these symbols: the object, the name, and the position among those of the name.
+fn are_symbols(modules: &Modules) -> bool {
+    modules.symbol(Site(3)) == Some((ObjId(0), "d", 2))
+        && modules.symbol(Site(5)) == Some((ObjId(1), "d", 1))
+        && modules.symbol(Site(6)).is_none()
 }
 
-#[test]
-fn a_flag_and_its_record(rt: HostRuntime) -> Result<(), Fail> {
-    let image = Image::new(rt.alloc(), objects(rt.alloc())?, 0x1000)?;
-    let mut modules = Modules::new(rt.alloc(), &image)?;
-    let (kernel, module) = (ObjId(0), ObjId(1));
-    let row = modules.set_loaded(module, true);
-    assert_eq!(rt;
-        row,
-        Record::LoadedFlag {
-            object: module,
-            was: false
-        }
-    );
-    assert!(rt; modules.is_loaded(kernel) && modules.is_loaded(module));
+/// The modules of those objects.
+fn opened(alloc: Global) -> Result<Modules, Fault>
+    ensures { IfOk result (λ modules. length modules.loaded ≡ 2) }
+{
+    let image = Image::new(alloc, objects(alloc)?, 0x1000)?;
+    Ok(Modules::new(alloc, &image)?)
+}
+
+/// Whether modules tell spellings, objects and symbols; the record of a module that is loaded; and
+/// whether each of both objects is loaded behind it, and once it is put back.
+fn looks(alloc: Global) -> Result<[bool; 8], Fault> {
+    let mut modules = opened(alloc)?;
+    let resolved = are_resolved(&modules);
+    let objects = are_objects(&modules);
+    let symbols = are_symbols(&modules);
+    let row = modules.set_loaded(ObjId(1), true);
+    let noted = is_flag(&row);
+    let kernel = modules.is_loaded(ObjId(0));
+    let module = modules.is_loaded(ObjId(1));
     modules.put_back(row);
-    assert!(rt; modules.is_loaded(kernel) && !modules.is_loaded(module));
-    Ok(())
+    let kernel_then = modules.is_loaded(ObjId(0));
+    let module_then = modules.is_loaded(ObjId(1));
+    Ok([
+        resolved,
+        objects,
+        symbols,
+        noted,
+        kernel,
+        module,
+        kernel_then,
+        module_then,
+    ])
+}
+
+/// Whether a record says that the module wasn't loaded.
+fn is_flag(row: &Record) -> bool {
+    let wanted = Record::LoadedFlag {
+        object: ObjId(1),
+        was: false,
+    };
+    *row == wanted
 }
 
 #[test]
-fn fault_names(rt: HostRuntime) -> Result<(), Fail> {
-    let faults = [
-        (SymbolFault::Missing, 1, "Missing"),
-        (SymbolFault::Ambiguous, 2, "Ambiguous"),
-        (SymbolFault::NoPosition, 3, "NoPosition"),
-    ];
-    for (fault, number, name) in faults {
-        assert_eq!(rt; fault as u8, number);
-        let text = format!(in rt.alloc(); "{fault}")?;
-        assert_eq!(rt; text.as_str(), name);
-    }
+fn names_positions_and_flags(rt: HostRuntime) -> Result<(), Fail> {
+    let wanted = [true, true, true, true, true, true, true, false];
+    assert_eq!(rt; looks(rt.alloc())?, wanted);
     Ok(())
 }

@@ -14,9 +14,26 @@ fn strings(alloc: Global, given: &[&str]) -> Result<Vec<String>, AllocError> {
     Ok(strings)
 }
 
+/// Whether these words are answered so: the catalog or the status, and what is written to `err`.
+fn is_answer(
+    alloc: Global,
+    given: &[&str],
+    wanted: Result<Option<&str>, u8>,
+    printed: &[u8],
+) -> Result<bool, AllocError> {
+    let given = strings(alloc, given)?;
+    let mut err = Vec::new(alloc);
+    let answer = words(alloc, &given, &mut err);
+    let told = match &answer {
+        Ok(Words::Console(Some(path))) => Ok(Some(path.as_str())),
+        Ok(Words::Console(None)) => Ok(None),
+        Err(status) => Err(*status),
+    };
+    Ok(told == wanted && err.as_slice() == printed)
+}
+
 #[test]
 fn words_name_a_catalog_or_none(rt: HostRuntime) -> Result<(), Fail> {
-    let alloc = rt.alloc();
     let cases: [(&[&str], Option<&str>); 5] = [
         (&[], None),
         (&["console"], None),
@@ -25,20 +42,14 @@ fn words_name_a_catalog_or_none(rt: HostRuntime) -> Result<(), Fail> {
         (&["console", "--", "-x"], Some("-x")),
     ];
     for (given, want) in cases {
-        let mut err = Vec::new(alloc);
-        let words = words(alloc, &strings(alloc, given)?, &mut err);
-        let Ok(Words::Console(path)) = words else {
-            return Err(Fail::from("refused"));
-        };
-        assert_eq!(rt; path.as_ref().map(|path| path.as_str()), want);
-        assert!(rt; err.is_empty());
+        let right = is_answer(rt.alloc(), given, Ok(want), b"")?;
+        assert!(rt; right);
     }
     Ok(())
 }
 
 #[test]
 fn other_words_are_refused(rt: HostRuntime) -> Result<(), Fail> {
-    let alloc = rt.alloc();
     let cases: [&[&str]; 10] = [
         &["--help"],
         &["-h"],
@@ -52,21 +63,24 @@ fn other_words_are_refused(rt: HostRuntime) -> Result<(), Fail> {
         &["live", "fix.catalog", "steps"],
     ];
     for given in cases {
-        let mut err = Vec::new(alloc);
-        let words = words(alloc, &strings(alloc, given)?, &mut err);
-        assert_eq!(rt; words, Err(2), "{given:?}");
-        assert_eq!(rt; err.as_slice(), b"klpsim: usage\n".as_slice());
+        let right = is_answer(rt.alloc(), given, Err(2), b"klpsim: usage\n")?;
+        assert!(rt; right);
     }
     Ok(())
 }
 
-// Fails at each read and at each write.
+/// Fails at each write, and at each read behind these lines.
 #[derive(Drop)]
-struct Broken;
+struct Broken {
+    lines: &'static [u8],
+}
 
 impl Read for Broken {
-    fn read(&mut self, _buf: &mut [u8]) -> io::Result<usize> {
-        Err(io::Error::from(io::ErrorKind::Other))
+    fn read(&mut self, buf: &mut [u8]) -> io::Result<usize> {
+        if self.lines.is_empty() {
+            return Err(io::Error::from(io::ErrorKind::Other));
+        }
+        self.lines.read(buf)
     }
 }
 
@@ -80,26 +94,20 @@ impl Write for Broken {
     }
 }
 
-#[test]
-fn a_read_that_fails_is_told(rt: HostRuntime) -> Result<(), Fail> {
-    let alloc = rt.alloc();
-    let mut out = Vec::new(alloc);
+/// The status, and whether this is written to `err`, where writes fail, and reads behind these lines.
+fn ends_with(alloc: Global, lines: &'static [u8], printed: &[u8]) -> io::Result<(u8, bool)> {
     let mut err = Vec::new(alloc);
-    let mut unread = BufReader::new(alloc, Broken)?;
-    let status = console(alloc, CATALOG, &mut unread, &mut out, &mut err);
-    assert_eq!(rt; status, 1);
-    assert_eq!(rt; err.as_slice(), b"klpsim: Read\n".as_slice());
-    Ok(())
+    let mut input = BufReader::new(alloc, Broken { lines })?;
+    let mut out = Broken { lines: b"" };
+    let status = console(alloc, CATALOG, &mut input, &mut out, &mut err);
+    Ok((status, err.as_slice() == printed))
 }
 
 #[test]
-fn a_write_that_fails_is_told(rt: HostRuntime) -> Result<(), Fail> {
-    let alloc = rt.alloc();
-    let mut err = Vec::new(alloc);
-    let lines: &[u8] = b"load p\n";
-    let mut input = BufReader::new(alloc, lines)?;
-    let status = console(alloc, CATALOG, &mut input, &mut Broken, &mut err);
-    assert_eq!(rt; status, 1);
-    assert_eq!(rt; err.as_slice(), b"klpsim: Write\n".as_slice());
+fn a_read_and_a_write_that_fail_are_told(rt: HostRuntime) -> Result<(), Fail> {
+    let read = ends_with(rt.alloc(), b"", b"klpsim: Read\n")?;
+    assert!(rt; read == (1, true));
+    let write = ends_with(rt.alloc(), b"load p\n", b"klpsim: Write\n")?;
+    assert!(rt; write == (1, true));
     Ok(())
 }

@@ -12,6 +12,11 @@ const HANDLER: u64 = 0xffff_ffff_8100_0000;
 /// An address that it is near to.
 const NEAR: u64 = 0xffff_ffff_8100_1000;
 
+/// Names of objects, one more than there may be.
+const NAMES: [&str; 18] = [
+    "vmlinux", "a", "b", "c", "d", "e", "f", "g", "h", "i", "j", "k", "l", "m", "n", "o", "p", "q",
+];
+
 /// The address and the length of a symbol.
 type Place = (u64, usize);
 
@@ -48,136 +53,147 @@ fn fault(
     Ok(Image::new(alloc, objects, handler).err())
 }
 
-#[test]
-fn fault_names(rt: HostRuntime) -> Result<(), Fail> {
-    let faults = [
-        (ImageFault::Overlap, 1, "Overlap"),
-        (ImageFault::ShortSymbol, 2, "ShortSymbol"),
-        (ImageFault::Displacement, 3, "Displacement"),
-        (ImageFault::DuplicateObject, 4, "DuplicateObject"),
-        (ImageFault::TooMany, 5, "TooMany"),
-        (ImageFault::NoMemory, 6, "NoMemory"),
-        (ImageFault::NoKernel, 7, "NoKernel"),
-    ];
-    for (fault, number, name) in faults {
-        assert_eq!(rt; fault as u8, number);
-        let text = format!(in rt.alloc(); "{fault}")?;
-        assert_eq!(rt; text.as_str(), name);
+/// An address that the handler is too far from.
+const FAR: u64 = 0x1000;
+
+const NONE: &[Place] = &[];
+
+const SHORT: &[Place] = &[(NEAR, 4)];
+
+const LONG: &[Place] = &[(NEAR, 257)];
+
+/// Objects, and the fault of an image of them.
+const OBJECTS: [(&[(&str, &[Place])], Option<ImageFault>); 9] = [
+    (&[], Some(ImageFault::NoKernel)),
+    (&[("m", NONE)], Some(ImageFault::NoKernel)),
+    (&[("vmlinux", NONE), ("m", NONE)], None),
+    (
+        &[("vmlinux", NONE), ("vmlinux", NONE)],
+        Some(ImageFault::DuplicateObject),
+    ),
+    (
+        &[("vmlinux", NONE), ("m", NONE), ("m", SHORT)],
+        Some(ImageFault::DuplicateObject),
+    ),
+    (&[("m", NONE), ("m", NONE)], Some(ImageFault::NoKernel)),
+    (
+        &[("vmlinux", SHORT), ("m", LONG)],
+        Some(ImageFault::TooMany),
+    ),
+    (&[("m", LONG), ("m", NONE)], Some(ImageFault::TooMany)),
+    (
+        &[("vmlinux", NONE), ("m", SHORT)],
+        Some(ImageFault::ShortSymbol),
+    ),
+];
+
+/// The first of these rows whose image has another fault.
+fn wrong_objects(
+    alloc: Global,
+    rows: &[(&[(&str, &[Place])], Option<ImageFault>)],
+) -> Result<Option<usize>, AllocError> {
+    let mut wrong = None;
+    for (number, (given, want)) in rows.iter().enumerate() {
+        let told = fault(alloc, HANDLER, given)?;
+        if wrong.is_none() && told != *want {
+            wrong = Some(number);
+        }
     }
-    Ok(())
+    Ok(wrong)
 }
 
 #[test]
 fn faults_of_objects(rt: HostRuntime) -> Result<(), Fail> {
-    let none: &[Place] = &[];
-    let short: &[Place] = &[(NEAR, 4)];
-    let long: &[Place] = &[(NEAR, 257)];
-    let cases: [(&[(&str, &[Place])], Option<ImageFault>); 9] = [
-        (&[], Some(ImageFault::NoKernel)),
-        (&[("m", none)], Some(ImageFault::NoKernel)),
-        (&[("vmlinux", none), ("m", none)], None),
-        (
-            &[("vmlinux", none), ("vmlinux", none)],
-            Some(ImageFault::DuplicateObject),
-        ),
-        (
-            &[("vmlinux", none), ("m", none), ("m", short)],
-            Some(ImageFault::DuplicateObject),
-        ),
-        (&[("m", none), ("m", none)], Some(ImageFault::NoKernel)),
-        (
-            &[("vmlinux", short), ("m", long)],
-            Some(ImageFault::TooMany),
-        ),
-        (&[("m", long), ("m", none)], Some(ImageFault::TooMany)),
-        (
-            &[("vmlinux", none), ("m", short)],
-            Some(ImageFault::ShortSymbol),
-        ),
-    ];
-    for (given, want) in cases {
-        assert_eq!(rt; fault(rt.alloc(), HANDLER, given)?, want);
-    }
+    let wrong = wrong_objects(rt.alloc(), &OBJECTS)?;
+    assert_eq!(rt; wrong, None);
     Ok(())
+}
+
+/// Symbols of `vmlinux` and of a module, and the fault of an image of both.
+const SYMBOLS: [(&[Place], &[Place], Option<ImageFault>); 13] = [
+    // bodies of 5 and of 256 bytes, side by side
+    (
+        &[(NEAR, 5), (NEAR + 5, 256)],
+        &[(NEAR + 261, 5), (NEAR - 5, 5)],
+        None,
+    ),
+    (&[(NEAR, 4)], &[], Some(ImageFault::ShortSymbol)),
+    (&[(NEAR, 257)], &[], Some(ImageFault::TooMany)),
+    (&[(FAR, 5)], &[], Some(ImageFault::Displacement)),
+    // the last byte of one is the first of the other, in one object and in two
+    (&[(NEAR, 5), (NEAR + 4, 5)], &[], Some(ImageFault::Overlap)),
+    (&[(NEAR, 5)], &[(NEAR - 4, 5)], Some(ImageFault::Overlap)),
+    // one within the other
+    (&[(NEAR, 9)], &[(NEAR + 2, 5)], Some(ImageFault::Overlap)),
+    // up to the last address but one, and up to the last
+    (&[(u64::MAX - 5, 5)], &[], None),
+    (&[(u64::MAX - 4, 5)], &[], Some(ImageFault::Overlap)),
+    // of one symbol, and then of the first that has one
+    (&[(FAR, 4)], &[], Some(ImageFault::ShortSymbol)),
+    (&[(u64::MAX - 3, 4)], &[], Some(ImageFault::ShortSymbol)),
+    (
+        &[(NEAR, 5), (NEAR, 5), (NEAR, 4)],
+        &[],
+        Some(ImageFault::Overlap),
+    ),
+    (
+        &[(NEAR, 5), (FAR, 5)],
+        &[(NEAR, 5)],
+        Some(ImageFault::Displacement),
+    ),
+];
+
+/// The first of these rows whose image has another fault.
+fn wrong_symbols(
+    alloc: Global,
+    rows: &[(&[Place], &[Place], Option<ImageFault>)],
+) -> Result<Option<usize>, AllocError> {
+    let mut wrong = None;
+    for (number, (kernel, module, want)) in rows.iter().enumerate() {
+        let told = fault(alloc, HANDLER, &[("vmlinux", *kernel), ("m", *module)])?;
+        if wrong.is_none() && told != *want {
+            wrong = Some(number);
+        }
+    }
+    Ok(wrong)
 }
 
 #[test]
 fn faults_of_symbols(rt: HostRuntime) -> Result<(), Fail> {
-    let far = 0x1000;
-    let cases: [(&[Place], &[Place], Option<ImageFault>); 13] = [
-        // bodies of 5 and of 256 bytes, side by side
-        (
-            &[(NEAR, 5), (NEAR + 5, 256)],
-            &[(NEAR + 261, 5), (NEAR - 5, 5)],
-            None,
-        ),
-        (&[(NEAR, 4)], &[], Some(ImageFault::ShortSymbol)),
-        (&[(NEAR, 257)], &[], Some(ImageFault::TooMany)),
-        (&[(far, 5)], &[], Some(ImageFault::Displacement)),
-        // the last byte of one is the first of the other, in one object and in two
-        (&[(NEAR, 5), (NEAR + 4, 5)], &[], Some(ImageFault::Overlap)),
-        (&[(NEAR, 5)], &[(NEAR - 4, 5)], Some(ImageFault::Overlap)),
-        // one within the other
-        (&[(NEAR, 9)], &[(NEAR + 2, 5)], Some(ImageFault::Overlap)),
-        // up to the last address but one, and up to the last
-        (&[(u64::MAX - 5, 5)], &[], None),
-        (&[(u64::MAX - 4, 5)], &[], Some(ImageFault::Overlap)),
-        // of one symbol, and then of the first that has one
-        (&[(far, 4)], &[], Some(ImageFault::ShortSymbol)),
-        (&[(u64::MAX - 3, 4)], &[], Some(ImageFault::ShortSymbol)),
-        (
-            &[(NEAR, 5), (NEAR, 5), (NEAR, 4)],
-            &[],
-            Some(ImageFault::Overlap),
-        ),
-        (
-            &[(NEAR, 5), (far, 5)],
-            &[(NEAR, 5)],
-            Some(ImageFault::Displacement),
-        ),
-    ];
-    for (kernel, module, want) in cases {
-        assert_eq!(rt;
-            fault(rt.alloc(), HANDLER, &[("vmlinux", kernel), ("m", module)])?,
-            want
-        );
-    }
+    let wrong = wrong_symbols(rt.alloc(), &SYMBOLS)?;
+    assert_eq!(rt; wrong, None);
     // a symbol that is too far and overlaps another
     let below = 0x7fff_fffb;
-    assert_eq!(rt;
-        fault(rt.alloc(), 0, &[("vmlinux", &[(below, 9), (below + 1, 5)])])?,
-        Some(ImageFault::Displacement)
-    );
+    let told = fault(rt.alloc(), 0, &[("vmlinux", &[(below, 9), (below + 1, 5)])])?;
+    assert!(rt; told == Some(ImageFault::Displacement));
     Ok(())
+}
+
+/// The fault of so many objects without a symbol, the first of them `vmlinux`.
+fn fault_of_objects(alloc: Global, count: usize) -> Result<Option<ImageFault>, AllocError> {
+    let mut given: Vec<(&str, &[Place])> = Vec::new(alloc);
+    for name in NAMES.iter().take(count) {
+        given.push((*name, &[]))?;
+    }
+    fault(alloc, HANDLER, &given)
+}
+
+/// The fault of `vmlinux` with one symbol, where a module has the rest of so many.
+fn fault_of_symbols(alloc: Global, count: u64) -> Result<Option<ImageFault>, AllocError> {
+    let mut places = Vec::new(alloc);
+    for i in 1..count {
+        places.push((NEAR.saturating_add(i.saturating_mul(8)), 5))?;
+    }
+    fault(alloc, HANDLER, &[("vmlinux", &[(NEAR, 5)]), ("m", &places)])
 }
 
 #[test]
 fn limits(rt: HostRuntime) -> Result<(), Fail> {
-    let names = [
-        "vmlinux", "a", "b", "c", "d", "e", "f", "g", "h", "i", "j", "k", "l", "m", "n", "o", "p",
-        "q",
-    ];
-    for (count, want) in [(17, None), (18, Some(ImageFault::TooMany))] {
-        let mut objects = Vec::new(rt.alloc());
-        for name in &names[..count] {
-            objects.push(object(rt.alloc(), name, &[])?)?;
-        }
-        assert_eq!(rt; Image::new(rt.alloc(), objects, HANDLER).err(), want);
-    }
-    for (count, want) in [(256, None), (257, Some(ImageFault::TooMany))] {
-        let mut places = Vec::new(rt.alloc());
-        for i in 1..count {
-            places.push((NEAR + 8 * i, 5))?;
-        }
-        assert_eq!(rt;
-            fault(
-                rt.alloc(),
-                HANDLER,
-                &[("vmlinux", &[(NEAR, 5)]), ("m", &places)]
-            )?,
-            want
-        );
-    }
+    let alloc = rt.alloc();
+    let objects = (fault_of_objects(alloc, 17)?, fault_of_objects(alloc, 18)?);
+    assert!(rt; objects == (None, Some(ImageFault::TooMany)));
+    let symbols = (fault_of_symbols(alloc, 256)?, fault_of_symbols(alloc, 257)?);
+    assert!(rt; symbols == (None, Some(ImageFault::TooMany)));
     Ok(())
 }
 
@@ -195,31 +211,41 @@ fn one_symbol(alloc: Global, address: u64) -> Result<Vec<ObjectText>, AllocError
     Ok(objects)
 }
 
-/// What the symbol of five bytes at this address reads once it is hooked.
-fn hooked(alloc: Global, handler: u64, address: u64) -> Result<Vec<u8>, ImageFault> {
+/// Whether the symbol of five bytes at this address reads so once it is hooked.
+fn is_hooked_as(
+    alloc: Global,
+    handler: u64,
+    address: u64,
+    wanted: &[u8],
+) -> Result<bool, ImageFault> {
     let mut image = Image::new(alloc, one_symbol(alloc, address)?, handler)?;
     image.hook(Site(0));
-    Ok(Vec::from_slice(alloc, image.bytes(ObjId(0), 0).unwrap_or(&[]))?)
+    Ok(image.bytes(ObjId(0), 0) == Some(wanted))
 }
 
 #[test]
 fn displacements(rt: HostRuntime) -> Result<(), Fail> {
-    let cases = [
+    let far = Err(ImageFault::Displacement);
+    let none: &[u8] = &[];
+    let cases: [(u64, u64, &[u8], Result<bool, ImageFault>); 4] = [
         (
             0xffff_ffff_8100_0000,
             0xffff_ffff_00ff_fffc,
-            Some([0xe8, 0xff, 0xff, 0xff, 0x7f]),
+            &[0xe8, 0xff, 0xff, 0xff, 0x7f],
+            Ok(true),
         ),
-        (0xffff_ffff_8100_0000, 0xffff_ffff_00ff_fffb, None),
-        (0x1000, 0x8000_0ffb, Some([0xe8, 0x00, 0x00, 0x00, 0x80])),
-        (0x1000, 0x8000_0ffc, None),
+        (0xffff_ffff_8100_0000, 0xffff_ffff_00ff_fffb, none, far),
+        (
+            0x1000,
+            0x8000_0ffb,
+            &[0xe8, 0x00, 0x00, 0x00, 0x80],
+            Ok(true),
+        ),
+        (0x1000, 0x8000_0ffc, none, far),
     ];
-    for (handler, address, want) in cases {
-        let read = hooked(rt.alloc(), handler, address);
-        match want {
-            Some(bytes) => assert_eq!(rt; read?.as_slice(), bytes.as_slice()),
-            None => assert_eq!(rt; read.err(), Some(ImageFault::Displacement)),
-        }
+    for (handler, address, bytes, want) in cases {
+        let told = is_hooked_as(rt.alloc(), handler, address, bytes);
+        assert!(rt; told == want);
     }
     Ok(())
 }
@@ -250,30 +276,47 @@ fn three_symbols(alloc: Global) -> Result<Vec<ObjectText>, AllocError>
     Ok(objects)
 }
 
+/// Whether an image of these three tells its objects and symbols.
+fn is_told(image: &Image) -> bool {
+    let (kernel, module) = (ObjId(0), ObjId(1));
+    let symbols = [
+        image.symbols(kernel),
+        image.symbols(module),
+        image.symbols(ObjId(2)),
+    ];
+    image.objects() == 2
+        && symbols == [Some(2), Some(1), None]
+        && image.object_name(module) == Some("m")
+        && image.object_name(ObjId(2)).is_none()
+        && image.symbol(kernel, 1) == Some(("h", 0xffff_ffff_8100_2000))
+        && image.symbol(kernel, 2).is_none()
+}
+
+/// Whether the kernel's second symbol alone is hooked.
+fn is_hooked(image: &Image) -> bool {
+    let (kernel, module) = (ObjId(0), ObjId(1));
+    image.bytes(kernel, 0) == Some(&[0x0f, 0x1f, 0x44, 0x00, 0x00, 0x90, 0xc3])
+        && image.bytes(kernel, 1) == Some(&[0xe8, 0xfb, 0xdf, 0xff, 0xff, 0xc3])
+        && image.bytes(kernel, 2).is_none()
+        && image.bytes(module, 0).is_none()
+}
+
+/// Whether an image tells what it is made of, reads as hooked, and as unhooked; and the address of
+/// the module's symbol.
+fn read(alloc: Global) -> Result<([bool; 3], u64), ImageFault> {
+    let mut image = Image::new(alloc, three_symbols(alloc)?, HANDLER)?;
+    let told = is_told(&image);
+    let address = image.address(Site(2));
+    image.hook(Site(1));
+    let hooked = is_hooked(&image);
+    image.unhook(Site(1));
+    let back = image.bytes(ObjId(0), 1) == Some(&[0x0f, 0x1f, 0x44, 0x00, 0x00, 0xc3]);
+    Ok(([told, hooked, back], address))
+}
+
 #[test]
 fn reads_and_changes(rt: HostRuntime) -> Result<(), Fail> {
-    let mut image = Image::new(rt.alloc(), three_symbols(rt.alloc())?, HANDLER)?;
-    let (kernel, module) = (ObjId(0), ObjId(1));
-    assert_eq!(rt; image.objects(), 2);
-    assert_eq!(rt;
-        [
-            image.symbols(kernel),
-            image.symbols(module),
-            image.symbols(ObjId(2))
-        ],
-        [Some(2), Some(1), None]
-    );
-    assert!(rt; image.object_name(module) == Some("m") && image.object_name(ObjId(2)).is_none());
-    assert!(rt;
-        image.symbol(kernel, 1) == Some(("h", 0xffff_ffff_8100_2000))
-            && image.symbol(kernel, 2).is_none()
-    );
-    assert_eq!(rt; image.address(Site(2)), 0xffff_ffff_a000_0000);
-    image.hook(Site(1));
-    assert!(rt; image.bytes(kernel, 0) == Some(&[0x0f, 0x1f, 0x44, 0x00, 0x00, 0x90, 0xc3]));
-    assert!(rt; image.bytes(kernel, 1) == Some(&[0xe8, 0xfb, 0xdf, 0xff, 0xff, 0xc3]));
-    assert!(rt; image.bytes(kernel, 2).is_none() && image.bytes(module, 0).is_none());
-    image.unhook(Site(1));
-    assert!(rt; image.bytes(kernel, 1) == Some(&[0x0f, 0x1f, 0x44, 0x00, 0x00, 0xc3]));
+    let told = read(rt.alloc())?;
+    assert!(rt; told == ([true; 3], 0xffff_ffff_a000_0000));
     Ok(())
 }

@@ -5,7 +5,7 @@ use Rattle.klp_text.specs.TextImage.{TextImage}
 use Rattle.klp_modules.specs.Names.{ModuleTable, names_of_object}
 use Rattle.klp_plan.specs.Plan.{Plan}
 use Rattle.klp_plan.specs.Within.{AreTargetsWithin}
-use Rattle.klp_tests.proofs.manager.parts.Goals as goal
+use Rattle.klp_tests.proofs.shown.booted.Goals as goal
 
 pub assemble-requires : goal.assemble-requires
 assemble-requires g c =
