@@ -1,0 +1,3 @@
+pub mod Footprint
+pub mod Company
+pub mod Rounds
