@@ -1,1 +1,12 @@
 pub mod FrameLemmas
+pub mod KeyLemmas
+pub mod ScriptLemmas
+pub mod RefusalLemmas
+pub mod OrderLemmas
+pub mod RoomLemmas
+pub mod TaskLemmas
+pub mod SymbolLemmas
+pub mod AllowedLemmas
+pub mod AllowedRunLemmas
+pub mod TieLemmas
+pub mod OpeningLemmas

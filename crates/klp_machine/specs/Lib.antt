@@ -21,3 +21,4 @@ pub mod TaskStep
 pub mod Step
 pub mod Run
 pub mod Allowed
+pub mod Opening
