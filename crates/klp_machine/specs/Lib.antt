@@ -22,3 +22,4 @@ pub mod Step
 pub mod Run
 pub mod Allowed
 pub mod Opening
+pub mod Examples

@@ -7,6 +7,7 @@
 #![tactic(auto)]
 
 mod event;
+pub mod examples;
 pub mod laws;
 mod limits;
 mod row;
