@@ -10,3 +10,11 @@ pub mod AllowedLemmas
 pub mod AllowedRunLemmas
 pub mod TieLemmas
 pub mod OpeningLemmas
+pub mod VersionLemmas
+pub mod PickLemmas
+pub mod PlacedLemmas
+pub mod KeptLemmas
+pub mod ObservedLemmas
+pub mod LeftLemmas
+pub mod MixedLemmas
+pub mod ObservedExamples

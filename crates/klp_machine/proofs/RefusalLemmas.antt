@@ -39,3 +39,7 @@ no_bool false e f = cc
 pub both : (b : Bool) → b ≡ true → b ≡ false → ⊥
 both true e f = cc
 both false e f = cc
+
+pub refused_stays : (state : State) (outcome : Reply × State) (reason : Option Refusal) → is_none reason ≡ false → state_after state (unless reason outcome) ≡ state
+refused_stays state outcome None e = cc
+refused_stays state outcome (Some reason) e = refl

@@ -23,3 +23,6 @@ pub mod Run
 pub mod Allowed
 pub mod Opening
 pub mod Examples
+pub mod Observed
+pub mod Consistent
+pub mod ObservedExamples

@@ -6,6 +6,7 @@
 //! what is proved of the definitions themselves, and `examples` what they come to over a small kernel.
 #![tactic(auto)]
 
+pub mod consistency;
 mod event;
 pub mod examples;
 pub mod laws;
