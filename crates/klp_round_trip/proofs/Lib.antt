@@ -12,5 +12,5 @@ pub mod TripLemmas
 pub mod RoundLemmas
 pub mod RefusingLemmas
 pub mod AcceptedLemmas
-pub mod Example
-pub mod Rows
+pub mod StageLemmas
+pub mod LostLemmas

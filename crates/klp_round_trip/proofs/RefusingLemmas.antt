@@ -1,7 +1,6 @@
 -- What runs of the object that refuses, and of those behind it.
 use Rattle.std.proofs.Common.{◌≡◌, ℕ, zero, suc, ◌+◌, ◌<◌, ◌≤◌, Bool, true, false, not, cond, List, [], ◌∷◌, ◌++◌, Option, Some, None, is_some, refl, sym, ap, subst, ◌∙◌, arith, append_assoc, append-nil}
 use Rattle.std.specs.List.{find, before_first}
-use Rattle.klp_types.specs.declared.shadow.ShadowKey.{ShadowKey}
 use Rattle.klp_types.specs.declared.callback.Which.{Which}
 use Rattle.klp_types.specs.declared.callback.Which.TheVariants.{Pre, PostUn}
 use Rattle.klp_types.specs.Setting.{Setting, PatchObject}
