@@ -26,7 +26,7 @@ use Rattle.klp_round_trip.proofs.Phases.Advance.{stays}
 use Rattle.klp_round_trip.proofs.PlaceLemmas.{ran_none}
 use Rattle.klp_round_trip.proofs.PhaseLemmas as phases
 
-not_false : (b : Bool) → not b ≡ false → b ≡ true
+pub not_false : (b : Bool) → not b ≡ false → b ≡ true
 not_false true e = refl
 not_false false e = cc
 

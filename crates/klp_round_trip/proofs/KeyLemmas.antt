@@ -48,7 +48,7 @@ pub two_true : (a b : Bool) → (a && b) ≡ true → (a ≡ true) × (b ≡ tru
 two_true true b e = (refl, e)
 two_true false b e = cc
 
-same_key : (own key : ShadowKey) → is_key own key ≡ true → own ≡ key
+pub same_key : (own key : ShadowKey) → is_key own key ≡ true → own ≡ key
 same_key own key e =
     let parts = two_true (own.obj == key.obj) (own.id == key.id) e in
     let objs = eqb-true own.obj key.obj parts.0 in

@@ -10,6 +10,7 @@ pub mod CompanyLemmas
 pub mod RunLemmas
 pub mod TripLemmas
 pub mod RoundLemmas
+pub mod RefusingLemmas
 pub mod AcceptedLemmas
-pub mod Example
-pub mod Rows
+pub mod StageLemmas
+pub mod LostLemmas

@@ -139,7 +139,7 @@ none_refuses (object ∷ objects) e = before_first-cons refuses object objects �
     by true e rest = cc
     by false e rest = ap (λ rest. object ∷ rest) (rest e)
 
-find_holds : (objects : Objects) (object : ℕ × PatchObject) → find refuses objects ≡ Some object → refuses object ≡ true
+pub find_holds : (objects : Objects) (object : ℕ × PatchObject) → find refuses objects ≡ Some object → refuses object ≡ true
 find_holds [] object e = cc
 find_holds (first ∷ objects) object e = by (refuses first) refl e (find_holds objects object)
   where

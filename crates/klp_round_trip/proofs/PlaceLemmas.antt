@@ -77,7 +77,7 @@ rise_taking setting state patch = rise_before 0 (loaded_objects setting state pa
 apart_places : (a b : ℕ) → a < b → (b == a) ≡ false
 apart_places a b lt = grind (arith, nat_tests)
 
-apart_places' : (a b : ℕ) → a < b → (a == b) ≡ false
+pub apart_places' : (a b : ℕ) → a < b → (a == b) ≡ false
 apart_places' a b lt = grind (arith, nat_tests)
 
 member_above : (n : ℕ) (objects : Objects) (number : ℕ) (object : ℕ × PatchObject) → RiseFrom n objects → slice_get objects number ≡ Some object → n ≤ object.0
@@ -86,13 +86,13 @@ member_above n (first ∷ objects) zero object rise is = let same : first ≡ ob
 member_above n (first ∷ objects) (suc number) object rise is = omega (arith, member_above (suc first.0) objects number object rise.1 is, rise.0)
 
 -- a call at another place isn't the object's
-other_call : (patch at : ℕ) (which : Which) (script : Option Script) (place : ℕ) (calls : List Call) → (at == place) ≡ false
+pub other_call : (patch at : ℕ) (which : Which) (script : Option Script) (place : ℕ) (calls : List Call) → (at == place) ≡ false
     → kinds_for place (call_of patch at which script ++ calls) ≡ kinds_for place calls
 other_call patch at which None place calls e = refl
 other_call patch at which (Some script) place calls e =
     ap (λ b. map (λ (c : Call). c.which) (cond b (record { patch = patch; place = at; which = which; script = script } ∷ filter (λ (c : Call). c.place == place) calls) (filter (λ (c : Call). c.place == place) calls))) e
 
-own_call : (patch place : ℕ) (which : Which) (script : Option Script) (calls : List Call)
+pub own_call : (patch place : ℕ) (which : Which) (script : Option Script) (calls : List Call)
     → kinds_for place (call_of patch place which script ++ calls) ≡ cond (is_some script) (which ∷ kinds_for place calls) (kinds_for place calls)
 own_call patch place which None calls = refl
 own_call patch place which (Some script) calls =
@@ -117,7 +117,7 @@ ran_calls patch which n (first ∷ objects) rise (suc number) object is =
     (apart_places' first.0 object.0 (member_above (suc first.0) objects number object rise.1 is))
     ∙ ran_calls patch which (suc first.0) objects rise.1 number object is
 
-found_above : (n : ℕ) (objects : Objects) (refusing : ℕ × PatchObject) → RiseFrom n objects → find refuses objects ≡ Some refusing → n ≤ refusing.0
+pub found_above : (n : ℕ) (objects : Objects) (refusing : ℕ × PatchObject) → RiseFrom n objects → find refuses objects ≡ Some refusing → n ≤ refusing.0
 found_above n [] refusing rise e = let no : ⊥ = cc in absurd no
 found_above n (object ∷ objects) refusing rise e = by (refuses object) e (found_above (suc object.0) objects refusing rise.1)
   where

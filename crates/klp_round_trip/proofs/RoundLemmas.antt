@@ -70,11 +70,11 @@ before_left from to kinds rest now later begins_to_leave left = record {
   is = ap (λ ks. PreUn ∷ ks) left.is;
 }
 
-calls_accepted : (reason : Option Refusal) (cs : List Call) → is_none reason ≡ true → calls_unless reason cs ≡ cs
+pub calls_accepted : (reason : Option Refusal) (cs : List Call) → is_none reason ≡ true → calls_unless reason cs ≡ cs
 calls_accepted None cs e = refl
 calls_accepted (Some refusal) cs e = cc
 
-enablings_first : (event : Event) (events : List Event) → enablings (event ∷ events) ≡ enablings (event ∷ []) + enablings events
+pub enablings_first : (event : Event) (events : List Event) → enablings (event ∷ events) ≡ enablings (event ∷ []) + enablings events
 enablings_first (Enable patch) events = omega arith
 enablings_first other events = omega arith
 

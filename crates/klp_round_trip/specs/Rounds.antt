@@ -30,6 +30,11 @@ those_there object kinds = filter (λ which. is_some (script_for which object.1.
 abbrev pub kinds_for : ℕ → List Call → List Which
 kinds_for place calls = map (λ (c : Call). c.which) (filter (λ (c : Call). c.place == place) calls)
 
+-- the same kinds, so many times
+abbrev pub repeated : ℕ → List Which → List Which
+repeated zero kinds = []
+repeated (suc n) kinds = kinds ++ repeated n kinds
+
 -- how many enablings there are
 abbrev pub enablings : List Event → ℕ
 enablings [] = 0

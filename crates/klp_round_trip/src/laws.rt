@@ -1,15 +1,19 @@
 //! What is proved of a patch that is enabled and gone again. A function here does nothing: its
 //! contract is the law.
-ghost use Rattle.std.specs.Prelude.{◌≡◌, ℕ, false, List, ◌++◌};
+ghost use Rattle.std.specs.Prelude.{◌≡◌, ℕ, ◌<◌, false, List, [], ◌∷◌, ◌++◌, Some};
+ghost use Rattle.std.specs.List.{find};
+ghost use Rattle.klp_types.specs.declared.callback.Which.TheVariants.{Pre};
 ghost use Rattle.klp_types.specs.declared.shadow.ShadowKey.{ShadowKey};
 ghost use Rattle.klp_machine.specs.declared.event.Event.{Event as AnyEvent};
-ghost use Rattle.klp_types.specs.Setting.{Setting};
+ghost use Rattle.klp_types.specs.Setting.{Setting, PatchObject};
 ghost use Rattle.klp_types.specs.World.{variable};
 ghost use Rattle.klp_machine.specs.State.{State, is_installed};
+ghost use Rattle.klp_types.specs.Callbacks.{refuses};
+ghost use Rattle.klp_machine.specs.Callbacks.{loaded_objects};
 ghost use Rattle.klp_machine.specs.ShadowStep.{shadow_changes};
 ghost use Rattle.klp_machine.specs.Run.{run, accepted_events, callbacks_of_run};
 ghost use Rattle.klp_round_trip.specs.Footprint.{SameFootprint};
-ghost use Rattle.klp_round_trip.specs.Rounds.{enablings, RanInRounds, RanOneRound};
+ghost use Rattle.klp_round_trip.specs.Rounds.{enablings, kinds_for, repeated, RanInRounds, RanOneRound};
 ghost use Rattle.klp_round_trip.specs.Company.{taking_part, company_keys, IsFairCompany};
 
 /// At every moment of a fair company of a patch at which the patch isn't installed, the footprint is
@@ -51,8 +55,21 @@ pub fn callbacks_of_one_round()
         → RanOneRound (taking_part setting start patch) (callbacks_of_run setting (run setting start first) second) }
 {}
 
-/// The same at the end of a fair company: where the events of a list were all accepted, this is
-/// what a call that makes them promises.
+/// Where an object refuses, each enabling runs its pre-patch callback and nothing else of it, and
+/// nothing of the objects behind it.
+pub fn callbacks_of_the_object_that_refuses()
+    ensures refusing { (setting : Setting) (patch : ℕ) (start : State) (first second third : List AnyEvent)
+        → IsFairCompany setting patch start (first ++ second ++ third)
+        → (object : ℕ × PatchObject) → find refuses (loaded_objects setting start patch) ≡ Some object
+        → kinds_for object.0 (callbacks_of_run setting (run setting start first) second) ≡ repeated (enablings second) (Pre ∷ []) }
+    ensures behind { (setting : Setting) (patch : ℕ) (start : State) (first second third : List AnyEvent)
+        → IsFairCompany setting patch start (first ++ second ++ third)
+        → (object : ℕ × PatchObject) → find refuses (loaded_objects setting start patch) ≡ Some object
+        → (place : ℕ) → object.0 < place → kinds_for place (callbacks_of_run setting (run setting start first) second) ≡ [] }
+{}
+
+/// At the end of a fair company at which the patch isn't installed, the footprint is that of the
+/// start: where the events of a list were all accepted, this is what a call that makes them promises.
 pub fn gone_at_the_end()
     ensures { (setting : Setting) (patch : ℕ) (start : State) (events : List AnyEvent)
         → IsFairCompany setting patch start events
