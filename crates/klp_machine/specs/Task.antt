@@ -1,0 +1,58 @@
+-- Tasks: how far each is brought to the patch in transition, where it is, and what it is inside of.
+use Rattle.std.specs.Prelude.{ℕ, ℤ, pos, negsuc, Bool, true, false, ◌==◌, List, map, Option, Some, None, option_map, slice_index_or, slice_set}
+use Rattle.klp_types.specs.declared.version.Version.{Version}
+use Rattle.klp_machine.specs.declared.task.Mode.{Mode}
+use Rattle.klp_machine.specs.declared.task.Mode.TheVariants.{User, Kernel, Asleep}
+
+pub record Task : Type 0 where
+  -- -1 where no patch moves; else 1 where it runs the patch in transition, and 0 where it doesn't
+  pub state : ℤ
+  pub mode : Mode
+  -- of a sleeping task: what it is inside of, innermost last
+  pub frames : List Version
+
+-- for each number the task, if it is there
+abbrev pub Tasks : Type 0
+Tasks = List (Option Task)
+
+abbrev pub task_at : Tasks → ℕ → Option Task
+task_at tasks number = slice_index_or tasks number None
+
+abbrev pub with_task : Tasks → ℕ → Option Task → Tasks
+with_task tasks number task = slice_set tasks number task
+
+abbrev pub is_mode : Mode → Mode → Bool
+is_mode User User = true
+is_mode Kernel Kernel = true
+is_mode Asleep Asleep = true
+is_mode own other = false
+
+-- whether the task is there and in this mode
+abbrev pub is_in : Mode → Option Task → Bool
+is_in mode None = false
+is_in mode (Some task) = is_mode task.mode mode
+
+-- the state of a task where no patch moves
+abbrev pub at_rest : ℤ
+at_rest = negsuc 0
+
+-- the state of a task that is brought to this target
+abbrev pub at_target : Bool → ℤ
+at_target true = pos 1
+at_target false = pos 0
+
+abbrev pub is_at_rest : ℤ → Bool
+is_at_rest (pos n) = false
+is_at_rest (negsuc n) = n == 0
+
+abbrev pub is_at : Bool → ℤ → Bool
+is_at true (pos n) = n == 1
+is_at false (pos n) = n == 0
+is_at target (negsuc n) = false
+
+abbrev pub in_state : ℤ → Task → Task
+in_state state task = record task { state = state }
+
+-- every task gets this state
+abbrev pub all_in : ℤ → Tasks → Tasks
+all_in state tasks = map (option_map (in_state state)) tasks

@@ -1,0 +1,98 @@
+ghost use Rattle.std.specs.Prelude.{◌≡◌, [], ◌∷◌, ◌++◌, length, slice_get, nat_lt, true, false};
+
+use crate::limits::MAX_FRAMES;
+use klp_types::{Site, Version};
+use std::marker::Model;
+
+/// A task, by its number.
+#[derive(Clone, Copy, Debug, Default, PartialEq, Eq)]
+pub struct TaskId(pub u8);
+
+impl Model for TaskId {
+    ghost use Rattle.std.specs.Prelude.{ℕ};
+
+    ghost Value = { ℕ };
+
+    ghost view = { λ t. t.0 };
+
+    ghost inverse = { λ n. record { 0 = n } };
+}
+
+/// Where a task is.
+#[derive(Clone, Copy, Debug, PartialEq, Eq)]
+pub enum Mode {
+    /// In user space: it runs no function of the kernel.
+    User,
+    /// It runs in the kernel.
+    Kernel,
+    /// It sleeps in the kernel, inside of functions.
+    Asleep,
+}
+
+/// The functions that a sleeping task is inside of, innermost last.
+#[derive(Clone, Copy, Debug, PartialEq, Eq)]
+pub struct Frames {
+    versions: [Version; MAX_FRAMES],
+    count: u8,
+}
+
+impl Model for Frames {
+    ghost use Rattle.std.specs.Prelude.{ℕ, List, take, length};
+    ghost use Rattle.klp_types.specs.declared.version.Version.{Version};
+    ghost use Rattle.klp_machine.specs.Padded.{padded, IsPadded, is_padded};
+
+    ghost Value = { List Version };
+
+    ghost view = { λ f. take f.count f.versions };
+
+    ghost inverse = { λ versions. record { versions = padded versions; count = length versions } };
+
+    ghost invariant = { λ f. IsPadded f.versions f.count };
+
+    ghost inverse_ok = { λ f h i. record { versions = is_padded f.versions f.count h i; count = h.fits i } };
+}
+
+impl Frames {
+    /// No frames.
+    pub fn new() -> Self
+        ensures { result ≡ [] }
+    {
+        Self {
+            versions: [Version::Original(Site(0)); MAX_FRAMES],
+            count: 0,
+        }
+    }
+
+    /// How many there are.
+    pub fn len(&self) -> u8
+        ensures { result ≡ length self.now }
+    {
+        self.count
+    }
+
+    /// The frame at a place, the outermost at 0.
+    pub fn at(&self, place: u8) -> Option<Version>
+        ensures { result ≡ slice_get self.now place }
+    {
+        if place < self.count {
+            Some(self.versions[place as usize])
+        } else {
+            None
+        }
+    }
+
+    /// Puts a frame innermost; nothing where there is no room.
+    pub fn push(&mut self, version: Version) -> bool
+        ensures full { result ≡ nat_lt (length self.old) MAX_FRAMES }
+        ensures pushed { result ≡ true → self.new ≡ self.old ++ version ∷ [] }
+        ensures unchanged { result ≡ false → self.new ≡ self.old }
+    {
+        if (self.count as usize) < MAX_FRAMES {
+            self.versions[self.count as usize] = version;
+            self.count = self.count + 1;
+            true
+        } else {
+            false
+        }
+    }
+}

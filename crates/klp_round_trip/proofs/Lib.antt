@@ -1,0 +1,16 @@
+pub mod KeyLemmas
+pub mod WorldLemmas
+pub mod ObjectLemmas
+pub mod ShadowLemmas
+pub mod Phases
+pub mod PlaceLemmas
+pub mod RefusalLemmas
+pub mod PhaseLemmas
+pub mod CompanyLemmas
+pub mod RunLemmas
+pub mod TripLemmas
+pub mod RoundLemmas
+pub mod RefusingLemmas
+pub mod AcceptedLemmas
+pub mod StageLemmas
+pub mod LostLemmas

@@ -1,0 +1,11 @@
+-- A run over one list and then another.
+use Rattle.std.proofs.Common.{◌≡◌, List, [], ◌∷◌, ◌++◌, refl}
+use Rattle.klp_types.specs.Setting.{Setting}
+use Rattle.klp_machine.specs.declared.event.Event.{Event}
+use Rattle.klp_machine.specs.State.{State}
+use Rattle.klp_machine.specs.Run.{next, run}
+
+pub run-append : (setting : Setting) (state : State) (first second : List Event)
+    → run setting state (first ++ second) ≡ run setting (run setting state first) second
+run-append setting state [] second = refl
+run-append setting state (event ∷ first) second = run-append setting (next setting state event) first second

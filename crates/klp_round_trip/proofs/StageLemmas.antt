@@ -1,0 +1,210 @@
+-- A fair company that goes through every stage.
+use Rattle.std.proofs.Common.{◌≡◌, ℕ, ◌+◌, ◌-◌, ◌≤◌, pos, Bool, true, false, cond, List, [], ◌∷◌, Option, Some, None, refl, sym, ap, subst, ◌∙◌, arith}
+use Rattle.std.specs.Prelude.{◌==◌, unwrap_or, nat_lt, nat_le}
+use Rattle.std.specs.FinMap as finite
+use Rattle.std.proofs.lemmas.Bool.{le-ltb, lt-leb, eqb-true}
+use Rattle.klp_types.specs.declared.limits.TheConstants.{MAX_VARIABLES}
+use Rattle.klp_types.specs.declared.shadow.ShadowKey.{ShadowKey}
+use Rattle.klp_types.specs.declared.edit.Edit.{Edit}
+use Rattle.klp_types.specs.declared.edit.Edit.TheVariants.{Alloc, Free}
+use Rattle.klp_machine.specs.declared.event.Event.{Event}
+use Rattle.klp_machine.specs.declared.event.Event.TheVariants.{Enable, SetEnabled, Poll, ShadowAlloc}
+use Rattle.klp_types.specs.declared.version.Move.{Move}
+use Rattle.klp_types.specs.Setting.{Setting}
+use Rattle.klp_round_trip.proofs.KeyLemmas.{key_total, two_true}
+use Rattle.klp_types.specs.World.{key_cmp, variable}
+use Rattle.klp_types.specs.Script.{Script, is_key, effect}
+use Rattle.klp_round_trip.specs.Examples.{key_of, adding, bare, every_stage}
+use Rattle.klp_machine.specs.State.{State, is_installed}
+use Rattle.klp_machine.specs.Refusals.{accepts}
+use Rattle.klp_machine.specs.Step.{accepted}
+use Rattle.klp_machine.specs.Run.{run}
+use Rattle.klp_round_trip.specs.Company.{company_keys, IsFairEvent, AreFair, IsFairStart, IsFairCompany}
+use Rattle.klp_round_trip.proofs.WorldLemmas.{effect_at}
+use Rattle.klp_round_trip.proofs.RefusalLemmas.{next_accepted}
+
+abbrev pub k9 : ShadowKey
+k9 = key_of 1 9
+
+abbrev pub k10 : ShadowKey
+k10 = key_of 1 10
+
+abbrev k7 : ShadowKey
+k7 = key_of 7 7
+
+abbrev setting : Setting
+setting = adding
+
+abbrev start : State
+start = bare
+
+abbrev e6 : List Event
+e6 = Poll ∷ []
+
+abbrev e5 : List Event
+e5 = SetEnabled 0 false ∷ e6
+
+abbrev e4 : List Event
+e4 = Poll ∷ e5
+
+abbrev e3 : List Event
+e3 = ShadowAlloc k7 1 ∷ e4
+
+abbrev e2 : List Event
+e2 = SetEnabled 0 true ∷ e3
+
+abbrev e1 : List Event
+e1 = SetEnabled 0 false ∷ e2
+
+abbrev pub Map : Type 0
+Map = finite.FinMap key_cmp ℕ
+
+abbrev m1 : Map
+m1 = finite.insert finite.empty k9 5
+
+abbrev m2 : Map
+m2 = finite.insert m1 (k7) 1
+
+abbrev m3 : Map
+m3 = finite.insert m2 k10 6
+
+abbrev m4 : Map
+m4 = finite.remove m3 k10
+
+abbrev pub with_patch : Map → Option Move → State
+with_patch shadow moving = record { loaded = true ∷ []; world = record { installed = record { patch = 0; values = [] } ∷ []; shadow = shadow }; moving = moving; pinned = false ∷ []; tasks = [] }
+
+abbrev pub to : Bool → Option Move
+to target = Some (record { patch = 0; target = target })
+
+pub inserted : (m : Map) (k : ShadowKey) (v n : ℕ) → finite.len m ≤ n → finite.len (finite.insert m k v) ≤ n + 1
+inserted m k v n le = by (finite.contains_key m k) (finite.len-insert key_total m k v)
+  where
+    by : (t : Bool) → finite.len (finite.insert m k v) ≡ cond t (finite.len m) (finite.len m + 1) → finite.len (finite.insert m k v) ≤ n + 1
+    by true e = omega (arith, e, le)
+    by false e = omega (arith, e, le)
+
+pub removed : (m : Map) (k : ShadowKey) (n : ℕ) → finite.len m ≤ n → finite.len (finite.remove m k) ≤ n
+removed m k n le = by (finite.contains_key m k) (finite.len-remove key_total m k)
+  where
+    by : (t : Bool) → finite.len (finite.remove m k) ≡ cond t (finite.len m - 1) (finite.len m) → finite.len (finite.remove m k) ≤ n
+    by true e = omega (arith, e, le)
+    by false e = omega (arith, e, le)
+
+l1 : finite.len m1 ≤ 1
+l1 = inserted finite.empty k9 5 0 (omega (arith, finite.len-empty key_cmp ℕ))
+
+l2 : finite.len m2 ≤ 2
+l2 = inserted m1 (k7) 1 1 l1
+
+l3 : finite.len m3 ≤ 3
+l3 = inserted m2 k10 6 2 l2
+
+l4 : finite.len m4 ≤ 3
+l4 = removed m3 k10 3 l3
+
+pub enough : (m : Map) (a : ℕ) → finite.len m ≤ 3 → a ≤ 3 → nat_lt MAX_VARIABLES (finite.len m + a) ≡ false
+enough m a le few = le-ltb MAX_VARIABLES (finite.len m + a) (omega arith)
+
+then : (patch : ℕ) (keys : ShadowKey → Bool) (state after : State) (event : Event) (events : List Event) → IsFairEvent setting patch keys state event
+    → (accepted setting state event).1 ≡ after → AreFair setting patch keys after events → AreFair setting patch keys state (event ∷ events)
+then patch keys state after event events is e rest = (is, subst (λ s. AreFair setting patch keys s events) (sym (next_accepted setting state event is.accepted ∙ e)) rest)
+
+abbrev keys : ShadowKey → Bool
+keys = company_keys setting start 0
+
+first : (accepted setting start (Enable 0)).1 ≡ with_patch m1 (to true)
+first = rw (finite.get-empty key_cmp k9) refl
+
+k10_free : finite.get m2 k10 ≡ None
+k10_free = finite.get-insert key_total m1 _ 1 k10 ∙ finite.get-insert key_total finite.empty k9 5 k10 ∙ finite.get-empty key_cmp k10
+
+k7_free : finite.get m1 (k7) ≡ None
+k7_free = finite.get-insert key_total finite.empty k9 5 _ ∙ finite.get-empty key_cmp _
+
+settled : (accepted setting (with_patch m2 (to true)) Poll).1 ≡ with_patch m3 None
+settled = rw k10_free refl
+
+outside : (key : ShadowKey) → is_key k7 key ≡ true → keys key ≡ false
+outside key e =
+    let both = two_true (7 == key.obj) (7 == key.id) e in
+    let objs = eqb-true 7 key.obj both.0 in
+    let ids = eqb-true 7 key.id both.1 in
+    let same : k7 ≡ key = λ i. record { obj = objs i; id = ids i } in
+    subst (λ k. keys k ≡ false) same refl
+
+not_full : nat_le MAX_VARIABLES (finite.len m1) ≡ false
+not_full = lt-leb MAX_VARIABLES (finite.len m1) (omega (arith, l1))
+
+are_fair : AreFair setting 0 keys start every_stage
+are_fair =
+    then 0 keys start (with_patch m1 (to true)) (Enable 0) e1 (record { accepted = rw (finite.len-empty key_cmp ℕ) refl; of_company = refl; none_dropped = refl }) first
+    (then 0 keys (with_patch m1 (to true)) (with_patch m1 (to false)) (SetEnabled 0 false) e2 (record { accepted = rw (enough m1 0 (omega (arith, l1)) (omega arith)) refl; of_company = refl; none_dropped = refl }) refl
+    (then 0 keys (with_patch m1 (to false)) (with_patch m1 (to true)) (SetEnabled 0 true) e3 (record { accepted = rw (enough m1 0 (omega (arith, l1)) (omega arith)) refl; of_company = refl; none_dropped = refl }) refl
+    (then 0 keys (with_patch m1 (to true)) (with_patch m2 (to true)) (ShadowAlloc k7 1) e4 (record { accepted = rw (k7_free, not_full) refl; of_company = outside; none_dropped = refl }) refl
+    (then 0 keys (with_patch m2 (to true)) (with_patch m3 None) Poll e5 (record { accepted = rw (enough m2 1 (omega (arith, l2)) (omega arith)) refl; of_company = λ key e. cc; none_dropped = refl }) settled
+    (then 0 keys (with_patch m3 None) (with_patch m4 (to false)) (SetEnabled 0 false) e6 (record { accepted = rw (enough m3 0 l3 (omega arith)) refl; of_company = refl; none_dropped = refl }) refl
+    (then 0 keys (with_patch m4 (to false)) (record start { world = record { installed = []; shadow = finite.remove m4 k9 } }) Poll []
+    (record { accepted = rw (enough m4 0 l4 (omega arith)) refl; of_company = λ key e. cc; none_dropped = refl }) refl tt))))))
+
+-- a script that adds what isn't there, and one that removes it
+added_removed : (own key : ShadowKey) (value : ℕ) (was : Option ℕ) → (is_key own key ≡ true → was ≡ None)
+    → cond (is_key own key) None (cond (is_key own key) (Some (unwrap_or was value)) was) ≡ was
+added_removed own key value was none = by (is_key own key) refl
+  where
+    by : (t : Bool) → is_key own key ≡ t → cond t None (cond t (Some (unwrap_or was value)) was) ≡ was
+    by true e = sym (none e)
+    by false e = refl
+
+abbrev pub script : List Edit → Script
+script edits = record { edits = edits; status = pos 0 }
+
+k10_then : (key : ShadowKey) → is_key k10 key ≡ true → variable (effect 0 start.world (script (Alloc k9 5 ∷ []))) key ≡ None
+k10_then key e =
+    let both = two_true (1 == key.obj) (10 == key.id) e in
+    let objs = eqb-true 1 key.obj both.0 in
+    let ids = eqb-true 10 key.id both.1 in
+    let same : k10 ≡ key = λ i. record { obj = objs i; id = ids i } in
+    subst (λ k. variable (effect 0 start.world (script (Alloc k9 5 ∷ []))) k ≡ None) same
+    (effect_at 0 start.world (script (Alloc k9 5 ∷ [])) k10 ∙ finite.get-empty key_cmp k10)
+
+fair_start : IsFairStart setting 0 start
+fair_start = record {
+  still = refl;
+  away = refl;
+  undone = (
+    record {
+      pre = λ key e.
+          effect_at 0 (effect 0 start.world (script (Alloc k9 5 ∷ []))) (script (Free k9 ∷ [])) key
+          ∙ ap (λ was. cond (is_key k9 key) None was) (effect_at 0 start.world (script (Alloc k9 5 ∷ [])) key)
+          ∙ added_removed k9 key 5 (variable start.world key) (λ e. finite.get-empty key_cmp key);
+      post = λ key e.
+          let world = effect 0 start.world (script (Alloc k9 5 ∷ [])) in
+          effect_at 0 (effect 0 world (script (Alloc k10 6 ∷ []))) (script (Free k10 ∷ [])) key
+          ∙ ap (λ was. cond (is_key k10 key) None was) (effect_at 0 world (script (Alloc k10 6 ∷ [])) key)
+          ∙ added_removed k10 key 6 (variable world key) (k10_then key);
+    },
+    tt,
+  );
+  apart = (λ key e. refl, tt);
+}
+
+pub fair : IsFairCompany setting 0 start every_stage
+fair = record { fair_start = fair_start; fair_events = are_fair }
+
+-- an event is accepted, and leads there
+pub on : (setting : Setting) (state after : State) (event : Event) (events : List Event) → accepts setting state event ≡ true → (accepted setting state event).1 ≡ after
+    → run setting state (event ∷ events) ≡ run setting after events
+on setting state after event events e is = ap (λ s. run setting s events) (next_accepted setting state event e ∙ is)
+
+-- and the patch is gone in the end
+pub gone : is_installed (run setting start every_stage) 0 ≡ false
+gone =
+    ap (λ s. is_installed s 0)
+    (on setting start (with_patch m1 (to true)) (Enable 0) e1 (rw (finite.len-empty key_cmp ℕ) refl) first
+    ∙ on setting (with_patch m1 (to true)) (with_patch m1 (to false)) (SetEnabled 0 false) e2 (rw (enough m1 0 (omega (arith, l1)) (omega arith)) refl) refl
+    ∙ on setting (with_patch m1 (to false)) (with_patch m1 (to true)) (SetEnabled 0 true) e3 (rw (enough m1 0 (omega (arith, l1)) (omega arith)) refl) refl
+    ∙ on setting (with_patch m1 (to true)) (with_patch m2 (to true)) (ShadowAlloc k7 1) e4 (rw (k7_free, not_full) refl) refl
+    ∙ on setting (with_patch m2 (to true)) (with_patch m3 None) Poll e5 (rw (enough m2 1 (omega (arith, l2)) (omega arith)) refl) settled
+    ∙ on setting (with_patch m3 None) (with_patch m4 (to false)) (SetEnabled 0 false) e6 (rw (enough m3 0 l3 (omega arith)) refl) refl
+    ∙ on setting (with_patch m4 (to false)) (record start { world = record { installed = []; shadow = finite.remove m4 k9 } }) Poll [] (rw (enough m4 0 l4 (omega arith)) refl) refl)

@@ -1,0 +1,14 @@
+use Rattle.klp_round_trip.proofs.LostLemmas.{lost_gone, lost, expected, not_undone}
+use Rattle.klp_round_trip.proofs.examples.a_variable_that_was_there_is_lost.Goals as goal
+
+pub returns-clause-gone : goal.returns-clause-gone
+returns-clause-gone c = lost_gone
+
+pub returns-clause-lost : goal.returns-clause-lost
+returns-clause-lost c = lost
+
+pub returns-clause-expected : goal.returns-clause-expected
+returns-clause-expected c = expected
+
+pub returns-clause-not_undone : goal.returns-clause-not_undone
+returns-clause-not_undone c = not_undone

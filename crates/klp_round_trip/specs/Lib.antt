@@ -1,0 +1,4 @@
+pub mod Footprint
+pub mod Company
+pub mod Rounds
+pub mod Examples

@@ -1,0 +1,38 @@
+//! Worked examples, by computation: that there are fair companies, and what is lost where a premise
+//! fails. A function here does nothing: its contract is the example.
+ghost use Rattle.std.specs.Prelude.{◌≡◌, true, false, Some, None};
+ghost use Rattle.klp_types.specs.World.{variable};
+ghost use Rattle.klp_machine.specs.declared.event.Event.TheVariants.{ShadowAlloc};
+ghost use Rattle.klp_machine.specs.State.{State, is_installed};
+ghost use Rattle.klp_machine.specs.ShadowStep.{shadow_changed, shadow_changes, concerns};
+ghost use Rattle.klp_machine.specs.Run.{run};
+ghost use Rattle.klp_round_trip.specs.Company.{taking_part, company_keys, EachUndoes, IsFairCompany};
+ghost use Rattle.klp_round_trip.specs.Examples.{key_of, adding, bare, every_stage, own_variable_first, sharing, with_five, there_and_back};
+
+/// A cumulative patch is enabled, turned round twice, complete, disabled and gone, and a variable of
+/// somebody else is added between: a fair company.
+pub fn a_fair_company_goes_through_every_stage()
+    ensures fair { IsFairCompany adding 0 bare every_stage }
+    ensures gone { is_installed (run adding bare every_stage) 0 ≡ false }
+{}
+
+/// A variable of the patch's callbacks is there before the patch comes: pre-patch leaves it and
+/// post-unpatch removes it, so it is lost. The event that adds it concerns a variable of the company,
+/// and from behind that event the callbacks don't undo each other.
+pub fn a_variable_that_was_there_is_lost()
+    ensures gone { is_installed (run adding bare own_variable_first) 0 ≡ false }
+    ensures lost { variable (run adding bare own_variable_first).world (key_of 1 9) ≡ None }
+    ensures expected { variable (shadow_changes bare.world own_variable_first) (key_of 1 9) ≡ Some 77 }
+    ensures of_the_company { company_keys adding bare 0 (key_of 1 9) ≡ true }
+    ensures concerned { concerns (ShadowAlloc (key_of 1 9) 77) (key_of 1 9) ≡ true }
+    ensures not_undone { EachUndoes 0 (shadow_changed bare.world (ShadowAlloc (key_of 1 9) 77)) (taking_part adding bare 0) → ⊥ }
+{}
+
+/// Two objects whose callbacks share a variable: those of each undo each other, and yet the variable
+/// isn't what it was when the patch is gone.
+pub fn objects_that_share_a_variable_leave_a_trace()
+    ensures undone { EachUndoes 0 with_five.world (taking_part sharing with_five 0) }
+    ensures before { variable with_five.world (key_of 1 1) ≡ Some 5 }
+    ensures gone { is_installed (run sharing with_five there_and_back) 0 ≡ false }
+    ensures after { variable (run sharing with_five there_and_back).world (key_of 1 1) ≡ Some 9 }
+{}
