@@ -10,3 +10,5 @@ pub mod AllowedLemmas
 pub mod AllowedRunLemmas
 pub mod TieLemmas
 pub mod OpeningLemmas
+pub mod VersionLemmas
+pub mod LeavingLemmas

@@ -61,7 +61,7 @@ or_true : (b : Bool) → (b || true) ≡ true
 or_true true = refl
 or_true false = refl
 
-equal_either_way : (a b : ℕ) → (a == b) ≡ (b == a)
+pub equal_either_way : (a b : ℕ) → (a == b) ≡ (b == a)
 equal_either_way a b = grind (arith, nat_tests)
 
 pub one_of-put : (patch : ℕ) (patches : List ℕ) → is_one_of patch (patches ++ patch ∷ []) ≡ true
