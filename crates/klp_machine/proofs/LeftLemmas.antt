@@ -23,7 +23,8 @@ use Rattle.klp_machine.proofs.OrderLemmas.{equal_either_way}
 use Rattle.klp_machine.specs.Observed.{Frame, Seen, seen_from, IsHonestRun}
 use Rattle.klp_machine.specs.InPlace.{IsInPlace}
 use Rattle.klp_machine.specs.Consistent.{AreCurrent, is_number, StandsIn, AllStand, NoneLeft, is_of_patch, below}
-use Rattle.klp_machine.proofs.VersionLemmas.{version_in, chosen, others, newest_in, nothing_in}
+use Rattle.klp_machine.specs.Versions.{version_in, chosen, others}
+use Rattle.klp_machine.proofs.VersionLemmas.{newest_in, nothing_in}
 use Rattle.klp_machine.proofs.PickLemmas.{now, current}
 use Rattle.klp_machine.proofs.KeptLemmas.{IsKept}
 use Rattle.klp_machine.proofs.ObservedLemmas.{kept_from}

@@ -18,3 +18,4 @@ pub mod ObservedLemmas
 pub mod LeftLemmas
 pub mod MixedLemmas
 pub mod ObservedExamples
+pub mod LeavingLemmas

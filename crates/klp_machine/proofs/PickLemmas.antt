@@ -25,7 +25,8 @@ use Rattle.klp_machine.proofs.RefusalLemmas.{both}
 use Rattle.klp_machine.proofs.OrderLemmas.{left_out, from_on, distinct-put, equal_either_way}
 use Rattle.klp_machine.specs.Observed.{Frame, versions}
 use Rattle.klp_machine.specs.Consistent.{AreCurrent}
-use Rattle.klp_machine.proofs.VersionLemmas.{version_in, others, newest_in, newest_others, newest_from_on, others-append, others-reverse, others_same, left_out-others, distinct-reverse}
+use Rattle.klp_machine.specs.Versions.{version_in, others}
+use Rattle.klp_machine.proofs.VersionLemmas.{newest_in, newest_others, newest_from_on, others-append, others-reverse, others_same, left_out-others, distinct-reverse}
 
 -- the version by what moves, the patches and the task's state
 abbrev pub version_for : Setting → Option Move → List ℕ → ℤ → ℕ → Version

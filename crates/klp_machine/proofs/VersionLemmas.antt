@@ -1,38 +1,59 @@
 -- The version that is run at a site, by the list of patches alone.
-use Rattle.std.proofs.Common.{◌≡◌, ℕ, pos, Bool, true, false, not, ◌&&◌, ◌||◌, cond, List, [], ◌∷◌, ◌++◌, reverse, Option, Some, None, refl, sym, ap, subst, ◌∙◌}
+use Rattle.std.proofs.Common.{◌≡◌, ℕ, ℤ, pos, Bool, true, false, not, ◌&&◌, ◌||◌, cond, List, [], ◌∷◌, ◌++◌, reverse, Option, Some, None, is_some, refl, sym, ap, subst, ◌∙◌}
 use Rattle.std.specs.Prelude.{◌==◌, if◌then◌else◌}
 use Rattle.std.specs.List.{list_any}
 use Rattle.std.proofs.lemmas.Bool.{eqb-true}
+use Rattle.std.proofs.lemmas.List.Folds.{list_any-append}
 use Rattle.std.proofs.lemmas.Grind.{reverse_onto}
 use Rattle.klp_types.specs.declared.version.Version.{Version}
-use Rattle.klp_types.specs.declared.version.Version.TheVariants.{Original, New}
 use Rattle.klp_types.specs.declared.version.Entry.{Entry}
 use Rattle.klp_types.specs.declared.version.Move.{Move}
 use Rattle.klp_types.specs.Setting.{Setting, functions_of, function_for, replaces}
 use Rattle.klp_types.specs.Entries.{entry_of, patches_site, entries_from, is_empty}
-use Rattle.klp_types.specs.Pick.{entries_for, newest_version}
-use Rattle.klp_machine.specs.Allowed.{is_one_of, AreDistinct}
-use Rattle.klp_types.proofs.EntryLemmas.{entries_from-any, list_any-reverse}
+use Rattle.klp_types.specs.Pick.{moves, is_unpatched, entries_for, newest_version, target_of}
+use Rattle.klp_machine.specs.Allowed.{is_one_of, AreDistinct, Allowed}
+use Rattle.klp_machine.specs.State.{State, installed_patches}
+use Rattle.klp_machine.specs.Entries.{is_site_loaded}
+use Rattle.klp_machine.specs.Pick.{pick_in}
+use Rattle.klp_machine.specs.Versions.{chosen, version_in, others}
 use Rattle.klp_machine.proofs.ScriptLemmas.{two_false}
 use Rattle.klp_machine.proofs.RefusalLemmas.{both}
 use Rattle.klp_machine.proofs.OrderLemmas.{left_out, from_on, distinct-put, equal_either_way}
 
--- what a patch makes of the version of the older ones
-abbrev pub chosen : ℕ → ℕ → Option ℕ → Bool → Version → Version
-chosen site patch (Some function) replace older = New patch function
-chosen site patch None true older = Original site
-chosen site patch None false older = older
+or-comm : (a b : Bool) → (a || b) ≡ (b || a)
+or-comm true true = refl
+or-comm true false = refl
+or-comm false true = refl
+or-comm false false = refl
 
--- the version by the patches, newest first
-abbrev pub version_in : Setting → ℕ → List ℕ → Version
-version_in setting site [] = Original site
-version_in setting site (patch ∷ older) =
-    chosen site patch (function_for (functions_of setting patch) site) (replaces setting patch) (version_in setting site older)
+or-false : (a : Bool) → (a || false) ≡ a
+or-false true = refl
+or-false false = refl
 
--- the other patches
-abbrev pub others : ℕ → List ℕ → List ℕ
-others patch [] = []
-others patch (first ∷ patches) = cond (first == patch) (others patch patches) (first ∷ others patch patches)
+pub list_any-reverse : {X : Type 0} (p : X → Bool) (xs : List X) → list_any p (reverse xs) ≡ list_any p xs
+list_any-reverse p [] = refl
+list_any-reverse p (x ∷ xs) =
+    ap (list_any p) (reverse_onto xs x [])
+    ∙ list_any-append p (reverse xs) (x ∷ [])
+    ∙ ap (λ b. b || (p x || false)) (list_any-reverse p xs)
+    ∙ ap (λ b. list_any p xs || b) (or-false (p x))
+    ∙ or-comm (list_any p xs) (p x)
+
+-- there is an entry where a patch has a function
+over_entries : (patch : ℕ) (function : Option ℕ) (replace older : Bool) (entries : List Entry)
+    → not (is_empty entries) ≡ older
+    → not (is_empty (entry_of patch function (replace && older) ++ entries)) ≡ (is_some function || older)
+over_entries patch (Some f) replace older entries h = refl
+over_entries patch None true true entries h = refl
+over_entries patch None true false entries h = h
+over_entries patch None false older entries h = h
+
+entries_from-any : (setting : Setting) (site : ℕ) (patches : List ℕ)
+    → not (is_empty (entries_from setting site patches)) ≡ list_any (patches_site setting site) patches
+entries_from-any setting site [] = refl
+entries_from-any setting site (patch ∷ older) =
+    over_entries patch (function_for (functions_of setting patch) site) (replaces setting patch) (list_any (patches_site setting site) older)
+    (entries_from setting site older) (entries_from-any setting site older)
 
 pub others_same : (patch : ℕ) (patches : List ℕ) → is_one_of patch patches ≡ false → others patch patches ≡ patches
 others_same patch [] none = refl
@@ -187,3 +208,49 @@ distinct-reverse [] distinct = tt
 distinct-reverse (first ∷ patches) distinct =
     subst AreDistinct (sym (reverse_onto patches first []))
     (distinct-put first (reverse patches) (distinct-reverse patches distinct.1) (list_any-reverse (λ p. p == first) patches ∙ distinct.0))
+
+module _ (setting : Setting) where
+  -- the version by what moves, the patches and the task's state
+  abbrev version_for : Option Move → List ℕ → ℤ → ℕ → Version
+  version_for moving patches own site = newest_version site (entries_for moving own (entries_from setting site (reverse patches)))
+
+  -- a task that doesn't lag runs the newest entry
+  not_dropped : (site : ℕ) (moving : Option Move) (own : ℤ) (entries : List Entry) → is_unpatched own ≡ false
+      → newest_version site (entries_for moving own entries) ≡ newest_version site entries
+  not_dropped site moving own [] e = refl
+  not_dropped site moving own (newest ∷ older) e =
+      ap (λ b. newest_version site (if moves moving newest.patch && b then older else newest ∷ older)) e ∙ by (moves moving newest.patch)
+    where
+      by : (t : Bool) → newest_version site (if t && false then older else newest ∷ older) ≡ newest_version site (newest ∷ older)
+      by true = refl
+      by false = refl
+
+  still : (site : ℕ) (own : ℤ) (entries : List Entry) → newest_version site (entries_for None own entries) ≡ newest_version site entries
+  still site own [] = refl
+  still site own (newest ∷ older) = refl
+
+  picked : (state : State) (own : ℤ) (site : ℕ) (version : Version) → is_site_loaded setting state site ≡ true
+      → version_for state.moving (installed_patches state) own site ≡ version → pick_in setting state own site ≡ target_of setting version
+  picked state own site version loaded is =
+      ap (λ l. if l then target_of setting (newest_version site (entries_for state.moving own (if l then entries_from setting site (reverse (installed_patches state)) else []))) else None) loaded
+      ∙ ap (target_of setting) is
+
+  pub runs_newest : (state : State) (own : ℤ) (site : ℕ) → is_site_loaded setting state site ≡ true → is_unpatched own ≡ false
+      → pick_in setting state own site ≡ target_of setting (version_in setting site (reverse (installed_patches state)))
+  runs_newest state own site loaded e =
+      picked state own site _ loaded (not_dropped site state.moving own (entries_from setting site (reverse (installed_patches state))) e
+      ∙ newest_in setting site (reverse (installed_patches state)))
+
+  pub runs_at_rest : (state : State) (own : ℤ) (site : ℕ) → is_site_loaded setting state site ≡ true → state.moving ≡ None
+      → pick_in setting state own site ≡ target_of setting (version_in setting site (reverse (installed_patches state)))
+  runs_at_rest state own site loaded e =
+      picked state own site _ loaded (ap (λ m. newest_version site (entries_for m own (entries_from setting site (reverse (installed_patches state))))) e
+      ∙ still site own (entries_from setting site (reverse (installed_patches state)))
+      ∙ newest_in setting site (reverse (installed_patches state)))
+
+  pub runs_others : (state : State) (move : Move) (site : ℕ) → Allowed setting state → is_site_loaded setting state site ≡ true → state.moving ≡ Some move
+      → pick_in setting state (pos 0) site ≡ target_of setting (version_in setting site (reverse (others move.patch (installed_patches state))))
+  runs_others state move site allowed loaded e =
+      picked state (pos 0) site _ loaded (ap (λ m. newest_version site (entries_for m (pos 0) (entries_from setting site (reverse (installed_patches state))))) e
+      ∙ newest_others setting site move (reverse (installed_patches state)) (distinct-reverse (installed_patches state) allowed.distinct)
+      ∙ ap (version_in setting site) (others-reverse move.patch (installed_patches state)))

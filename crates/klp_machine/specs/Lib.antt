@@ -5,6 +5,7 @@ pub mod InPlace
 pub mod Entries
 pub mod Bytes
 pub mod Pick
+pub mod Versions
 pub mod Rows
 pub mod Blocked
 pub mod Frames

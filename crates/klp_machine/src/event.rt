@@ -80,7 +80,7 @@ pub enum Refusal {
     /// The patch is installed already.
     #[error("AlreadyThere")]
     AlreadyThere = 3,
-    /// The patch is pinned: it was forced.
+    /// The patch is pinned: a transition away from it was forced.
     #[error("Pinned")]
     Pinned = 4,
     /// The patch isn't compatible with the system states of the installed ones.

@@ -8,8 +8,9 @@ ghost use Rattle.klp_machine.specs.declared.event.Event.TheVariants.{Enable, Set
 ghost use Rattle.klp_machine.specs.declared.event.Reply.TheVariants.{Started, Reversed, Pending, Completed, PreFailed};
 ghost use Rattle.klp_machine.specs.declared.event.Refusal.TheVariants.{InUse};
 ghost use Rattle.klp_machine.specs.State.{State, installed_patches};
-ghost use Rattle.klp_machine.specs.Entries.{entries_of};
+ghost use Rattle.klp_machine.specs.Entries.{entries_of, is_hooked};
 ghost use Rattle.klp_machine.specs.Pick.{pick};
+ghost use Rattle.klp_machine.specs.Rows.{row_of};
 ghost use Rattle.klp_machine.specs.Blocked.{blocked};
 ghost use Rattle.klp_machine.specs.EventCalls.{calls};
 ghost use Rattle.klp_machine.specs.Refusals.{refusal};
@@ -83,6 +84,29 @@ pub fn tasks_pick_by_their_state()
     ensures newest { pick small_kernel (state_with true (0 ∷ 2 ∷ []) (move_of 2 true) (in_kernel (pos 1) ∷ [])) 0 0 ≡ Some (record { version = New 2 0; address = 0 }) }
     ensures nobody { pick small_kernel (state_with true (0 ∷ 2 ∷ []) (move_of 2 true) (in_kernel (pos 1) ∷ [])) 1 0 ≡ None }
     ensures unloaded { pick small_kernel (state_with false (0 ∷ 2 ∷ []) (move_of 2 true) (in_kernel (pos 1) ∷ [])) 0 2 ≡ None }
+{}
+
+/// The row of a site has its two newest entries with the addresses where their versions begin: for a nop,
+/// and where there is no entry, behind the entry site of the original. A site is hooked where it has an
+/// entry, and a site of an object that isn't loaded has no row.
+pub fn a_row_tells_the_two_newest_entries()
+    ensures nop { row_of small_kernel (state_with true (0 ∷ 1 ∷ []) (move_of 1 true) []) 1
+        ≡ Some (record {
+          word = record { top = Some (record { patch = 1; func = None }); below = Some (record { patch = 0; func = Some 1 }); moves = true };
+          original = 0xffff_ffff_8100_2005;
+          top = 0xffff_ffff_8100_2005;
+          below = 1;
+        }) }
+    ensures bare { row_of small_kernel (state_with true (2 ∷ []) None []) 1
+        ≡ Some (record {
+          word = record { top = None; below = None; moves = false };
+          original = 0xffff_ffff_8100_2005;
+          top = 0xffff_ffff_8100_2005;
+          below = 0xffff_ffff_8100_2005;
+        }) }
+    ensures unloaded { row_of small_kernel (state_with false (0 ∷ []) None []) 2 ≡ None }
+    ensures hooked { is_hooked small_kernel (state_with true (0 ∷ []) None []) 1 ≡ true }
+    ensures not_hooked { is_hooked small_kernel (state_with true (2 ∷ []) None []) 1 ≡ false }
 {}
 
 /// A module that comes gets pre-patch and post-patch patch by patch, oldest first; a patch that moves

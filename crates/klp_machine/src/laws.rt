@@ -1,13 +1,19 @@
 //! What is proved of the definitions themselves. Each law is the contract of a function that does
 //! nothing: it keeps the definitions honest, and a crate above may rely on it.
-ghost use Rattle.std.specs.Prelude.{◌≡◌, false, List};
+ghost use Rattle.std.specs.Prelude.{◌≡◌, ℕ, ℤ, pos, true, false, not, ◌==◌, List, reverse, filter, Some, None};
 ghost use Rattle.klp_types.specs.declared.shadow.ShadowKey.{ShadowKey};
 ghost use Rattle.klp_types.specs.Setting.{Setting};
-ghost use Rattle.klp_types.specs.World.{variable};
+ghost use Rattle.klp_types.specs.World.{variable, without_patch};
+ghost use Rattle.klp_types.specs.declared.version.Entry.{Entry};
+ghost use Rattle.klp_types.specs.declared.version.Move.{Move};
 ghost use Rattle.klp_types.specs.Entries.{is_empty};
+ghost use Rattle.klp_types.specs.Pick.{moves, is_unpatched, target_of};
 ghost use Rattle.klp_types.specs.Callbacks.{after_calls};
 ghost use Rattle.klp_machine.specs.declared.event.Event.{Event as AnyEvent};
-ghost use Rattle.klp_machine.specs.State.{State};
+ghost use Rattle.klp_machine.specs.State.{State, installed_patches, with_world};
+ghost use Rattle.klp_machine.specs.Entries.{is_site_loaded, entries_of};
+ghost use Rattle.klp_machine.specs.Pick.{pick_in};
+ghost use Rattle.klp_machine.specs.Versions.{version_in, others};
 ghost use Rattle.klp_machine.specs.EventCalls.{calls};
 ghost use Rattle.klp_machine.specs.ShadowStep.{shadow_changed};
 ghost use Rattle.klp_machine.specs.Step.{accepted};
@@ -33,6 +39,24 @@ pub fn states_stay_allowed()
 pub fn callbacks_make_the_changes()
     ensures { (setting : Setting) (state : State) (event : AnyEvent) (key : ShadowKey)
         → variable (accepted setting state event).1.world key ≡ variable (after_calls (shadow_changed state.world event) (calls setting state event)) key }
+{}
+
+/// What a task runs, by the installed patches alone: one of state 0 runs what it would run if the
+/// moving patch weren't installed, any other, and every task where nothing moves, the newest version.
+pub fn tasks_run_whole_lists_of_patches()
+    ensures patched { (setting : Setting) (state : State) (own : ℤ) (site : ℕ) → is_site_loaded setting state site ≡ true → is_unpatched own ≡ false
+        → pick_in setting state own site ≡ target_of setting (version_in setting site (reverse (installed_patches state))) }
+    ensures at_rest { (setting : Setting) (state : State) (own : ℤ) (site : ℕ) → is_site_loaded setting state site ≡ true → state.moving ≡ None
+        → pick_in setting state own site ≡ target_of setting (version_in setting site (reverse (installed_patches state))) }
+    ensures unpatched { (setting : Setting) (state : State) (move : Move) (site : ℕ) → Allowed setting state → is_site_loaded setting state site ≡ true → state.moving ≡ Some move
+        → pick_in setting state (pos 0) site ≡ target_of setting (version_in setting site (reverse (others move.patch (installed_patches state)))) }
+{}
+
+/// When the moving patch is taken out its own entries are gone, and those of the other patches are as
+/// they were, nops among them.
+pub fn a_patch_leaves_the_entries_of_the_others()
+    ensures { (setting : Setting) (state : State) (patch : ℕ) (site : ℕ) → Allowed setting state → moves state.moving patch ≡ true
+        → entries_of setting (with_world state (without_patch state.world patch)) site ≡ filter (λ (e : Entry). not (e.patch == patch)) (entries_of setting state site) }
 {}
 
 /// How many tasks there may be, and how deep they may sleep.

@@ -5,7 +5,7 @@ use klp_types::{Site, Version};
 use std::marker::Model;
 
 /// A task, by its number.
-#[derive(Clone, Copy, Debug, Default, PartialEq, Eq)]
+#[derive(Clone, Copy, Debug, PartialEq, Eq)]
 pub struct TaskId(pub u8);
 
 impl Model for TaskId {
