@@ -53,19 +53,19 @@ bare_with shadow = record bare { world = record { installed = []; shadow = shado
 abbrev from_enable : List Event
 from_enable = Enable 0 ∷ Poll ∷ SetEnabled 0 false ∷ Poll ∷ []
 
-came : (accepted adding (bare_with n1) (Enable 0)).1 ≡ with_patch n1 (to true)
+came : (accepted adding (bare_with n1) (Enable 0)).1 ≡ with_patch n1 (to true) []
 came = rw there refl
 
-complete : (accepted adding (with_patch n1 (to true)) Poll).1 ≡ with_patch n3 None
+complete : (accepted adding (with_patch n1 (to true) []) Poll).1 ≡ with_patch n3 None []
 complete = rw free refl
 
 ends : run adding bare own_variable_first ≡ bare_with n5
 ends =
     on adding bare (bare_with n1) (ShadowAlloc k9 77) from_enable (rw (finite.get-empty key_cmp k9, finite.len-empty key_cmp ℕ) refl) refl
-    ∙ on adding (bare_with n1) (with_patch n1 (to true)) (Enable 0) (Poll ∷ SetEnabled 0 false ∷ Poll ∷ []) (rw (enough n1 1 (omega (arith, few1)) (omega arith)) refl) came
-    ∙ on adding (with_patch n1 (to true)) (with_patch n3 None) Poll (SetEnabled 0 false ∷ Poll ∷ []) (rw (enough n1 1 (omega (arith, few1)) (omega arith)) refl) complete
-    ∙ on adding (with_patch n3 None) (with_patch n4 (to false)) (SetEnabled 0 false) (Poll ∷ []) (rw (enough n3 0 (omega (arith, few3)) (omega arith)) refl) refl
-    ∙ on adding (with_patch n4 (to false)) (bare_with n5) Poll [] (rw (enough n4 0 (omega (arith, few4)) (omega arith)) refl) refl
+    ∙ on adding (bare_with n1) (with_patch n1 (to true) []) (Enable 0) (Poll ∷ SetEnabled 0 false ∷ Poll ∷ []) (rw (enough n1 1 (omega (arith, few1)) (omega arith)) refl) came
+    ∙ on adding (with_patch n1 (to true) []) (with_patch n3 None []) Poll (SetEnabled 0 false ∷ Poll ∷ []) (rw (enough n1 1 (omega (arith, few1)) (omega arith)) refl) complete
+    ∙ on adding (with_patch n3 None []) (with_patch n4 (to false) []) (SetEnabled 0 false) (Poll ∷ []) (rw (enough n3 0 (omega (arith, few3)) (omega arith)) refl) refl
+    ∙ on adding (with_patch n4 (to false) []) (bare_with n5) Poll [] (rw (enough n4 0 (omega (arith, few4)) (omega arith)) refl) refl
 
 pub lost_gone : is_installed (run adding bare own_variable_first) 0 ≡ false
 lost_gone = ap (λ s. is_installed s 0) ends

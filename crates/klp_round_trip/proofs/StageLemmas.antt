@@ -1,5 +1,5 @@
 -- A fair company that goes through every stage.
-use Rattle.std.proofs.Common.{◌≡◌, ℕ, ◌+◌, ◌-◌, ◌≤◌, pos, Bool, true, false, cond, List, [], ◌∷◌, Option, Some, None, refl, sym, ap, subst, ◌∙◌, arith}
+use Rattle.std.proofs.Common.{◌≡◌, ℕ, ◌+◌, ◌-◌, ◌≤◌, ℤ, pos, negsuc, Bool, true, false, cond, List, [], ◌∷◌, Option, Some, None, refl, sym, ap, subst, ◌∙◌, arith}
 use Rattle.std.specs.Prelude.{◌==◌, unwrap_or, nat_lt, nat_le}
 use Rattle.std.specs.FinMap as finite
 use Rattle.std.proofs.lemmas.Bool.{le-ltb, lt-leb, eqb-true}
@@ -8,13 +8,16 @@ use Rattle.klp_types.specs.declared.shadow.ShadowKey.{ShadowKey}
 use Rattle.klp_types.specs.declared.edit.Edit.{Edit}
 use Rattle.klp_types.specs.declared.edit.Edit.TheVariants.{Alloc, Free}
 use Rattle.klp_machine.specs.declared.event.Event.{Event}
-use Rattle.klp_machine.specs.declared.event.Event.TheVariants.{Enable, SetEnabled, Poll, ShadowAlloc}
+use Rattle.klp_machine.specs.declared.event.Event.TheVariants.{Enable, SetEnabled, Poll, EnterKernel, ExitToUser, Wake, ShadowAlloc}
 use Rattle.klp_types.specs.declared.version.Move.{Move}
 use Rattle.klp_types.specs.Setting.{Setting}
 use Rattle.klp_round_trip.proofs.KeyLemmas.{key_total, two_true}
 use Rattle.klp_types.specs.World.{key_cmp, variable}
 use Rattle.klp_types.specs.Script.{Script, is_key, effect}
-use Rattle.klp_round_trip.specs.Examples.{key_of, adding, bare, every_stage}
+use Rattle.klp_round_trip.specs.Examples.{key_of, adding, one_task, with_a_sleeper, every_stage}
+use Rattle.klp_types.specs.declared.version.Version.TheVariants.{Original}
+use Rattle.klp_machine.specs.declared.task.Mode.TheVariants.{User, Kernel, Asleep}
+use Rattle.klp_machine.specs.Task.{Tasks}
 use Rattle.klp_machine.specs.State.{State, is_installed}
 use Rattle.klp_machine.specs.Refusals.{accepts}
 use Rattle.klp_machine.specs.Step.{accepted}
@@ -36,25 +39,43 @@ abbrev setting : Setting
 setting = adding
 
 abbrev start : State
-start = bare
+start = with_a_sleeper
+
+abbrev e12 : List Event
+e12 = Poll ∷ []
+
+abbrev e11 : List Event
+e11 = ExitToUser 0 ∷ e12
+
+abbrev e10 : List Event
+e10 = EnterKernel 0 ∷ e11
+
+abbrev e9 : List Event
+e9 = Poll ∷ e10
+
+abbrev e8 : List Event
+e8 = SetEnabled 0 false ∷ e9
+
+abbrev e7 : List Event
+e7 = Poll ∷ e8
 
 abbrev e6 : List Event
-e6 = Poll ∷ []
+e6 = ExitToUser 0 ∷ e7
 
 abbrev e5 : List Event
-e5 = SetEnabled 0 false ∷ e6
+e5 = Wake 0 ∷ e6
 
 abbrev e4 : List Event
-e4 = Poll ∷ e5
+e4 = ShadowAlloc k7 1 ∷ e5
 
 abbrev e3 : List Event
-e3 = ShadowAlloc k7 1 ∷ e4
+e3 = SetEnabled 0 true ∷ e4
 
 abbrev e2 : List Event
-e2 = SetEnabled 0 true ∷ e3
+e2 = SetEnabled 0 false ∷ e3
 
 abbrev e1 : List Event
-e1 = SetEnabled 0 false ∷ e2
+e1 = Poll ∷ e2
 
 abbrev pub Map : Type 0
 Map = finite.FinMap key_cmp ℕ
@@ -71,8 +92,22 @@ m3 = finite.insert m2 k10 6
 abbrev m4 : Map
 m4 = finite.remove m3 k10
 
-abbrev pub with_patch : Map → Option Move → State
-with_patch shadow moving = record { loaded = true ∷ []; world = record { installed = record { patch = 0; values = [] } ∷ []; shadow = shadow }; moving = moving; pinned = false ∷ []; tasks = [] }
+abbrev pub with_patch : Map → Option Move → Tasks → State
+with_patch shadow moving tasks =
+    record { loaded = true ∷ []; world = record { installed = record { patch = 0; values = [] } ∷ []; shadow = shadow }; moving = moving; pinned = false ∷ []; tasks = tasks }
+
+-- the task asleep, awake in the kernel, and in user space
+abbrev sleeper : Tasks
+sleeper = one_task Asleep (pos 0) (Original 0 ∷ [])
+
+abbrev awake : ℕ → Tasks
+awake state = one_task Kernel (pos state) []
+
+abbrev outside_in : ℤ → Tasks
+outside_in state = one_task User state []
+
+abbrev bare_with : Map → Tasks → State
+bare_with shadow tasks = record { loaded = true ∷ []; world = record { installed = []; shadow = shadow }; moving = None; pinned = false ∷ []; tasks = tasks }
 
 abbrev pub to : Bool → Option Move
 to target = Some (record { patch = 0; target = target })
@@ -113,7 +148,7 @@ then patch keys state after event events is e rest = (is, subst (λ s. AreFair s
 abbrev keys : ShadowKey → Bool
 keys = company_keys setting start 0
 
-first : (accepted setting start (Enable 0)).1 ≡ with_patch m1 (to true)
+first : (accepted setting start (Enable 0)).1 ≡ with_patch m1 (to true) sleeper
 first = rw (finite.get-empty key_cmp k9) refl
 
 k10_free : finite.get m2 k10 ≡ None
@@ -122,7 +157,7 @@ k10_free = finite.get-insert key_total m1 _ 1 k10 ∙ finite.get-insert key_tota
 k7_free : finite.get m1 (k7) ≡ None
 k7_free = finite.get-insert key_total finite.empty k9 5 _ ∙ finite.get-empty key_cmp _
 
-settled : (accepted setting (with_patch m2 (to true)) Poll).1 ≡ with_patch m3 None
+settled : (accepted setting (with_patch m2 (to true) (outside_in (pos 1))) Poll).1 ≡ with_patch m3 None (outside_in (negsuc 0))
 settled = rw k10_free refl
 
 outside : (key : ShadowKey) → is_key k7 key ≡ true → keys key ≡ false
@@ -138,14 +173,19 @@ not_full = lt-leb MAX_VARIABLES (finite.len m1) (omega (arith, l1))
 
 are_fair : AreFair setting 0 keys start every_stage
 are_fair =
-    then 0 keys start (with_patch m1 (to true)) (Enable 0) e1 (record { accepted = rw (finite.len-empty key_cmp ℕ) refl; of_company = refl; none_dropped = refl }) first
-    (then 0 keys (with_patch m1 (to true)) (with_patch m1 (to false)) (SetEnabled 0 false) e2 (record { accepted = rw (enough m1 0 (omega (arith, l1)) (omega arith)) refl; of_company = refl; none_dropped = refl }) refl
-    (then 0 keys (with_patch m1 (to false)) (with_patch m1 (to true)) (SetEnabled 0 true) e3 (record { accepted = rw (enough m1 0 (omega (arith, l1)) (omega arith)) refl; of_company = refl; none_dropped = refl }) refl
-    (then 0 keys (with_patch m1 (to true)) (with_patch m2 (to true)) (ShadowAlloc k7 1) e4 (record { accepted = rw (k7_free, not_full) refl; of_company = outside; none_dropped = refl }) refl
-    (then 0 keys (with_patch m2 (to true)) (with_patch m3 None) Poll e5 (record { accepted = rw (enough m2 1 (omega (arith, l2)) (omega arith)) refl; of_company = λ key e. cc; none_dropped = refl }) settled
-    (then 0 keys (with_patch m3 None) (with_patch m4 (to false)) (SetEnabled 0 false) e6 (record { accepted = rw (enough m3 0 l3 (omega arith)) refl; of_company = refl; none_dropped = refl }) refl
-    (then 0 keys (with_patch m4 (to false)) (record start { world = record { installed = []; shadow = finite.remove m4 k9 } }) Poll []
-    (record { accepted = rw (enough m4 0 l4 (omega arith)) refl; of_company = λ key e. cc; none_dropped = refl }) refl tt))))))
+    then 0 keys start (with_patch m1 (to true) sleeper) (Enable 0) e1 (record { accepted = rw (finite.len-empty key_cmp ℕ) refl; of_company = refl; none_dropped = refl }) first
+    (then 0 keys (with_patch m1 (to true) sleeper) (with_patch m1 (to true) sleeper) Poll e2 (record { accepted = rw (enough m1 1 (omega (arith, l1)) (omega arith)) refl; of_company = λ key e. cc; none_dropped = refl }) refl
+    (then 0 keys (with_patch m1 (to true) sleeper) (with_patch m1 (to false) sleeper) (SetEnabled 0 false) e3 (record { accepted = rw (enough m1 0 (omega (arith, l1)) (omega arith)) refl; of_company = refl; none_dropped = refl }) refl
+    (then 0 keys (with_patch m1 (to false) sleeper) (with_patch m1 (to true) sleeper) (SetEnabled 0 true) e4 (record { accepted = rw (enough m1 0 (omega (arith, l1)) (omega arith)) refl; of_company = refl; none_dropped = refl }) refl
+    (then 0 keys (with_patch m1 (to true) sleeper) (with_patch m2 (to true) sleeper) (ShadowAlloc k7 1) e5 (record { accepted = rw (k7_free, not_full) refl; of_company = outside; none_dropped = refl }) refl
+    (then 0 keys (with_patch m2 (to true) sleeper) (with_patch m2 (to true) (awake 0)) (Wake 0) e6 (record { accepted = refl; of_company = λ key e. cc; none_dropped = refl }) refl
+    (then 0 keys (with_patch m2 (to true) (awake 0)) (with_patch m2 (to true) (outside_in (pos 1))) (ExitToUser 0) e7 (record { accepted = refl; of_company = λ key e. cc; none_dropped = refl }) refl
+    (then 0 keys (with_patch m2 (to true) (outside_in (pos 1))) (with_patch m3 None (outside_in (negsuc 0))) Poll e8 (record { accepted = rw (enough m2 1 (omega (arith, l2)) (omega arith)) refl; of_company = λ key e. cc; none_dropped = refl }) settled
+    (then 0 keys (with_patch m3 None (outside_in (negsuc 0))) (with_patch m4 (to false) (outside_in (pos 1))) (SetEnabled 0 false) e9 (record { accepted = rw (enough m3 0 l3 (omega arith)) refl; of_company = refl; none_dropped = refl }) refl
+    (then 0 keys (with_patch m4 (to false) (outside_in (pos 1))) (with_patch m4 (to false) (outside_in (pos 1))) Poll e10 (record { accepted = rw (enough m4 0 l4 (omega arith)) refl; of_company = λ key e. cc; none_dropped = refl }) refl
+    (then 0 keys (with_patch m4 (to false) (outside_in (pos 1))) (with_patch m4 (to false) (awake 1)) (EnterKernel 0) e11 (record { accepted = refl; of_company = λ key e. cc; none_dropped = refl }) refl
+    (then 0 keys (with_patch m4 (to false) (awake 1)) (with_patch m4 (to false) (outside_in (pos 0))) (ExitToUser 0) e12 (record { accepted = refl; of_company = λ key e. cc; none_dropped = refl }) refl
+    (then 0 keys (with_patch m4 (to false) (outside_in (pos 0))) (bare_with (finite.remove m4 k9) (outside_in (negsuc 0))) Poll [] (record { accepted = rw (enough m4 0 l4 (omega arith)) refl; of_company = λ key e. cc; none_dropped = refl }) refl tt))))))))))))
 
 -- a script that adds what isn't there, and one that removes it
 added_removed : (own key : ShadowKey) (value : ℕ) (was : Option ℕ) → (is_key own key ≡ true → was ≡ None)
@@ -201,10 +241,16 @@ on setting state after event events e is = ap (λ s. run setting s events) (next
 pub gone : is_installed (run setting start every_stage) 0 ≡ false
 gone =
     ap (λ s. is_installed s 0)
-    (on setting start (with_patch m1 (to true)) (Enable 0) e1 (rw (finite.len-empty key_cmp ℕ) refl) first
-    ∙ on setting (with_patch m1 (to true)) (with_patch m1 (to false)) (SetEnabled 0 false) e2 (rw (enough m1 0 (omega (arith, l1)) (omega arith)) refl) refl
-    ∙ on setting (with_patch m1 (to false)) (with_patch m1 (to true)) (SetEnabled 0 true) e3 (rw (enough m1 0 (omega (arith, l1)) (omega arith)) refl) refl
-    ∙ on setting (with_patch m1 (to true)) (with_patch m2 (to true)) (ShadowAlloc k7 1) e4 (rw (k7_free, not_full) refl) refl
-    ∙ on setting (with_patch m2 (to true)) (with_patch m3 None) Poll e5 (rw (enough m2 1 (omega (arith, l2)) (omega arith)) refl) settled
-    ∙ on setting (with_patch m3 None) (with_patch m4 (to false)) (SetEnabled 0 false) e6 (rw (enough m3 0 l3 (omega arith)) refl) refl
-    ∙ on setting (with_patch m4 (to false)) (record start { world = record { installed = []; shadow = finite.remove m4 k9 } }) Poll [] (rw (enough m4 0 l4 (omega arith)) refl) refl)
+    (on setting start (with_patch m1 (to true) sleeper) (Enable 0) e1 (rw (finite.len-empty key_cmp ℕ) refl) first
+    ∙ on setting (with_patch m1 (to true) sleeper) (with_patch m1 (to true) sleeper) Poll e2 (rw (enough m1 1 (omega (arith, l1)) (omega arith)) refl) refl
+    ∙ on setting (with_patch m1 (to true) sleeper) (with_patch m1 (to false) sleeper) (SetEnabled 0 false) e3 (rw (enough m1 0 (omega (arith, l1)) (omega arith)) refl) refl
+    ∙ on setting (with_patch m1 (to false) sleeper) (with_patch m1 (to true) sleeper) (SetEnabled 0 true) e4 (rw (enough m1 0 (omega (arith, l1)) (omega arith)) refl) refl
+    ∙ on setting (with_patch m1 (to true) sleeper) (with_patch m2 (to true) sleeper) (ShadowAlloc k7 1) e5 (rw (k7_free, not_full) refl) refl
+    ∙ on setting (with_patch m2 (to true) sleeper) (with_patch m2 (to true) (awake 0)) (Wake 0) e6 refl refl
+    ∙ on setting (with_patch m2 (to true) (awake 0)) (with_patch m2 (to true) (outside_in (pos 1))) (ExitToUser 0) e7 refl refl
+    ∙ on setting (with_patch m2 (to true) (outside_in (pos 1))) (with_patch m3 None (outside_in (negsuc 0))) Poll e8 (rw (enough m2 1 (omega (arith, l2)) (omega arith)) refl) settled
+    ∙ on setting (with_patch m3 None (outside_in (negsuc 0))) (with_patch m4 (to false) (outside_in (pos 1))) (SetEnabled 0 false) e9 (rw (enough m3 0 l3 (omega arith)) refl) refl
+    ∙ on setting (with_patch m4 (to false) (outside_in (pos 1))) (with_patch m4 (to false) (outside_in (pos 1))) Poll e10 (rw (enough m4 0 l4 (omega arith)) refl) refl
+    ∙ on setting (with_patch m4 (to false) (outside_in (pos 1))) (with_patch m4 (to false) (awake 1)) (EnterKernel 0) e11 refl refl
+    ∙ on setting (with_patch m4 (to false) (awake 1)) (with_patch m4 (to false) (outside_in (pos 0))) (ExitToUser 0) e12 refl refl
+    ∙ on setting (with_patch m4 (to false) (outside_in (pos 0))) (bare_with (finite.remove m4 k9) (outside_in (negsuc 0))) Poll [] (rw (enough m4 0 l4 (omega arith)) refl) refl)

@@ -1,5 +1,5 @@
 -- Small catalogs with a patch, and what happens to it.
-use Rattle.std.specs.Prelude.{ℕ, pos, true, false, List, [], ◌∷◌, Some, None}
+use Rattle.std.specs.Prelude.{ℕ, ℤ, pos, negsuc, true, false, List, [], ◌∷◌, Some, None}
 use Rattle.std.specs.FinMap as finite
 use Rattle.klp_types.specs.declared.shadow.ShadowKey.{ShadowKey}
 use Rattle.klp_types.specs.declared.edit.Edit.{Edit}
@@ -9,8 +9,13 @@ use Rattle.klp_types.specs.declared.callback.Which.TheVariants.{Pre, Post, PreUn
 use Rattle.klp_types.specs.Image.{Object}
 use Rattle.klp_types.specs.Setting.{Callback, Setting}
 use Rattle.klp_machine.specs.declared.event.Event.{Event}
-use Rattle.klp_machine.specs.declared.event.Event.TheVariants.{Enable, SetEnabled, Poll, ShadowAlloc}
-use Rattle.klp_machine.specs.State.{State}
+use Rattle.klp_machine.specs.declared.event.Event.TheVariants.{Enable, SetEnabled, Poll, EnterKernel, ExitToUser, Wake, ShadowAlloc}
+use Rattle.klp_types.specs.declared.version.Version.{Version}
+use Rattle.klp_types.specs.declared.version.Version.TheVariants.{Original}
+use Rattle.klp_machine.specs.declared.task.Mode.{Mode}
+use Rattle.klp_machine.specs.declared.task.Mode.TheVariants.{Asleep}
+use Rattle.klp_machine.specs.Task.{Tasks}
+use Rattle.klp_machine.specs.State.{State, with_tasks}
 
 abbrev pub key_of : ℕ → ℕ → ShadowKey
 key_of obj id = record { obj = obj; id = id }
@@ -43,10 +48,19 @@ adding = record {
 abbrev pub bare : State
 bare = record { loaded = true ∷ []; world = record { installed = []; shadow = finite.empty }; moving = None; pinned = false ∷ []; tasks = [] }
 
--- enabled, turned round twice, complete; disabled, complete; and a variable of another between
+abbrev pub one_task : Mode → ℤ → List Version → Tasks
+one_task mode state frames = Some (record { state = state; mode = mode; frames = frames }) ∷ []
+
+-- a task sleeps inside of the original
+abbrev pub with_a_sleeper : State
+with_a_sleeper = with_tasks bare (one_task Asleep (negsuc 0) (Original 0 ∷ []))
+
+-- enabled, and held by the sleeper; turned round twice, and a variable of another added; complete once the sleeper has left the
+-- kernel; disabled, and complete once the task was in the kernel and left it again
 abbrev pub every_stage : List Event
 every_stage =
-    Enable 0 ∷ SetEnabled 0 false ∷ SetEnabled 0 true ∷ ShadowAlloc (key_of 7 7) 1 ∷ Poll ∷ SetEnabled 0 false ∷ Poll ∷ []
+    Enable 0 ∷ Poll ∷ SetEnabled 0 false ∷ SetEnabled 0 true ∷ ShadowAlloc (key_of 7 7) 1 ∷ Wake 0 ∷ ExitToUser 0 ∷ Poll
+    ∷ SetEnabled 0 false ∷ Poll ∷ EnterKernel 0 ∷ ExitToUser 0 ∷ Poll ∷ []
 
 -- the patch's own variable is there before it comes
 abbrev pub own_variable_first : List Event

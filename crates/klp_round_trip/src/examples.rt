@@ -7,13 +7,13 @@ ghost use Rattle.klp_machine.specs.State.{State, is_installed};
 ghost use Rattle.klp_machine.specs.ShadowStep.{shadow_changed, shadow_changes, concerns};
 ghost use Rattle.klp_machine.specs.Run.{run};
 ghost use Rattle.klp_round_trip.specs.Company.{taking_part, company_keys, EachUndoes, IsFairCompany};
-ghost use Rattle.klp_round_trip.specs.Examples.{key_of, adding, bare, every_stage, own_variable_first, sharing, with_five, there_and_back};
+ghost use Rattle.klp_round_trip.specs.Examples.{key_of, adding, bare, with_a_sleeper, every_stage, own_variable_first, sharing, with_five, there_and_back};
 
-/// A cumulative patch is enabled, turned round twice, complete, disabled and gone, and a variable of
-/// somebody else is added between: a fair company.
+/// A cumulative patch is enabled, held by a sleeper, turned round twice, complete, disabled, waited for
+/// and gone, and a variable of somebody else is added between: a fair company.
 pub fn a_fair_company_goes_through_every_stage()
-    ensures fair { IsFairCompany adding 0 bare every_stage }
-    ensures gone { is_installed (run adding bare every_stage) 0 ≡ false }
+    ensures fair { IsFairCompany adding 0 with_a_sleeper every_stage }
+    ensures gone { is_installed (run adding with_a_sleeper every_stage) 0 ≡ false }
 {}
 
 /// A variable of the patch's callbacks is there before the patch comes: pre-patch leaves it and
