@@ -53,7 +53,7 @@ abbrev pub is_right_state : Option Move → ℤ → Bool
 is_right_state None state = is_at_rest state
 is_right_state (Some move) state = is_at true state || is_at false state
 
--- only a sleeping task has frames, and image and catalog have them
+-- only a sleeping task has frames, and image and catalog have them; that there are at most 32, their type says
 abbrev pub are_right_frames : Setting → Task → Bool
 are_right_frames setting task = if is_mode task.mode Asleep then not (list_any (is_bad setting) task.frames) else is_empty task.frames
 

@@ -96,7 +96,8 @@ IsHonestEvent setting stacks (Going object) = (task : ℕ) → list_any (is_fram
 IsHonestEvent setting stacks (Force patch) = ⊥
 IsHonestEvent setting stacks other = Unit {0}
 
--- a call stands only where the handler answers, a return only where the task has frames, and both only in the kernel
+-- a call stands only where the task is there and the site's object is loaded, a return only where the task has frames, and both
+-- only in the kernel
 abbrev pub IsHonestItem : Setting → Watched → Seen → Type 0
 IsHonestItem setting w (Happens event) = accepts setting w.state event ≡ true → IsHonestEvent setting w.stacks event
 IsHonestItem setting w (Calls task site) =

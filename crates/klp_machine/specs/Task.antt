@@ -5,7 +5,8 @@ use Rattle.klp_machine.specs.declared.task.Mode.{Mode}
 use Rattle.klp_machine.specs.declared.task.Mode.TheVariants.{User, Kernel, Asleep}
 
 pub record Task : Type 0 where
-  -- -1 where no patch moves; else 1 where it runs the patch in transition, and 0 where it doesn't
+  -- as /proc/<pid>/patch_state shows it: -1 where no patch moves; else 1 where it runs the patch in transition, and 0 where it
+  -- doesn't
   pub state : ℤ
   pub mode : Mode
   -- of a sleeping task: what it is inside of, innermost last

@@ -20,7 +20,7 @@ pub enum Event {
     Going(ObjId),
     /// A task begins, in user space.
     NewTask(TaskId),
-    /// A task in the kernel makes another.
+    /// A task in the kernel, the first one, makes another.
     Fork(TaskId, TaskId),
     /// A task ends.
     EndTask(TaskId),
@@ -77,16 +77,17 @@ pub enum Refusal {
     /// Another patch is in transition.
     #[error("Busy")]
     Busy = 2,
-    /// The patch is installed already.
+    /// The patch is installed already, or the module is loaded already.
     #[error("AlreadyThere")]
     AlreadyThere = 3,
-    /// The patch is pinned: a transition away from it was forced.
+    /// The patch is pinned: it was forced out, or it was installed when a cumulative patch was forced in.
     #[error("Pinned")]
     Pinned = 4,
     /// The patch isn't compatible with the system states of the installed ones.
     #[error("Incompatible")]
     Incompatible = 5,
-    /// A function of the patch for a loaded object names no symbol of it, or not one alone.
+    /// A function of the patch for a loaded object, or of an installed patch for the module that comes,
+    /// names no symbol of it, or not one alone.
     #[error("NoSymbol")]
     NoSymbol = 6,
     /// There is no such module, or it isn't loaded.
@@ -95,7 +96,7 @@ pub enum Refusal {
     /// A sleeping task is inside of the module.
     #[error("InUse")]
     InUse = 8,
-    /// There is no such task.
+    /// There is no such task, or its number is above 63.
     #[error("NoTask")]
     NoTask = 9,
     /// The task is there already.
@@ -123,7 +124,7 @@ pub enum Refusal {
     /// The patch isn't installed.
     #[error("NotFound")]
     NotFound = 17,
-    /// It has this value already.
+    /// The `enabled` file has this value already.
     #[error("SameValue")]
     SameValue = 18,
 }

@@ -3,10 +3,11 @@
 ghost use Rattle.std.specs.Prelude.{◌≡◌, pos, negsuc, true, false, [], ◌∷◌, Some, None};
 ghost use Rattle.klp_types.specs.declared.callback.Which.TheVariants.{Pre, Post, PreUn, PostUn};
 ghost use Rattle.klp_types.specs.declared.version.Version.TheVariants.{Original, New};
+ghost use Rattle.klp_types.specs.World.{state_value};
 ghost use Rattle.klp_types.specs.Examples.{ran, refusing_in};
-ghost use Rattle.klp_machine.specs.declared.event.Event.TheVariants.{Enable, SetEnabled, Force, Poll, Coming, Going};
-ghost use Rattle.klp_machine.specs.declared.event.Reply.TheVariants.{Started, Reversed, Pending, Completed, PreFailed};
-ghost use Rattle.klp_machine.specs.declared.event.Refusal.TheVariants.{InUse};
+ghost use Rattle.klp_machine.specs.declared.event.Event.TheVariants.{Enable, SetEnabled, Force, Poll, Coming, Going, NewTask, Fork, EndTask, EnterKernel, ExitToUser, Sleep, Wake};
+ghost use Rattle.klp_machine.specs.declared.event.Reply.TheVariants.{Done, Started, Reversed, Pending, Completed, PreFailed, Woken};
+ghost use Rattle.klp_machine.specs.declared.event.Refusal.TheVariants.{NoPatch, Busy, AlreadyThere, Pinned, Incompatible, NoModule, InUse, NoTask, TaskThere, WrongMode, BadFrame, Full, NotMoving, NotFound, SameValue};
 ghost use Rattle.klp_machine.specs.State.{State, installed_patches};
 ghost use Rattle.klp_machine.specs.Entries.{entries_of, is_hooked};
 ghost use Rattle.klp_machine.specs.Pick.{pick};
@@ -15,10 +16,9 @@ ghost use Rattle.klp_machine.specs.Blocked.{blocked};
 ghost use Rattle.klp_machine.specs.EventCalls.{calls};
 ghost use Rattle.klp_machine.specs.Refusals.{refusal};
 ghost use Rattle.klp_machine.specs.Step.{accepted};
-ghost use Rattle.klp_machine.specs.Examples.{small_kernel, move_of, state_with, in_kernel, asleep_in, ran_by};
+ghost use Rattle.klp_machine.specs.Examples.{small_kernel, module_kernel, taking_over, lacking, crowded, move_of, state_with, with_state, with_states, in_user, in_kernel, asleep_in, ran_by};
 
-/// A transition that is turned round runs nothing, towards either target, and no task has to do
-/// anything.
+/// A transition that is reversed runs nothing, towards either target, and the states of tasks stay.
 pub fn a_reversal_runs_nothing()
     ensures enabling { calls small_kernel (state_with true (0 ∷ []) (move_of 0 true) []) (SetEnabled 0 false) ≡ [] }
     ensures disabling { calls small_kernel (state_with true (0 ∷ []) (move_of 0 false) []) (SetEnabled 0 true) ≡ [] }
@@ -57,12 +57,14 @@ pub fn a_replacement_takes_the_older_patches_out()
 {}
 
 /// While a task isn't at the target a poll completes nothing and runs nothing. A sleeping task that
-/// nothing holds gets there by the poll; one in the kernel doesn't.
+/// nothing holds gets there by the poll; one in the kernel doesn't, nor one in user space.
 pub fn a_poll_waits_for_tasks()
     ensures runs { calls small_kernel (state_with true (0 ∷ []) (move_of 0 true) (in_kernel (pos 0) ∷ [])) Poll ≡ [] }
     ensures reply { (accepted small_kernel (state_with true (0 ∷ []) (move_of 0 true) (in_kernel (pos 0) ∷ [])) Poll).0 ≡ Pending 1 }
     ensures next { (accepted small_kernel (state_with true (0 ∷ []) (move_of 0 true) (in_kernel (pos 0) ∷ asleep_in (pos 0) (Original 2 ∷ []) ∷ asleep_in (pos 0) [] ∷ [])) Poll).1
         ≡ state_with true (0 ∷ []) (move_of 0 true) (in_kernel (pos 0) ∷ asleep_in (pos 0) (Original 2 ∷ []) ∷ asleep_in (pos 1) [] ∷ []) }
+    ensures in_user_space { accepted small_kernel (state_with true (0 ∷ []) (move_of 0 true) (in_user (pos 0) ∷ [])) Poll
+        ≡ (Pending 1, state_with true (0 ∷ []) (move_of 0 true) (in_user (pos 0) ∷ [])) }
     ensures completed { ran (calls small_kernel (state_with true (0 ∷ []) (move_of 0 true) (in_kernel (pos 1) ∷ [])) Poll) ≡ (0, Post) ∷ (1, Post) ∷ [] }
     ensures at_rest { (accepted small_kernel (state_with true (0 ∷ []) (move_of 0 true) (in_kernel (pos 1) ∷ [])) Poll)
         ≡ (Completed true, state_with true (0 ∷ []) None (in_kernel (negsuc 0) ∷ [])) }
@@ -118,14 +120,17 @@ pub fn a_module_comes_patch_by_patch()
     ensures refused { ran_by (calls small_kernel (state_with false (0 ∷ 3 ∷ []) None []) (Coming 1)) ≡ (0, Pre) ∷ (0, Post) ∷ (3, Pre) ∷ (0, PreUn) ∷ (0, PostUn) ∷ [] }
     ensures refused_moving { ran_by (calls small_kernel (state_with false (0 ∷ 3 ∷ []) (move_of 0 true) []) (Coming 1)) ≡ (0, Pre) ∷ (3, Pre) ∷ (0, PostUn) ∷ [] }
     ensures reply { (accepted small_kernel (state_with false (0 ∷ 3 ∷ []) None []) (Coming 1)).0 ≡ PreFailed 3 1 (negsuc 11) }
+    ensures cleaned_oldest_first { ran_by (calls module_kernel (state_with false (0 ∷ 1 ∷ 2 ∷ []) None []) (Coming 1))
+        ≡ (0, Pre) ∷ (0, Post) ∷ (1, Pre) ∷ (1, Post) ∷ (2, Pre) ∷ (0, PreUn) ∷ (0, PostUn) ∷ (1, PreUn) ∷ (1, PostUn) ∷ [] }
     ensures stays_away { (accepted small_kernel (state_with false (0 ∷ 3 ∷ []) None []) (Coming 1)).1 ≡ state_with false (0 ∷ 3 ∷ []) None [] }
 {}
 
-/// A module that goes gets pre-unpatch and post-unpatch; a patch that moves runs post-unpatch alone. It
-/// stays while a task sleeps inside of it, in a function of its own or in a new one for it.
+/// A module that goes gets pre-unpatch and post-unpatch patch by patch, oldest first; a patch that moves
+/// runs post-unpatch alone. It stays while a task sleeps inside of it, in a function of its own or in a new one for it.
 pub fn a_module_goes_patch_by_patch()
     ensures still { ran_by (calls small_kernel (state_with true (0 ∷ []) None []) (Going 1)) ≡ (0, PreUn) ∷ (0, PostUn) ∷ [] }
     ensures moving { ran_by (calls small_kernel (state_with true (0 ∷ []) (move_of 0 false) []) (Going 1)) ≡ (0, PostUn) ∷ [] }
+    ensures oldest_first { ran_by (calls module_kernel (state_with true (0 ∷ 1 ∷ []) None []) (Going 1)) ≡ (0, PreUn) ∷ (0, PostUn) ∷ (1, PreUn) ∷ (1, PostUn) ∷ [] }
     ensures in_its_own { refusal small_kernel (state_with true (0 ∷ []) None (asleep_in (negsuc 0) (Original 2 ∷ []) ∷ [])) (Going 1) ≡ Some InUse }
     ensures in_a_new_one { refusal small_kernel (state_with true (0 ∷ []) None (asleep_in (negsuc 0) (New 0 2 ∷ []) ∷ [])) (Going 1) ≡ Some InUse }
 {}
@@ -137,4 +142,74 @@ pub fn who_is_forced_away_is_pinned()
         ≡ record (state_with true (0 ∷ 2 ∷ []) (move_of 2 false) (in_kernel (pos 0) ∷ [])) { pinned = false ∷ false ∷ true ∷ false ∷ [] } }
     ensures replaced { (accepted small_kernel (state_with true (0 ∷ 2 ∷ 1 ∷ []) (move_of 1 true) []) (Force 1)).1.pinned ≡ true ∷ false ∷ true ∷ false ∷ [] }
     ensures to_the_patch { (accepted small_kernel (state_with true (0 ∷ 2 ∷ []) (move_of 2 true) []) (Force 2)).1.pinned ≡ false ∷ false ∷ false ∷ false ∷ [] }
+{}
+
+/// A new task is in user space, and at the target where a patch moves; a forked one is in the kernel
+/// with its parent's state. A task that leaves the kernel is brought to the target, and one that wakes
+/// is in the kernel again and tells what it was inside of.
+pub fn tasks_come_and_go()
+    ensures new { accepted small_kernel (state_with true (0 ∷ []) (move_of 0 true) (None ∷ [])) (NewTask 0)
+        ≡ (Done, state_with true (0 ∷ []) (move_of 0 true) (in_user (pos 1) ∷ [])) }
+    ensures new_at_rest { accepted small_kernel (state_with true [] None (None ∷ [])) (NewTask 0) ≡ (Done, state_with true [] None (in_user (negsuc 0) ∷ [])) }
+    ensures child { accepted small_kernel (state_with true (0 ∷ []) (move_of 0 true) (in_kernel (pos 0) ∷ None ∷ [])) (Fork 0 1)
+        ≡ (Done, state_with true (0 ∷ []) (move_of 0 true) (in_kernel (pos 0) ∷ in_kernel (pos 0) ∷ [])) }
+    ensures gone { accepted small_kernel (state_with true [] None (in_user (negsuc 0) ∷ [])) (EndTask 0) ≡ (Done, state_with true [] None (None ∷ [])) }
+    ensures inside { accepted small_kernel (state_with true (0 ∷ []) (move_of 0 true) (in_user (pos 0) ∷ [])) (EnterKernel 0)
+        ≡ (Done, state_with true (0 ∷ []) (move_of 0 true) (in_kernel (pos 0) ∷ [])) }
+    ensures outside { accepted small_kernel (state_with true (0 ∷ []) (move_of 0 false) (in_kernel (pos 1) ∷ [])) (ExitToUser 0)
+        ≡ (Done, state_with true (0 ∷ []) (move_of 0 false) (in_user (pos 0) ∷ [])) }
+    ensures asleep { accepted small_kernel (state_with true [] None (in_kernel (negsuc 0) ∷ [])) (Sleep 0 (Original 0 ∷ Original 1 ∷ []))
+        ≡ (Done, state_with true [] None (asleep_in (negsuc 0) (Original 0 ∷ Original 1 ∷ []) ∷ [])) }
+    ensures awake { accepted small_kernel (state_with true [] None (asleep_in (negsuc 0) (Original 0 ∷ Original 1 ∷ []) ∷ [])) (Wake 0)
+        ≡ (Woken (Original 0 ∷ Original 1 ∷ []), state_with true [] None (in_kernel (negsuc 0) ∷ [])) }
+{}
+
+/// Callbacks find the list of patches as it was before the event's change at its end, and as it is after
+/// the change at its start: pre-patch sets a state of its own patch, and post-patch takes over the value
+/// of a patch that is about to be replaced.
+pub fn callbacks_find_the_patches_there()
+    ensures set { state_value (accepted taking_over (with_states (with_state 0 5 ∷ []) None) (Enable 1)).1.world 1 7 ≡ Some 3 }
+    ensures taken { state_value (accepted taking_over (with_states (with_state 0 5 ∷ with_state 1 3 ∷ []) (move_of 1 true)) Poll).1.world 1 7 ≡ Some 5 }
+{}
+
+/// There has to be room for what the callbacks that may run would add, whether they run or not: at a
+/// poll that stays pending, at an enabling that succeeds, for the cleaning up of a module that comes.
+pub fn room_is_asked_for_all_that_may_run()
+    ensures pending { refusal (crowded Post) (state_with true (0 ∷ []) (move_of 0 true) (in_kernel (pos 0) ∷ [])) Poll ≡ Some Full }
+    ensures enabling { refusal (crowded PostUn) (state_with true [] None []) (Enable 0) ≡ Some Full }
+    ensures coming { refusal (crowded PreUn) (state_with false (0 ∷ []) None []) (Coming 1) ≡ Some Full }
+{}
+
+/// What enabling, writing and forcing are refused for, in their order.
+pub fn refusals_come_in_order()
+    ensures no_patch { refusal small_kernel (state_with true (0 ∷ []) (move_of 0 true) []) (Enable 4) ≡ Some NoPatch }
+    ensures there_first { refusal small_kernel (state_with true (0 ∷ []) (move_of 0 true) []) (Enable 0) ≡ Some AlreadyThere }
+    ensures busy { refusal small_kernel (record (state_with true (0 ∷ []) (move_of 0 true) []) { pinned = false ∷ true ∷ false ∷ false ∷ [] }) (Enable 1) ≡ Some Busy }
+    ensures pinned { refusal small_kernel (record (state_with true [] None []) { pinned = true ∷ false ∷ false ∷ false ∷ [] }) (Enable 0) ≡ Some Pinned }
+    ensures incompatible { refusal lacking (with_states (with_state 0 5 ∷ []) None) (Enable 1) ≡ Some Incompatible }
+    ensures not_found { refusal small_kernel (state_with true [] None []) (SetEnabled 0 true) ≡ Some NotFound }
+    ensures same_first { refusal small_kernel (state_with true (0 ∷ 2 ∷ []) (move_of 2 true) []) (SetEnabled 0 true) ≡ Some SameValue }
+    ensures another_moves { refusal small_kernel (state_with true (0 ∷ 2 ∷ []) (move_of 2 true) []) (SetEnabled 0 false) ≡ Some Busy }
+    ensures not_moving { refusal small_kernel (state_with true (0 ∷ 2 ∷ []) (move_of 2 true) []) (Force 0) ≡ Some NotMoving }
+    ensures at_rest { refusal small_kernel (state_with true (0 ∷ []) None []) Poll ≡ Some NotMoving }
+{}
+
+/// What modules and tasks are refused for.
+pub fn modules_and_tasks_are_refused()
+    ensures kernel { refusal small_kernel (state_with true [] None []) (Coming 0) ≡ Some NoModule }
+    ensures no_module { refusal small_kernel (state_with true [] None []) (Coming 2) ≡ Some NoModule }
+    ensures module_there { refusal small_kernel (state_with true [] None []) (Coming 1) ≡ Some AlreadyThere }
+    ensures not_loaded { refusal small_kernel (state_with false [] None []) (Going 1) ≡ Some NoModule }
+    ensures beyond { refusal small_kernel (state_with true [] None []) (NewTask 64) ≡ Some NoTask }
+    ensures task_there { refusal small_kernel (state_with true [] None (in_kernel (negsuc 0) ∷ [])) (NewTask 0) ≡ Some TaskThere }
+    ensures child_there { refusal small_kernel (state_with true [] None (in_user (negsuc 0) ∷ [])) (Fork 0 0) ≡ Some TaskThere }
+    ensures parent_outside { refusal small_kernel (state_with true [] None (in_user (negsuc 0) ∷ None ∷ [])) (Fork 0 1) ≡ Some WrongMode }
+    ensures ends_asleep { refusal small_kernel (state_with true [] None (asleep_in (negsuc 0) [] ∷ [])) (EndTask 0) ≡ Some WrongMode }
+    ensures enters_twice { refusal small_kernel (state_with true [] None (in_kernel (negsuc 0) ∷ [])) (EnterKernel 0) ≡ Some WrongMode }
+    ensures exits_twice { refusal small_kernel (state_with true [] None (in_user (negsuc 0) ∷ [])) (ExitToUser 0) ≡ Some WrongMode }
+    ensures sleeps_outside { refusal small_kernel (state_with true [] None (in_user (negsuc 0) ∷ [])) (Sleep 0 (Original 3 ∷ [])) ≡ Some WrongMode }
+    ensures bad_frame { refusal small_kernel (state_with true [] None (in_kernel (negsuc 0) ∷ [])) (Sleep 0 (Original 3 ∷ [])) ≡ Some BadFrame }
+    ensures bad_function { refusal small_kernel (state_with true [] None (in_kernel (negsuc 0) ∷ [])) (Sleep 0 (New 0 3 ∷ [])) ≡ Some BadFrame }
+    ensures wakes_twice { refusal small_kernel (state_with true [] None (in_kernel (negsuc 0) ∷ [])) (Wake 0) ≡ Some WrongMode }
+    ensures no_task { refusal small_kernel (state_with true [] None (None ∷ [])) (Wake 0) ≡ Some NoTask }
 {}

@@ -1,6 +1,6 @@
 -- A fair company that goes through every stage.
-use Rattle.std.proofs.Common.{◌≡◌, ℕ, ◌+◌, ◌-◌, ◌≤◌, ℤ, pos, negsuc, Bool, true, false, cond, List, [], ◌∷◌, Option, Some, None, refl, sym, ap, subst, ◌∙◌, arith}
-use Rattle.std.specs.Prelude.{◌==◌, unwrap_or, nat_lt, nat_le}
+use Rattle.std.proofs.Common.{◌≡◌, ℕ, zero, suc, ◌+◌, ◌-◌, ◌≤◌, ℤ, pos, negsuc, Bool, true, false, cond, List, [], ◌∷◌, Option, Some, None, refl, sym, ap, subst, ◌∙◌, arith}
+use Rattle.std.specs.Prelude.{◌==◌, unwrap_or, nat_lt, nat_le, replicate}
 use Rattle.std.specs.FinMap as finite
 use Rattle.std.proofs.lemmas.Bool.{le-ltb, lt-leb, eqb-true}
 use Rattle.klp_types.specs.declared.limits.TheConstants.{MAX_VARIABLES}
@@ -14,7 +14,7 @@ use Rattle.klp_types.specs.Setting.{Setting}
 use Rattle.klp_round_trip.proofs.KeyLemmas.{key_total, two_true}
 use Rattle.klp_types.specs.World.{key_cmp, variable}
 use Rattle.klp_types.specs.Script.{Script, is_key, effect}
-use Rattle.klp_round_trip.specs.Examples.{key_of, adding, one_task, with_a_sleeper, every_stage}
+use Rattle.klp_round_trip.specs.Examples.{key_of, adding, one_task, with_a_sleeper, every_stage, refusing_behind, both_loaded}
 use Rattle.klp_types.specs.declared.version.Version.TheVariants.{Original}
 use Rattle.klp_machine.specs.declared.task.Mode.TheVariants.{User, Kernel, Asleep}
 use Rattle.klp_machine.specs.Task.{Tasks}
@@ -22,6 +22,7 @@ use Rattle.klp_machine.specs.State.{State, is_installed}
 use Rattle.klp_machine.specs.Refusals.{accepts}
 use Rattle.klp_machine.specs.Step.{accepted}
 use Rattle.klp_machine.specs.Run.{run}
+use Rattle.klp_machine.specs.Allowed.{AreRight, Allowed}
 use Rattle.klp_round_trip.specs.Company.{company_keys, IsFairEvent, AreFair, IsFairStart, IsFairCompany}
 use Rattle.klp_round_trip.proofs.WorldLemmas.{effect_at}
 use Rattle.klp_round_trip.proofs.RefusalLemmas.{next_accepted}
@@ -254,3 +255,43 @@ gone =
     ∙ on setting (with_patch m4 (to false) (outside_in (pos 1))) (with_patch m4 (to false) (awake 1)) (EnterKernel 0) e11 refl refl
     ∙ on setting (with_patch m4 (to false) (awake 1)) (with_patch m4 (to false) (outside_in (pos 0))) (ExitToUser 0) e12 refl refl
     ∙ on setting (with_patch m4 (to false) (outside_in (pos 0))) (bare_with (finite.remove m4 k9) (outside_in (negsuc 0))) Poll [] (rw (enough m4 0 l4 (omega arith)) refl) refl)
+
+right_rows : (of_setting : Setting) (n : ℕ) → AreRight of_setting None (replicate n None)
+right_rows of_setting zero = tt
+right_rows of_setting (suc n) = (refl, right_rows of_setting n)
+
+-- the start is a state that is reached
+pub allowed : Allowed setting start
+allowed = record {
+  kernel = refl; known = tt; distinct = tt; moving = tt; stacked = tt; symbols = tt;
+  tasks = (refl, right_rows setting 63);
+  room = omega (arith, finite.len-empty key_cmp ℕ);
+  objects = refl; rows = refl; flags = refl;
+}
+
+-- a patch whose second object refuses
+pub refused_fair : IsFairCompany refusing_behind 0 both_loaded (Enable 0 ∷ [])
+refused_fair = record {
+  fair_start = record {
+    still = refl;
+    away = refl;
+    undone = (
+      record {
+        pre = λ key e.
+            effect_at 0 (effect 0 both_loaded.world (script (Alloc k9 5 ∷ []))) (script (Free k9 ∷ [])) key
+            ∙ ap (λ was. cond (is_key k9 key) None was) (effect_at 0 both_loaded.world (script (Alloc k9 5 ∷ [])) key)
+            ∙ added_removed k9 key 5 (variable both_loaded.world key) (λ e. finite.get-empty key_cmp key);
+        post = λ key e. cc;
+      },
+      tt,
+    );
+    apart = (λ key e. refl, tt);
+  };
+  fair_events = (record { accepted = rw (finite.len-empty key_cmp ℕ) refl; of_company = refl; none_dropped = refl }, tt);
+}
+
+abbrev refused_state : State
+refused_state = (accepted refusing_behind both_loaded (Enable 0)).1
+
+pub refused_gone : is_installed (run refusing_behind both_loaded (Enable 0 ∷ [])) 0 ≡ false
+refused_gone = ap (λ s. is_installed s 0) (on refusing_behind both_loaded refused_state (Enable 0) [] (rw (finite.len-empty key_cmp ℕ) refl) refl) ∙ rw (finite.get-empty key_cmp k9) refl

@@ -96,7 +96,8 @@ AreFair setting patch keys state [] = Unit {0}
 AreFair setting patch keys state (event ∷ events) =
     IsFairEvent setting patch keys state event × AreFair setting patch keys (next setting state event) events
 
--- the patch isn't there and nothing moves, and its callbacks undo each other, each object's apart from the others'
+-- the patch isn't there and nothing moves, and its callbacks undo each other, each object's apart from the others'; that the
+-- start is an allowed state isn't needed
 pub record IsFairStart (setting : Setting) (patch : ℕ) (start : State) : Type 0 where
   pub still : start.moving ≡ None
   pub away : is_installed start patch ≡ false

@@ -1,5 +1,5 @@
 -- Small catalogs with a patch, and what happens to it.
-use Rattle.std.specs.Prelude.{ℕ, ℤ, pos, negsuc, true, false, List, [], ◌∷◌, Some, None}
+use Rattle.std.specs.Prelude.{ℕ, ℤ, pos, negsuc, true, false, List, [], ◌∷◌, replicate, Some, None}
 use Rattle.std.specs.FinMap as finite
 use Rattle.klp_types.specs.declared.shadow.ShadowKey.{ShadowKey}
 use Rattle.klp_types.specs.declared.edit.Edit.{Edit}
@@ -49,7 +49,7 @@ abbrev pub bare : State
 bare = record { loaded = true ∷ []; world = record { installed = []; shadow = finite.empty }; moving = None; pinned = false ∷ []; tasks = [] }
 
 abbrev pub one_task : Mode → ℤ → List Version → Tasks
-one_task mode state frames = Some (record { state = state; mode = mode; frames = frames }) ∷ []
+one_task mode state frames = Some (record { state = state; mode = mode; frames = frames }) ∷ replicate 63 None
 
 -- a task sleeps inside of the original
 abbrev pub with_a_sleeper : State
@@ -91,3 +91,25 @@ with_five = record {
 
 abbrev pub there_and_back : List Event
 there_and_back = Enable 0 ∷ SetEnabled 0 false ∷ Poll ∷ []
+
+-- a patch for two objects, of which the second refuses: pre-patch of the first adds a variable, and post-unpatch removes it
+abbrev pub refusing_behind : Setting
+refusing_behind = record {
+  image = record { handler = 0; objects = small_object ∷ small_object ∷ [] };
+  patches = record {
+    replace = false;
+    objects = record { object = 0; functions = []; callbacks = making Pre (Alloc (key_of 1 9) 5 ∷ []) ∷ making PostUn (Free (key_of 1 9) ∷ []) ∷ [] }
+        ∷ record { object = 1; functions = []; callbacks = record { which = Pre; script = record { edits = []; status = negsuc 15 } } ∷ [] } ∷ [];
+    states = [];
+  } ∷ [];
+}
+
+-- both objects are loaded, and nothing is installed
+abbrev pub both_loaded : State
+both_loaded = record {
+  loaded = true ∷ true ∷ [];
+  world = record { installed = []; shadow = finite.empty };
+  moving = None;
+  pinned = false ∷ [];
+  tasks = [];
+}

@@ -1,17 +1,21 @@
 //! Worked examples, by computation: that there are fair companies, and what is lost where a premise
 //! fails. A function here does nothing: its contract is the example.
-ghost use Rattle.std.specs.Prelude.{◌≡◌, true, false, Some, None};
+ghost use Rattle.std.specs.Prelude.{◌≡◌, true, false, [], ◌∷◌, find, is_some, Some, None};
 ghost use Rattle.klp_types.specs.World.{variable};
-ghost use Rattle.klp_machine.specs.declared.event.Event.TheVariants.{ShadowAlloc};
+ghost use Rattle.klp_machine.specs.declared.event.Event.TheVariants.{Enable, ShadowAlloc};
 ghost use Rattle.klp_machine.specs.State.{State, is_installed};
 ghost use Rattle.klp_machine.specs.ShadowStep.{shadow_changed, shadow_changes, concerns};
+ghost use Rattle.klp_types.specs.Callbacks.{refuses};
+ghost use Rattle.klp_machine.specs.Callbacks.{loaded_objects};
 ghost use Rattle.klp_machine.specs.Run.{run};
+ghost use Rattle.klp_machine.specs.Allowed.{Allowed};
 ghost use Rattle.klp_round_trip.specs.Company.{taking_part, company_keys, EachUndoes, IsFairCompany};
-ghost use Rattle.klp_round_trip.specs.Examples.{key_of, adding, bare, with_a_sleeper, every_stage, own_variable_first, sharing, with_five, there_and_back};
+ghost use Rattle.klp_round_trip.specs.Examples.{key_of, adding, bare, with_a_sleeper, every_stage, own_variable_first, refusing_behind, both_loaded, sharing, with_five, there_and_back};
 
 /// A cumulative patch is enabled, held by a sleeper, turned round twice, complete, disabled, waited for
 /// and gone, and a variable of somebody else is added between: a fair company.
 pub fn a_fair_company_goes_through_every_stage()
+    ensures allowed { Allowed adding with_a_sleeper }
     ensures fair { IsFairCompany adding 0 with_a_sleeper every_stage }
     ensures gone { is_installed (run adding with_a_sleeper every_stage) 0 ≡ false }
 {}
@@ -35,4 +39,12 @@ pub fn objects_that_share_a_variable_leave_a_trace()
     ensures before { variable with_five.world (key_of 1 1) ≡ Some 5 }
     ensures gone { is_installed (run sharing with_five there_and_back) 0 ≡ false }
     ensures after { variable (run sharing with_five there_and_back).world (key_of 1 1) ≡ Some 9 }
+{}
+
+/// A patch whose second object refuses is gone at once, and its enabling is a fair company: the first
+/// object takes part, the second one refuses.
+pub fn a_refused_patch_is_a_fair_company()
+    ensures fair { IsFairCompany refusing_behind 0 both_loaded (Enable 0 ∷ []) }
+    ensures refuses { is_some (find refuses (loaded_objects refusing_behind both_loaded 0)) ≡ true }
+    ensures gone { is_installed (run refusing_behind both_loaded (Enable 0 ∷ [])) 0 ≡ false }
 {}

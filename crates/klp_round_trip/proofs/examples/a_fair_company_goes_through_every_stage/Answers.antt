@@ -1,4 +1,4 @@
-use Rattle.klp_round_trip.proofs.StageLemmas.{fair, gone}
+use Rattle.klp_round_trip.proofs.StageLemmas.{allowed, fair, gone}
 use Rattle.klp_round_trip.proofs.examples.a_fair_company_goes_through_every_stage.Goals as goal
 
 pub returns-clause-fair : goal.returns-clause-fair
@@ -6,3 +6,6 @@ returns-clause-fair c = fair
 
 pub returns-clause-gone : goal.returns-clause-gone
 returns-clause-gone c = gone
+
+pub returns-clause-allowed : goal.returns-clause-allowed
+returns-clause-allowed c = allowed
