@@ -263,10 +263,17 @@ right_rows of_setting (suc n) = (refl, right_rows of_setting n)
 -- the start is a state that is reached
 pub allowed : Allowed setting start
 allowed = record {
-  kernel = refl; known = tt; distinct = tt; moving = tt; stacked = tt; symbols = tt;
+  kernel = refl;
+  known = tt;
+  distinct = tt;
+  moving = tt;
+  stacked = tt;
+  symbols = tt;
   tasks = (refl, right_rows setting 63);
   room = omega (arith, finite.len-empty key_cmp ℕ);
-  objects = refl; rows = refl; flags = refl;
+  objects = refl;
+  rows = refl;
+  flags = refl;
 }
 
 -- a patch whose second object refuses
