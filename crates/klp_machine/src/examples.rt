@@ -31,6 +31,7 @@ pub fn a_reversal_runs_nothing()
 pub fn a_disabling_starts_with_pre_unpatch()
     ensures runs { ran (calls small_kernel (state_with true (0 ∷ []) None []) (SetEnabled 0 false)) ≡ (0, PreUn) ∷ (1, PreUn) ∷ [] }
     ensures unloaded { ran (calls small_kernel (state_with false (0 ∷ []) None []) (SetEnabled 0 false)) ≡ (0, PreUn) ∷ [] }
+    ensures of_the_patch { ran_by (calls small_kernel (state_with true (0 ∷ 2 ∷ []) None []) (SetEnabled 2 false)) ≡ (2, PreUn) ∷ [] }
     ensures reply { (accepted small_kernel (state_with true (0 ∷ []) None []) (SetEnabled 0 false)).0 ≡ Started }
     ensures next { (accepted small_kernel (state_with true (0 ∷ []) None (in_kernel (negsuc 0) ∷ [])) (SetEnabled 0 false)).1
         ≡ state_with true (0 ∷ []) (move_of 0 false) (in_kernel (pos 1) ∷ []) }
@@ -42,6 +43,7 @@ pub fn objects_before_the_one_that_refuses_get_post_unpatch()
     ensures runs { ran (calls (refusing_in 1) (record { loaded = true ∷ true ∷ true ∷ []; world = (state_with true [] None []).world; moving = None; pinned = false ∷ []; tasks = [] }) (Enable 0))
         ≡ (0, Pre) ∷ (1, Pre) ∷ (2, Pre) ∷ (0, PostUn) ∷ (1, PostUn) ∷ [] }
     ensures reply { (accepted small_kernel (state_with true [] None []) (Enable 3)).0 ≡ PreFailed 3 1 (negsuc 11) }
+    ensures of_the_patch { ran_by (calls small_kernel (state_with true (0 ∷ []) None []) (Enable 2)) ≡ (2, Pre) ∷ [] }
     ensures next { (accepted small_kernel (state_with true [] None (in_kernel (negsuc 0) ∷ [])) (Enable 3)).1 ≡ state_with true [] None (in_kernel (negsuc 0) ∷ []) }
 {}
 
@@ -66,6 +68,8 @@ pub fn a_poll_waits_for_tasks()
     ensures in_user_space { accepted small_kernel (state_with true (0 ∷ []) (move_of 0 true) (in_user (pos 0) ∷ [])) Poll
         ≡ (Pending 1, state_with true (0 ∷ []) (move_of 0 true) (in_user (pos 0) ∷ [])) }
     ensures completed { ran (calls small_kernel (state_with true (0 ∷ []) (move_of 0 true) (in_kernel (pos 1) ∷ [])) Poll) ≡ (0, Post) ∷ (1, Post) ∷ [] }
+    ensures of_the_moving_patch { ran_by (calls small_kernel (state_with true (0 ∷ 2 ∷ []) (move_of 2 true) []) Poll) ≡ (2, Post) ∷ [] }
+    ensures of_the_withdrawn_patch { ran_by (calls small_kernel (state_with true (0 ∷ 2 ∷ []) (move_of 2 false) []) Poll) ≡ (2, PostUn) ∷ [] }
     ensures at_rest { (accepted small_kernel (state_with true (0 ∷ []) (move_of 0 true) (in_kernel (pos 1) ∷ [])) Poll)
         ≡ (Completed true, state_with true (0 ∷ []) None (in_kernel (negsuc 0) ∷ [])) }
 {}
