@@ -7,7 +7,7 @@ use Rattle.std.proofs.lemmas.Bool.{eq-eqb, eqb-true, leb-false}
 use Rattle.std.proofs.lemmas.List.{length-map, length-set}
 use Rattle.klp_types.specs.declared.limits.TheConstants.{MAX_VARIABLES}
 use Rattle.klp_types.specs.declared.shadow.ShadowKey.{ShadowKey}
-use Rattle.klp_machine.specs.declared.task.Mode.TheVariants.{User, Kernel}
+use Rattle.klp_types.specs.declared.task.Mode.TheVariants.{User, Kernel}
 use Rattle.klp_machine.specs.declared.event.Event.{Event}
 use Rattle.klp_machine.specs.declared.event.Event.TheVariants.{Enable, SetEnabled, Force, Poll, Coming, Going, NewTask, Fork, EndTask, EnterKernel, ExitToUser, Sleep, Wake, ShadowAlloc, ShadowGetOrAlloc, ShadowFree, ShadowFreeAll}
 use Rattle.klp_types.specs.declared.callback.Which.TheVariants.{PreUn}
@@ -15,7 +15,8 @@ use Rattle.klp_types.specs.declared.version.Move.{Move}
 use Rattle.klp_types.specs.Setting.{Setting, PatchObject, replaces, state_ids}
 use Rattle.klp_types.specs.World.{World, variable, with_patch, without_patch}
 use Rattle.klp_types.specs.Script.{allocated}
-use Rattle.klp_machine.specs.Task.{Task, Tasks, task_at, is_in, at_rest, at_target, all_in}
+use Rattle.klp_types.specs.declared.task.Task.{Task}
+use Rattle.klp_machine.specs.Task.{Tasks, task_at, is_in, at_rest, at_target, all_in}
 use Rattle.klp_machine.specs.State.{State, is_loaded, installed_patches, is_installed, with_world, with_tasks}
 use Rattle.klp_types.specs.Pick.{moves}
 use Rattle.klp_machine.specs.Blocked.{blocked, tried, pending}

@@ -6,15 +6,16 @@ use Rattle.std.proofs.lemmas.Bool.{eq-eqb, eqb-true}
 use Rattle.std.proofs.lemmas.List.Sums.{length-filter}
 use Rattle.klp_types.specs.declared.version.Version.{Version}
 use Rattle.klp_types.specs.declared.version.Move.{Move}
-use Rattle.klp_machine.specs.declared.task.Mode.{Mode}
-use Rattle.klp_machine.specs.declared.task.Mode.TheVariants.{User, Kernel, Asleep}
+use Rattle.klp_types.specs.declared.task.Mode.{Mode}
+use Rattle.klp_types.specs.declared.task.Mode.TheVariants.{User, Kernel, Asleep}
 use Rattle.klp_machine.specs.declared.event.Event.{Event}
 use Rattle.klp_machine.specs.declared.event.Event.TheVariants.{Enable, SetEnabled, Force, Poll, Coming, Going, NewTask, Fork, EndTask, EnterKernel, ExitToUser, Sleep, Wake, ShadowAlloc, ShadowGetOrAlloc, ShadowFree, ShadowFreeAll}
 use Rattle.klp_types.specs.declared.callback.Which.TheVariants.{PreUn}
 use Rattle.klp_types.specs.Image.{object_of}
 use Rattle.klp_types.specs.Setting.{Setting, PatchObject, replaces, state_ids}
 use Rattle.klp_types.specs.World.{World, with_patch, without_patch}
-use Rattle.klp_machine.specs.Task.{Task, Tasks, task_at, is_mode, at_rest, at_target, is_at, in_state, all_in}
+use Rattle.klp_types.specs.declared.task.Task.{Task}
+use Rattle.klp_machine.specs.Task.{Tasks, task_at, is_mode, at_rest, at_target, is_at, in_state, all_in}
 use Rattle.klp_machine.specs.State.{State, installed_patches, with_world, with_tasks}
 use Rattle.klp_machine.specs.Entries.{is_object_loaded, is_site_loaded}
 use Rattle.klp_types.specs.Pick.{moves}

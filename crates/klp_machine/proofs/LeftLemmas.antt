@@ -9,7 +9,8 @@ use Rattle.klp_types.specs.declared.version.Version.TheVariants.{Original, New}
 use Rattle.klp_types.specs.declared.version.Entry.{Entry}
 use Rattle.klp_types.specs.declared.version.Move.{Move}
 use Rattle.klp_types.specs.Setting.{Setting, functions_of, function_for, replaces}
-use Rattle.klp_machine.specs.Task.{Task, task_at}
+use Rattle.klp_types.specs.declared.task.Task.{Task}
+use Rattle.klp_machine.specs.Task.{task_at}
 use Rattle.klp_machine.specs.State.{State, installed_patches}
 use Rattle.klp_machine.specs.Entries.{is_site_loaded}
 use Rattle.klp_types.specs.Entries.{entry_of, patches_site, entries_from, is_empty}

@@ -1,4 +1,3 @@
-pub mod FrameLemmas
 pub mod KeyLemmas
 pub mod ScriptLemmas
 pub mod RefusalLemmas

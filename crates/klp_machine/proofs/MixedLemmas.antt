@@ -6,7 +6,8 @@ use Rattle.std.proofs.lemmas.Bool.{eq-eqb, eqb-true}
 use Rattle.klp_types.specs.declared.version.Version.{Version}
 use Rattle.klp_types.specs.declared.version.Move.{Move}
 use Rattle.klp_types.specs.Setting.{Setting, Function, functions_of, function_for, is_at, replaces}
-use Rattle.klp_machine.specs.Task.{Task, task_at}
+use Rattle.klp_types.specs.declared.task.Task.{Task}
+use Rattle.klp_machine.specs.Task.{task_at}
 use Rattle.klp_machine.specs.State.{State, installed_patches}
 use Rattle.klp_machine.specs.Entries.{entries_of, is_site_loaded}
 use Rattle.klp_types.specs.Entries.{entry_of, patches_site, entries_from}

@@ -5,14 +5,15 @@ use Rattle.std.specs.List.{list_any}
 use Rattle.std.specs.FinMap as finite
 use Rattle.klp_types.specs.declared.limits.TheConstants.{MAX_VARIABLES}
 use Rattle.klp_types.specs.declared.version.Version.TheVariants.{Original, New}
-use Rattle.klp_machine.specs.declared.task.Mode.TheVariants.{User, Kernel, Asleep}
+use Rattle.klp_types.specs.declared.task.Mode.TheVariants.{User, Kernel, Asleep}
 use Rattle.klp_machine.specs.declared.event.Event.{Event}
 use Rattle.klp_machine.specs.declared.event.Event.TheVariants.{Enable, Poll, Coming, Going, NewTask, EnterKernel, ExitToUser, Sleep, Wake}
 use Rattle.klp_machine.specs.declared.event.Refusal.{Refusal}
 use Rattle.klp_types.specs.FirstOf.{first_of}
 use Rattle.klp_types.specs.Setting.{Setting}
 use Rattle.klp_types.specs.World.{key_cmp}
-use Rattle.klp_machine.specs.Task.{Task, task_at}
+use Rattle.klp_types.specs.declared.task.Task.{Task}
+use Rattle.klp_machine.specs.Task.{task_at}
 use Rattle.klp_machine.specs.Step.{accepted}
 use Rattle.klp_machine.specs.Refusals.{refusals, accepts, is_there}
 use Rattle.klp_machine.specs.Allowed.{AreRight, Allowed}

@@ -6,8 +6,8 @@ use Rattle.klp_types.specs.Image.{Object}
 use Rattle.klp_types.specs.World.{key_cmp}
 use Rattle.klp_types.specs.Setting.{Setting}
 use Rattle.klp_types.specs.Entries.{is_empty}
-use Rattle.klp_machine.specs.declared.limits.TheConstants.{MAX_TASKS}
-use Rattle.klp_machine.specs.Task.{Task}
+use Rattle.klp_types.specs.declared.limits.TheConstants.{MAX_TASKS}
+use Rattle.klp_types.specs.declared.task.Task.{Task}
 use Rattle.klp_machine.specs.Opening.{opening_state}
 use Rattle.klp_machine.specs.Allowed.{AreRight, Allowed}
 

@@ -4,10 +4,11 @@ use Rattle.std.specs.Prelude.{option_map, slice_set, if◌then◌else◌}
 use Rattle.std.specs.List.{list_any}
 use Rattle.klp_types.specs.declared.version.Version.{Version}
 use Rattle.klp_types.specs.declared.version.Move.{Move}
-use Rattle.klp_machine.specs.declared.task.Mode.{Mode}
-use Rattle.klp_machine.specs.declared.task.Mode.TheVariants.{User, Kernel, Asleep}
+use Rattle.klp_types.specs.declared.task.Mode.{Mode}
+use Rattle.klp_types.specs.declared.task.Mode.TheVariants.{User, Kernel, Asleep}
 use Rattle.klp_types.specs.Setting.{Setting}
-use Rattle.klp_machine.specs.Task.{Task, Tasks, task_at, is_mode, at_target, is_at, in_state, all_in}
+use Rattle.klp_types.specs.declared.task.Task.{Task}
+use Rattle.klp_machine.specs.Task.{Tasks, task_at, is_mode, at_target, is_at, in_state, all_in}
 use Rattle.klp_types.specs.Entries.{is_empty}
 use Rattle.klp_machine.specs.Frames.{is_bad}
 use Rattle.klp_machine.specs.Blocked.{is_held, switched}

@@ -9,7 +9,8 @@ use Rattle.klp_machine.specs.declared.event.Event.TheVariants.{Enable, SetEnable
 use Rattle.klp_types.specs.declared.version.Move.{Move}
 use Rattle.klp_types.specs.Setting.{Setting, PatchObject, replaces, state_ids}
 use Rattle.klp_types.specs.World.{World, Shadow, variable, with_patch, without_patch}
-use Rattle.klp_machine.specs.Task.{Task, Tasks, task_at}
+use Rattle.klp_types.specs.declared.task.Task.{Task}
+use Rattle.klp_machine.specs.Task.{Tasks, task_at}
 use Rattle.klp_machine.specs.State.{State, with_world}
 use Rattle.klp_types.specs.Pick.{moves}
 use Rattle.klp_machine.specs.Blocked.{tried, pending}

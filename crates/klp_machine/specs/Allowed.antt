@@ -3,11 +3,12 @@ use Rattle.std.specs.Prelude.{◌≡◌, ℕ, ◌≤◌, ℤ, Bool, true, false,
 use Rattle.std.specs.List.{list_any}
 use Rattle.std.specs.FinMap as finite
 use Rattle.klp_types.specs.declared.limits.TheConstants.{MAX_VARIABLES}
-use Rattle.klp_machine.specs.declared.limits.TheConstants.{MAX_TASKS}
-use Rattle.klp_machine.specs.declared.task.Mode.TheVariants.{Asleep}
+use Rattle.klp_types.specs.declared.limits.TheConstants.{MAX_TASKS}
+use Rattle.klp_types.specs.declared.task.Mode.TheVariants.{Asleep}
 use Rattle.klp_types.specs.declared.version.Move.{Move}
 use Rattle.klp_types.specs.Setting.{Setting, replaces}
-use Rattle.klp_machine.specs.Task.{Task, Tasks, is_mode, is_at_rest, is_at}
+use Rattle.klp_types.specs.declared.task.Task.{Task}
+use Rattle.klp_machine.specs.Task.{Tasks, is_mode, is_at_rest, is_at}
 use Rattle.klp_machine.specs.State.{State, is_loaded, installed_patches}
 use Rattle.klp_types.specs.Entries.{is_empty}
 use Rattle.klp_types.specs.Pick.{moves}

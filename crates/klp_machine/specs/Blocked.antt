@@ -5,10 +5,11 @@ use Rattle.klp_types.specs.declared.version.Version.{Version}
 use Rattle.klp_types.specs.declared.version.Version.TheVariants.{Original, New}
 use Rattle.klp_types.specs.declared.version.Entry.{Entry}
 use Rattle.klp_types.specs.declared.version.Move.{Move}
-use Rattle.klp_machine.specs.declared.task.Mode.TheVariants.{Asleep}
+use Rattle.klp_types.specs.declared.task.Mode.TheVariants.{Asleep}
 use Rattle.klp_types.specs.Image.{Symbol, symbols_of}
 use Rattle.klp_types.specs.Setting.{Setting}
-use Rattle.klp_machine.specs.Task.{Task, Tasks, is_mode, is_at, at_target, in_state}
+use Rattle.klp_types.specs.declared.task.Task.{Task}
+use Rattle.klp_machine.specs.Task.{Tasks, is_mode, is_at, at_target, in_state}
 use Rattle.klp_machine.specs.State.{State}
 use Rattle.klp_machine.specs.Entries.{entries_of}
 use Rattle.klp_types.specs.Pick.{version_of, newest_version}

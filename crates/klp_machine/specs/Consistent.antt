@@ -7,7 +7,8 @@ use Rattle.klp_types.specs.declared.version.Target.{Target}
 use Rattle.klp_types.specs.declared.version.Entry.{Entry}
 use Rattle.klp_types.specs.declared.version.Move.{Move}
 use Rattle.klp_types.specs.Setting.{Setting, Function, functions_of}
-use Rattle.klp_machine.specs.Task.{Task, task_at}
+use Rattle.klp_types.specs.declared.task.Task.{Task}
+use Rattle.klp_machine.specs.Task.{task_at}
 use Rattle.klp_machine.specs.State.{State}
 use Rattle.klp_machine.specs.Entries.{entries_of}
 use Rattle.klp_types.specs.Pick.{newest_version}

@@ -12,8 +12,9 @@ use Rattle.klp_types.specs.Compatible.{SystemState}
 use Rattle.klp_types.specs.World.{Installed}
 use Rattle.klp_types.specs.Callbacks.{Call}
 use Rattle.klp_types.specs.Examples.{kernel, installed, callbacks_for}
-use Rattle.klp_machine.specs.declared.task.Mode.TheVariants.{User, Kernel, Asleep}
-use Rattle.klp_machine.specs.Task.{Task, Tasks}
+use Rattle.klp_types.specs.declared.task.Mode.TheVariants.{User, Kernel, Asleep}
+use Rattle.klp_types.specs.declared.task.Task.{Task}
+use Rattle.klp_machine.specs.Task.{Tasks}
 use Rattle.klp_machine.specs.State.{State}
 
 abbrev pub function_at : ℕ → Function

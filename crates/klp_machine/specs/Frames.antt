@@ -3,10 +3,11 @@ use Rattle.std.specs.Prelude.{ℕ, ◌-◌, Bool, false, not, ◌==◌, ◌&&◌
 use Rattle.std.specs.List.{list_any}
 use Rattle.klp_types.specs.declared.version.Version.{Version}
 use Rattle.klp_types.specs.declared.version.Version.TheVariants.{Original, New}
-use Rattle.klp_machine.specs.declared.task.Mode.TheVariants.{Asleep}
+use Rattle.klp_types.specs.declared.task.Mode.TheVariants.{Asleep}
 use Rattle.klp_types.specs.Image.{symbols_of, object_of}
 use Rattle.klp_types.specs.Setting.{Setting, PatchObject, objects_of, functions_of}
-use Rattle.klp_machine.specs.Task.{Task, is_mode}
+use Rattle.klp_types.specs.declared.task.Task.{Task}
+use Rattle.klp_machine.specs.Task.{is_mode}
 
 -- whether image or catalog don't have the site or function
 abbrev pub is_bad : Setting → Version → Bool

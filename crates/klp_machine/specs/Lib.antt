@@ -1,4 +1,3 @@
-pub mod Padded
 pub mod Task
 pub mod State
 pub mod InPlace

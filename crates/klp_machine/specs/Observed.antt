@@ -3,7 +3,7 @@ use Rattle.std.specs.Prelude.{◌≡◌, ℕ, Bool, true, false, ◌==◌, List,
 use Rattle.std.specs.List.{list_any}
 use Rattle.klp_types.specs.declared.version.Version.{Version}
 use Rattle.klp_types.specs.declared.version.Target.{Target}
-use Rattle.klp_machine.specs.declared.task.Mode.TheVariants.{Kernel}
+use Rattle.klp_types.specs.declared.task.Mode.TheVariants.{Kernel}
 use Rattle.klp_machine.specs.declared.event.Event.{Event}
 use Rattle.klp_machine.specs.declared.event.Event.TheVariants.{Force, Going, NewTask, Fork, EndTask, ExitToUser, Sleep}
 use Rattle.klp_types.specs.Setting.{Setting}

@@ -6,10 +6,10 @@ use Rattle.klp_types.specs.declared.version.Version.TheVariants.{Original}
 use Rattle.klp_types.specs.declared.version.Move.{Move}
 use Rattle.klp_types.specs.Image.{Symbol}
 use Rattle.klp_types.specs.Setting.{Setting, Function, PatchObject}
-use Rattle.klp_machine.specs.declared.task.Mode.{Mode}
-use Rattle.klp_machine.specs.declared.task.Mode.TheVariants.{Kernel}
+use Rattle.klp_types.specs.declared.task.Mode.{Mode}
+use Rattle.klp_types.specs.declared.task.Mode.TheVariants.{Kernel}
 use Rattle.klp_machine.specs.declared.event.Event.TheVariants.{Enable, Poll, Coming, Going, NewTask, EnterKernel, ExitToUser, Sleep, Wake}
-use Rattle.klp_machine.specs.Task.{Task}
+use Rattle.klp_types.specs.declared.task.Task.{Task}
 use Rattle.klp_machine.specs.State.{State}
 use Rattle.klp_machine.specs.Observed.{Stacks, with_frames, Seen, Happens, Calls, Returns, Watched}
 

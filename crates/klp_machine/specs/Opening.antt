@@ -2,7 +2,7 @@
 use Rattle.std.specs.Prelude.{true, false, [], length, None, slice_set, replicate}
 use Rattle.std.specs.FinMap as finite
 use Rattle.klp_types.specs.Setting.{Setting}
-use Rattle.klp_machine.specs.declared.limits.TheConstants.{MAX_TASKS}
+use Rattle.klp_types.specs.declared.limits.TheConstants.{MAX_TASKS}
 use Rattle.klp_machine.specs.State.{State}
 
 -- `vmlinux` alone is loaded; there are no tasks, patches, pins and shadow variables

@@ -3,7 +3,8 @@ use Rattle.std.specs.Prelude.{ℕ, ℤ, Option, Some, None, if◌then◌else◌}
 use Rattle.klp_types.specs.declared.version.Target.{Target}
 use Rattle.klp_types.specs.Setting.{Setting}
 use Rattle.klp_types.specs.Pick.{entries_for, newest_version, target_of}
-use Rattle.klp_machine.specs.Task.{Task, task_at}
+use Rattle.klp_types.specs.declared.task.Task.{Task}
+use Rattle.klp_machine.specs.Task.{task_at}
 use Rattle.klp_machine.specs.State.{State}
 use Rattle.klp_machine.specs.Entries.{is_site_loaded, entries_of}
 

@@ -1,8 +1,8 @@
 -- What an event is refused for.
 use Rattle.std.specs.Prelude.{ℕ, ◌==◌, Bool, true, false, not, ◌&&◌, ◌||◌, is_some, is_none, nat_lt, nat_le, List, [], ◌∷◌, length, map, Option, Some, None}
 use Rattle.std.specs.List.{list_any}
-use Rattle.klp_machine.specs.declared.limits.TheConstants.{MAX_TASKS}
-use Rattle.klp_machine.specs.declared.task.Mode.TheVariants.{User, Kernel, Asleep}
+use Rattle.klp_types.specs.declared.limits.TheConstants.{MAX_TASKS}
+use Rattle.klp_types.specs.declared.task.Mode.TheVariants.{User, Kernel, Asleep}
 use Rattle.klp_machine.specs.declared.event.Event.{Event}
 use Rattle.klp_machine.specs.declared.event.Event.TheVariants.{Enable, SetEnabled, Force, Poll, Coming, Going, NewTask, Fork, EndTask, EnterKernel, ExitToUser, Sleep, Wake, ShadowAlloc, ShadowGetOrAlloc, ShadowFree, ShadowFreeAll}
 use Rattle.klp_machine.specs.declared.event.Refusal.{Refusal}

@@ -5,8 +5,8 @@ use Rattle.klp_types.specs.declared.version.Entry.{Entry}
 use Rattle.klp_types.specs.declared.version.Move.{Move}
 use Rattle.klp_types.specs.Setting.{Setting}
 use Rattle.klp_types.specs.Pick.{moves, newest_version, address_of}
-use Rattle.klp_machine.specs.declared.row.SiteWord.{SiteWord}
-use Rattle.klp_machine.specs.declared.row.SiteRow.{SiteRow}
+use Rattle.klp_types.specs.declared.row.SiteWord.{SiteWord}
+use Rattle.klp_types.specs.declared.row.SiteRow.{SiteRow}
 use Rattle.klp_machine.specs.State.{State}
 use Rattle.klp_machine.specs.Entries.{is_site_loaded, entries_of}
 

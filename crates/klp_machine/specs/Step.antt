@@ -1,6 +1,6 @@
 -- One event: a refusal, or a reply and the next state.
 use Rattle.std.specs.Prelude.{unwrap_or, is_some, List, [], Option, Some, None, Result, if◌then◌else◌}
-use Rattle.klp_machine.specs.declared.task.Mode.TheVariants.{Kernel, Asleep}
+use Rattle.klp_types.specs.declared.task.Mode.TheVariants.{Kernel, Asleep}
 use Rattle.klp_machine.specs.declared.event.Event.{Event}
 use Rattle.klp_machine.specs.declared.event.Event.TheVariants.{Enable, SetEnabled, Force, Poll, Coming, Going, NewTask, Fork, EndTask, EnterKernel, ExitToUser, Sleep, Wake, ShadowAlloc, ShadowGetOrAlloc, ShadowFree, ShadowFreeAll}
 use Rattle.klp_machine.specs.declared.event.Reply.{Reply}
@@ -10,7 +10,8 @@ use Rattle.klp_types.specs.FirstOf.{unless}
 use Rattle.klp_types.specs.Step.{freed_count}
 use Rattle.klp_types.specs.Setting.{Setting}
 use Rattle.klp_types.specs.World.{variable}
-use Rattle.klp_machine.specs.Task.{Task, task_at}
+use Rattle.klp_types.specs.declared.task.Task.{Task}
+use Rattle.klp_machine.specs.Task.{task_at}
 use Rattle.klp_machine.specs.State.{State, with_world}
 use Rattle.klp_types.specs.Callbacks.{Call}
 use Rattle.klp_machine.specs.EventCalls.{calls}

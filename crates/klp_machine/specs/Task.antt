@@ -1,16 +1,8 @@
 -- Tasks: how far each is brought to the patch in transition, where it is, and what it is inside of.
 use Rattle.std.specs.Prelude.{ℕ, ℤ, pos, negsuc, Bool, true, false, ◌==◌, List, map, Option, Some, None, option_map, slice_index_or, slice_set}
-use Rattle.klp_types.specs.declared.version.Version.{Version}
-use Rattle.klp_machine.specs.declared.task.Mode.{Mode}
-use Rattle.klp_machine.specs.declared.task.Mode.TheVariants.{User, Kernel, Asleep}
-
-pub record Task : Type 0 where
-  -- as /proc/<pid>/patch_state shows it: -1 where no patch moves; else 1 where it runs the patch in transition, and 0 where it
-  -- doesn't
-  pub state : ℤ
-  pub mode : Mode
-  -- of a sleeping task: what it is inside of, innermost last
-  pub frames : List Version
+use Rattle.klp_types.specs.declared.task.Task.{Task}
+use Rattle.klp_types.specs.declared.task.Mode.{Mode}
+use Rattle.klp_types.specs.declared.task.Mode.TheVariants.{User, Kernel, Asleep}
 
 -- for each number the task, if it is there
 abbrev pub Tasks : Type 0

@@ -1,9 +1,10 @@
 -- What task events do to a task.
 use Rattle.std.specs.Prelude.{ℕ, ℤ, List, [], Option, Some, None}
-use Rattle.klp_machine.specs.declared.task.Mode.TheVariants.{User}
+use Rattle.klp_types.specs.declared.task.Mode.TheVariants.{User}
 use Rattle.klp_types.specs.declared.version.Version.{Version}
 use Rattle.klp_types.specs.declared.version.Move.{Move}
-use Rattle.klp_machine.specs.Task.{Task, task_at, with_task, at_rest, at_target}
+use Rattle.klp_types.specs.declared.task.Task.{Task}
+use Rattle.klp_machine.specs.Task.{task_at, with_task, at_rest, at_target}
 use Rattle.klp_machine.specs.State.{State, with_tasks}
 
 -- the state that a task has when it is brought to whatever moves

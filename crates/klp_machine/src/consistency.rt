@@ -4,7 +4,7 @@ ghost use Rattle.std.specs.Prelude.{◌≡◌, ℕ, pos, negsuc, true, false, Li
 ghost use Rattle.klp_types.specs.declared.version.Version.TheVariants.{Original, New};
 ghost use Rattle.klp_types.specs.Setting.{Setting};
 ghost use Rattle.klp_machine.specs.declared.event.Event.TheVariants.{Going, ExitToUser, Sleep};
-ghost use Rattle.klp_machine.specs.declared.task.Mode.TheVariants.{Kernel, User, Asleep};
+ghost use Rattle.klp_types.specs.declared.task.Mode.TheVariants.{Kernel, User, Asleep};
 ghost use Rattle.klp_machine.specs.State.{State};
 ghost use Rattle.klp_machine.specs.Run.{run};
 ghost use Rattle.klp_machine.specs.Blocked.{blocked, is_held};

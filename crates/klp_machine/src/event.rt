@@ -1,5 +1,4 @@
-use crate::task::{Frames, TaskId};
-use klp_types::{ObjId, PatchId, ShadowKey};
+use klp_types::{Frames, ObjId, PatchId, ShadowKey, TaskId};
 use thiserror::Error;
 
 /// What may happen to the manager. One event is one atomic step.

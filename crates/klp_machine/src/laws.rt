@@ -21,8 +21,6 @@ ghost use Rattle.klp_machine.specs.Run.{next, run};
 ghost use Rattle.klp_machine.specs.Allowed.{Allowed};
 ghost use Rattle.klp_machine.specs.Opening.{opening_state};
 
-use crate::limits::{MAX_FRAMES, MAX_TASKS};
-
 /// The state that a manager is booted with is allowed, if the image has an object.
 pub fn the_opening_state_is_allowed()
     ensures { (setting : Setting) → is_empty setting.image.objects ≡ false → Allowed setting (opening_state setting) }
@@ -57,10 +55,4 @@ pub fn tasks_run_whole_lists_of_patches()
 pub fn a_patch_leaves_the_entries_of_the_others()
     ensures { (setting : Setting) (state : State) (patch : ℕ) (site : ℕ) → Allowed setting state → moves state.moving patch ≡ true
         → entries_of setting (with_world state (without_patch state.world patch)) site ≡ filter (λ (e : Entry). not (e.patch == patch)) (entries_of setting state site) }
-{}
-
-/// How many tasks there may be, and how deep they may sleep.
-pub fn limits_are_these()
-    ensures tasks { MAX_TASKS ≡ 64 }
-    ensures frames { MAX_FRAMES ≡ 32 }
 {}

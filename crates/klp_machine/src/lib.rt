@@ -10,11 +10,5 @@ pub mod consistency;
 mod event;
 pub mod examples;
 pub mod laws;
-mod limits;
-mod row;
-mod task;
 
 pub use event::{Event, Refusal, Reply};
-pub use limits::{MAX_FRAMES, MAX_TASKS};
-pub use row::{SiteRow, SiteWord};
-pub use task::{Frames, Mode, TaskId};

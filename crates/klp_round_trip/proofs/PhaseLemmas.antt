@@ -7,7 +7,8 @@ use Rattle.klp_types.specs.declared.shadow.ShadowKey.{ShadowKey}
 use Rattle.klp_types.specs.declared.callback.Which.TheVariants.{Pre, Post, PreUn, PostUn}
 use Rattle.klp_types.specs.Setting.{Setting, PatchObject, objects_of, replaces, state_ids}
 use Rattle.klp_types.specs.World.{Installed, World, variable, installed_before, with_patch, without_patch, taken_out}
-use Rattle.klp_machine.specs.Task.{Task, Tasks, all_in, at_target, at_rest}
+use Rattle.klp_types.specs.declared.task.Task.{Task}
+use Rattle.klp_machine.specs.Task.{Tasks, all_in, at_target, at_rest}
 use Rattle.klp_machine.specs.State.{State, is_among, with_tasks}
 use Rattle.klp_types.specs.Entries.{is_empty}
 use Rattle.klp_types.specs.Pick.{moves}

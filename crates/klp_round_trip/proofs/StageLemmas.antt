@@ -16,7 +16,7 @@ use Rattle.klp_types.specs.World.{key_cmp, variable}
 use Rattle.klp_types.specs.Script.{Script, is_key, effect}
 use Rattle.klp_round_trip.specs.Examples.{key_of, adding, one_task, with_a_sleeper, every_stage, refusing_behind, both_loaded}
 use Rattle.klp_types.specs.declared.version.Version.TheVariants.{Original}
-use Rattle.klp_machine.specs.declared.task.Mode.TheVariants.{User, Kernel, Asleep}
+use Rattle.klp_types.specs.declared.task.Mode.TheVariants.{User, Kernel, Asleep}
 use Rattle.klp_machine.specs.Task.{Tasks}
 use Rattle.klp_machine.specs.State.{State, is_installed}
 use Rattle.klp_machine.specs.Refusals.{accepts}

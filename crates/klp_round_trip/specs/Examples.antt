@@ -12,8 +12,8 @@ use Rattle.klp_machine.specs.declared.event.Event.{Event}
 use Rattle.klp_machine.specs.declared.event.Event.TheVariants.{Enable, SetEnabled, Poll, EnterKernel, ExitToUser, Wake, ShadowAlloc}
 use Rattle.klp_types.specs.declared.version.Version.{Version}
 use Rattle.klp_types.specs.declared.version.Version.TheVariants.{Original}
-use Rattle.klp_machine.specs.declared.task.Mode.{Mode}
-use Rattle.klp_machine.specs.declared.task.Mode.TheVariants.{Asleep}
+use Rattle.klp_types.specs.declared.task.Mode.{Mode}
+use Rattle.klp_types.specs.declared.task.Mode.TheVariants.{Asleep}
 use Rattle.klp_machine.specs.Task.{Tasks}
 use Rattle.klp_machine.specs.State.{State, with_tasks}
 

@@ -2,3 +2,4 @@ pub mod EntryLemmas
 pub mod RunLemmas
 pub mod TextLemmas
 pub mod SiteLemmas
+pub mod FrameLemmas

@@ -1,13 +1,12 @@
 -- A small kernel with patches, and states of it, over which the definitions are computed.
-use Rattle.std.specs.Prelude.{ℕ, ℤ, pos, negsuc, Bool, true, false, List, [], ◌∷◌, ◌==◌, map, Option, Some, None, if◌then◌else◌}
+use Rattle.std.specs.Prelude.{ℕ, ℤ, pos, negsuc, Bool, true, false, List, [], ◌∷◌, ◌==◌, map, Some, None, if◌then◌else◌}
 use Rattle.std.specs.FinMap as finite
 use Rattle.klp_types.specs.declared.callback.Which.{Which}
 use Rattle.klp_types.specs.declared.callback.Which.TheVariants.{Pre, Post, PreUn, PostUn}
-use Rattle.klp_types.specs.declared.version.Move.{Move}
-use Rattle.klp_types.specs.Image.{Symbol, Object, Image}
+use Rattle.klp_types.specs.Image.{Symbol, Image}
 use Rattle.klp_types.specs.Script.{Script}
 use Rattle.klp_types.specs.World.{Installed}
-use Rattle.klp_types.specs.Setting.{Function, Callback, PatchObject, Patch, Setting}
+use Rattle.klp_types.specs.Setting.{Callback, PatchObject, Patch, Setting}
 use Rattle.klp_types.specs.State.{State}
 use Rattle.klp_types.specs.Callbacks.{Call}
 

@@ -13,3 +13,4 @@ pub mod Step
 pub mod Run
 pub mod Records
 pub mod Examples
+pub mod Padded

@@ -11,9 +11,9 @@ ghost use Rattle.klp_types.specs.Bytes.{symbol_in, patched, resting, text_of};
 ghost use Rattle.klp_types.specs.Run.{answer, next, run, answers};
 
 use crate::limits::{
-    ENTRY_SITE_LEN, MAX_ADDRESS_DIGITS, MAX_BODY, MAX_EDITS, MAX_FUNCTIONS, MAX_LINE, MAX_NAME,
-    MAX_OBJECTS, MAX_PATCHES, MAX_RECORDS, MAX_SITES, MAX_STATES, MAX_SYMBOL_NAME, MAX_TARGETS,
-    MAX_VARIABLES,
+    ENTRY_SITE_LEN, MAX_ADDRESS_DIGITS, MAX_BODY, MAX_EDITS, MAX_FRAMES, MAX_FUNCTIONS, MAX_LINE,
+    MAX_NAME, MAX_OBJECTS, MAX_PATCHES, MAX_RECORDS, MAX_SITES, MAX_STATES, MAX_SYMBOL_NAME,
+    MAX_TARGETS, MAX_TASKS, MAX_VARIABLES,
 };
 
 /// A site has an entry exactly where its object is loaded and an installed patch has a function for
@@ -70,6 +70,8 @@ pub fn limits_are_these()
     ensures states { MAX_STATES ≡ 16 }
     ensures edits { MAX_EDITS ≡ 16 }
     ensures variables { MAX_VARIABLES ≡ 512 }
+    ensures tasks { MAX_TASKS ≡ 64 }
+    ensures frames { MAX_FRAMES ≡ 32 }
     ensures records { MAX_RECORDS ≡ 4096 }
     ensures line { MAX_LINE ≡ 2048 }
     ensures name { MAX_NAME ≡ 55 }

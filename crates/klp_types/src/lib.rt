@@ -13,7 +13,9 @@ pub mod laws;
 mod limits;
 mod number;
 mod record;
+mod row;
 mod shadow;
+mod task;
 mod text;
 mod version;
 
@@ -21,12 +23,14 @@ pub use callback::Which;
 pub use edit::Edit;
 pub use event::{Event, Refusal, Reply};
 pub use limits::{
-    ENTRY_SITE_LEN, MAX_ADDRESS_DIGITS, MAX_BODY, MAX_EDITS, MAX_FUNCTIONS, MAX_LINE, MAX_NAME,
-    MAX_OBJECTS, MAX_PATCHES, MAX_RECORDS, MAX_SITES, MAX_STATES, MAX_SYMBOL_NAME, MAX_TARGETS,
-    MAX_VARIABLES,
+    ENTRY_SITE_LEN, MAX_ADDRESS_DIGITS, MAX_BODY, MAX_EDITS, MAX_FRAMES, MAX_FUNCTIONS, MAX_LINE,
+    MAX_NAME, MAX_OBJECTS, MAX_PATCHES, MAX_RECORDS, MAX_SITES, MAX_STATES, MAX_SYMBOL_NAME,
+    MAX_TARGETS, MAX_TASKS, MAX_VARIABLES,
 };
 pub use number::{ObjId, PatchId, Site};
-pub use record::{Record, Records};
+pub use record::{Place, Record, Records};
+pub use row::{SiteRow, SiteWord};
 pub use shadow::ShadowKey;
+pub use task::{Frames, Mode, Task, TaskId};
 pub use text::{ObjectText, SymbolText};
 pub use version::{Entry, Move, Target, Version};

@@ -31,6 +31,12 @@ pub const MAX_EDITS: usize = 16;
 /// How many shadow variables there may be.
 pub const MAX_VARIABLES: usize = 512;
 
+/// How many tasks there may be: they are numbered from 0.
+pub const MAX_TASKS: usize = 64;
+
+/// How many functions a sleeping task may be inside of.
+pub const MAX_FRAMES: usize = 32;
+
 /// How many records one event may note.
 pub const MAX_RECORDS: usize = 4096;
 

@@ -1,8 +1,10 @@
 ghost use Rattle.std.specs.Prelude.{◌≡◌, ◌<◌, [], ◌∷◌, ◌++◌, IfOk, IfSome, IfNone};
 ghost use Rattle.klp_types.specs.Records.{spare_of};
 
-use crate::number::{ObjId, PatchId};
+use crate::number::{ObjId, PatchId, Site};
 use crate::shadow::ShadowKey;
+use crate::task::{Task, TaskId};
+use crate::version::Move;
 use std::alloc::{AllocError, Global};
 use std::marker::Model;
 
@@ -37,6 +39,46 @@ pub enum Record {
         object: ObjId,
         was: bool,
     },
+    /// The entry of a patch on the function stack of a site, or `None` where it had none there.
+    StackEntry {
+        site: Site,
+        patch: PatchId,
+        was: Option<Place>,
+    },
+    /// Whether a site was hooked.
+    HookFlag {
+        site: Site,
+        was: bool,
+    },
+    /// A task that was there.
+    TaskRow {
+        task: TaskId,
+        was: Task,
+    },
+    /// A number that no task had.
+    NoTaskRow {
+        task: TaskId,
+    },
+    /// The patch in transition.
+    Moving {
+        was: Move,
+    },
+    /// No patch was in transition.
+    NothingMoving,
+    /// Whether a patch was pinned.
+    PinnedFlag {
+        patch: PatchId,
+        was: bool,
+    },
+}
+
+/// Where an entry stood on a function stack, and what it was.
+#[derive(Clone, Copy, Debug, PartialEq, Eq)]
+pub struct Place {
+    /// The place from the oldest entry, counted from 0.
+    pub index: u8,
+    /// The function of the patch; `None` is a nop.
+    pub func: Option<u16>,
 }
 
 /// Records in the order in which they were noted, in a list whose room is reserved when it is made.

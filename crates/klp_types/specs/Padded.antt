@@ -1,7 +1,7 @@
 -- Lists kept in an array: what stands behind the last is always the same.
 use Rattle.std.specs.Prelude.{◌≡◌, ℕ, ◌-◌, List, ◌++◌, length, take, replicate}
 use Rattle.std.proofs.Common.{sym}
-use Rattle.klp_machine.specs.declared.limits.TheConstants.{MAX_FRAMES}
+use Rattle.klp_types.specs.declared.limits.TheConstants.{MAX_FRAMES}
 use Rattle.klp_types.specs.declared.version.Version.{Version}
 use Rattle.klp_types.specs.declared.version.Version.TheVariants.{Original}
 

@@ -1,7 +1,8 @@
 ghost use Rattle.std.specs.Prelude.{◌≡◌, [], ◌∷◌, ◌++◌, length, slice_get, nat_lt, true, false};
 
 use crate::limits::MAX_FRAMES;
-use klp_types::{Site, Version};
+use crate::number::Site;
+use crate::version::Version;
 use std::marker::Model;
 
 /// A task, by its number.
@@ -39,7 +40,7 @@ pub struct Frames {
 impl Model for Frames {
     ghost use Rattle.std.specs.Prelude.{ℕ, List, take, length};
     ghost use Rattle.klp_types.specs.declared.version.Version.{Version};
-    ghost use Rattle.klp_machine.specs.Padded.{padded, IsPadded, is_padded};
+    ghost use Rattle.klp_types.specs.Padded.{padded, IsPadded, is_padded};
 
     ghost Value = { List Version };
 
@@ -95,4 +96,15 @@ impl Frames {
             false
         }
     }
+}
+
+/// A task: how far it is brought to the patch in transition, where it is, and what it is inside of.
+#[derive(Clone, Copy, Debug, PartialEq, Eq)]
+pub struct Task {
+    /// As `/proc/<pid>/patch_state` shows it: -1 where no patch moves, else 1 where the task runs the
+    /// patch in transition, and 0 where it doesn't.
+    pub state: i8,
+    pub mode: Mode,
+    /// What a sleeping task is inside of. Any other has none.
+    pub frames: Frames,
 }

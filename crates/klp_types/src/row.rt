@@ -1,4 +1,4 @@
-use klp_types::Entry;
+use crate::version::Entry;
 
 /// What stands at a site: its two newest entries, and whether the newest one's patch is in transition.
 #[derive(Clone, Copy, Debug, PartialEq, Eq)]
