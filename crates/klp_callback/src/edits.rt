@@ -5,8 +5,9 @@ ghost use Rattle.klp_world.specs.Noted.{noting, rows_of_edit, rows_of_edits, row
 ghost use Rattle.klp_world.specs.Changes.{Changes, HasRoom};
 
 use arrayvec::ArrayVec;
+use klp_types::laws::edits_keep_to_their_room;
 use klp_types::{Edit, PatchId, Records};
-use klp_world::laws::{edits_keep_to_their_room, scripts_are_undone};
+use klp_world::laws::scripts_are_undone;
 use klp_world::{MAX_EDITS, Script, World};
 
 /// Makes one edit for the patch.

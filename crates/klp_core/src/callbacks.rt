@@ -16,9 +16,10 @@ ghost use Rattle.klp_core.specs.Calls.{HaveRun, HasRoomFor, records_of};
 use klp_catalog::Catalog;
 use klp_catalog::laws::runs_add_up;
 use klp_modules::Modules;
+use klp_types::laws::{installed_patches_stay, variables_are_few};
 use klp_types::{MAX_PATCHES, MAX_RECORDS, MAX_VARIABLES, PatchId, Records, Reply, Which};
 use klp_world::World;
-use klp_world::laws::{installed_patches_stay, records_are_few, variables_are_few};
+use klp_world::laws::records_are_few;
 
 /// How many shadow variables the callback of one object adds at most, where the object is loaded.
 fn allocs_where_loaded(

@@ -3,7 +3,7 @@ use Rattle.std.proofs.Common.{◌≡◌, ℕ, zero, suc, ◌+◌, ◌-◌, ◌�
 use Rattle.std.specs.Prelude.{◌==◌, nat_lt, slice_set, if◌then◌else◌}
 use Rattle.std.specs.List.{find}
 use Rattle.std.specs.FinMap as finite
-use Rattle.std.proofs.lemmas.Bool.{eq-eqb, eqb-true, leb-false}
+use Rattle.std.proofs.lemmas.Bool.{eq-eqb, eqb-true, leb-false, or_parts, both_ways}
 use Rattle.std.proofs.lemmas.List.{length-map, length-set}
 use Rattle.klp_types.specs.declared.limits.TheConstants.{MAX_VARIABLES}
 use Rattle.klp_types.specs.declared.shadow.ShadowKey.{ShadowKey}
@@ -35,9 +35,10 @@ use Rattle.klp_machine.specs.ModuleStep.{come_or_refused, gone}
 use Rattle.klp_machine.specs.TaskStep.{change_task, new_task, state_wanted}
 use Rattle.klp_machine.specs.Run.{next}
 use Rattle.klp_machine.specs.Allowed.{is_one_of, AreKnown, AreDistinct, MovesOneOf, AreStacked, NoneLacks, is_right_state, is_right_task, AreRight, Allowed}
-use Rattle.klp_machine.proofs.KeyLemmas.{key_total, few_kept}
-use Rattle.klp_machine.proofs.ScriptLemmas.{two_false, shadow_installed}
-use Rattle.klp_machine.proofs.RefusalLemmas.{NoneHolds, none_holds, next_accepted, both}
+use Rattle.klp_types.proofs.KeyLemmas.{key_total, few_kept}
+use Rattle.klp_machine.proofs.ShadowLemmas.{shadow_installed}
+use Rattle.klp_machine.specs.Refusals.{NoneHolds}
+use Rattle.klp_machine.proofs.RefusalLemmas.{none_holds, next_accepted}
 use Rattle.klp_machine.proofs.OrderLemmas.{numbers, left_out, from_on, numbers-put, numbers-taken_out, numbers-from_patch, numbers-after_calls, one_of-numbers, one_of-put, known-put, known-left_out, known-from_on, distinct-put, distinct-left_out, distinct-from_on, stacked_started, stacked_put, stacked_turned, stacked_left_out, stacked_from_on, stacked_settled}
 use Rattle.klp_machine.proofs.RoomLemmas.{room_after, few_enabled, few_coming, few_going}
 use Rattle.klp_machine.proofs.TaskLemmas as tasks
@@ -54,7 +55,7 @@ not_false false e = cc
 left_out-put : (patch : ℕ) (patches : List ℕ) → is_one_of patch patches ≡ false → left_out patch (patches ++ patch ∷ []) ≡ patches
 left_out-put patch [] away = ap (λ b. cond b [] (patch ∷ [])) (eq-eqb patch patch refl)
 left_out-put patch (first ∷ patches) away =
-    let split = two_false (first == patch) (is_one_of patch patches) away in
+    let split = or_parts (first == patch) (is_one_of patch patches) away in
     ap (λ b. cond b (patches ++ patch ∷ []) (first ∷ left_out patch (patches ++ patch ∷ []))) split.0 ∙ ap (λ rest. first ∷ rest) (left_out-put patch patches split.1)
 
 length-pin_all : (patches : List ℕ) (pinned : List Bool) → length (pin_all patches pinned) ≡ length pinned
@@ -146,12 +147,12 @@ module _ (setting : Setting) (state : State) (allowed : Allowed setting state) w
         by value (sym (ap (λ b. same_bool value (not (b && not m.target))) other) ∙ same) (sym (ap (λ b. not value && true && not b) other) ∙ busy)
       where
         by : (v : Bool) → same_bool v true ≡ false → (not v && true && true) ≡ false → ⊥
-        by true same busy = both true refl same
-        by false same busy = both true refl busy
+        by true same busy = both_ways true same refl
+        by false same busy = both_ways true busy refl
 
     set_enabled_allowed : (moving : Option Move) → state.moving ≡ moving → same_bool value (not (moves_out moving patch)) ≡ false
         → (not value && is_some moving && not (moves moving patch)) ≡ false → (t : Bool) → moves moving patch ≡ t → Allowed setting (turned_or_started setting state patch value t).1
-    set_enabled_allowed None is same busy true e = absurd (both true refl (sym e))
+    set_enabled_allowed None is same busy true e = absurd (both_ways true (sym e) refl)
     set_enabled_allowed None is same busy false e =
         let after = record state { world = disabled_world; moving = move_to patch false; tasks = all_in (at_target true) state.tasks } in
         allowed_next after ps (numbers-after_calls state.world started) allowed.kernel allowed.known allowed.distinct there
@@ -324,7 +325,7 @@ module _ (setting : Setting) (state : State) (allowed : Allowed setting state) w
   allowed_step (Going object) open_ = go_allowed object open_
   allowed_step (NewTask task) open_ = set_allowed task (Some (new_task (state_wanted state.moving))) (tasks.new_right setting state.moving)
   allowed_step (Fork parent child) open_ =
-      set_allowed child _ (tasks.forked_right setting state.moving (task_at state.tasks parent) (some_in _ (two_false (not (is_there state parent)) _ open_.0).0)
+      set_allowed child _ (tasks.forked_right setting state.moving (task_at state.tasks parent) (some_in _ (or_parts (not (is_there state parent)) _ open_.0).0)
       (tasks.right_at setting state.moving state.tasks parent allowed.tasks))
   allowed_step (EndTask task) open_ = set_allowed task None refl
   allowed_step (EnterKernel task) open_ =

@@ -2,7 +2,7 @@
 use Rattle.std.proofs.Common.{◌≡◌, ◌⊎◌, inl, inr, ℕ, zero, suc, ℤ, pos, negsuc, Bool, true, false, not, ◌&&◌, cond, List, [], ◌∷◌, ◌++◌, map, length, Option, Some, None, is_some, refl, sym, ap, subst, ◌∙◌}
 use Rattle.std.specs.Prelude.{◌==◌, if◌then◌else◌, option_map, slice_index_or, slice_set}
 use Rattle.std.specs.List.{list_any, filter, find}
-use Rattle.std.proofs.lemmas.Bool.{eq-eqb, eqb-true}
+use Rattle.std.proofs.lemmas.Bool.{eq-eqb, eqb-true, and_parts, or_parts, both_ways}
 use Rattle.std.proofs.lemmas.List.Sums.{length-filter}
 use Rattle.klp_types.specs.declared.version.Version.{Version}
 use Rattle.klp_types.specs.declared.version.Move.{Move}
@@ -32,9 +32,8 @@ use Rattle.klp_machine.specs.Completing.{without_older, completed_or_pending, po
 use Rattle.klp_machine.specs.ModuleStep.{come_or_refused, gone}
 use Rattle.klp_machine.specs.TaskStep.{change_task, new_task, state_wanted, exited}
 use Rattle.klp_machine.specs.Allowed.{is_one_of, MovesOneOf, is_right_state, is_right_task, are_right_frames, Allowed}
-use Rattle.klp_machine.proofs.ScriptLemmas.{two_false}
-use Rattle.klp_machine.proofs.ScriptLemmas.{shadow_installed}
-use Rattle.klp_machine.proofs.RefusalLemmas.{NoneHolds, both}
+use Rattle.klp_machine.proofs.ShadowLemmas.{shadow_installed}
+use Rattle.klp_machine.specs.Refusals.{NoneHolds}
 use Rattle.klp_machine.proofs.OrderLemmas.{numbers, left_out, from_on, numbers-put, numbers-taken_out, numbers-from_patch, numbers-after_calls, one_of-numbers}
 use Rattle.klp_machine.proofs.TaskLemmas as tasks
 use Rattle.klp_machine.specs.Observed.{Frame, Stacks, with_frames, versions, begun, is_frame_in, IsHonestEvent}
@@ -77,7 +76,7 @@ set_there (first ∷ tasks) (suc number) zero task apart = refl
 set_there (first ∷ tasks) (suc number) (suc other) task apart = set_there tasks number other task (by (other == number) refl)
   where
     by : (t : Bool) → (other == number) ≡ t → (other == number) ≡ false
-    by true is = absurd (both (suc other == suc number) (eq-eqb (suc other) (suc number) (ap suc (eqb-true other number is))) apart)
+    by true is = absurd (both_ways (suc other == suc number) apart (eq-eqb (suc other) (suc number) (ap suc (eqb-true other number is))))
     by false is = is
 
 none_lags : (test : Option Task → Bool) → test None ≡ false → (tasks : Tasks) → length (filter test tasks) ≡ 0 → (number : ℕ) → test (task_at tasks number) ≡ false
@@ -119,7 +118,7 @@ other_flag_kept (flag ∷ flags) (suc m) zero apart e = e
 other_flag_kept (flag ∷ flags) (suc m) (suc n) apart e = other_flag_kept flags m n (by (n == m) refl) e
   where
     by : (t : Bool) → (n == m) ≡ t → (n == m) ≡ false
-    by true is = absurd (both (suc n == suc m) (eq-eqb (suc n) (suc m) (ap suc (eqb-true n m is))) apart)
+    by true is = absurd (both_ways (suc n == suc m) apart (eq-eqb (suc n) (suc m) (ap suc (eqb-true n m is))))
     by false is = is
 
 nothing_there : {A : Type 0} (o : Option A) → is_some o ≡ false → o ≡ None
@@ -224,7 +223,7 @@ module _ (setting : Setting) where
       left_out-put : (patches : List ℕ) → is_one_of patch patches ≡ false → left_out patch (patches ++ patch ∷ []) ≡ patches
       left_out-put [] apart = ap (λ b. cond b [] (patch ∷ [])) (eq-eqb patch patch refl)
       left_out-put (first ∷ patches) apart =
-          let parts = two_false (first == patch) (is_one_of patch patches) apart in
+          let parts = or_parts (first == patch) (is_one_of patch patches) apart in
           ap (λ b. cond b (patches ++ patch ∷ []) (first ∷ left_out patch (patches ++ patch ∷ []))) parts.0 ∙ ap (λ rest. first ∷ rest) (left_out-put patches parts.1)
 
       enable_kept : (found : Option (ℕ × PatchObject)) → Kept setting (enabled_or_gone state patch after_pre found).1 stacks
@@ -248,12 +247,12 @@ module _ (setting : Setting) where
           by value (sym (ap (λ b. same_bool value (not (b && not m.target))) other) ∙ same) (sym (ap (λ b. not value && true && not b) other) ∙ busy)
         where
           by : (v : Bool) → same_bool v true ≡ false → (not v && true && true) ≡ false → ⊥
-          by true same busy = both true refl same
-          by false same busy = both true refl busy
+          by true same busy = both_ways true same refl
+          by false same busy = both_ways true busy refl
 
       set_enabled_kept : (moving : Option Move) → state.moving ≡ moving → same_bool value (not (moves_out moving patch)) ≡ false
           → (not value && is_some moving && not (moves moving patch)) ≡ false → (t : Bool) → moves moving patch ≡ t → Kept setting (turned_or_started setting state patch value t).1 stacks
-      set_enabled_kept None is same busy true e = absurd (both true refl (sym e))
+      set_enabled_kept None is same busy true e = absurd (both_ways true (sym e) refl)
       set_enabled_kept None is same busy false e =
           let world = after_calls state.world started in
           let after = record state { world = world; moving = move_to patch false; tasks = all_in (at_target true) state.tasks } in
@@ -274,7 +273,7 @@ module _ (setting : Setting) where
       right_state number task there =
           zero_or_one (Some m) task.state
           (subst (λ o. is_right_state o task.state ≡ true) is
-          (tasks.two_true (is_right_state state.moving task.state) (are_right_frames setting task)
+          (and_parts (is_right_state state.moving task.state) (are_right_frames setting task)
           (ap (is_right_task setting state.moving) (sym there) ∙ tasks.right_at setting state.moving state.tasks number allowed.tasks)).0)
 
       switch_kept : (number : ℕ) (task : Task) → task_at state.tasks number ≡ Some task → IsKept setting state (Some task) (stacks number)
@@ -383,7 +382,7 @@ module _ (setting : Setting) where
         go_frames : (task : ℤ) (frames : List Frame) → list_any (is_frame_in setting object) frames ≡ false → AreCurrent (now setting state task) frames → AreCurrent (now setting without task) frames
         go_frames task [] out are = tt
         go_frames task (frame ∷ frames) out are =
-            let parts_ = two_false (is_frame_in setting object frame) (list_any (is_frame_in setting object) frames) out in
+            let parts_ = or_parts (is_frame_in setting object frame) (list_any (is_frame_in setting object) frames) out in
             let version = (current setting (is_site_loaded setting state frame.site) state.moving ps task frame.site frame.version are.0).1 in
             let home = ap (is_object object) (sym (placed setting frame.site in_place state.moving ps task allowed.distinct) ∙ ap (object_of_version setting) version) ∙ parts_.0 in (
               carry_one setting (is_site_loaded setting state frame.site) state.moving ps task frame.site (is_site_loaded setting without frame.site) state.moving (numbers went.installed) task frame.version

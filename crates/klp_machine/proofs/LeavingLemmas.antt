@@ -2,7 +2,7 @@
 use Rattle.std.proofs.Common.{◌≡◌, ℕ, Bool, true, false, not, ◌&&◌, ◌||◌, cond, List, [], ◌∷◌, ◌++◌, reverse, Option, Some, None, refl, sym, ap, subst, ◌∙◌}
 use Rattle.std.specs.Prelude.{◌==◌, if◌then◌else◌}
 use Rattle.std.specs.List.{list_any, filter}
-use Rattle.std.proofs.lemmas.Bool.{eq-eqb, eqb-true}
+use Rattle.std.proofs.lemmas.Bool.{eq-eqb, eqb-true, or_parts, both_ways}
 use Rattle.std.proofs.lemmas.Grind.{reverse_onto}
 use Rattle.klp_types.specs.declared.version.Entry.{Entry}
 use Rattle.klp_types.specs.declared.version.Move.{Move}
@@ -15,10 +15,9 @@ use Rattle.klp_machine.specs.State.{State, installed_patches, with_world}
 use Rattle.klp_machine.specs.Entries.{is_object_loaded, is_site_loaded, entries_of}
 use Rattle.klp_machine.specs.Versions.{others}
 use Rattle.klp_machine.specs.Allowed.{AreAbove, AreStacked, Allowed}
-use Rattle.klp_machine.proofs.ScriptLemmas.{two_false}
-use Rattle.klp_machine.proofs.RefusalLemmas.{both}
 use Rattle.klp_machine.proofs.OrderLemmas.{numbers-taken_out}
-use Rattle.klp_machine.proofs.VersionLemmas.{list_any-reverse, others-reverse, left_out-others}
+use Rattle.klp_types.proofs.EntryLemmas.{list_any-reverse}
+use Rattle.klp_machine.proofs.VersionLemmas.{others-reverse, left_out-others}
 
 one_moves : (moving : Option Move) (a b : ℕ) → moves moving a ≡ true → moves moving b ≡ true → (a == b) ≡ true
 one_moves None a b e f = cc
@@ -41,7 +40,7 @@ module _ (setting : Setting) (patch : ℕ) where
     where
       by : (same replaces_older : Bool) → (first == patch) ≡ same → replaces setting first ≡ replaces_older → (not same && replaces_older) ≡ false
       by true replaces_older is replacing = refl
-      by false true is replacing = absurd (both (first == patch) (one_moves moving first patch (above.0 replacing).1 e) is)
+      by false true is replacing = absurd (both_ways (first == patch) is (one_moves moving first patch (above.0 replacing).1 e))
       by false false is replacing = refl
 
   abbrev of_others : List Entry → List Entry
@@ -77,7 +76,7 @@ module _ (setting : Setting) (patch : ℕ) where
         by true is = sym (own_left oldest (function_of oldest) (replaces setting oldest && patched []) [] is)
         by false is = sym (other_stays oldest (function_of oldest) (replaces setting oldest && patched []) [] is)
     over_oldest oldest (first ∷ patches) none =
-        let parts = two_false (other_replaces first) (list_any other_replaces patches) none in
+        let parts = or_parts (other_replaces first) (list_any other_replaces patches) none in
         by (first == patch) refl parts.0 (over_oldest oldest patches parts.1)
       where
         by : (t : Bool) → (first == patch) ≡ t → other_replaces first ≡ false → entries (others patch (patches ++ oldest ∷ [])) ≡ of_others (entries (patches ++ oldest ∷ []))

@@ -2,7 +2,7 @@
 use Rattle.std.proofs.Common.{◌≡◌, ℕ, ℤ, Bool, true, false, ◌&&◌, ◌||◌, cond, List, [], ◌∷◌, ◌++◌, reverse, Option, Some, None, refl, sym, ap, subst, ◌∙◌}
 use Rattle.std.specs.Prelude.{◌==◌, if◌then◌else◌, is_some}
 use Rattle.std.specs.List.{list_any}
-use Rattle.std.proofs.lemmas.Bool.{eq-eqb, eqb-true}
+use Rattle.std.proofs.lemmas.Bool.{eq-eqb, eqb-true, or_parts, both_ways}
 use Rattle.std.proofs.lemmas.Grind.{reverse_onto}
 use Rattle.klp_types.specs.declared.version.Version.{Version}
 use Rattle.klp_types.specs.declared.version.Version.TheVariants.{Original, New}
@@ -18,8 +18,6 @@ use Rattle.klp_types.specs.Pick.{moves, is_unpatched, entries_for, version_of, n
 use Rattle.klp_machine.specs.Blocked.{is_version}
 use Rattle.klp_machine.specs.Allowed.{is_one_of, AreDistinct, AreAbove, AreStacked}
 use Rattle.klp_types.proofs.EntryLemmas.{entries_from-any}
-use Rattle.klp_machine.proofs.ScriptLemmas.{two_false}
-use Rattle.klp_machine.proofs.RefusalLemmas.{both}
 use Rattle.klp_machine.proofs.OrderLemmas.{equal_either_way}
 use Rattle.klp_machine.specs.Observed.{Frame, Seen, seen_from, IsHonestRun}
 use Rattle.klp_machine.specs.InPlace.{IsInPlace}
@@ -162,11 +160,11 @@ module _ (setting : Setting) (move : Move) where
       (tops_and (reverse (next ∷ patches)) patch (some_reverse next patches) (not_true (replaces setting patch) (λ e. never_empty next patches (above.0 e).0)) (tops_of (next ∷ patches) above.1))
 
   plain_and : (patches : List ℕ) (oldest : ℕ) → NoneReplaces setting patches → Plain setting (patches ++ oldest ∷ [])
-  plain_and [] oldest none = ((λ e. absurd (both true refl e)), tt)
+  plain_and [] oldest none = ((λ e. absurd (both_ways true e refl)), tt)
   plain_and (patch ∷ patches) oldest none = ((λ e. none.0), plain_and patches oldest none.1)
 
   top_and : (patches : List ℕ) (oldest : ℕ) → Tops setting move.patch patches → OnTop setting move.patch (patches ++ oldest ∷ [])
-  top_and [] oldest tops = ((λ e f. absurd (both true refl e)), tt)
+  top_and [] oldest tops = ((λ e f. absurd (both_ways true e refl)), tt)
   top_and (patch ∷ patches) oldest tops = ((λ e f. tops.0 f), plain_and patches oldest tops.1)
 
   pub on_top : (patches : List ℕ) → AreStacked setting (Some move) patches → OnTop setting move.patch (reverse patches)
@@ -175,7 +173,7 @@ module _ (setting : Setting) (move : Move) where
 
   plain_top : (patches : List ℕ) → Plain setting patches → OnTop setting move.patch patches
   plain_top [] plain = tt
-  plain_top (patch ∷ older) plain = ((λ e f. absurd (both (replaces setting patch) f (plain.0 e))), plain.1)
+  plain_top (patch ∷ older) plain = ((λ e f. absurd (both_ways (replaces setting patch) (plain.0 e) f)), plain.1)
 
 -- at one site
 module _ (setting : Setting) (site : ℕ) (mp : ℕ) where
@@ -191,7 +189,7 @@ module _ (setting : Setting) (site : ℕ) (mp : ℕ) where
   pub not_of_patch : (patch : ℕ) (patches : List ℕ) → is_one_of patch patches ≡ false → is_of_patch patch (version_in setting site patches) ≡ false
   not_of_patch patch [] none = refl
   not_of_patch patch (first ∷ patches) none =
-      let parts = two_false (first == patch) (is_one_of patch patches) none in
+      let parts = or_parts (first == patch) (is_one_of patch patches) none in
       not_chosen patch first (function_for (functions_of setting first) site) (replaces setting first) (version_in setting site patches) parts.0 (not_of_patch patch patches parts.1)
 
   pub passed : (patch : ℕ) (function : Option ℕ) (r : Bool) (older : List Entry) → (patch == mp) ≡ false
@@ -207,7 +205,7 @@ module _ (setting : Setting) (site : ℕ) (mp : ℕ) where
   none_blocked : (patches : List ℕ) → is_one_of mp patches ≡ false → below site mp (entries patches) ≡ []
   none_blocked [] none = refl
   none_blocked (patch ∷ older) none =
-      let parts = two_false (patch == mp) (is_one_of mp older) none in
+      let parts = or_parts (patch == mp) (is_one_of mp older) none in
       passed patch (function_for (functions_of setting patch) site) (replaces setting patch && list_any (patches_site setting site) older) (entries older) parts.0 ∙ none_blocked older parts.1
 
   not_of_step : (patch number : ℕ) (first : ℕ) (function : Option ℕ) (r t : Bool) (older : List ℕ) → (first == mp) ≡ t → is_one_of patch older ≡ false
@@ -227,7 +225,7 @@ module _ (setting : Setting) (site : ℕ) (mp : ℕ) where
   not_of : (patch number : ℕ) (patches : List ℕ) → is_one_of patch patches ≡ false → list_any (is_version (New patch number)) (below site mp (entries patches)) ≡ false
   not_of patch number [] none = refl
   not_of patch number (first ∷ older) none =
-      let parts = two_false (first == patch) (is_one_of patch older) none in
+      let parts = or_parts (first == patch) (is_one_of patch older) none in
       not_of_step patch number first (function_for (functions_of setting first) site) (replaces setting first && list_any (patches_site setting site) older) (first == mp) older refl parts.1 (not_of patch number older parts.1)
 
   -- under a nop there is a new function
@@ -246,7 +244,7 @@ module _ (setting : Setting) (site : ℕ) (mp : ℕ) where
       behind = sym (ap (λ o. is_some o || list_any (patches_site setting site) older) has) ∙ some
 
       by : (r : Bool) → replaces setting patch ≡ r → is_new (chosen site patch None r (version_in setting site older)) ≡ true
-      by true is = absurd (both (replaces setting patch) is (plain (some_in older behind)))
+      by true is = absurd (both_ways (replaces setting patch) (plain (some_in older behind)) is)
       by false is = rest behind
 
   new_in : (patches : List ℕ) → Plain setting patches → list_any (patches_site setting site) patches ≡ true → is_new (version_in setting site patches) ≡ true
@@ -270,7 +268,7 @@ module _ (setting : Setting) (site : ℕ) (mp : ℕ) where
       ap (list_any (is_version (Original site))) (met patch None (entries older) is)
       ∙ ap (λ v. is_version (Original site) v || false) (newest_in setting site older)
       ∙ or_none (is_version (Original site) (version_in setting site older)) (not_original site (version_in setting site older) (new_in older plain some))
-  apart_one patch None true true false older is re some away top plain rest = absurd (both (patch == mp) (top (some_in older some) re) is)
+  apart_one patch None true true false older is re some away top plain rest = absurd (both_ways (patch == mp) is (top (some_in older some) re))
   apart_one patch None true false t older is re some away top plain rest =
       ap (λ e. list_any (is_version (Original site)) (below site mp e)) (nothing_in (entries older) (entries_from-any setting site older ∙ some))
   apart_one patch None false any true older is re some away top plain rest =

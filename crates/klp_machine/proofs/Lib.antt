@@ -1,5 +1,4 @@
-pub mod KeyLemmas
-pub mod ScriptLemmas
+pub mod ShadowLemmas
 pub mod RefusalLemmas
 pub mod OrderLemmas
 pub mod RoomLemmas

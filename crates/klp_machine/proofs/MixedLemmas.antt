@@ -2,7 +2,7 @@
 use Rattle.std.proofs.Common.{◌≡◌, ℕ, zero, suc, ℤ, pos, negsuc, Bool, true, false, ◌&&◌, ◌||◌, List, [], ◌∷◌, ◌++◌, reverse, Option, Some, None, refl, sym, ap, subst, ◌∙◌}
 use Rattle.std.specs.Prelude.{◌==◌, if◌then◌else◌, option_map}
 use Rattle.std.specs.List.{list_any}
-use Rattle.std.proofs.lemmas.Bool.{eq-eqb, eqb-true}
+use Rattle.std.proofs.lemmas.Bool.{eq-eqb, eqb-true, both_ways}
 use Rattle.klp_types.specs.declared.version.Version.{Version}
 use Rattle.klp_types.specs.declared.version.Move.{Move}
 use Rattle.klp_types.specs.Setting.{Setting, Function, functions_of, function_for, is_at, replaces}
@@ -15,7 +15,6 @@ use Rattle.klp_types.specs.Pick.{is_unpatched}
 use Rattle.klp_machine.specs.Blocked.{is_version}
 use Rattle.klp_machine.specs.Allowed.{AreDistinct, AreStacked, Allowed}
 use Rattle.klp_types.proofs.EntryLemmas.{list_any-reverse}
-use Rattle.klp_machine.proofs.RefusalLemmas.{both}
 use Rattle.klp_machine.specs.Observed.{Frame, Seen, seen_from, IsHonestRun}
 use Rattle.klp_machine.specs.InPlace.{IsInPlace}
 use Rattle.klp_machine.specs.Consistent.{AreCurrent, is_of_patch, NoneOfPatch, below, NoneBelow, NoneMixed, site_at, site_of, AreNamed, AllNamed}
@@ -86,7 +85,7 @@ module _ (setting : Setting) where
       where
         by : (t : Bool) → is_version version (version_in setting other patches) ≡ t → t ≡ false
         by true is =
-            absurd (both (site == other) (same_some site other (sym is_site ∙ ap (site_of setting) (is_version-true version (version_in setting other patches) is) ∙ version_site other patches)) apart)
+            absurd (both_ways (site == other) apart (same_some site other (sym is_site ∙ ap (site_of setting) (is_version-true version (version_in setting other patches) is) ∙ version_site other patches)))
         by false is = refl
 
     elsewhere_step : (patch : ℕ) (function : Option ℕ) (r t : Bool) (older : List ℕ) → (patch == mp) ≡ t

@@ -17,7 +17,8 @@ use Rattle.klp_machine.specs.Task.{task_at}
 use Rattle.klp_machine.specs.Step.{accepted}
 use Rattle.klp_machine.specs.Refusals.{refusals, accepts, is_there}
 use Rattle.klp_machine.specs.Allowed.{AreRight, Allowed}
-use Rattle.klp_machine.proofs.RefusalLemmas.{NoneHolds, next_accepted}
+use Rattle.klp_machine.specs.Refusals.{NoneHolds}
+use Rattle.klp_machine.proofs.RefusalLemmas.{next_accepted}
 use Rattle.klp_machine.specs.Observed.{Stacks, with_frames, Seen, Happens, Calls, Watched, begun, is_frame_in, seen_next, seen_run, IsHonestEvent, IsHonestItem, AreHonest, IsHonestRun, seen_from}
 use Rattle.klp_machine.specs.InPlace.{IsInPlace}
 use Rattle.klp_machine.specs.ObservedExamples.{kernel, stray_kernel, nobody, one_task, state_of, towards_1, no_frames, inside, watched, start, in_original, late, sleeper_run, stray_run, under_a_task}

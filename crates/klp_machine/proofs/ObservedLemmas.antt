@@ -12,12 +12,11 @@ use Rattle.klp_types.specs.declared.task.Task.{Task}
 use Rattle.klp_machine.specs.Task.{task_at, is_mode, is_in}
 use Rattle.klp_machine.specs.State.{State}
 use Rattle.klp_types.specs.Entries.{is_empty}
-use Rattle.klp_machine.specs.Step.{accepted}
-use Rattle.klp_machine.specs.Refusals.{refusals, refusal, accepts}
+use Rattle.klp_machine.specs.Refusals.{refusals, accepts}
 use Rattle.klp_machine.specs.Run.{next, run}
 use Rattle.klp_machine.specs.Allowed.{Allowed}
 use Rattle.klp_machine.proofs.RefusalLemmas.{none_holds, next_accepted}
-use Rattle.klp_machine.proofs.RefusalLemmas.{refused_stays}
+use Rattle.klp_machine.proofs.RefusalLemmas.{next_refused}
 use Rattle.klp_machine.proofs.AllowedRunLemmas.{allowed_after}
 use Rattle.klp_machine.specs.Pick.{pick, pick_by}
 use Rattle.klp_machine.specs.Observed.{Frame, Stacks, with_frames, Seen, Happens, Calls, Returns, Watched, called, drop_last, begun, events_of, seen_next, seen_run, opening, seen_from, IsHonestItem, AreHonest, IsHonestRun}
@@ -74,7 +73,7 @@ module _ (setting : Setting) where
       by true e =
           subst (λ s. Kept setting s (begun event w.stacks)) (sym (next_accepted setting w.state event e))
           (kept_event setting w.state allowed w.stacks kept event place (none_holds (refusals setting w.state event) e) (honest e))
-      by false e = subst (λ s. Kept setting s w.stacks) (sym (refused_stays w.state (accepted setting w.state event) (refusal setting w.state event) e)) kept
+      by false e = subst (λ s. Kept setting s w.stacks) (sym (next_refused setting w.state event e)) kept
 
   item_kept : IsInPlace setting → (w : Watched) (item : Seen) → Allowed setting w.state → Kept setting w.state w.stacks → IsHonestItem setting w item
       → Kept setting (seen_next setting w item).state (seen_next setting w item).stacks

@@ -1,7 +1,7 @@
 -- The numbers of installed patches: distinct, and stacked as they may be.
 use Rattle.std.proofs.Common.{◌≡◌, ℕ, Bool, true, false, ◌||◌, cond, List, [], ◌∷◌, ◌++◌, map, Option, Some, None, refl, sym, ap, subst, ◌∙◌, arith}
 use Rattle.std.specs.Prelude.{◌==◌}
-use Rattle.std.proofs.lemmas.Bool.{eq-eqb, eqb-true}
+use Rattle.std.proofs.lemmas.Bool.{eq-eqb, eqb-true, or_parts, both_ways}
 use Rattle.std.proofs.lemmas.Bool.Decides.{nat_tests}
 use Rattle.klp_types.specs.declared.version.Move.{Move}
 use Rattle.klp_types.specs.Setting.{Setting, replaces}
@@ -12,8 +12,7 @@ use Rattle.klp_types.specs.Callbacks.{Call, after_calls}
 use Rattle.klp_types.specs.Script.{effect}
 use Rattle.klp_types.specs.Step.{has_patch}
 use Rattle.klp_machine.specs.Allowed.{is_one_of, AreKnown, AreDistinct, AreAbove, AreStacked}
-use Rattle.klp_machine.proofs.ScriptLemmas.{two_false, installed_stay}
-use Rattle.klp_machine.proofs.RefusalLemmas.{both}
+use Rattle.klp_types.proofs.ScriptLemmas.{installed_stay}
 
 abbrev pub numbers : List Installed → List ℕ
 numbers list = map (λ (i : Installed). i.patch) list
@@ -71,19 +70,19 @@ one_of-put patch (first ∷ patches) = ap (λ b. first == patch || b) (one_of-pu
 one_of-put_other : (patch other : ℕ) (patches : List ℕ) → is_one_of other patches ≡ false → (patch == other) ≡ false → is_one_of other (patches ++ patch ∷ []) ≡ false
 one_of-put_other patch other [] none apart = ap (λ b. b || false) apart
 one_of-put_other patch other (first ∷ patches) none apart =
-    let parts = two_false (first == other) (is_one_of other patches) none in
+    let parts = or_parts (first == other) (is_one_of other patches) none in
     ap (λ b. b || is_one_of other (patches ++ patch ∷ [])) parts.0 ∙ one_of-put_other patch other patches parts.1 apart
 
 pub distinct-put : (patch : ℕ) (patches : List ℕ) → AreDistinct patches → is_one_of patch patches ≡ false → AreDistinct (patches ++ patch ∷ [])
 distinct-put patch [] distinct away = (refl, tt)
 distinct-put patch (first ∷ patches) distinct away =
-    let parts = two_false (first == patch) (is_one_of patch patches) away in
+    let parts = or_parts (first == patch) (is_one_of patch patches) away in
     (one_of-put_other patch first patches distinct.0 (equal_either_way patch first ∙ parts.0), distinct-put patch patches distinct.1 parts.1)
 
 one_of-left_out : (patch other : ℕ) (patches : List ℕ) → is_one_of other patches ≡ false → is_one_of other (left_out patch patches) ≡ false
 one_of-left_out patch other [] none = refl
 one_of-left_out patch other (first ∷ patches) none =
-    let parts = two_false (first == other) (is_one_of other patches) none in
+    let parts = or_parts (first == other) (is_one_of other patches) none in
     by (first == patch) parts.0 parts.1 (one_of-left_out patch other patches parts.1)
   where
     by : (t : Bool) → (first == other) ≡ false → is_one_of other patches ≡ false → is_one_of other (left_out patch patches) ≡ false
@@ -135,7 +134,7 @@ module _ (setting : Setting) where
   above_started : (moving : Option Move) (patches : List ℕ) → AreAbove setting None patches → AreAbove setting moving patches
   above_started moving [] above = tt
   above_started moving (first ∷ patches) above =
-      ((λ e. let never : false ≡ true = (above.0 e).1 in absurd (both false never refl)), above_started moving patches above.1)
+      ((λ e. let never : false ≡ true = (above.0 e).1 in absurd (both_ways false refl never)), above_started moving patches above.1)
 
   pub stacked_started : (moving : Option Move) (patches : List ℕ) → AreStacked setting None patches → AreStacked setting moving patches
   stacked_started moving [] stacked = tt
@@ -145,7 +144,7 @@ module _ (setting : Setting) where
       → AreAbove setting (Some (record { patch = patch; target = target })) (patches ++ patch ∷ [])
   above_put patch target [] above = ((λ e. (refl, eq-eqb patch patch refl)), tt)
   above_put patch target (first ∷ patches) above =
-      ((λ e. let never : false ≡ true = (above.0 e).1 in absurd (both false never refl)), above_put patch target patches above.1)
+      ((λ e. let never : false ≡ true = (above.0 e).1 in absurd (both_ways false refl never)), above_put patch target patches above.1)
 
   pub stacked_put : (patch : ℕ) (target : Bool) (patches : List ℕ) → AreStacked setting None patches
       → AreStacked setting (Some (record { patch = patch; target = target })) (patches ++ patch ∷ [])
@@ -166,8 +165,8 @@ module _ (setting : Setting) where
     above_others : (patches : List ℕ) → AreAbove setting (Some move) patches → is_one_of move.patch patches ≡ false → AreAbove setting None patches
     above_others [] above none = tt
     above_others (first ∷ patches) above none =
-        let parts = two_false (first == move.patch) (is_one_of move.patch patches) none in
-        ((λ e. absurd (both (move.patch == first) (above.0 e).1 (equal_either_way move.patch first ∙ parts.0))), above_others patches above.1 parts.1)
+        let parts = or_parts (first == move.patch) (is_one_of move.patch patches) none in
+        ((λ e. absurd (both_ways (move.patch == first) (equal_either_way move.patch first ∙ parts.0) (above.0 e).1)), above_others patches above.1 parts.1)
 
     above_left_out : (patches : List ℕ) → AreDistinct patches → AreAbove setting (Some move) patches → AreAbove setting None (left_out move.patch patches)
     above_left_out [] distinct above = tt
@@ -176,7 +175,7 @@ module _ (setting : Setting) where
         by : (t : Bool) → (first == move.patch) ≡ t → AreAbove setting None (left_out move.patch patches)
             → AreAbove setting None (cond t patches (first ∷ left_out move.patch patches))
         by true is rest = above_others patches above.1 (subst (λ p. is_one_of p patches ≡ false) (eqb-true first move.patch is) distinct.0)
-        by false is rest = ((λ e. absurd (both (move.patch == first) (above.0 e).1 (equal_either_way move.patch first ∙ is))), rest)
+        by false is rest = ((λ e. absurd (both_ways (move.patch == first) (equal_either_way move.patch first ∙ is) (above.0 e).1)), rest)
 
     above_stacked : (patches : List ℕ) → AreAbove setting None patches → AreStacked setting None patches
     above_stacked [] above = tt
@@ -213,7 +212,7 @@ module _ (setting : Setting) where
     above_settled : (patches : List ℕ) → replaces setting move.patch ≡ false → AreAbove setting (Some move) patches → AreAbove setting None patches
     above_settled [] plain above = tt
     above_settled (first ∷ patches) plain above =
-        ((λ e. absurd (both (replaces setting move.patch) (subst (λ p. replaces setting p ≡ true) (sym (eqb-true move.patch first (above.0 e).1)) e) plain)), above_settled patches plain above.1)
+        ((λ e. absurd (both_ways (replaces setting move.patch) plain (subst (λ p. replaces setting p ≡ true) (sym (eqb-true move.patch first (above.0 e).1)) e))), above_settled patches plain above.1)
 
     pub stacked_settled : (patches : List ℕ) → replaces setting move.patch ≡ false → AreStacked setting (Some move) patches → AreStacked setting None patches
     stacked_settled [] plain stacked = tt

@@ -2,7 +2,7 @@
 use Rattle.std.proofs.Common.{◌≡◌, ◌⊎◌, inl, inr, ℕ, zero, suc, ◌+◌, ◌-◌, ◌<◌, ℤ, pos, negsuc, Bool, true, false, ◌&&◌, ◌||◌, cond, List, [], ◌∷◌, ◌++◌, reverse, length, Option, Some, None, is_some, refl, sym, ap, subst, ◌∙◌, arith}
 use Rattle.std.specs.Prelude.{◌==◌, nat_lt, if◌then◌else◌, option_map}
 use Rattle.std.specs.List.{list_any}
-use Rattle.std.proofs.lemmas.Bool.{eq-eqb, eqb-true, ltb-true, ltb-false}
+use Rattle.std.proofs.lemmas.Bool.{eq-eqb, eqb-true, ltb-true, ltb-false, or_parts, both_ways}
 use Rattle.std.proofs.lemmas.List.{length-append}
 use Rattle.std.proofs.lemmas.List.Folds.{list_any-append}
 use Rattle.klp_types.specs.declared.version.Version.{Version}
@@ -20,8 +20,6 @@ use Rattle.klp_machine.specs.Pick.{pick_in}
 use Rattle.klp_types.specs.Pick.{moves, is_unpatched, entries_for, version_of, newest_version, target_of, address_of}
 use Rattle.klp_machine.specs.Blocked.{is_version, held_version, blocked_among, blocked_from, blocked}
 use Rattle.klp_machine.specs.Allowed.{is_one_of, AreDistinct}
-use Rattle.klp_machine.proofs.ScriptLemmas.{two_false}
-use Rattle.klp_machine.proofs.RefusalLemmas.{both}
 use Rattle.klp_machine.proofs.OrderLemmas.{left_out, from_on, distinct-put, equal_either_way}
 use Rattle.klp_machine.specs.Observed.{Frame, versions}
 use Rattle.klp_machine.specs.Consistent.{AreCurrent}
@@ -180,13 +178,13 @@ module _ (site : ℕ) (patch : ℕ) where
       let at_zero = subst (λ x. list_any (is_version (seen_by true x (newest ∷ older))) (held true (newest ∷ older)) ≡ false) e free in
       let below = subst (λ b. list_any (is_version (newest_version site (if b && true then older else newest ∷ older))) (held true (newest ∷ older)) ≡ false) is at_zero in
       let own = subst (λ b. list_any (is_version (newest_version site older)) (if b then held_version site true newest older ∷ [] else held true older) ≡ false) (equal_either_way newest.patch patch ∙ is) below in
-      absurd (both (is_version (newest_version site older) (newest_version site older)) (is_version-refl (newest_version site older)) (or_false (is_version (newest_version site older) (newest_version site older)) own))
+      absurd (both_ways (is_version (newest_version site older) (newest_version site older)) (or_false (is_version (newest_version site older) (newest_version site older)) own) (is_version-refl (newest_version site older)))
   free_at false task newest older true is (inl e) free =
       let at_one = subst (λ x. list_any (is_version (seen_by false x (newest ∷ older))) (held false (newest ∷ older)) ≡ false) e free in
       let top = subst (λ b. list_any (is_version (newest_version site (if b && false then older else newest ∷ older))) (held false (newest ∷ older)) ≡ false) is at_one in
       let own = subst (λ b. list_any (is_version (version_of site newest.func newest.patch)) (if b then held_version site false newest older ∷ [] else held false older) ≡ false) (equal_either_way newest.patch patch ∙ is) top in
       let v = version_of site newest.func newest.patch in
-      absurd (both (is_version v v) (is_version-refl v) (or_false (is_version v v) own))
+      absurd (both_ways (is_version v v) (or_false (is_version v v) own) (is_version-refl v))
 
   pub free_same : (target : Bool) (task : ℤ) (entries : List Entry) → (task ≡ pos 1) ⊎ (task ≡ pos 0)
       → list_any (is_version (seen_by target task entries)) (held target entries) ≡ false
@@ -201,12 +199,12 @@ pub blocked_at : (setting : Setting) (state : State) (move : Move) (test : Versi
 blocked_at setting state move test first [] k none inside = absurd (omega (arith, inside))
 blocked_at setting state move test first (symbol ∷ symbols) zero none inside =
     let e : first + 0 ≡ first = omega arith in
-    rw e (two_false (list_any test (blocked_among first move (entries_of setting state first))) (list_any test (blocked_from setting state move (suc first) symbols))
+    rw e (or_parts (list_any test (blocked_among first move (entries_of setting state first))) (list_any test (blocked_from setting state move (suc first) symbols))
     (sym (list_any-append test (blocked_among first move (entries_of setting state first)) (blocked_from setting state move (suc first) symbols)) ∙ none)).0
 blocked_at setting state move test first (symbol ∷ symbols) (suc k) none inside =
     let e : suc first + k ≡ first + suc k = omega arith in
     rw (← e) (blocked_at setting state move test (suc first) symbols k
-    (two_false (list_any test (blocked_among first move (entries_of setting state first))) (list_any test (blocked_from setting state move (suc first) symbols))
+    (or_parts (list_any test (blocked_among first move (entries_of setting state first))) (list_any test (blocked_from setting state move (suc first) symbols))
     (sym (list_any-append test (blocked_among first move (entries_of setting state first)) (blocked_from setting state move (suc first) symbols)) ∙ none)).1 (omega (arith, inside)))
 
 -- a site whose object is loaded is one of the image
@@ -250,5 +248,5 @@ module _ (setting : Setting) (state : State) (move : Move) (is : state.moving �
       → list_any (λ v. list_any (is_version v) (blocked setting state move)) (versions frames) ≡ false → AreCurrent (now setting state (at_target move.target)) frames
   all_free task [] at are free = tt
   all_free task (frame ∷ frames) at are free =
-      let parts = two_false (list_any (is_version frame.version) (blocked setting state move)) (list_any (λ v. list_any (is_version v) (blocked setting state move)) (versions frames)) free in
+      let parts = or_parts (list_any (is_version frame.version) (blocked setting state move)) (list_any (λ v. list_any (is_version v) (blocked setting state move)) (versions frames)) free in
       (one_free task frame.site frame.version at are.0 parts.0, all_free task frames at are.1 parts.1)

@@ -1,5 +1,5 @@
 -- What is known of an event that nothing refuses.
-use Rattle.std.proofs.Common.{◌≡◌, Bool, true, false, not, cond, List, [], ◌∷◌, Option, Some, None, is_none, refl}
+use Rattle.std.proofs.Common.{◌≡◌, Bool, true, false, cond, List, [], ◌∷◌, Option, Some, None, is_none, refl}
 use Rattle.klp_machine.specs.declared.event.Event.{Event}
 use Rattle.klp_machine.specs.declared.event.Reply.{Reply}
 use Rattle.klp_machine.specs.declared.event.Refusal.{Refusal}
@@ -7,13 +7,8 @@ use Rattle.klp_types.specs.FirstOf.{first_of, unless}
 use Rattle.klp_types.specs.Setting.{Setting}
 use Rattle.klp_machine.specs.State.{State}
 use Rattle.klp_machine.specs.Step.{accepted}
-use Rattle.klp_machine.specs.Refusals.{accepts, refusal}
+use Rattle.klp_machine.specs.Refusals.{accepts, refusal, NoneHolds}
 use Rattle.klp_machine.specs.Run.{next, state_after}
-
--- none of the cases holds
-abbrev pub NoneHolds : List (Bool × Refusal) → Type 0
-NoneHolds [] = Unit {0}
-NoneHolds (case ∷ cases) = (case.0 ≡ false) × NoneHolds cases
 
 pub none_holds : (cases : List (Bool × Refusal)) → is_none (first_of cases) ≡ true → NoneHolds cases
 none_holds [] e = tt
@@ -32,14 +27,9 @@ pub next_accepted : (setting : Setting) (state : State) (event : Event) → acce
     → next setting state event ≡ (accepted setting state event).1
 next_accepted setting state event e = after_none state (accepted setting state event) (refusal setting state event) e
 
-pub no_bool : (b : Bool) → b ≡ true → not b ≡ true → ⊥
-no_bool true e f = cc
-no_bool false e f = cc
+after_some : (state : State) (outcome : Reply × State) (reason : Option Refusal) → is_none reason ≡ false → state_after state (unless reason outcome) ≡ state
+after_some state outcome None e = cc
+after_some state outcome (Some reason) e = refl
 
-pub both : (b : Bool) → b ≡ true → b ≡ false → ⊥
-both true e f = cc
-both false e f = cc
-
-pub refused_stays : (state : State) (outcome : Reply × State) (reason : Option Refusal) → is_none reason ≡ false → state_after state (unless reason outcome) ≡ state
-refused_stays state outcome None e = cc
-refused_stays state outcome (Some reason) e = refl
+pub next_refused : (setting : Setting) (state : State) (event : Event) → accepts setting state event ≡ false → next setting state event ≡ state
+next_refused setting state event e = after_some state (accepted setting state event) (refusal setting state event) e

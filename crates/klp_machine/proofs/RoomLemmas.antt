@@ -16,7 +16,7 @@ use Rattle.klp_machine.specs.State.{State}
 use Rattle.klp_types.specs.Callbacks.{Call, call_of, calls_of, script_for, refuses, refused_calls, enable_calls, after_calls, allocs_of}
 use Rattle.klp_machine.specs.ModuleCalls.{Part, part_call, still_call, brought, let_go, part_refuses, parts_before, refused_parts, coming_calls, going_calls}
 use Rattle.klp_machine.specs.EventCalls.{once_done, coming_may_run, going_may_run, may_run, lacks_room}
-use Rattle.klp_machine.proofs.ScriptLemmas.{script_room}
+use Rattle.klp_types.proofs.ScriptLemmas.{script_room}
 
 abbrev Objects : Type 0
 Objects = List (ℕ × PatchObject)

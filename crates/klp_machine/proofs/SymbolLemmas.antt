@@ -2,14 +2,13 @@
 use Rattle.std.proofs.Common.{◌≡◌, ◌⊎◌, inl, inr, ℕ, zero, suc, ◌+◌, Bool, true, false, ◌&&◌, ◌||◌, cond, List, [], ◌∷◌, ◌++◌, refl, sym, ap, ◌∙◌}
 use Rattle.std.specs.Prelude.{◌==◌, slice_index_or, slice_set}
 use Rattle.std.specs.List.{list_any, filter, enumerate_from, flat_map}
-use Rattle.std.proofs.lemmas.Bool.{eq-eqb}
+use Rattle.std.proofs.lemmas.Bool.{eq-eqb, or_parts}
 use Rattle.std.proofs.lemmas.List.Folds.{list_any-append}
 use Rattle.klp_types.specs.Setting.{Setting, PatchObject, objects_of}
 use Rattle.klp_machine.specs.State.{is_flagged}
 use Rattle.klp_machine.specs.ModuleCalls.{Part, parts_among, parts_of}
 use Rattle.klp_machine.specs.Refusals.{lacks_symbol_of, lacks_symbol}
 use Rattle.klp_machine.specs.Allowed.{NoneLacks}
-use Rattle.klp_machine.proofs.ScriptLemmas.{two_false}
 
 -- a flag that is set, or not
 set_same : (flags : List Bool) (m n : ℕ) → slice_index_or (slice_set flags m true) n false ≡ true → (n ≡ m) ⊎ (slice_index_or flags n false ≡ true)
@@ -63,8 +62,8 @@ module _ (now then : ℕ → Bool) (also : ℕ → Bool) (either : (o : ℕ) →
       → list_any (λ (o : PatchObject). now o.object && lacks_symbol_of o) objects ≡ false
   none_lacks_now [] a b = refl
   none_lacks_now (object ∷ objects) a b =
-      let as_then = two_false (then object.object && lacks_symbol_of object) _ a in
-      let as_also = two_false (also object.object && lacks_symbol_of object) _ b in
+      let as_then = or_parts (then object.object && lacks_symbol_of object) _ a in
+      let as_also = or_parts (also object.object && lacks_symbol_of object) _ b in
       ap (λ t. t || list_any (λ (o : PatchObject). now o.object && lacks_symbol_of o) objects) (and_false (now object.object) (lacks_symbol_of object) (here as_then.0 as_also.0))
       ∙ none_lacks_now objects as_then.1 as_also.1
     where
@@ -98,7 +97,7 @@ module _ (setting : Setting) where
       → NoneLacks setting flags patches → NoneLacks setting (slice_set flags m true) patches
   came flags m [] none was = tt
   came flags m (patch ∷ patches) none was =
-      let split = two_false (list_any (λ (p : Part). lacks_symbol_of p.1.1) (parts_of setting m patch)) (list_any (λ (p : Part). lacks_symbol_of p.1.1) (flat_map (parts_of setting m) patches))
+      let split = or_parts (list_any (λ (p : Part). lacks_symbol_of p.1.1) (parts_of setting m patch)) (list_any (λ (p : Part). lacks_symbol_of p.1.1) (flat_map (parts_of setting m) patches))
       (sym (list_any-append (λ (p : Part). lacks_symbol_of p.1.1) (parts_of setting m patch) (flat_map (parts_of setting m) patches)) ∙ none) in (
         none_lacks_now (is_flagged (slice_set flags m true)) (is_flagged flags) (λ o. o == m) (λ o is. set_true flags m o is) (objects_of setting patch) was.0
             (sym (filtered_any m 0 (objects_of setting patch)) ∙ sym (parts_any patch (filter (λ (o : ℕ × PatchObject). o.1.object == m) (enumerate_from 0 (objects_of setting patch)))) ∙ split.0),

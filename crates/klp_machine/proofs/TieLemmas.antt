@@ -25,7 +25,7 @@ use Rattle.klp_machine.specs.Completing.{without_older, completed_or_pending, po
 use Rattle.klp_machine.specs.ModuleStep.{come_or_refused}
 use Rattle.klp_machine.specs.TaskStep.{change_task}
 use Rattle.klp_machine.specs.Step.{accepted}
-use Rattle.klp_machine.proofs.ScriptLemmas.{after_same}
+use Rattle.klp_types.proofs.ScriptLemmas.{after_same}
 
 enable_tie : (state : State) (patch : ℕ) (world : World) (found : Option (ℕ × PatchObject)) (key : ShadowKey)
     → variable (enabled_or_gone state patch world found).1.world key ≡ variable world key

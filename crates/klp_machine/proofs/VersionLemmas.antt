@@ -1,9 +1,8 @@
 -- The version that is run at a site, by the list of patches alone.
-use Rattle.std.proofs.Common.{◌≡◌, ℕ, ℤ, pos, Bool, true, false, not, ◌&&◌, ◌||◌, cond, List, [], ◌∷◌, ◌++◌, reverse, Option, Some, None, is_some, refl, sym, ap, subst, ◌∙◌}
+use Rattle.std.proofs.Common.{◌≡◌, ℕ, ℤ, pos, Bool, true, false, not, ◌&&◌, ◌||◌, cond, List, [], ◌∷◌, ◌++◌, reverse, Option, Some, None, refl, sym, ap, subst, ◌∙◌}
 use Rattle.std.specs.Prelude.{◌==◌, if◌then◌else◌}
 use Rattle.std.specs.List.{list_any}
-use Rattle.std.proofs.lemmas.Bool.{eqb-true}
-use Rattle.std.proofs.lemmas.List.Folds.{list_any-append}
+use Rattle.std.proofs.lemmas.Bool.{eqb-true, or_parts, both_ways}
 use Rattle.std.proofs.lemmas.Grind.{reverse_onto}
 use Rattle.klp_types.specs.declared.version.Version.{Version}
 use Rattle.klp_types.specs.declared.version.Entry.{Entry}
@@ -11,54 +10,18 @@ use Rattle.klp_types.specs.declared.version.Move.{Move}
 use Rattle.klp_types.specs.Setting.{Setting, functions_of, function_for, replaces}
 use Rattle.klp_types.specs.Entries.{entry_of, patches_site, entries_from, is_empty}
 use Rattle.klp_types.specs.Pick.{moves, is_unpatched, entries_for, newest_version, target_of}
+use Rattle.klp_types.proofs.EntryLemmas.{list_any-reverse, entries_from-any}
 use Rattle.klp_machine.specs.Allowed.{is_one_of, AreDistinct, Allowed}
 use Rattle.klp_machine.specs.State.{State, installed_patches}
 use Rattle.klp_machine.specs.Entries.{is_site_loaded}
 use Rattle.klp_machine.specs.Pick.{pick_in}
 use Rattle.klp_machine.specs.Versions.{chosen, version_in, others}
-use Rattle.klp_machine.proofs.ScriptLemmas.{two_false}
-use Rattle.klp_machine.proofs.RefusalLemmas.{both}
 use Rattle.klp_machine.proofs.OrderLemmas.{left_out, from_on, distinct-put, equal_either_way}
-
-or-comm : (a b : Bool) → (a || b) ≡ (b || a)
-or-comm true true = refl
-or-comm true false = refl
-or-comm false true = refl
-or-comm false false = refl
-
-or-false : (a : Bool) → (a || false) ≡ a
-or-false true = refl
-or-false false = refl
-
-pub list_any-reverse : {X : Type 0} (p : X → Bool) (xs : List X) → list_any p (reverse xs) ≡ list_any p xs
-list_any-reverse p [] = refl
-list_any-reverse p (x ∷ xs) =
-    ap (list_any p) (reverse_onto xs x [])
-    ∙ list_any-append p (reverse xs) (x ∷ [])
-    ∙ ap (λ b. b || (p x || false)) (list_any-reverse p xs)
-    ∙ ap (λ b. list_any p xs || b) (or-false (p x))
-    ∙ or-comm (list_any p xs) (p x)
-
--- there is an entry where a patch has a function
-over_entries : (patch : ℕ) (function : Option ℕ) (replace older : Bool) (entries : List Entry)
-    → not (is_empty entries) ≡ older
-    → not (is_empty (entry_of patch function (replace && older) ++ entries)) ≡ (is_some function || older)
-over_entries patch (Some f) replace older entries h = refl
-over_entries patch None true true entries h = refl
-over_entries patch None true false entries h = h
-over_entries patch None false older entries h = h
-
-entries_from-any : (setting : Setting) (site : ℕ) (patches : List ℕ)
-    → not (is_empty (entries_from setting site patches)) ≡ list_any (patches_site setting site) patches
-entries_from-any setting site [] = refl
-entries_from-any setting site (patch ∷ older) =
-    over_entries patch (function_for (functions_of setting patch) site) (replaces setting patch) (list_any (patches_site setting site) older)
-    (entries_from setting site older) (entries_from-any setting site older)
 
 pub others_same : (patch : ℕ) (patches : List ℕ) → is_one_of patch patches ≡ false → others patch patches ≡ patches
 others_same patch [] none = refl
 others_same patch (first ∷ patches) none =
-    let parts = two_false (first == patch) (is_one_of patch patches) none in
+    let parts = or_parts (first == patch) (is_one_of patch patches) none in
     ap (λ b. cond b (others patch patches) (first ∷ others patch patches)) parts.0 ∙ ap (λ rest. first ∷ rest) (others_same patch patches parts.1)
 
 pub nothing_in : {A : Type 0} (list : List A) → not (is_empty list) ≡ false → list ≡ []
@@ -119,7 +82,7 @@ module _ (setting : Setting) (site : ℕ) where
       by false is rest =
           passed_over move patch (function_for (functions_of setting patch) site) (replaces setting patch) (list_any (patches_site setting site) older) false (entries older)
           (version_in setting site older) (version_in setting site (others move.patch older)) is (entries_from-any setting site older) (newest_in older) rest
-          (λ e. absurd (both false e refl))
+          (λ e. absurd (both_ways false refl e))
 
   -- behind a patch that replaces nothing counts
   behind_chosen : (patch : ℕ) (function : Option ℕ) (replace : Bool) (a b : Version) → (replace ≡ false → a ≡ b) → chosen site patch function replace a ≡ chosen site patch function replace b

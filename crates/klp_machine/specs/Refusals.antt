@@ -1,5 +1,5 @@
 -- What an event is refused for.
-use Rattle.std.specs.Prelude.{ℕ, ◌==◌, Bool, true, false, not, ◌&&◌, ◌||◌, is_some, is_none, nat_lt, nat_le, List, [], ◌∷◌, length, map, Option, Some, None}
+use Rattle.std.specs.Prelude.{◌≡◌, ℕ, ◌==◌, Bool, true, false, not, ◌&&◌, ◌||◌, is_some, is_none, nat_lt, nat_le, List, [], ◌∷◌, length, map, Option, Some, None}
 use Rattle.std.specs.List.{list_any}
 use Rattle.klp_types.specs.declared.limits.TheConstants.{MAX_TASKS}
 use Rattle.klp_types.specs.declared.task.Mode.TheVariants.{User, Kernel, Asleep}
@@ -95,3 +95,8 @@ refusal setting state event = first_of (refusals setting state event)
 
 abbrev pub accepts : Setting → State → Event → Bool
 accepts setting state event = is_none (refusal setting state event)
+
+-- none of the cases holds
+abbrev pub NoneHolds : List (Bool × Refusal) → Type 0
+NoneHolds [] = Unit {0}
+NoneHolds (case ∷ cases) = (case.0 ≡ false) × NoneHolds cases

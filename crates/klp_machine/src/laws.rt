@@ -1,6 +1,6 @@
 //! What is proved of the definitions themselves. Each law is the contract of a function that does
 //! nothing: it keeps the definitions honest, and a crate above may rely on it.
-ghost use Rattle.std.specs.Prelude.{◌≡◌, ℕ, ℤ, pos, true, false, not, ◌==◌, List, reverse, filter, Some, None};
+ghost use Rattle.std.specs.Prelude.{◌≡◌, ℕ, ℤ, pos, Bool, true, false, not, ◌==◌, List, reverse, filter, Some, None, is_none};
 ghost use Rattle.klp_types.specs.declared.shadow.ShadowKey.{ShadowKey};
 ghost use Rattle.klp_types.specs.Setting.{Setting};
 ghost use Rattle.klp_types.specs.World.{variable, without_patch};
@@ -10,6 +10,9 @@ ghost use Rattle.klp_types.specs.Entries.{is_empty};
 ghost use Rattle.klp_types.specs.Pick.{moves, is_unpatched, target_of};
 ghost use Rattle.klp_types.specs.Callbacks.{after_calls};
 ghost use Rattle.klp_machine.specs.declared.event.Event.{Event as AnyEvent};
+ghost use Rattle.klp_types.specs.FirstOf.{first_of};
+ghost use Rattle.klp_machine.specs.declared.event.Refusal.{Refusal};
+ghost use Rattle.klp_machine.specs.Refusals.{accepts, NoneHolds};
 ghost use Rattle.klp_machine.specs.State.{State, installed_patches, with_world};
 ghost use Rattle.klp_machine.specs.Entries.{is_site_loaded, entries_of};
 ghost use Rattle.klp_machine.specs.Pick.{pick_in};
@@ -55,4 +58,13 @@ pub fn tasks_run_whole_lists_of_patches()
 pub fn a_patch_leaves_the_entries_of_the_others()
     ensures { (setting : Setting) (state : State) (patch : ℕ) (site : ℕ) → Allowed setting state → moves state.moving patch ≡ true
         → entries_of setting (with_world state (without_patch state.world patch)) site ≡ filter (λ (e : Entry). not (e.patch == patch)) (entries_of setting state site) }
+{}
+
+/// Of an event that is accepted none of the cases holds in which it would be refused, and it leads to
+/// the state that its step tells. A refused event leaves the state.
+pub fn events_are_accepted_where_no_case_holds()
+    ensures none { (cases : List (Bool × Refusal)) → is_none (first_of cases) ≡ true → NoneHolds cases }
+    ensures next { (setting : Setting) (state : State) (event : AnyEvent) → accepts setting state event ≡ true
+        → next setting state event ≡ (accepted setting state event).1 }
+    ensures stays { (setting : Setting) (state : State) (event : AnyEvent) → accepts setting state event ≡ false → next setting state event ≡ state }
 {}

@@ -1,5 +1,6 @@
 -- Over a fair company: from phase to phase, and what holds when the patch isn't installed.
 use Rattle.std.proofs.Common.{◌≡◌, ◌⊎◌, inl, inr, ℕ, Bool, true, false, not, [], ◌∷◌, Option, Some, None, refl, sym, ap, subst, ◌∙◌}
+use Rattle.std.proofs.lemmas.Bool.{both_ways}
 use Rattle.klp_types.specs.declared.shadow.ShadowKey.{ShadowKey}
 use Rattle.klp_types.specs.declared.callback.Which.TheVariants.{Pre, Post}
 use Rattle.klp_machine.specs.declared.event.Event.{Event}
@@ -17,7 +18,7 @@ use Rattle.klp_round_trip.specs.Company.{taking_part, company_keys, replaces_old
 use Rattle.klp_round_trip.proofs.WorldLemmas.{is_among-last}
 use Rattle.klp_round_trip.proofs.ObjectLemmas.{objects_at, objects_leave}
 use Rattle.klp_round_trip.proofs.ShadowLemmas.{shadow_at, shadow_changed_at, shadow_leaves, shadow_installed}
-use Rattle.klp_round_trip.proofs.RefusalLemmas.{NoneHolds, both}
+use Rattle.klp_machine.specs.Refusals.{NoneHolds}
 use Rattle.klp_machine.specs.EventCalls.{calls, poll_calls}
 use Rattle.klp_round_trip.specs.Rounds.{enablings}
 use Rattle.klp_round_trip.proofs.Phases.{IsGone, IsOnTheMove, IsStanding, PhaseAt, Stage, Onward, IsBase}
@@ -50,11 +51,11 @@ module _ (setting : Setting) (patch : ℕ) (start : State) (fair : IsFairStart s
 
     enable_kept : NoneHolds (refusals setting state (Enable patch)) → (stage : Stage) → PhaseAt setting patch start base stage state → Then stage (Enable patch)
     enable_kept open_ Away is = phases.enabled_from_gone setting patch start fair base is_base state is
-    enable_kept open_ Moving phase = absurd (both _ (installed_moving phase.0 phase.1) open_.1.0)
-    enable_kept open_ Standing is = absurd (both _ (installed_standing is) open_.1.0)
+    enable_kept open_ Moving phase = absurd (both_ways _ open_.1.0 (installed_moving phase.0 phase.1))
+    enable_kept open_ Standing is = absurd (both_ways _ open_.1.0 (installed_standing is))
 
     set_enabled_kept : (value : Bool) → NoneHolds (refusals setting state (SetEnabled patch value)) → (stage : Stage) → PhaseAt setting patch start base stage state → Then stage (SetEnabled patch value)
-    set_enabled_kept value open_ Away is = absurd (both _ (not_false _ open_.1.0) (installed_gone is))
+    set_enabled_kept value open_ Away is = absurd (both_ways _ (installed_gone is) (not_false _ open_.1.0))
     set_enabled_kept value open_ Moving phase = phases.turned_on_the_move setting patch start fair base is_base state phase.0 value phase.1
     set_enabled_kept value open_ Standing is = phases.turned_standing setting patch start fair base is_base state value is
 

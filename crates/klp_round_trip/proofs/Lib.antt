@@ -1,10 +1,8 @@
-pub mod KeyLemmas
 pub mod WorldLemmas
 pub mod ObjectLemmas
 pub mod ShadowLemmas
 pub mod Phases
 pub mod PlaceLemmas
-pub mod RefusalLemmas
 pub mod PhaseLemmas
 pub mod CompanyLemmas
 pub mod RunLemmas

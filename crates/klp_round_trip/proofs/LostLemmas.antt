@@ -15,7 +15,7 @@ use Rattle.klp_machine.specs.Step.{accepted}
 use Rattle.klp_machine.specs.Run.{run}
 use Rattle.klp_round_trip.specs.Company.{taking_part, EachUndoes}
 use Rattle.klp_round_trip.specs.Examples.{key_of, adding, bare, own_variable_first, sharing, with_five, there_and_back}
-use Rattle.klp_round_trip.proofs.KeyLemmas.{key_total, same_key}
+use Rattle.klp_types.proofs.KeyLemmas.{key_total, same_key}
 use Rattle.klp_round_trip.proofs.WorldLemmas.{effect_at}
 use Rattle.klp_round_trip.proofs.StageLemmas.{Map, k9, k10, with_patch, to, inserted, removed, enough, script, on}
 

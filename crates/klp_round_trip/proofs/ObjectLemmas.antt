@@ -1,6 +1,7 @@
 -- What the callbacks of a kind make of one variable over objects, and that they undo each other.
 use Rattle.std.proofs.Common.{◌≡◌, ℕ, suc, ◌+◌, take, arith, Bool, true, false, not, cond, List, [], ◌∷◌, ◌++◌, Option, Some, None, refl, sym, ap, subst, ◌∙◌, append_assoc}
 use Rattle.std.specs.List.{list_any, find, before_first, position_or_len}
+use Rattle.std.proofs.lemmas.Bool.{or_parts}
 use Rattle.klp_types.specs.declared.shadow.ShadowKey.{ShadowKey}
 use Rattle.klp_types.specs.declared.callback.Which.{Which}
 use Rattle.klp_types.specs.declared.callback.Which.TheVariants.{Pre, Post, PreUn, PostUn}
@@ -10,7 +11,8 @@ use Rattle.klp_types.specs.Script.{Script, is_success, effect, touches}
 use Rattle.klp_types.specs.Callbacks.{Call, call_of, calls_of, script_for, is_refusing, refuses, refused_calls, enable_calls, after_calls}
 use Rattle.klp_round_trip.specs.Company.{script_or_empty, script_of, object_touches, one_touches, UndoesItself, EachUndoes, AreApart}
 use Rattle.klp_machine.specs.State.{is_among}
-use Rattle.klp_round_trip.proofs.WorldLemmas.{two_false, made_of, script_at, script_leaves, effect_at, undone_at, calls_at, calls_at-append, IsLast, effect_last}
+use Rattle.klp_types.specs.Script.{made_of}
+use Rattle.klp_round_trip.proofs.WorldLemmas.{script_at, script_leaves, effect_at, undone_at, calls_at, calls_at-append, IsLast, effect_last}
 
 abbrev pub Objects : Type 0
 Objects = List (ℕ × PatchObject)
@@ -42,16 +44,16 @@ object_leaves : (which : Which) (object : ℕ × PatchObject) (key : ShadowKey) 
 object_leaves which object key was away = of_kind which
   where
     first : (touched_by key object Pre ≡ false) × (list_any (touched_by key object) (Post ∷ PreUn ∷ PostUn ∷ []) ≡ false)
-    first = two_false (touched_by key object Pre) (list_any (touched_by key object) (Post ∷ PreUn ∷ PostUn ∷ [])) away
+    first = or_parts (touched_by key object Pre) (list_any (touched_by key object) (Post ∷ PreUn ∷ PostUn ∷ [])) away
 
     second : (touched_by key object Post ≡ false) × (list_any (touched_by key object) (PreUn ∷ PostUn ∷ []) ≡ false)
-    second = two_false (touched_by key object Post) (list_any (touched_by key object) (PreUn ∷ PostUn ∷ [])) first.1
+    second = or_parts (touched_by key object Post) (list_any (touched_by key object) (PreUn ∷ PostUn ∷ [])) first.1
 
     third : (touched_by key object PreUn ≡ false) × (list_any (touched_by key object) (PostUn ∷ []) ≡ false)
-    third = two_false (touched_by key object PreUn) (list_any (touched_by key object) (PostUn ∷ [])) second.1
+    third = or_parts (touched_by key object PreUn) (list_any (touched_by key object) (PostUn ∷ [])) second.1
 
     fourth : (touched_by key object PostUn ≡ false) × (false ≡ false)
-    fourth = two_false (touched_by key object PostUn) false third.1
+    fourth = or_parts (touched_by key object PostUn) false third.1
 
     of_kind : (which : Which) → object_at key was which object ≡ was
     of_kind Pre = script_leaves (script_of Pre object) key was first.0
@@ -63,7 +65,7 @@ object_leaves which object key was away = of_kind which
 pub objects_leave : (which : Which) (objects : Objects) (key : ShadowKey) (was : Option ℕ) → one_touches objects key ≡ false → objects_at key was which objects ≡ was
 objects_leave which [] key was away = refl
 objects_leave which (object ∷ objects) key was away =
-    let parts = two_false (object_touches key object) (one_touches objects key) away in
+    let parts = or_parts (object_touches key object) (one_touches objects key) away in
     ap (λ x. objects_at key x which objects) (object_leaves which object key was parts.0) ∙ objects_leave which objects key was parts.1
 
 module _ (patch : ℕ) (world : World) (key : ShadowKey) where

@@ -2,7 +2,7 @@
 use Rattle.std.proofs.Common.{◌≡◌, ℕ, zero, suc, Bool, true, false, ◌&&◌, not, cond, List, [], ◌∷◌, ◌++◌, map, Option, Some, None, refl, sym, ap, subst, ◌∙◌}
 use Rattle.std.specs.Prelude.{◌==◌, slice_index_or}
 use Rattle.std.specs.List.{find, filter, enumerate_from}
-use Rattle.std.proofs.lemmas.Bool.{eq-eqb}
+use Rattle.std.proofs.lemmas.Bool.{eq-eqb, or_parts}
 use Rattle.klp_types.specs.declared.shadow.ShadowKey.{ShadowKey}
 use Rattle.klp_types.specs.declared.callback.Which.TheVariants.{Pre, Post, PreUn, PostUn}
 use Rattle.klp_types.specs.Setting.{Setting, PatchObject, objects_of, replaces, state_ids}
@@ -19,7 +19,7 @@ use Rattle.klp_machine.specs.Enabling.{enabled, enabled_or_gone, turned, turned_
 use Rattle.klp_machine.specs.Completing.{from_patch, without_older, settled, completed, completed_or_pending}
 use Rattle.klp_machine.specs.TaskStep.{change_task}
 use Rattle.klp_round_trip.specs.Company.{taking_part, company_keys, has_older, is_none_left, IsFairStart}
-use Rattle.klp_round_trip.proofs.WorldLemmas.{two_false, after_calls_at, last_of, IsLast, take_last}
+use Rattle.klp_round_trip.proofs.WorldLemmas.{after_calls_at, last_of, IsLast, take_last}
 use Rattle.klp_round_trip.proofs.ObjectLemmas.{Objects, objects_at, objects_leave, calls_of_at, all_pre_undone, all_post_undone, none_refuses, enabled_at, refused_at, calls_last, enable_last}
 use Rattle.klp_round_trip.proofs.PlaceLemmas.{ran_none, ran_calls, ran_enabled, ran_refused, rise_loaded, rise_taking}
 use Rattle.klp_round_trip.proofs.Phases.{IsSteady, IsGone, IsOnTheMove, IsStanding, PhaseAt, Stage, Onward, IsBase}
@@ -34,7 +34,7 @@ from_last : (patch : ℕ) (older : List Installed) (values : List (ℕ × ℕ)) 
     → from_patch patch (older ++ last_of patch others) ≡ older ++ last_of patch others
 from_last patch [] values away none others = ap (λ b. cond b (last_of patch others) []) (eq-eqb patch patch refl)
 from_last patch (first ∷ older) values away none others =
-    let parts = two_false (first.patch == patch) (is_among patch older) away in
+    let parts = or_parts (first.patch == patch) (is_among patch older) away in
     let rest = older ++ last_of patch values in
     let no : true ≡ false = sym (ap (λ b. not (is_empty (cond b [] (first ∷ installed_before patch rest)))) parts.0) ∙ none in
     cc

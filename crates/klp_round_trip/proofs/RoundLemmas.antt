@@ -1,6 +1,7 @@
 -- What runs of an object over the rounds of a patch.
 use Rattle.std.proofs.Common.{◌≡◌, ℕ, suc, ◌+◌, true, false, List, [], ◌∷◌, ◌++◌, length, Option, Some, None, is_none, refl, sym, ap, subst, ◌∙◌, arith, append_assoc, append-nil}
 use Rattle.std.specs.Prelude.{slice_get}
+use Rattle.std.proofs.lemmas.Bool.{both_ways}
 use Rattle.klp_types.specs.declared.callback.Which.{Which}
 use Rattle.klp_types.specs.declared.callback.Which.TheVariants.{Pre, Post, PreUn, PostUn}
 use Rattle.klp_machine.specs.declared.event.Event.{Event}
@@ -22,7 +23,6 @@ use Rattle.klp_round_trip.proofs.Phases.{PhaseAt, Stage, Advance, Ran, IsBase}
 use Rattle.klp_round_trip.proofs.Phases.Stage.{Away, Moving, Standing}
 use Rattle.klp_round_trip.proofs.Phases.Advance.{stays, enables, fails, settles, departs, begins_to_leave}
 use Rattle.klp_round_trip.proofs.PlaceLemmas.{ran_none, ran_both}
-use Rattle.klp_round_trip.proofs.RefusalLemmas.{both}
 use Rattle.klp_round_trip.proofs.TripLemmas as trip
 
 -- what is still to run, from a stage on, where the patch is gone in the end: so many turns of this round, and these rounds
@@ -91,8 +91,8 @@ module _ (setting : Setting) (patch : ℕ) (start : State) (fair : IsFairStart s
       → RanOn setting patch start stage (callbacks_of_run setting state events) (enablings events)
   ran_in_rounds [] base state is_base are_fair Away phase away =
       record { kinds = []; ran = ran_none (taking_part setting start patch); left = record { turns_left = 0; rounds_left = []; count = refl; is = refl } }
-  ran_in_rounds [] base state is_base are_fair Moving phase away = absurd (both _ (trip.installed_at_moving setting patch start fair base state is_base phase) away)
-  ran_in_rounds [] base state is_base are_fair Standing phase away = absurd (both _ (trip.installed_at_standing setting patch start fair base state is_base phase) away)
+  ran_in_rounds [] base state is_base are_fair Moving phase away = absurd (both_ways _ away (trip.installed_at_moving setting patch start fair base state is_base phase))
+  ran_in_rounds [] base state is_base are_fair Standing phase away = absurd (both_ways _ away (trip.installed_at_standing setting patch start fair base state is_base phase))
   ran_in_rounds (event ∷ events) base state is_base are_fair stage phase away =
       let on = trip.onward setting patch start fair event base state is_base are_fair.0 stage phase in
       let rest = ran_in_rounds events (shadow_changed base event) (next setting state event)

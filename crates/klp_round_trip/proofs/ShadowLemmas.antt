@@ -9,7 +9,8 @@ use Rattle.klp_machine.specs.declared.event.Event.TheVariants.{ShadowAlloc, Shad
 use Rattle.klp_types.specs.World.{World, variable}
 use Rattle.klp_types.specs.Script.{is_key, allocated}
 use Rattle.klp_machine.specs.ShadowStep.{shadow_changed, concerns}
-use Rattle.klp_round_trip.proofs.KeyLemmas.{key_total, tied_if_same, key_by_key}
+use Rattle.klp_types.proofs.KeyLemmas.{key_total, tied_if_same}
+use Rattle.klp_types.proofs.ScriptLemmas.{key_by_key}
 
 -- what a shadow event makes of one variable
 abbrev pub shadow_at : ShadowKey → Option ℕ → Event → Option ℕ

@@ -2,7 +2,7 @@
 use Rattle.std.proofs.Common.{◌≡◌, ℕ, zero, suc, ◌+◌, ◌-◌, ◌≤◌, ℤ, pos, negsuc, Bool, true, false, cond, List, [], ◌∷◌, Option, Some, None, refl, sym, ap, subst, ◌∙◌, arith}
 use Rattle.std.specs.Prelude.{◌==◌, unwrap_or, nat_lt, nat_le, replicate}
 use Rattle.std.specs.FinMap as finite
-use Rattle.std.proofs.lemmas.Bool.{le-ltb, lt-leb, eqb-true}
+use Rattle.std.proofs.lemmas.Bool.{le-ltb, lt-leb, eqb-true, and_parts}
 use Rattle.klp_types.specs.declared.limits.TheConstants.{MAX_VARIABLES}
 use Rattle.klp_types.specs.declared.shadow.ShadowKey.{ShadowKey}
 use Rattle.klp_types.specs.declared.edit.Edit.{Edit}
@@ -11,7 +11,7 @@ use Rattle.klp_machine.specs.declared.event.Event.{Event}
 use Rattle.klp_machine.specs.declared.event.Event.TheVariants.{Enable, SetEnabled, Poll, EnterKernel, ExitToUser, Wake, ShadowAlloc}
 use Rattle.klp_types.specs.declared.version.Move.{Move}
 use Rattle.klp_types.specs.Setting.{Setting}
-use Rattle.klp_round_trip.proofs.KeyLemmas.{key_total, two_true}
+use Rattle.klp_types.proofs.KeyLemmas.{key_total}
 use Rattle.klp_types.specs.World.{key_cmp, variable}
 use Rattle.klp_types.specs.Script.{Script, is_key, effect}
 use Rattle.klp_round_trip.specs.Examples.{key_of, adding, one_task, with_a_sleeper, every_stage, refusing_behind, both_loaded}
@@ -25,7 +25,7 @@ use Rattle.klp_machine.specs.Run.{run}
 use Rattle.klp_machine.specs.Allowed.{AreRight, Allowed}
 use Rattle.klp_round_trip.specs.Company.{company_keys, IsFairEvent, AreFair, IsFairStart, IsFairCompany}
 use Rattle.klp_round_trip.proofs.WorldLemmas.{effect_at}
-use Rattle.klp_round_trip.proofs.RefusalLemmas.{next_accepted}
+use Rattle.klp_machine.proofs.RefusalLemmas.{next_accepted}
 
 abbrev pub k9 : ShadowKey
 k9 = key_of 1 9
@@ -163,7 +163,7 @@ settled = rw k10_free refl
 
 outside : (key : ShadowKey) → is_key k7 key ≡ true → keys key ≡ false
 outside key e =
-    let both = two_true (7 == key.obj) (7 == key.id) e in
+    let both = and_parts (7 == key.obj) (7 == key.id) e in
     let objs = eqb-true 7 key.obj both.0 in
     let ids = eqb-true 7 key.id both.1 in
     let same : k7 ≡ key = λ i. record { obj = objs i; id = ids i } in
@@ -202,7 +202,7 @@ script edits = record { edits = edits; status = pos 0 }
 
 k10_then : (key : ShadowKey) → is_key k10 key ≡ true → variable (effect 0 start.world (script (Alloc k9 5 ∷ []))) key ≡ None
 k10_then key e =
-    let both = two_true (1 == key.obj) (10 == key.id) e in
+    let both = and_parts (1 == key.obj) (10 == key.id) e in
     let objs = eqb-true 1 key.obj both.0 in
     let ids = eqb-true 10 key.id both.1 in
     let same : k10 ≡ key = λ i. record { obj = objs i; id = ids i } in

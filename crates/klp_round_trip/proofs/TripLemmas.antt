@@ -1,6 +1,7 @@
 -- The round trip: over a fair company, at every moment at which the patch isn't installed.
 use Rattle.std.proofs.Common.{◌≡◌, ℕ, Bool, true, false, not, List, [], ◌∷◌, ◌++◌, map, reverse, Option, Some, None, refl, sym, ap, subst, ◌∙◌}
 use Rattle.std.specs.Prelude.{slice_index_or, if◌then◌else◌}
+use Rattle.std.proofs.lemmas.Bool.{both_ways}
 use Rattle.klp_types.specs.declared.shadow.ShadowKey.{ShadowKey}
 use Rattle.klp_types.specs.declared.callback.Which.TheVariants.{Pre, Post}
 use Rattle.klp_machine.specs.declared.event.Event.{Event}
@@ -23,8 +24,8 @@ use Rattle.klp_round_trip.specs.Company.{taking_part, company_keys, IsOfCompany,
 use Rattle.klp_round_trip.proofs.ObjectLemmas.{objects_leave}
 use Rattle.klp_round_trip.proofs.ShadowLemmas.{shadow_changed_at, shadow_leaves, shadow_installed}
 use Rattle.std.specs.FinMap as finite
-use Rattle.klp_round_trip.proofs.KeyLemmas.{key_total, key_antisymmetric}
-use Rattle.klp_round_trip.proofs.RefusalLemmas.{none_holds, next_accepted, both}
+use Rattle.klp_types.proofs.KeyLemmas.{key_total, key_antisymmetric}
+use Rattle.klp_machine.proofs.RefusalLemmas.{none_holds, next_accepted}
 use Rattle.klp_round_trip.proofs.Phases.{IsGone, PhaseAt, Stage, Onward, IsBase}
 use Rattle.klp_round_trip.proofs.Phases.Stage.{Away, Moving, Standing}
 use Rattle.klp_round_trip.proofs.CompanyLemmas as company
@@ -74,7 +75,7 @@ module _ (setting : Setting) (patch : ℕ) (start : State) (fair : IsFairStart s
   outside event of key inside = not_concerned (concerns event key) (of key)
     where
       not_concerned : (b : Bool) → (b ≡ true → keys key ≡ false) → b ≡ false
-      not_concerned true h = absurd (both (keys key) inside (h refl))
+      not_concerned true h = absurd (both_ways (keys key) (h refl) inside)
       not_concerned false h = refl
 
   pub base_kept : (base : World) (event : Event) → IsOfCompany patch keys event → IsBase setting patch start base → IsBase setting patch start (shadow_changed base event)
@@ -129,8 +130,8 @@ module _ (setting : Setting) (patch : ℕ) (start : State) (fair : IsFairStart s
   pub phase_away : (base : World) (state : State) → IsBase setting patch start base → (stage : Stage) → PhaseAt setting patch start base stage state → is_installed state patch ≡ false
       → IsGone setting patch start base state
   phase_away base state is_base Away is away = is
-  phase_away base state is_base Moving phase away = absurd (both _ (company.installed_moving setting patch start fair base is_base state phase.0 phase.1) away)
-  phase_away base state is_base Standing is away = absurd (both _ (company.installed_standing setting patch start fair base is_base state is) away)
+  phase_away base state is_base Moving phase away = absurd (both_ways _ away (company.installed_moving setting patch start fair base is_base state phase.0 phase.1))
+  phase_away base state is_base Standing is away = absurd (both_ways _ away (company.installed_standing setting patch start fair base is_base state is))
 
   pub installed_at_moving : (base : World) (state : State) → IsBase setting patch start base → PhaseAt setting patch start base Moving state → is_installed state patch ≡ true
   installed_at_moving base state is_base phase = company.installed_moving setting patch start fair base is_base state phase.0 phase.1

@@ -1,54 +1,26 @@
 -- What the callbacks of one patch do to the world: each variable by itself, and the values of their own patch's states.
 use Rattle.std.proofs.Common.{◌≡◌, ℕ, Bool, true, false, ◌||◌, cond, List, [], ◌∷◌, ◌++◌, Option, Some, None, refl, sym, ap, ◌∙◌}
-use Rattle.std.specs.Prelude.{◌==◌, unwrap_or}
-use Rattle.std.specs.List.{list_any}
-use Rattle.std.proofs.lemmas.Bool.{eq-eqb}
+use Rattle.std.specs.Prelude.{◌==◌}
+use Rattle.std.proofs.lemmas.Bool.{eq-eqb, or_parts}
 use Rattle.klp_types.specs.declared.shadow.ShadowKey.{ShadowKey}
 use Rattle.klp_types.specs.declared.edit.Edit.{Edit}
 use Rattle.klp_types.specs.declared.edit.Edit.TheVariants.{Alloc, Free, FreeAll, SetData, TakePrev}
 use Rattle.klp_types.specs.World.{Installed, World, variable, change_states, taken_out, set_among, previous_value}
-use Rattle.klp_types.specs.Script.{Script, allocated, value_taken, edited, edited_at, edited_by, edits_made, effect, edit_touches, touches, Undoes}
+use Rattle.klp_types.specs.Script.{Script, allocated, value_taken, edited, edited_by, made_of, edits_made, effect, touches, Undoes}
 use Rattle.klp_machine.specs.State.{is_among}
 use Rattle.klp_types.specs.Callbacks.{Call, after_calls}
-use Rattle.klp_round_trip.proofs.KeyLemmas.{key_by_key}
-
-pub two_false : (a b : Bool) → (a || b) ≡ false → (a ≡ false) × (b ≡ false)
-two_false true b e = cc
-two_false false b e = (refl, e)
-
--- what edits make of one variable
-abbrev pub made_of : ShadowKey → Option ℕ → List Edit → Option ℕ
-made_of key was [] = was
-made_of key was (edit ∷ edits) = made_of key (edited_at key was edit) edits
+use Rattle.klp_types.proofs.ScriptLemmas.{all_by_key, all_left_alone}
 
 -- what a script makes of one variable
 abbrev pub script_at : ShadowKey → Option ℕ → Script → Option ℕ
 script_at key was script = made_of key was (edits_made script)
 
-by_key : (patch : ℕ) (world : World) (edits : List Edit) (key : ShadowKey) → variable (edited_by patch world edits) key ≡ made_of key (variable world key) edits
-by_key patch world [] key = refl
-by_key patch world (edit ∷ edits) key =
-    by_key patch (edited patch world edit) edits key ∙ ap (λ was. made_of key was edits) (key_by_key patch world edit key)
-
 pub effect_at : (patch : ℕ) (world : World) (script : Script) (key : ShadowKey) → variable (effect patch world script) key ≡ script_at key (variable world key) script
-effect_at patch world script key = by_key patch world (edits_made script) key
-
-left_alone : (edit : Edit) (key : ShadowKey) (was : Option ℕ) → edit_touches key edit ≡ false → edited_at key was edit ≡ was
-left_alone (Alloc own value) key was e = ap (λ b. cond b (Some (unwrap_or was value)) was) e
-left_alone (Free own) key was e = ap (λ b. cond b None was) e
-left_alone (FreeAll id) key was e = ap (λ b. cond b None was) e
-left_alone (SetData id value) key was e = refl
-left_alone (TakePrev id) key was e = refl
-
-edits_leave : (edits : List Edit) (key : ShadowKey) (was : Option ℕ) → list_any (edit_touches key) edits ≡ false → made_of key was edits ≡ was
-edits_leave [] key was e = refl
-edits_leave (edit ∷ edits) key was e =
-    let parts = two_false (edit_touches key edit) (list_any (edit_touches key) edits) e in
-    ap (λ x. made_of key x edits) (left_alone edit key was parts.0) ∙ edits_leave edits key was parts.1
+effect_at patch world script key = all_by_key patch world (edits_made script) key
 
 -- a script that doesn't touch the variable leaves it
 pub script_leaves : (script : Script) (key : ShadowKey) (was : Option ℕ) → touches script key ≡ false → script_at key was script ≡ was
-script_leaves script key was e = edits_leave (edits_made script) key was e
+script_leaves script key was e = all_left_alone (edits_made script) key was e
 
 -- what undoes a script undoes it at every variable
 pub undone_at : (patch : ℕ) (b a : Script) (world : World) → Undoes patch b a world → (key : ShadowKey)
@@ -60,7 +32,7 @@ undone_at patch b a world undoes key = by (touches a key || touches b key) refl
         ap (λ was. script_at key was b) (sym (effect_at patch world a key)) ∙ sym (effect_at patch (effect patch world a) b key)
         ∙ undoes key is
     by false is =
-        let parts = two_false (touches a key) (touches b key) is in
+        let parts = or_parts (touches a key) (touches b key) is in
         ap (λ was. script_at key was b) (script_leaves a key (variable world key) parts.0) ∙ script_leaves b key (variable world key) parts.1
 
 -- what calls make of one variable
@@ -90,14 +62,14 @@ module _ (patch : ℕ) where
       → change_states patch f (older ++ last_of patch values) ≡ older ++ last_of patch (f values)
   change_last f [] values away = ap (λ b. cond b (last_of patch (f values)) (record { patch = patch; values = values } ∷ [])) (eq-eqb patch patch refl)
   change_last f (first ∷ older) values away =
-      let parts = two_false (first.patch == patch) (is_among patch older) away in
+      let parts = or_parts (first.patch == patch) (is_among patch older) away in
       ap (λ b. cond b (record first { values = f first.values } ∷ older ++ last_of patch values) (first ∷ change_states patch f (older ++ last_of patch values))) parts.0
       ∙ ap (λ rest. first ∷ rest) (change_last f older values parts.1)
 
   pub take_last : (older : List Installed) (values : List (ℕ × ℕ)) → is_among patch older ≡ false → taken_out patch (older ++ last_of patch values) ≡ older
   take_last [] values away = ap (λ b. cond b [] (record { patch = patch; values = values } ∷ [])) (eq-eqb patch patch refl)
   take_last (first ∷ older) values away =
-      let parts = two_false (first.patch == patch) (is_among patch older) away in
+      let parts = or_parts (first.patch == patch) (is_among patch older) away in
       ap (λ b. cond b (older ++ last_of patch values) (first ∷ taken_out patch (older ++ last_of patch values))) parts.0
       ∙ ap (λ rest. first ∷ rest) (take_last older values parts.1)
 

@@ -3,3 +3,5 @@ pub mod RunLemmas
 pub mod TextLemmas
 pub mod SiteLemmas
 pub mod FrameLemmas
+pub mod KeyLemmas
+pub mod ScriptLemmas

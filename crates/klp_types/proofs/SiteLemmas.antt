@@ -3,6 +3,7 @@ use Rattle.std.proofs.Common.{◌≡◌, ℕ, zero, suc, ◌+◌, ◌-◌, ◌<�
 use Rattle.std.specs.Prelude.{option_map}
 use Rattle.std.specs.List.{list_any, slice_get}
 use Rattle.std.proofs.lemmas.List.{take_more, at_drop_more, append-nil}
+use Rattle.std.proofs.lemmas.Option.{slice_get-get_or}
 use Rattle.std.proofs.lemmas.Bool.{lt-ltb, le-ltb}
 use Rattle.std.proofs.lemmas.List.Folds.{list_any-append}
 use Rattle.klp_types.specs.Image.{Symbol, Object, symbols_of, first_site, object_of}
@@ -19,11 +20,6 @@ slice_get-append_right (x ∷ xs) ys (suc n) h =
     let below : length xs ≤ n = omega arith in
     let e : suc n - suc (length xs) ≡ n - length xs = omega arith in
     rw e (slice_get-append_right xs ys n below)
-
-pub slice_get-get_or : {X : Type 0} (xs : List X) (n : ℕ) (d : X) → n < length xs → slice_get xs n ≡ Some (get_or xs n d)
-slice_get-get_or [] n d h = absurd (omega arith)
-slice_get-get_or (x ∷ xs) zero d h = refl
-slice_get-get_or (x ∷ xs) (suc n) d h = let below : n < length xs = omega arith in slice_get-get_or xs n d below
 
 -- the objects from one on, where this is that one
 pub objects_from : (objects : List Object) (i : ℕ) (object : Object) → i < length objects → object ≡ get_or objects i object

@@ -53,6 +53,11 @@ edited_at key was (FreeAll id) = if id == key.id then None else was
 edited_at key was (SetData id value) = was
 edited_at key was (TakePrev id) = was
 
+-- what edits make of one variable, one after another
+abbrev pub made_of : ShadowKey → Option ℕ → List Edit → Option ℕ
+made_of key was [] = was
+made_of key was (edit ∷ edits) = made_of key (edited_at key was edit) edits
+
 -- what edits do, one after another
 abbrev pub edited_by : ℕ → World → List Edit → World
 edited_by patch world [] = world

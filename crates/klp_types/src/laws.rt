@@ -1,13 +1,21 @@
 //! What is proved of the definitions themselves. Each law is the contract of a function that does
 //! nothing: it keeps the definitions honest, and a crate above may rely on it.
-ghost use Rattle.std.specs.Prelude.{◌≡◌, ℕ, ◌+◌, ◌&&◌, true, false, List, [], ◌∷◌, ◌++◌, option_map};
+ghost use Rattle.std.specs.Prelude.{◌≡◌, ℕ, ◌+◌, ◌<◌, ◌≤◌, Bool, ◌&&◌, true, false, not, List, [], ◌∷◌, ◌++◌, length, map, take, drop, get_or, slice_get, Option, Some, option_map};
 ghost use Rattle.std.specs.List.{list_any};
+ghost use Rattle.std.specs.Cmp.{IsTotalOrder};
+ghost use Rattle.std.specs.Ordering.{eq_by_cmp};
+ghost use Rattle.std.specs.FinMap as finite;
 ghost use Rattle.klp_types.specs.declared.event.Event.{Event as AnyEvent};
-ghost use Rattle.klp_types.specs.Image.{first_site, given_symbol};
+ghost use Rattle.klp_types.specs.declared.shadow.ShadowKey.{ShadowKey};
+ghost use Rattle.klp_types.specs.declared.edit.Edit.{Edit};
+ghost use Rattle.klp_types.specs.Image.{Object, symbols_of, first_site, given_symbol};
 ghost use Rattle.klp_types.specs.Setting.{Setting};
 ghost use Rattle.klp_types.specs.State.{State, is_loaded, installed_patches};
-ghost use Rattle.klp_types.specs.Entries.{is_site_loaded, patches_site, is_hooked};
+ghost use Rattle.klp_types.specs.Entries.{is_site_loaded, patches_site, entries_from, is_empty, is_hooked};
 ghost use Rattle.klp_types.specs.Bytes.{symbol_in, patched, resting, text_of};
+ghost use Rattle.klp_types.specs.World.{Installed, World, Shadow, key_cmp, variable, states_of};
+ghost use Rattle.klp_types.specs.Script.{Script, alloc_count, is_key, value_taken, edited, edited_at, edited_by, made_of, edits_made, effect, edit_touches, touches};
+ghost use Rattle.klp_types.specs.Callbacks.{Call, after_calls};
 ghost use Rattle.klp_types.specs.Run.{answer, next, run, answers};
 
 use crate::limits::{
@@ -56,6 +64,95 @@ pub fn run_and_one_step()
         → run setting state (events ++ event ∷ []) ≡ next setting (run setting state events) event }
     ensures answered { (setting : Setting) (state : State) (events : List AnyEvent) (event : AnyEvent)
         → answers setting state (events ++ event ∷ []) ≡ answers setting state events ++ answer setting (run setting state events) event ∷ [] }
+{}
+
+/// The keys of shadow variables are in a total order, in which those that tie are the same.
+pub fn keys_are_in_order()
+    ensures total { IsTotalOrder key_cmp }
+    ensures antisymmetric { finite.IsAntisymmetric key_cmp }
+    ensures same { (key own : ShadowKey) → eq_by_cmp key_cmp key own ≡ is_key own key }
+{}
+
+/// Where shadow variables are taken out, no more are left than there were.
+pub fn no_more_variables_are_left()
+    ensures { (shadow : Shadow) (keep : ShadowKey → Bool) → finite.len (finite.retain_keys shadow keep) ≤ finite.len shadow }
+{}
+
+/// An edit changes each shadow variable by itself, and so do edits one after another.
+pub fn edits_go_key_by_key()
+    ensures each { (patch : ℕ) (world : World) (edit : Edit) (key : ShadowKey) → variable (edited patch world edit) key ≡ edited_at key (variable world key) edit }
+    ensures all { (patch : ℕ) (world : World) (edits : List Edit) (key : ShadowKey) → variable (edited_by patch world edits) key ≡ made_of key (variable world key) edits }
+{}
+
+/// A shadow variable that no edit touches stays as it is, and one that a script doesn't touch.
+pub fn untouched_variables_stay()
+    ensures edits { (edits : List Edit) (key : ShadowKey) (was : Option ℕ) → list_any (edit_touches key) edits ≡ false → made_of key was edits ≡ was }
+    ensures script { (patch : ℕ) (world : World) (script : Script) (key : ShadowKey) → touches script key ≡ false → variable (effect patch world script) key ≡ variable world key }
+{}
+
+/// Two scripts that touch no common shadow variable leave the same shadow variables in either
+/// order. Of the values of system states this isn't so.
+pub fn scripts_apart_commute()
+    ensures { (p q : ℕ) (a b : Script) (world : World) → ((key : ShadowKey) → (touches a key && touches b key) ≡ false)
+        → (effect q (effect p world a) b).shadow ≡ (effect p (effect q world b) a).shadow }
+{}
+
+/// A script leaves the states of every patch but its own.
+pub fn states_of_others_stay()
+    ensures { (patch other : ℕ) (world : World) (script : Script) → (other ≡ patch → ⊥) → states_of other (effect patch world script).installed ≡ states_of other world.installed }
+{}
+
+/// A script leaves which patches are installed, and in which order.
+pub fn installed_patches_stay()
+    ensures { (patch : ℕ) (world : World) (script : Script) → map (λ (i : Installed). i.patch) (effect patch world script).installed ≡ map (λ (i : Installed). i.patch) world.installed }
+{}
+
+/// Where there is room for the shadow variables that edits add, the first of them leaves room for
+/// those that the others add.
+pub fn edits_keep_to_their_room()
+    ensures { (patch : ℕ) (world : World) (edit : Edit) (edits : List Edit)
+        → finite.len (edited patch world edit).shadow + alloc_count edits ≤ finite.len world.shadow + alloc_count (edit ∷ edits) }
+{}
+
+/// A script adds no more shadow variables than it has edits that add one.
+pub fn variables_are_few()
+    ensures { (patch : ℕ) (world : World) (script : Script)
+        → finite.len (effect patch world script).shadow ≤ finite.len world.shadow + alloc_count script.edits }
+{}
+
+/// An edit adds at most one shadow variable, and a script makes no more edits than it has.
+pub fn allocs_are_edits()
+    ensures each { (edits : List Edit) → alloc_count edits ≤ length edits }
+    ensures made { (script : Script) → alloc_count (edits_made script) ≤ alloc_count script.edits }
+{}
+
+/// Which shadow variables callbacks leave depends on those that were there, and on nothing else of
+/// the world: a value that is taken over is a state's, and leaves them.
+pub fn variables_go_by_variables_alone()
+    ensures taken { (world : World) (patch id : ℕ) (value : Option ℕ) → (value_taken world patch id value).shadow ≡ world.shadow }
+    ensures after { (a b : World) (calls : List Call) → a.shadow ≡ b.shadow → (after_calls a calls).shadow ≡ (after_calls b calls).shadow }
+{}
+
+/// The sites of an image are the symbols of its objects, one object after another.
+pub fn sites_go_object_by_object()
+    ensures both { (first others : List Object) → symbols_of (first ++ others) ≡ symbols_of first ++ symbols_of others }
+    ensures one_more { (objects : List Object) (index : ℕ) (at : Object) → index < length objects
+        → symbols_of (take (index + 1) objects) ≡ symbols_of (take index objects) ++ (get_or objects index at).symbols }
+    ensures one_fewer { (objects : List Object) (index : ℕ) (at : Object) → index < length objects
+        → symbols_of (drop index objects) ≡ (get_or objects index at).symbols ++ symbols_of (drop (index + 1) objects) }
+{}
+
+/// The sites of an object stand together, from its first site on.
+pub fn sites_of_an_object_stand_together()
+    ensures symbols { (objects : List Object) (index place : ℕ) (object : Object) → slice_get objects index ≡ Some object → place < length object.symbols
+        → slice_get (symbols_of objects) (first_site objects index + place) ≡ slice_get object.symbols place }
+    ensures within { (objects : List Object) (index : ℕ) (object : Object) → slice_get objects index ≡ Some object
+        → first_site objects index + length object.symbols ≤ length (symbols_of objects) }
+{}
+
+/// Patches put an entry on a site exactly where one of them has a function for it.
+pub fn entries_stand_where_functions_are()
+    ensures { (setting : Setting) (site : ℕ) (patches : List ℕ) → not (is_empty (entries_from setting site patches)) ≡ list_any (patches_site setting site) patches }
 {}
 
 /// How much there may be of everything.

@@ -1,9 +1,9 @@
 -- The records that a change notes give back the world before it.
-use Rattle.std.proofs.Common.{◌≡◌, ℕ, zero, suc, ◌+◌, ◌-◌, ◌<◌, ◌≤◌, Bool, true, false, not, ◌||◌, cond, ltb, List, [], ◌∷◌, ◌++◌, length, length-append, append_assoc, append-nil, map, refl, sym, ap, ◌∙◌, arith, Option, Some, None, reverse}
+use Rattle.std.proofs.Common.{◌≡◌, ℕ, zero, suc, ◌+◌, ◌-◌, ◌<◌, ◌≤◌, Bool, true, false, not, cond, ltb, List, [], ◌∷◌, ◌++◌, length, length-append, append_assoc, append-nil, map, refl, sym, ap, ◌∙◌, arith, Option, Some, None, reverse}
 use Rattle.std.specs.Bool.{◌==◌}
 use Rattle.std.specs.Option.{is_some}
 use Rattle.std.specs.List.{insert, list_any}
-use Rattle.std.proofs.lemmas.Bool.{lt-ltb, eqb-true, eq-eqb}
+use Rattle.std.proofs.lemmas.Bool.{lt-ltb, eqb-true, eq-eqb, or_parts}
 use Rattle.std.proofs.lemmas.List.{map-append, reverse-append, length-map}
 use Rattle.std.proofs.lemmas.List.Filters.{length-filter_both}
 use Rattle.std.specs.declared.cmp.Ordering.TheVariants.{Equal}
@@ -21,7 +21,7 @@ use Rattle.klp_world.specs.Undo.{put_back, put_state, put_variable, state_taken,
 use Rattle.klp_world.specs.Noted.{row_if_added, rows_of_alloc, row_if_removed, rows_of_free, variable_row, variable_rows, rows_of_free_all, row_if_set, rows_of_set, rows_of_add, state_row, rows_if_dropped, rows_of_drop}
 use Rattle.klp_world.proofs.First.{FirstAt}
 use Rattle.klp_world.proofs.PatchLemmas.{is_patch, place_at}
-use Rattle.klp_world.proofs.SortedLemmas.{key_total, key_antisymmetric}
+use Rattle.klp_types.proofs.KeyLemmas.{key_total, key_antisymmetric}
 use Rattle.klp_world.proofs.ShadowLemmas.{unchanged, equal_if, kept_if_none, as_map, sorted_entries, where_as_map, len_as_map, sorted_where}
 
 -- what is put back newest first
@@ -242,10 +242,6 @@ undone_free_all world id few =
     ∙ ap (or_else (cond (q.id == id) (finite.get m q) None)) (finite.get-retain_keys m keep q (alike keep q))
     ∙ one_of_two (q.id == id) (finite.get m q)))
 
-two_false : (a b : Bool) → (a || b) ≡ false → (a ≡ false) × (b ≡ false)
-two_false true b e = cc
-two_false false b e = (refl, e)
-
 abbrev lone : ℕ → List (ℕ × ℕ) → List Installed
 lone patch values = record { patch = patch; values = values } ∷ []
 
@@ -253,13 +249,13 @@ change_last : (patch : ℕ) (change : List (ℕ × ℕ) → List (ℕ × ℕ)) (
     → change_states patch change (patches ++ lone patch values) ≡ patches ++ lone patch (change values)
 change_last patch change [] values fresh = ap (changed patch change (record { patch = patch; values = values }) []) (eq-eqb patch patch refl)
 change_last patch change (first ∷ newer) values fresh =
-    let parts = two_false (first.patch == patch) (list_any (λ (i : Installed). i.patch == patch) newer) fresh in
+    let parts = or_parts (first.patch == patch) (list_any (λ (i : Installed). i.patch == patch) newer) fresh in
     ap (changed patch change first (newer ++ lone patch values)) parts.0 ∙ ap (first ∷◌) (change_last patch change newer values parts.1)
 
 out_last : (patch : ℕ) (patches : List Installed) (values : List (ℕ × ℕ)) → list_any (λ (i : Installed). i.patch == patch) patches ≡ false → taken_out patch (patches ++ lone patch values) ≡ patches
 out_last patch [] values fresh = ap (λ b. cond b [] (record { patch = patch; values = values } ∷ [])) (eq-eqb patch patch refl)
 out_last patch (first ∷ newer) values fresh =
-    let parts = two_false (first.patch == patch) (list_any (λ (i : Installed). i.patch == patch) newer) fresh in
+    let parts = or_parts (first.patch == patch) (list_any (λ (i : Installed). i.patch == patch) newer) fresh in
     ap (λ b. cond b (newer ++ lone patch values) (first ∷ taken_out patch (newer ++ lone patch values))) parts.0 ∙ ap (first ∷◌) (out_last patch newer values parts.1)
 
 -- the states that are left once these are taken out, the last first

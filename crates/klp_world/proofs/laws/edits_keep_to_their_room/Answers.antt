@@ -1,5 +1,0 @@
-use Rattle.klp_world.proofs.ScriptLemmas.{edit_room}
-use Rattle.klp_world.proofs.laws.edits_keep_to_their_room.Goals as goal
-
-pub returns : goal.returns
-returns c = edit_room

@@ -1,5 +1,0 @@
-use Rattle.klp_world.proofs.ScriptLemmas.{installed_stay}
-use Rattle.klp_world.proofs.laws.installed_patches_stay.Goals as goal
-
-pub returns : goal.returns
-returns c = installed_stay

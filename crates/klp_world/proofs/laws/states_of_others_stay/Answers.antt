@@ -1,5 +1,0 @@
-use Rattle.klp_world.proofs.ScriptLemmas.{others_stay}
-use Rattle.klp_world.proofs.laws.states_of_others_stay.Goals as goal
-
-pub returns : goal.returns
-returns c = others_stay
