@@ -17,3 +17,4 @@ pub mod LeftLemmas
 pub mod MixedLemmas
 pub mod ObservedExamples
 pub mod LeavingLemmas
+pub mod LegalLemmas

@@ -26,3 +26,4 @@ pub mod Examples
 pub mod Observed
 pub mod Consistent
 pub mod ObservedExamples
+pub mod Legal

@@ -1,6 +1,6 @@
 //! What is proved of the definitions themselves. Each law is the contract of a function that does
 //! nothing: it keeps the definitions honest, and a crate above may rely on it.
-ghost use Rattle.std.specs.Prelude.{◌≡◌, ℕ, ℤ, pos, Bool, true, false, not, ◌==◌, List, reverse, filter, Some, None, is_none};
+ghost use Rattle.std.specs.Prelude.{◌≡◌, ℕ, ℤ, pos, Bool, true, false, not, ◌==◌, List, [], ◌∷◌, ◌++◌, map, reverse, filter, Some, None, is_none, Ok};
 ghost use Rattle.klp_types.specs.declared.shadow.ShadowKey.{ShadowKey};
 ghost use Rattle.klp_types.specs.Setting.{Setting};
 ghost use Rattle.klp_types.specs.World.{variable, without_patch};
@@ -11,6 +11,7 @@ ghost use Rattle.klp_types.specs.Pick.{moves, is_unpatched, target_of};
 ghost use Rattle.klp_types.specs.Callbacks.{after_calls};
 ghost use Rattle.klp_machine.specs.declared.event.Event.{Event as AnyEvent};
 ghost use Rattle.klp_types.specs.FirstOf.{first_of};
+ghost use Rattle.klp_machine.specs.declared.event.Reply.{Reply as AnyReply};
 ghost use Rattle.klp_machine.specs.declared.event.Refusal.{Refusal};
 ghost use Rattle.klp_machine.specs.Refusals.{accepts, NoneHolds};
 ghost use Rattle.klp_machine.specs.State.{State, installed_patches, with_world};
@@ -20,7 +21,8 @@ ghost use Rattle.klp_machine.specs.Versions.{version_in, others};
 ghost use Rattle.klp_machine.specs.EventCalls.{calls};
 ghost use Rattle.klp_machine.specs.ShadowStep.{shadow_changed};
 ghost use Rattle.klp_machine.specs.Step.{accepted};
-ghost use Rattle.klp_machine.specs.Run.{next, run};
+ghost use Rattle.klp_machine.specs.Run.{answer, next, run};
+ghost use Rattle.klp_machine.specs.Legal.{History, IsLegal, state_after_history, history_of};
 ghost use Rattle.klp_machine.specs.Allowed.{Allowed};
 ghost use Rattle.klp_machine.specs.Opening.{opening_state};
 
@@ -67,4 +69,25 @@ pub fn events_are_accepted_where_no_case_holds()
     ensures next { (setting : Setting) (state : State) (event : AnyEvent) → accepts setting state event ≡ true
         → next setting state event ≡ (accepted setting state event).1 }
     ensures stays { (setting : Setting) (state : State) (event : AnyEvent) → accepts setting state event ≡ false → next setting state event ≡ state }
+{}
+
+/// A history grows by an event that is accepted after it; what stands at its front is a history of
+/// the base, and what stands behind that one of the state that it leads to. Replies follow from the
+/// events.
+pub fn histories_grow_and_are_cut_at_their_end()
+    ensures grown { (setting : Setting) (base : State) (history : History) (event : AnyEvent) (reply : AnyReply)
+        → IsLegal setting base history → answer setting (state_after_history setting base history) event ≡ Ok reply
+        → IsLegal setting base (history ++ (event, reply) ∷ []) }
+    ensures front { (setting : Setting) (base : State) (first second : History) → IsLegal setting base (first ++ second) → IsLegal setting base first }
+    ensures behind { (setting : Setting) (base : State) (first second : History) → IsLegal setting base (first ++ second)
+        → IsLegal setting (state_after_history setting base first) second }
+    ensures replies { (setting : Setting) (base : State) (one other : History) → IsLegal setting base one → IsLegal setting base other
+        → map (λ (p : AnyEvent × AnyReply). p.0) one ≡ map (λ (p : AnyEvent × AnyReply). p.0) other → one ≡ other }
+{}
+
+/// What a list of events adds to the history is legal, and leads where all of them lead.
+pub fn accepted_events_lead_where_all_lead()
+    ensures legal { (setting : Setting) (state : State) (events : List AnyEvent) → IsLegal setting state (history_of setting state events) }
+    ensures state { (setting : Setting) (state : State) (events : List AnyEvent)
+        → state_after_history setting state (history_of setting state events) ≡ run setting state events }
 {}
