@@ -22,7 +22,7 @@ abbrev pub place_of : ℕ → List Entry → Option Place
 place_of patch [] = None
 place_of patch (entry ∷ older) = if entry.patch == patch then Some (record { index = length older; func = entry.func }) else place_of patch older
 
--- the entries of a stack are of distinct patches, whose numbers are below the limit: so there are no more than it
+-- a stack has one entry of a patch at most, and the numbers of patches are below the limit: so it is no higher than that
 abbrev pub IsStack : List Entry → Type 0
 IsStack [] = Unit {0}
 IsStack (entry ∷ older) = (entry.patch < MAX_PATCHES) × (has_entry entry.patch older ≡ false) × IsStack older

@@ -7,7 +7,8 @@ ghost use Rattle.klp_stack.specs.Pick.{picked};
 
 use klp_types::{Entry, Site, SiteWord, Version};
 
-/// The version that a task of this state runs at a site. Takes a constant time.
+/// The version that a task of this state (-1, 0 or 1) runs at a site, at a constant cost. A nop stands
+/// for the original.
 pub fn pick(site: Site, word: SiteWord, state: i8) -> Version
     ensures { result ≡ picked site word state }
 {
@@ -19,7 +20,7 @@ pub fn pick(site: Site, word: SiteWord, state: i8) -> Version
     version(site, entry)
 }
 
-/// The version of an entry. A nop stands for the original, and so does no entry.
+/// The version of an entry, or the original where there is none.
 pub(crate) fn version(site: Site, entry: Option<Entry>) -> Version
     ensures { result ≡ newest_version site (option_to_list entry) }
 {

@@ -12,7 +12,7 @@ use klp_types::{Entry, MAX_PATCHES, Move, PatchId, Record, Site, SiteWord, Versi
 use std::alloc::{AllocError, Global};
 use std::marker::Model;
 
-/// The function stacks of all sites.
+/// The function stacks of all sites (the kernel's `func_stack` of each `klp_ops`).
 ///
 /// All room is taken by [`Stacks::new`]. Each change answers a record of the one entry that it
 /// changes, as it was. To put these records back, newest first, gives the stacks before the changes.
@@ -43,7 +43,7 @@ impl Stacks {
         Ok(Self { stacks })
     }
 
-    /// Puts an entry on top of a site's stack. Takes a constant time.
+    /// Puts an entry on top of a site's stack, at a constant cost.
     pub fn push(&mut self, site: Site, entry: Entry) -> Record
         requires there { site < length self.old }
         requires fresh { has_entry entry.patch (entries_at self.old site) ≡ false }
@@ -61,7 +61,7 @@ impl Stacks {
         }
     }
 
-    /// Takes the entry of a patch from a site's stack. Takes at most as long as the stack is high.
+    /// Takes the entry of a patch out of a site's stack. The cost is at most the stack's height.
     pub fn take(&mut self, site: Site, patch: PatchId) -> Record
         requires { has_entry patch (entries_at self.old site) ≡ true }
         ensures row { result ≡ Record.StackEntry site patch (place_of patch (entries_at self.old site)) }
@@ -72,8 +72,9 @@ impl Stacks {
         Record::StackEntry { site, patch, was }
     }
 
-    /// Gives one entry what the record tells; a record of another row changes nothing. Takes at most
-    /// as long as the stack is high.
+    /// Gives one entry what the record tells; a record of another kind changes nothing. An entry that
+    /// can't stand in its place stays away; none is met where the records of changes are put back
+    /// newest first. The cost is at most the stack's height.
     pub fn put_back(&mut self, row: Record)
         ensures { self.new ≡ put_back self.old row }
     {
@@ -86,7 +87,8 @@ impl Stacks {
         }
     }
 
-    /// How many entries a site has: it is hooked while it has one. Takes a constant time.
+    /// How many entries a site has, nops among them; a site that isn't there has none. It is hooked
+    /// while it has one. The cost is constant.
     pub fn hooks(&self, site: Site) -> u16
         ensures { result ≡ length (entries_at self.now site) }
     {
@@ -96,7 +98,7 @@ impl Stacks {
         }
     }
 
-    /// What a call at a site needs to know. Takes a constant time.
+    /// What a call at a site needs to know while this patch moves, at a constant cost.
     pub fn word(&self, site: Site, moving: Option<Move>) -> SiteWord
         ensures { result ≡ word_of moving (entries_at self.now site) }
     {
@@ -110,7 +112,7 @@ impl Stacks {
         }
     }
 
-    /// The entries of a site, newest first. Takes as long as the stack is high.
+    /// The entries of a site, newest first. The cost is the stack's height.
     pub fn entries(&self, site: Site) -> ArrayVec<Entry, MAX_PATCHES>
         ensures { result.items ≡ entries_at self.now site }
     {
@@ -121,7 +123,8 @@ impl Stacks {
     }
 
     /// The version at a site that a task mustn't be inside of when it switches: none where the moving
-    /// patch has no entry there. Takes at most as long as the stack is high.
+    /// patch has no entry there (the kernel's `klp_check_stack_func`). The cost is at most the
+    /// stack's height.
     pub fn blocked(&self, site: Site, moving: Move) -> Option<Version>
         ensures { option_to_list result ≡ blocked_among site moving (entries_at self.now site) }
     {
