@@ -2,7 +2,8 @@
 use Rattle.std.proofs.Common.{◌≡◌, ℕ, suc, ◌-◌, ◌<◌, ◌≤◌, Bool, true, false, not, ◌||◌, cond, eqb, List, [], ◌∷◌, ◌++◌, length, drop, map, refl, sym, ap, subst, ◌∙◌, arith, length-append, Some, None}
 use Rattle.std.specs.Bool.{◌==◌}
 use Rattle.std.specs.List.{list_any, insert, IsDistinct, AllByRecursion}
-use Rattle.std.proofs.lemmas.Bool.{eqb-true, eq-eqb}
+use Rattle.std.proofs.lemmas.Bool.{eqb-true, or_parts}
+use Rattle.std.specs.Cmp.{nat_eq_equiv}
 use Rattle.std.proofs.lemmas.List.{take_at, drop_at}
 use Rattle.std.proofs.lemmas.Map.Steps.{length-le_from_distinct_below}
 use Rattle.klp_types.specs.declared.limits.TheConstants.{MAX_PATCHES}
@@ -11,35 +12,27 @@ use Rattle.klp_types.specs.declared.version.Move.{Move}
 use Rattle.klp_machine.specs.Blocked.{held_version, blocked_among}
 use Rattle.klp_stack.specs.Stack.{has_entry, entries_of_others, place_of, IsStack}
 
-two_false : (a b : Bool) → (a || b) ≡ false → (a ≡ false) × (b ≡ false)
-two_false true b e = cc
-two_false false b e = (refl, e)
-
 differ_back : (a b : ℕ) → (a == b) ≡ false → (b == a) ≡ false
-differ_back a b e =
-    elim (b == a) as (λ t. (b == a) ≡ t → t ≡ false) [
-      | true ↦ λ t. let same : (a == b) ≡ true = eq-eqb a b (sym (eqb-true b a t)) in cc
-      | false ↦ λ t. refl
-    ] refl
+differ_back a b apart = nat_eq_equiv.symm b a ∙ apart
 
 -- a patch without an entry
 module _ (patch : ℕ) where
   pub no_place : (entries : List Entry) → has_entry patch entries ≡ false → place_of patch entries ≡ None
   no_place [] none = refl
   no_place (entry ∷ older) none =
-      let parts = two_false (entry.patch == patch) (has_entry patch older) none in
+      let parts = or_parts (entry.patch == patch) (has_entry patch older) none in
       ap (λ b. cond b (Some (record { index = length older; func = entry.func })) (place_of patch older)) parts.0 ∙ no_place older parts.1
 
   pub all_others : (entries : List Entry) → has_entry patch entries ≡ false → entries_of_others patch entries ≡ entries
   all_others [] none = refl
   all_others (entry ∷ older) none =
-      let parts = two_false (entry.patch == patch) (has_entry patch older) none in
+      let parts = or_parts (entry.patch == patch) (has_entry patch older) none in
       ap (λ b. cond (not b) (entry ∷ entries_of_others patch older) (entries_of_others patch older)) parts.0 ∙ ap (λ rest. entry ∷ rest) (all_others older parts.1)
 
 pub none_blocked : (site : ℕ) (move : Move) (entries : List Entry) → has_entry move.patch entries ≡ false → blocked_among site move entries ≡ []
 none_blocked site move [] none = refl
 none_blocked site move (entry ∷ older) none =
-    let parts = two_false (entry.patch == move.patch) (has_entry move.patch older) none in
+    let parts = or_parts (entry.patch == move.patch) (has_entry move.patch older) none in
     ap (λ b. cond b (held_version site move.target entry older ∷ []) (blocked_among site move older)) parts.0 ∙ none_blocked site move older parts.1
 
 -- an entry that stands between
@@ -52,9 +45,9 @@ module _ (entry : Entry) (older : List Entry) where
     pub rest : IsStack (newer ++ older)
 
   none_among : (patch : ℕ) (newer : List Entry) → has_entry patch (newer ++ entry ∷ older) ≡ false → ((entry.patch == patch) ≡ false) × (has_entry patch (newer ++ older) ≡ false)
-  none_among patch [] none = two_false (entry.patch == patch) (has_entry patch older) none
+  none_among patch [] none = or_parts (entry.patch == patch) (has_entry patch older) none
   none_among patch (first ∷ newer) none =
-      let parts = two_false (first.patch == patch) (has_entry patch (newer ++ entry ∷ older)) none in
+      let parts = or_parts (first.patch == patch) (has_entry patch (newer ++ entry ∷ older)) none in
       let others = none_among patch newer parts.1 in
       (others.0, ap (λ b. b || has_entry patch (newer ++ older)) parts.0 ∙ others.1)
 
@@ -73,14 +66,14 @@ module _ (entry : Entry) (older : List Entry) where
   also_none : (patch : ℕ) (newer : List Entry) → (entry.patch == patch) ≡ false → has_entry patch (newer ++ older) ≡ false → has_entry patch (newer ++ entry ∷ older) ≡ false
   also_none patch [] apart none = ap (λ b. b || has_entry patch older) apart ∙ none
   also_none patch (first ∷ newer) apart none =
-      let parts = two_false (first.patch == patch) (has_entry patch (newer ++ older)) none in
+      let parts = or_parts (first.patch == patch) (has_entry patch (newer ++ older)) none in
       ap (λ b. b || has_entry patch (newer ++ entry ∷ older)) parts.0 ∙ also_none patch newer apart parts.1
 
   -- it may be put between the others where it has no other entry
   pub put_between : (newer : List Entry) → entry.patch < MAX_PATCHES → has_entry entry.patch (newer ++ older) ≡ false → IsStack (newer ++ older) → IsStack (newer ++ entry ∷ older)
   put_between [] number none stack = (number, none, stack)
   put_between (first ∷ newer) number none stack =
-      let parts = two_false (first.patch == entry.patch) (has_entry entry.patch (newer ++ older)) none in
+      let parts = or_parts (first.patch == entry.patch) (has_entry entry.patch (newer ++ older)) none in
       (stack.0, also_none first.patch newer (differ_back first.patch entry.patch parts.0) stack.1, put_between newer number parts.1 stack.2)
 
   pub at_its_place : (newer : List Entry) → insert (newer ++ older) (length (newer ++ older) - length older) entry ≡ newer ++ entry ∷ older
@@ -93,7 +86,7 @@ module _ (entry : Entry) (older : List Entry) where
     pub its_place : (newer : List Entry) → has_entry patch newer ≡ false → place_of patch (newer ++ entry ∷ older) ≡ Some (record { index = length older; func = entry.func })
     its_place [] none = ap (λ b. cond b (Some (record { index = length older; func = entry.func })) (place_of patch older)) own
     its_place (first ∷ newer) none =
-        let parts = two_false (first.patch == patch) (has_entry patch newer) none in
+        let parts = or_parts (first.patch == patch) (has_entry patch newer) none in
         ap (λ b. cond b (Some (record { index = length (newer ++ entry ∷ older); func = first.func })) (place_of patch (newer ++ entry ∷ older))) parts.0
         ∙ its_place newer parts.1
 
@@ -101,7 +94,7 @@ module _ (entry : Entry) (older : List Entry) where
     its_others [] none none_older =
         ap (λ b. cond (not b) (entry ∷ entries_of_others patch older) (entries_of_others patch older)) own ∙ all_others patch older none_older
     its_others (first ∷ newer) none none_older =
-        let parts = two_false (first.patch == patch) (has_entry patch newer) none in
+        let parts = or_parts (first.patch == patch) (has_entry patch newer) none in
         ap (λ b. cond (not b) (first ∷ entries_of_others patch (newer ++ entry ∷ older)) (entries_of_others patch (newer ++ entry ∷ older))) parts.0
         ∙ ap (λ rest. first ∷ rest) (its_others newer parts.1 none_older)
 
@@ -109,7 +102,7 @@ module _ (entry : Entry) (older : List Entry) where
       → blocked_among site move (newer ++ entry ∷ older) ≡ held_version site move.target entry older ∷ []
   its_version site move own [] none = ap (λ b. cond b (held_version site move.target entry older ∷ []) (blocked_among site move older)) own
   its_version site move own (first ∷ newer) none =
-      let parts = two_false (first.patch == move.patch) (has_entry move.patch newer) none in
+      let parts = or_parts (first.patch == move.patch) (has_entry move.patch newer) none in
       ap (λ b. cond b (held_version site move.target first (newer ++ entry ∷ older) ∷ []) (blocked_among site move (newer ++ entry ∷ older))) parts.0
       ∙ its_version site move own newer parts.1
 
@@ -120,7 +113,7 @@ numbers entries = map (λ (e : Entry). e.patch) entries
 all_differ : (patch : ℕ) (entries : List Entry) → has_entry patch entries ≡ false → AllByRecursion (λ other. eqb patch other ≡ false) (numbers entries)
 all_differ patch [] none = tt
 all_differ patch (entry ∷ older) none =
-    let parts = two_false (entry.patch == patch) (has_entry patch older) none in
+    let parts = or_parts (entry.patch == patch) (has_entry patch older) none in
     (differ_back entry.patch patch parts.0, all_differ patch older parts.1)
 
 distinct : (entries : List Entry) → IsStack entries → IsDistinct eqb (numbers entries)

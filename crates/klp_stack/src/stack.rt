@@ -56,7 +56,7 @@ impl Stack {
     }
 
     /// The entry that has so many newer ones.
-    pub(crate) fn at(&self, newer: usize) -> Option<Entry>
+    fn at(&self, newer: usize) -> Option<Entry>
         ensures { result ≡ slice_get self.now newer }
     {
         let row = self.row.as_slice();
