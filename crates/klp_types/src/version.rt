@@ -18,7 +18,7 @@ pub struct Target {
 }
 
 /// An entry of a function stack: what one installed patch does with a site.
-#[derive(Clone, Copy, Debug, PartialEq, Eq)]
+#[derive(Clone, Copy, Debug, Default, PartialEq, Eq)]
 pub struct Entry {
     pub patch: PatchId,
     /// The function of the patch that stands in for the site's own. `None` is a nop: a cumulative

@@ -1,0 +1,4 @@
+pub mod Stack
+pub mod Undo
+pub mod Changes
+pub mod Pick

@@ -1,0 +1,34 @@
+//! What a call at a site runs (the kernel's `klp_ftrace_handler`).
+
+ghost use Rattle.std.specs.Prelude.{◌≡◌};
+ghost use Rattle.std.specs.Option.{option_to_list};
+ghost use Rattle.klp_types.specs.Pick.{newest_version};
+ghost use Rattle.klp_stack.specs.Pick.{picked};
+
+use klp_types::{Entry, Site, SiteWord, Version};
+
+/// The version that a task of this state (-1, 0 or 1) runs at a site, at a constant cost. A nop stands
+/// for the original.
+pub fn pick(site: Site, word: SiteWord, state: i8) -> Version
+    ensures { result ≡ picked site word state }
+{
+    let entry = if word.moves && state == 0 {
+        word.below
+    } else {
+        word.top
+    };
+    version(site, entry)
+}
+
+/// The version of an entry, or the original where there is none.
+pub(crate) fn version(site: Site, entry: Option<Entry>) -> Version
+    ensures { result ≡ newest_version site (option_to_list entry) }
+{
+    let Some(Entry { patch, func }) = entry else {
+        return Version::Original(site);
+    };
+    match func {
+        Some(func) => Version::New(patch, func),
+        None => Version::Original(site),
+    }
+}

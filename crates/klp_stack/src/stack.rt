@@ -1,0 +1,165 @@
+ghost use Rattle.std.specs.Prelude.{◌≡◌, ◌<◌, ◌≤◌, ◌==◌, false, [], ◌∷◌, length, position, slice_get};
+ghost use Rattle.std.specs.Option.{option_to_list};
+ghost use Rattle.klp_types.specs.declared.version.Entry.{Entry as AnyEntry};
+ghost use Rattle.klp_machine.specs.Blocked.{blocked_among};
+ghost use Rattle.klp_machine.specs.Rows.{word_of};
+ghost use Rattle.klp_stack.specs.Stack.{has_entry, entries_of_others, place_of};
+ghost use Rattle.klp_stack.specs.Undo.{may_stand, put_entry};
+
+use crate::handler::version;
+use arrayvec::ArrayVec;
+use klp_types::{Entry, MAX_PATCHES, Move, PatchId, Place, Site, SiteWord, Version};
+use std::marker::Model;
+
+/// The entries of one site.
+#[derive(Debug, Drop)]
+pub(crate) struct Stack {
+    /// Oldest first, so that a new entry moves no other.
+    row: ArrayVec<Entry, MAX_PATCHES>,
+}
+
+impl Model for Stack {
+    ghost use Rattle.std.specs.Prelude.{List, reverse};
+    ghost use Rattle.klp_types.specs.declared.version.Entry.{Entry};
+    ghost use Rattle.klp_stack.specs.Stack.{IsStack};
+
+    ghost Value = { List Entry };
+
+    ghost view = { λ s. reverse s.row.items };
+
+    ghost invariant = { λ s. IsStack (reverse s.row.items) };
+}
+
+/// The place of a patch's entry in a row.
+fn place_in(row: &[Entry], patch: PatchId) -> Option<usize>
+    ensures { result ≡ position (λ (e : AnyEntry). e.patch == patch) row.now }
+{
+    row.iter().position(|entry| entry.patch == patch)
+}
+
+impl Stack {
+    /// No entries.
+    pub(crate) fn new() -> Self
+        ensures { result ≡ [] }
+    {
+        Self {
+            row: ArrayVec::new(),
+        }
+    }
+
+    /// How many entries there are.
+    pub(crate) fn len(&self) -> usize
+        ensures value { result ≡ length self.now }
+        ensures bound { result ≤ MAX_PATCHES }
+    {
+        self.row.len()
+    }
+
+    /// The entry that has so many newer ones.
+    fn at(&self, newer: usize) -> Option<Entry>
+        ensures { result ≡ slice_get self.now newer }
+    {
+        let row = self.row.as_slice();
+        if newer < row.len() {
+            Some(row[row.len() - 1 - newer])
+        } else {
+            None
+        }
+    }
+
+    /// Puts an entry on top.
+    pub(crate) fn push(&mut self, entry: Entry)
+        requires fresh { has_entry entry.patch self.old ≡ false }
+        requires number { entry.patch < MAX_PATCHES }
+        ensures { self.new ≡ entry ∷ self.old }
+    {
+        self.row.push(entry);
+    }
+
+    /// Takes the entry of a patch out, if it has one, and answers where it stood.
+    pub(crate) fn take(&mut self, patch: PatchId) -> Option<Place>
+        ensures place { result ≡ place_of patch self.old }
+        ensures entries { self.new ≡ entries_of_others patch self.old }
+        ensures undo { put_entry patch result self.new ≡ self.old }
+    {
+        let Some(index) = place_in(&self.row, patch) else {
+            return None;
+        };
+        let Entry { patch: _, func } = self.row.remove(index);
+        Some(Place {
+            index: index as u8,
+            func,
+        })
+    }
+
+    fn has(&self, patch: PatchId) -> bool
+        ensures { result ≡ has_entry patch self.now }
+    {
+        place_in(&self.row, patch).is_some()
+    }
+
+    /// Whether an entry of the patch may get this place from the oldest.
+    fn may_stand(&self, patch: PatchId, index: u8) -> bool
+        ensures { result ≡ may_stand patch index self.now }
+    {
+        usize::from(patch.0) < MAX_PATCHES && !self.has(patch) && usize::from(index) <= self.len()
+    }
+
+    /// Takes the entry of a patch out, or gives it its place again.
+    pub(crate) fn put_back(&mut self, patch: PatchId, was: Option<Place>)
+        ensures { self.new ≡ put_entry patch was self.old }
+    {
+        let Some(Place { index, func }) = was else {
+            self.take(patch);
+            return;
+        };
+        if self.may_stand(patch, index) {
+            self.row.insert(usize::from(index), Entry { patch, func });
+        }
+    }
+
+    /// The two newest entries, and whether the newest one's patch moves.
+    pub(crate) fn word(&self, moving: Option<Move>) -> SiteWord
+        ensures { result ≡ word_of moving self.now }
+    {
+        let top = self.at(0);
+        let moves = match (top, moving) {
+            (Some(entry), Some(moving)) => moving.patch == entry.patch,
+            _ => false,
+        };
+        SiteWord {
+            top,
+            below: self.at(1),
+            moves,
+        }
+    }
+
+    /// The entries, newest first.
+    pub(crate) fn entries(&self) -> ArrayVec<Entry, MAX_PATCHES>
+        ensures { result.items ≡ self.now }
+    {
+        let row = self.row.as_slice();
+        let mut entries = ArrayVec::new();
+        for place in (0..row.len()).rev() {
+            entries.push(row[place]);
+        }
+        entries
+    }
+
+    /// What holds a sleeper back at the site of these entries.
+    pub(crate) fn blocked(&self, site: Site, moving: Move) -> Option<Version>
+        ensures { option_to_list result ≡ blocked_among site moving self.now }
+    {
+        let Some(place) = place_in(&self.row, moving.patch) else {
+            return None;
+        };
+        let entry = if !moving.target {
+            Some(self.row[place])
+        } else if place > 0 {
+            Some(self.row[place - 1])
+        } else {
+            None
+        };
+        Some(version(site, entry))
+    }
+}
