@@ -1,4 +1,4 @@
-ghost use Rattle.std.specs.Prelude.{◌≡◌, ◌+◌, ◌^◌, ◌<◌, ◌≤◌, ◌⊎◌, true, false, length, slice_get, slice_set, option_map, IfOk, IfErr, OnOk, None};
+ghost use Rattle.std.specs.Prelude.{◌≡◌, ◌+◌, ◌^◌, ◌<◌, ◌≤◌, ◌⊎◌, true, false, length, slice_get, slice_set, slice_index_or, option_map, IfOk, IfErr, OnOk, None};
 ghost use Rattle.klp_types.specs.Image.{Symbol, Object, given_symbol, symbol_of, symbols_of};
 ghost use Rattle.klp_text.specs.TextImage.{opening, bytes_at, site_count, IsWithinLimits};
 ghost use Rattle.std.specs.List.{All, AllZip};
@@ -83,8 +83,7 @@ impl Image {
         requires { site < site_count self.old.image }
         ensures { self.new ≡ record self.old { hooked = slice_set self.old.hooked site true } }
     {
-        let handler = self.handler;
-        self.sites[usize::from(site.0)].set_hooked(handler, true);
+        self.set_hooked(site, true);
     }
 
     /// Puts the NOP back at an entry site, in one write of five bytes.
@@ -92,8 +91,46 @@ impl Image {
         requires { site < site_count self.old.image }
         ensures { self.new ≡ record self.old { hooked = slice_set self.old.hooked site false } }
     {
+        self.set_hooked(site, false);
+    }
+
+    /// Puts a call of the handler at an entry site, or the NOP.
+    fn set_hooked(&mut self, site: Site, hooked: bool)
+        requires { site < site_count self.old.image }
+        ensures { self.new ≡ record self.old { hooked = slice_set self.old.hooked site hooked } }
+    {
         let handler = self.handler;
-        self.sites[usize::from(site.0)].set_hooked(handler, false);
+        self.sites[usize::from(site.0)].set_hooked(handler, hooked);
+    }
+
+    /// Makes an object loaded: from now on `bytes` shows the bodies of its symbols. Its sites stay
+    /// hooked or unhooked as they are. Writes one flag, whatever the object has; one that is loaded
+    /// already may be loaded again.
+    pub fn load(&mut self, object: ObjId)
+        requires { object < length self.old.image.objects }
+        ensures { self.new ≡ record self.old { loaded = slice_set self.old.loaded object true } }
+    {
+        self.loaded[usize::from(object.0)] = true;
+    }
+
+    /// Makes an object one that isn't loaded: from now on `bytes` shows nothing of it. Its sites stay
+    /// hooked or unhooked as they are, also for when it is loaded again, so the caller unhooks them
+    /// first. Writes one flag, whatever the object has; one that isn't loaded may be unloaded.
+    pub fn unload(&mut self, object: ObjId)
+        requires { object < length self.old.image.objects }
+        ensures { self.new ≡ record self.old { loaded = slice_set self.old.loaded object false } }
+    {
+        self.loaded[usize::from(object.0)] = false;
+    }
+
+    /// Whether an object is loaded. An object that isn't there isn't.
+    pub fn is_loaded(&self, object: ObjId) -> bool
+        ensures { result ≡ slice_index_or self.now.loaded object false }
+    {
+        self.loaded
+            .get(usize::from(object.0))
+            .copied()
+            .unwrap_or(false)
     }
 
     /// The bytes of a symbol of a loaded object, as a processor would run them. Symbols count from
