@@ -186,18 +186,19 @@ module _ (site : ℕ) (move : Move) (seen row now : List Entry) (same_row : seen
     abbrev blank : Entry
     blank = record { patch = 0; func = None }
 
+    below_all : i < length row
+    below_all = (position-Some (is_own move.patch) row i blank (sym (found ∙ ap (position (is_own move.patch)) same_row))).0
+
     older_held : not move.target ≡ false → newest_version site (reverse (take i row)) ∷ [] ≡ blocked_among site move now
     older_held target =
-        let lt = (position-Some (is_own move.patch) row i blank (sym (found ∙ ap (position (is_own move.patch)) same_row))).0 in
         ap (λ b. held_version site b (get_or row i blank) (reverse (take i row)) ∷ []) (sym (not-false move.target target))
-        ∙ held move.patch seen row i (get_or row i blank) same_row stack found (get_or_default row i blank (get_or row i blank) lt) site move now refl view
+        ∙ held move.patch seen row i (get_or row i blank) same_row stack found (get_or_default row i blank (get_or row i blank) below_all) site move now refl view
 
     pub below_held : (entry : Entry) → not move.target ≡ false → 0 < i → entry ≡ get_or row (i - 1) entry → newest_version site (entry ∷ []) ∷ [] ≡ blocked_among site move now
     below_held entry target above is =
-        let lt = (position-Some (is_own move.patch) row i blank (sym (found ∙ ap (position (is_own move.patch)) same_row))).0 in
         let one_more : i - 1 + 1 ≡ i = omega arith in
         let top : take i row ≡ take (i - 1) row ++ entry ∷ [] =
-        ap (λ n. take n row) (sym one_more) ∙ take_more row (i - 1) entry (omega arith) ∙ ap (λ e. take (i - 1) row ++ e ∷ []) (sym is) in
+        ap (λ n. take n row) (sym one_more) ∙ take_more row (i - 1) entry (omega (arith, below_all)) ∙ ap (λ e. take (i - 1) row ++ e ∷ []) (sym is) in
         ap (λ es. newest_version site es ∷ []) (sym (ap reverse top ∙ reverse-append (take (i - 1) row) (entry ∷ []))) ∙ older_held target
 
     pub original_held : not move.target ≡ false → i ≤ 0 → Original site ∷ [] ≡ blocked_among site move now
