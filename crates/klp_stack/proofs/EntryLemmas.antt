@@ -1,8 +1,8 @@
 -- One entry of a stack, with those above it and those below it.
-use Rattle.std.proofs.Common.{◌≡◌, ℕ, suc, ◌-◌, ◌<◌, ◌≤◌, Bool, true, false, not, ◌||◌, cond, eqb, List, [], ◌∷◌, ◌++◌, length, drop, map, refl, sym, ap, subst, ◌∙◌, arith, length-append, Some, None}
+use Rattle.std.proofs.Common.{◌≡◌, ℕ, suc, ◌-◌, ◌<◌, ◌≤◌, true, false, ◌||◌, eqb, List, [], ◌∷◌, ◌++◌, length, drop, map, refl, ap, subst, ◌∙◌, arith, length-append, Some, None}
 use Rattle.std.specs.Bool.{◌==◌}
 use Rattle.std.specs.List.{list_any, insert, IsDistinct, AllByRecursion}
-use Rattle.std.proofs.lemmas.Bool.{eqb-true, or_parts}
+use Rattle.std.proofs.lemmas.Bool.{eqb-true, or_parts, or_from, not_from_true, not_from_false, cond-true, cond-false}
 use Rattle.std.specs.Cmp.{nat_eq_equiv}
 use Rattle.std.proofs.lemmas.List.{take_at, drop_at}
 use Rattle.std.proofs.lemmas.Map.Steps.{length-le_from_distinct_below}
@@ -21,19 +21,19 @@ module _ (patch : ℕ) where
   no_place [] none = refl
   no_place (entry ∷ older) none =
       let parts = or_parts (entry.patch == patch) (has_entry patch older) none in
-      ap (λ b. cond b (Some (record { index = length older; func = entry.func })) (place_of patch older)) parts.0 ∙ no_place older parts.1
+      cond-false _ _ _ parts.0 ∙ no_place older parts.1
 
   pub all_others : (entries : List Entry) → has_entry patch entries ≡ false → entries_of_others patch entries ≡ entries
   all_others [] none = refl
   all_others (entry ∷ older) none =
       let parts = or_parts (entry.patch == patch) (has_entry patch older) none in
-      ap (λ b. cond (not b) (entry ∷ entries_of_others patch older) (entries_of_others patch older)) parts.0 ∙ ap (λ rest. entry ∷ rest) (all_others older parts.1)
+      cond-true _ _ _ (not_from_false _ parts.0) ∙ ap (λ rest. entry ∷ rest) (all_others older parts.1)
 
 pub none_blocked : (site : ℕ) (move : Move) (entries : List Entry) → has_entry move.patch entries ≡ false → blocked_among site move entries ≡ []
 none_blocked site move [] none = refl
 none_blocked site move (entry ∷ older) none =
     let parts = or_parts (entry.patch == move.patch) (has_entry move.patch older) none in
-    ap (λ b. cond b (held_version site move.target entry older ∷ []) (blocked_among site move older)) parts.0 ∙ none_blocked site move older parts.1
+    cond-false _ _ _ parts.0 ∙ none_blocked site move older parts.1
 
 -- an entry that stands between
 module _ (entry : Entry) (older : List Entry) where
@@ -49,7 +49,7 @@ module _ (entry : Entry) (older : List Entry) where
   none_among patch (first ∷ newer) none =
       let parts = or_parts (first.patch == patch) (has_entry patch (newer ++ entry ∷ older)) none in
       let others = none_among patch newer parts.1 in
-      (others.0, ap (λ b. b || has_entry patch (newer ++ older)) parts.0 ∙ others.1)
+      (others.0, or_from _ _ parts.0 others.1)
 
   pub stands : (newer : List Entry) → IsStack (newer ++ entry ∷ older) → Stands newer
   stands [] stack = record { number = stack.0; none_newer = refl; none_older = stack.1; rest = stack.2 }
@@ -58,16 +58,16 @@ module _ (entry : Entry) (older : List Entry) where
       let there = stands newer stack.2 in
       record {
         number = there.number;
-        none_newer = ap (λ b. b || has_entry entry.patch newer) (differ_back entry.patch first.patch others.0) ∙ there.none_newer;
+        none_newer = or_from _ _ (differ_back entry.patch first.patch others.0) there.none_newer;
         none_older = there.none_older;
         rest = (stack.0, others.1, there.rest);
       }
 
   also_none : (patch : ℕ) (newer : List Entry) → (entry.patch == patch) ≡ false → has_entry patch (newer ++ older) ≡ false → has_entry patch (newer ++ entry ∷ older) ≡ false
-  also_none patch [] apart none = ap (λ b. b || has_entry patch older) apart ∙ none
+  also_none patch [] apart none = or_from _ _ apart none
   also_none patch (first ∷ newer) apart none =
       let parts = or_parts (first.patch == patch) (has_entry patch (newer ++ older)) none in
-      ap (λ b. b || has_entry patch (newer ++ entry ∷ older)) parts.0 ∙ also_none patch newer apart parts.1
+      or_from _ _ parts.0 (also_none patch newer apart parts.1)
 
   -- it may be put between the others where it has no other entry
   pub put_between : (newer : List Entry) → entry.patch < MAX_PATCHES → has_entry entry.patch (newer ++ older) ≡ false → IsStack (newer ++ older) → IsStack (newer ++ entry ∷ older)
@@ -84,27 +84,24 @@ module _ (entry : Entry) (older : List Entry) where
 
   module _ (patch : ℕ) (own : (entry.patch == patch) ≡ true) where
     pub its_place : (newer : List Entry) → has_entry patch newer ≡ false → place_of patch (newer ++ entry ∷ older) ≡ Some (record { index = length older; func = entry.func })
-    its_place [] none = ap (λ b. cond b (Some (record { index = length older; func = entry.func })) (place_of patch older)) own
+    its_place [] none = cond-true _ _ _ own
     its_place (first ∷ newer) none =
         let parts = or_parts (first.patch == patch) (has_entry patch newer) none in
-        ap (λ b. cond b (Some (record { index = length (newer ++ entry ∷ older); func = first.func })) (place_of patch (newer ++ entry ∷ older))) parts.0
-        ∙ its_place newer parts.1
+        cond-false _ _ _ parts.0 ∙ its_place newer parts.1
 
     pub its_others : (newer : List Entry) → has_entry patch newer ≡ false → has_entry patch older ≡ false → entries_of_others patch (newer ++ entry ∷ older) ≡ newer ++ older
     its_others [] none none_older =
-        ap (λ b. cond (not b) (entry ∷ entries_of_others patch older) (entries_of_others patch older)) own ∙ all_others patch older none_older
+        cond-false _ _ _ (not_from_true _ own) ∙ all_others patch older none_older
     its_others (first ∷ newer) none none_older =
         let parts = or_parts (first.patch == patch) (has_entry patch newer) none in
-        ap (λ b. cond (not b) (first ∷ entries_of_others patch (newer ++ entry ∷ older)) (entries_of_others patch (newer ++ entry ∷ older))) parts.0
-        ∙ ap (λ rest. first ∷ rest) (its_others newer parts.1 none_older)
+        cond-true _ _ _ (not_from_false _ parts.0) ∙ ap (λ rest. first ∷ rest) (its_others newer parts.1 none_older)
 
   pub its_version : (site : ℕ) (move : Move) → (entry.patch == move.patch) ≡ true → (newer : List Entry) → has_entry move.patch newer ≡ false
       → blocked_among site move (newer ++ entry ∷ older) ≡ held_version site move.target entry older ∷ []
-  its_version site move own [] none = ap (λ b. cond b (held_version site move.target entry older ∷ []) (blocked_among site move older)) own
+  its_version site move own [] none = cond-true _ _ _ own
   its_version site move own (first ∷ newer) none =
       let parts = or_parts (first.patch == move.patch) (has_entry move.patch newer) none in
-      ap (λ b. cond b (held_version site move.target first (newer ++ entry ∷ older) ∷ []) (blocked_among site move (newer ++ entry ∷ older))) parts.0
-      ∙ its_version site move own newer parts.1
+      cond-false _ _ _ parts.0 ∙ its_version site move own newer parts.1
 
 -- A stack has no more entries than there may be patches.
 abbrev numbers : List Entry → List ℕ

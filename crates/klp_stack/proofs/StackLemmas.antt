@@ -1,9 +1,9 @@
 -- A row of entries, oldest first, as the stack that it keeps.
-use Rattle.std.proofs.Common.{◌≡◌, ℕ, suc, ◌+◌, ◌-◌, ◌<◌, ◌≤◌, Bool, true, false, not, ◌&&◌, ◌||◌, cond, ltb, leb, List, [], ◌∷◌, ◌++◌, length, take, drop, get_or, reverse, refl, sym, ap, subst, ◌∙◌, arith, length-append, append_assoc, drop-cons, Option, Some, None}
+use Rattle.std.proofs.Common.{◌≡◌, ℕ, suc, ◌+◌, ◌-◌, ◌<◌, ◌≤◌, Bool, true, false, not, ◌&&◌, cond, ltb, leb, List, [], ◌∷◌, ◌++◌, length, take, drop, get_or, reverse, refl, sym, ap, subst, ◌∙◌, arith, length-append, append_assoc, drop-cons, Option, Some, None}
 use Rattle.std.specs.Bool.{◌==◌}
 use Rattle.std.specs.Option.{is_some}
 use Rattle.std.specs.List.{list_any, insert, remove, position, position_or_len}
-use Rattle.std.proofs.lemmas.Bool.{eqb-true, lt-ltb, le-leb, leb-true, ltb-true, ltb-false}
+use Rattle.std.proofs.lemmas.Bool.{eqb-true, lt-ltb, le-leb, leb-true, ltb-true, ltb-false, not-true, not-false, not_from_false, and_parts, and_from, or_from, cond-true}
 use Rattle.std.proofs.lemmas.Grind.{reverse_onto}
 use Rattle.std.proofs.lemmas.List.{reverse-append, length-reverse, take-append-drop, length-take-le, take_more, get_or_default}
 use Rattle.std.proofs.lemmas.List.Folds.{list_any-append, list_any_at, Any-from_list_any}
@@ -93,10 +93,7 @@ module _ (row : List Entry) (i : ℕ) where
 put_there : (patch i : ℕ) (func : Option ℕ) (entries : List Entry) → patch < MAX_PATCHES → has_entry patch entries ≡ false → i ≤ length entries
     → put_entry patch (Some (record { index = i; func = func })) entries ≡ put_at i (record { patch = patch; func = func }) entries
 put_there patch i func entries number none within =
-    let e : Entry = record { patch = patch; func = func } in
-    ap (λ b. cond (b && not (has_entry patch entries) && leb i (length entries)) (put_at i e entries) entries) (lt-ltb patch MAX_PATCHES number)
-    ∙ ap (λ b. cond (not b && leb i (length entries)) (put_at i e entries) entries) none
-    ∙ ap (λ b. cond b (put_at i e entries) entries) (le-leb i (length entries) within)
+    cond-true _ _ _ (and_from _ _ (and_from _ _ (lt-ltb patch MAX_PATCHES number) (not_from_false _ none)) (le-leb i (length entries) within))
 
 put_between_at : (i : ℕ) (entry : Entry) (newer older : List Entry) → length older ≡ i → put_at i entry (newer ++ older) ≡ newer ++ entry ∷ older
 put_between_at i entry newer older is =
@@ -136,7 +133,7 @@ module _ (patch : ℕ) (seen row : List Entry) (i : ℕ) (entry : Entry) (same_r
   none_older = subst (λ p. has_entry p older ≡ false) same there.none_older
 
   none_left : has_entry patch (newer ++ older) ≡ false
-  none_left = list_any-append (is_own patch) newer older ∙ ap (λ b. b || has_entry patch older) none_newer ∙ none_older
+  none_left = list_any-append (is_own patch) newer older ∙ or_from _ _ none_newer none_older
 
   count : length older ≡ i
   count = older_than row i (omega (arith, within))
@@ -181,30 +178,27 @@ module _ (site : ℕ) (move : Move) (seen row now : List Entry) (same_row : seen
   none_held none = sym (none_blocked site move now (subst (λ es. has_entry move.patch es ≡ false) view (missing move.patch row (none ∙ ap (position (is_own move.patch)) same_row))))
 
   module _ (stack : IsStack (reverse row)) (i : ℕ) (found : Some i ≡ position (is_own move.patch) seen) where
-    not_so : (a b : Bool) → not a ≡ b → a ≡ not b
-    not_so true b e = ap not e
-    not_so false b e = ap not e
-
     pub own_held : (entry : Entry) → not move.target ≡ true → entry ≡ get_or row i entry → newest_version site (entry ∷ []) ∷ [] ≡ blocked_among site move now
     own_held entry target is =
-        ap (λ b. held_version site b entry (reverse (take i row)) ∷ []) (sym (not_so move.target true target))
+        ap (λ b. held_version site b entry (reverse (take i row)) ∷ []) (sym (not-true move.target target))
         ∙ held move.patch seen row i entry same_row stack found is site move now refl view
 
     abbrev blank : Entry
     blank = record { patch = 0; func = None }
 
+    below_all : i < length row
+    below_all = (position-Some (is_own move.patch) row i blank (sym (found ∙ ap (position (is_own move.patch)) same_row))).0
+
     older_held : not move.target ≡ false → newest_version site (reverse (take i row)) ∷ [] ≡ blocked_among site move now
     older_held target =
-        let lt = (position-Some (is_own move.patch) row i blank (sym (found ∙ ap (position (is_own move.patch)) same_row))).0 in
-        ap (λ b. held_version site b (get_or row i blank) (reverse (take i row)) ∷ []) (sym (not_so move.target false target))
-        ∙ held move.patch seen row i (get_or row i blank) same_row stack found (get_or_default row i blank (get_or row i blank) lt) site move now refl view
+        ap (λ b. held_version site b (get_or row i blank) (reverse (take i row)) ∷ []) (sym (not-false move.target target))
+        ∙ held move.patch seen row i (get_or row i blank) same_row stack found (get_or_default row i blank (get_or row i blank) below_all) site move now refl view
 
     pub below_held : (entry : Entry) → not move.target ≡ false → 0 < i → entry ≡ get_or row (i - 1) entry → newest_version site (entry ∷ []) ∷ [] ≡ blocked_among site move now
     below_held entry target above is =
-        let lt = (position-Some (is_own move.patch) row i blank (sym (found ∙ ap (position (is_own move.patch)) same_row))).0 in
         let one_more : i - 1 + 1 ≡ i = omega arith in
         let top : take i row ≡ take (i - 1) row ++ entry ∷ [] =
-        ap (λ n. take n row) (sym one_more) ∙ take_more row (i - 1) entry (omega arith) ∙ ap (λ e. take (i - 1) row ++ e ∷ []) (sym is) in
+        ap (λ n. take n row) (sym one_more) ∙ take_more row (i - 1) entry (omega (arith, below_all)) ∙ ap (λ e. take (i - 1) row ++ e ∷ []) (sym is) in
         ap (λ es. newest_version site es ∷ []) (sym (ap reverse top ∙ reverse-append (take (i - 1) row) (entry ∷ []))) ∙ older_held target
 
     pub original_held : not move.target ≡ false → i ≤ 0 → Original site ∷ [] ≡ blocked_among site move now
@@ -214,10 +208,10 @@ module _ (site : ℕ) (move : Move) (seen row now : List Entry) (same_row : seen
 
 -- What an entry is put back into.
 may_parts : (a b c : Bool) → (a && not b && c) ≡ true → (a ≡ true) × (b ≡ false) × (c ≡ true)
-may_parts true false true e = (refl, refl, refl)
-may_parts true false false e = cc
-may_parts true true c e = cc
-may_parts false b c e = cc
+may_parts a b c may =
+    let last = and_parts (a && not b) c may in
+    let first = and_parts a (not b) last.0 in
+    (first.0, not-true b first.1, last.1)
 
 -- an entry that may get a place gets it
 pub record PutIn (row now entries : List Entry) (n i patch : ℕ) (func : Option ℕ) : Type 0 where
