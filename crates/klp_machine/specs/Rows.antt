@@ -1,10 +1,10 @@
 -- What a call at a hooked site needs to know: the two newest entries of each site with their addresses.
-use Rattle.std.specs.Prelude.{ℕ, Bool, false, List, [], ◌∷◌, Option, Some, None, unwrap_or, if◌then◌else◌}
+use Rattle.std.specs.Prelude.{ℕ, Bool, false, ◌==◌, option_map, List, [], ◌∷◌, Option, Some, None, unwrap_or, if◌then◌else◌}
 use Rattle.klp_types.specs.declared.version.Version.TheVariants.{Original}
 use Rattle.klp_types.specs.declared.version.Entry.{Entry}
 use Rattle.klp_types.specs.declared.version.Move.{Move}
 use Rattle.klp_types.specs.Setting.{Setting}
-use Rattle.klp_types.specs.Pick.{moves, newest_version, address_of}
+use Rattle.klp_types.specs.Pick.{newest_version, address_of}
 use Rattle.klp_types.specs.declared.row.SiteWord.{SiteWord}
 use Rattle.klp_types.specs.declared.row.SiteRow.{SiteRow}
 use Rattle.klp_machine.specs.State.{State}
@@ -18,13 +18,17 @@ abbrev pub older_than_newest : List Entry → List Entry
 older_than_newest [] = []
 older_than_newest (entry ∷ older) = older
 
+-- the patch in transition
+abbrev pub moving_patch : Option Move → Option ℕ
+moving_patch moving = option_map (λ (m : Move). m.patch) moving
+
 -- whether the newest entry is the moving patch's
-abbrev pub newest_moves : Option Move → Option Entry → Bool
-newest_moves moving None = false
-newest_moves moving (Some entry) = moves moving entry.patch
+abbrev pub newest_moves : Option ℕ → Option Entry → Bool
+newest_moves (Some patch) (Some entry) = patch == entry.patch
+newest_moves moving newest = false
 
 -- the two newest entries, and whether the newest one's patch moves
-abbrev pub word_of : Option Move → List Entry → SiteWord
+abbrev pub word_of : Option ℕ → List Entry → SiteWord
 word_of moving entries =
     record { top = newest entries; below = newest (older_than_newest entries); moves = newest_moves moving (newest entries) }
 
@@ -34,7 +38,7 @@ newest_address setting site entries = unwrap_or (address_of setting (newest_vers
 
 abbrev pub row_among : Setting → Option Move → ℕ → List Entry → SiteRow
 row_among setting moving site entries = record {
-  word = word_of moving entries;
+  word = word_of (moving_patch moving) entries;
   original = unwrap_or (address_of setting (Original site)) 0;
   top = newest_address setting site entries;
   below = newest_address setting site (older_than_newest entries);

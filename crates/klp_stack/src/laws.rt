@@ -3,11 +3,11 @@ ghost use Rattle.std.specs.Prelude.{◌≡◌, ℕ, ℤ, List, Option};
 ghost use Rattle.klp_types.specs.declared.version.Entry.{Entry};
 ghost use Rattle.klp_types.specs.declared.version.Move.{Move};
 ghost use Rattle.klp_types.specs.Pick.{entries_for, newest_version};
-ghost use Rattle.klp_machine.specs.Rows.{word_of};
+ghost use Rattle.klp_machine.specs.Rows.{moving_patch, word_of};
 ghost use Rattle.klp_stack.specs.Pick.{picked};
 
 /// The word of a site is enough: a task runs by it what it runs by all entries.
 pub fn the_word_is_enough()
     ensures { (site : ℕ) (moving : Option Move) (task : ℤ) (entries : List Entry)
-        → picked site (word_of moving entries) task ≡ newest_version site (entries_for moving task entries) }
+        → picked site (word_of (moving_patch moving) entries) task ≡ newest_version site (entries_for moving task entries) }
 {}

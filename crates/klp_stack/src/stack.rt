@@ -119,12 +119,12 @@ impl Stack {
     }
 
     /// The two newest entries, and whether the newest one's patch moves.
-    pub(crate) fn word(&self, moving: Option<Move>) -> SiteWord
+    pub(crate) fn word(&self, moving: Option<PatchId>) -> SiteWord
         ensures { result ≡ word_of moving self.now }
     {
         let top = self.at(0);
         let moves = match (top, moving) {
-            (Some(entry), Some(moving)) => moving.patch == entry.patch,
+            (Some(entry), Some(patch)) => patch == entry.patch,
             _ => false,
         };
         SiteWord {

@@ -98,8 +98,8 @@ impl Stacks {
         }
     }
 
-    /// What a call at a site needs to know while this patch moves, at a constant cost.
-    pub fn word(&self, site: Site, moving: Option<Move>) -> SiteWord
+    /// What a call at a site needs to know while this patch moves, or none, at a constant cost.
+    pub fn word(&self, site: Site, moving: Option<PatchId>) -> SiteWord
         ensures { result ≡ word_of moving (entries_at self.now site) }
     {
         match self.stacks.get(usize::from(site.0)) {
