@@ -192,8 +192,12 @@ impl Image {
         ensures address { option_map (λ found. found.1) result
             ≡ option_map (λ (s : Symbol). s.address) (given_symbol self.now.image object number) }
     {
-        let object = self.objects.get(usize::from(object.0))?;
-        let symbol = object.symbols.get(usize::from(number))?;
+        let Some(object) = self.objects.get(usize::from(object.0)) else {
+            return None;
+        };
+        let Some(symbol) = object.symbols.get(usize::from(number)) else {
+            return None;
+        };
         Some((symbol.name.as_str(), symbol.address))
     }
 }
