@@ -115,7 +115,8 @@ impl Image {
 
     /// Makes an object one that isn't loaded: from now on `bytes` shows nothing of it. Its sites stay
     /// hooked or unhooked as they are, also for when it is loaded again, so the caller unhooks them
-    /// first. Writes one flag, whatever the object has; one that isn't loaded may be unloaded.
+    /// first. Writes one flag, whatever the object has; one that isn't loaded may be unloaded. That
+    /// `vmlinux` is never unloaded is the caller's rule.
     pub fn unload(&mut self, object: ObjId)
         requires { object < length self.old.image.objects }
         ensures { self.new ≡ record self.old { loaded = slice_set self.old.loaded object false } }
