@@ -115,7 +115,8 @@ impl Image {
 
     /// Makes an object one that isn't loaded: from now on `bytes` shows nothing of it. Its sites stay
     /// hooked or unhooked as they are, also for when it is loaded again, so the caller unhooks them
-    /// first. Writes one flag, whatever the object has; one that isn't loaded may be unloaded.
+    /// first. Writes one flag, whatever the object has; one that isn't loaded may be unloaded. That
+    /// `vmlinux` is never unloaded is the caller's rule.
     pub fn unload(&mut self, object: ObjId)
         requires { object < length self.old.image.objects }
         ensures { self.new ≡ record self.old { loaded = slice_set self.old.loaded object false } }
@@ -192,8 +193,12 @@ impl Image {
         ensures address { option_map (λ found. found.1) result
             ≡ option_map (λ (s : Symbol). s.address) (given_symbol self.now.image object number) }
     {
-        let object = self.objects.get(usize::from(object.0))?;
-        let symbol = object.symbols.get(usize::from(number))?;
+        let Some(object) = self.objects.get(usize::from(object.0)) else {
+            return None;
+        };
+        let Some(symbol) = object.symbols.get(usize::from(number)) else {
+            return None;
+        };
         Some((symbol.name.as_str(), symbol.address))
     }
 }
