@@ -1,0 +1,10 @@
+//! The table of tasks, and the switching of tasks to the patch in transition (livepatch, Consistency
+//! model).
+#![tactic(auto)]
+
+mod tasks;
+mod version_set;
+
+pub use klp_types::{MAX_FRAMES, MAX_TASKS, Mode, Task, TaskId};
+pub use tasks::Tasks;
+pub use version_set::VersionSet;
