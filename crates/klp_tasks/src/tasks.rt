@@ -142,14 +142,12 @@ impl Tasks {
         requires free { is_some (task_at self.old task) ≡ false }
         ensures { Changes self.old self.new task result (with_task self.old task (Some (new_task state))) }
     {
-        self.replace(
-            task,
-            Some(Task {
-                state,
-                mode: Mode::User,
-                frames: Frames::new(),
-            }),
-        )
+        let added = Task {
+            state,
+            mode: Mode::User,
+            frames: Frames::new(),
+        };
+        self.replace(task, Some(added))
     }
 
     /// A task starts another, which takes its state over and runs in the kernel.
@@ -160,15 +158,12 @@ impl Tasks {
         ensures { Changes self.old self.new child result
             (with_task self.old child (Some (record { state = state_of_task (task_at self.old parent); mode = Kernel; frames = [] }))) }
     {
-        let state = self.there(parent).state;
-        self.replace(
-            child,
-            Some(Task {
-                state,
-                mode: Mode::Kernel,
-                frames: Frames::new(),
-            }),
-        )
+        let forked = Task {
+            state: self.there(parent).state,
+            mode: Mode::Kernel,
+            frames: Frames::new(),
+        };
+        self.replace(child, Some(forked))
     }
 
     /// A task ends: its number is free again.
@@ -184,14 +179,11 @@ impl Tasks {
         requires { is_some (task_at self.old task) ≡ true }
         ensures { Changes self.old self.new task result (changed self.old task (λ (t : AnyTask). record t { mode = Kernel })) }
     {
-        let row = self.there(task);
-        self.replace(
-            task,
-            Some(Task {
-                mode: Mode::Kernel,
-                ..row
-            }),
-        )
+        let entered = Task {
+            mode: Mode::Kernel,
+            ..self.there(task)
+        };
+        self.replace(task, Some(entered))
     }
 
     /// A task leaves the kernel, and is brought to the target of whatever moves.
@@ -200,18 +192,15 @@ impl Tasks {
         ensures { Changes self.old self.new task result (changed self.old task (exited moving)) }
     {
         let row = self.there(task);
-        let state = match moving {
-            None => row.state,
-            Some(moving) => target_state(moving.target),
+        let left = Task {
+            state: match moving {
+                None => row.state,
+                Some(moving) => target_state(moving.target),
+            },
+            mode: Mode::User,
+            ..row
         };
-        self.replace(
-            task,
-            Some(Task {
-                state,
-                mode: Mode::User,
-                ..row
-            }),
-        )
+        self.replace(task, Some(left))
     }
 
     /// A task falls asleep inside of these frames.
@@ -219,15 +208,12 @@ impl Tasks {
         requires { is_some (task_at self.old task) ≡ true }
         ensures { Changes self.old self.new task result (changed self.old task (λ (t : AnyTask). record t { mode = Asleep; frames = frames })) }
     {
-        let row = self.there(task);
-        self.replace(
-            task,
-            Some(Task {
-                mode: Mode::Asleep,
-                frames,
-                ..row
-            }),
-        )
+        let asleep = Task {
+            mode: Mode::Asleep,
+            frames,
+            ..self.there(task)
+        };
+        self.replace(task, Some(asleep))
     }
 
     /// A task wakes up in the kernel. The record tells what it was inside of.
@@ -235,15 +221,12 @@ impl Tasks {
         requires { is_some (task_at self.old task) ≡ true }
         ensures { Changes self.old self.new task result (changed self.old task (λ (t : AnyTask). record t { mode = Kernel; frames = [] })) }
     {
-        let row = self.there(task);
-        self.replace(
-            task,
-            Some(Task {
-                mode: Mode::Kernel,
-                frames: Frames::new(),
-                ..row
-            }),
-        )
+        let woken = Task {
+            mode: Mode::Kernel,
+            frames: Frames::new(),
+            ..self.there(task)
+        };
+        self.replace(task, Some(woken))
     }
 
     /// A sleeping task is brought to the target where none of its frames is blocked. Nothing is noted
