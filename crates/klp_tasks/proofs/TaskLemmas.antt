@@ -11,6 +11,8 @@ use Rattle.klp_types.specs.Records.{RecordList, spare_of}
 use Rattle.klp_types.specs.declared.version.Version.{Version}
 use Rattle.klp_types.specs.declared.task.Mode.TheVariants.{Asleep}
 use Rattle.klp_machine.specs.Task.{Tasks, task_at, with_task, is_mode, at_target, in_state, all_in}
+use Rattle.klp_machine.specs.State.{State, with_tasks}
+use Rattle.klp_machine.specs.TaskStep.{change_task}
 use Rattle.klp_machine.specs.Blocked.{is_version, is_held, switched}
 use Rattle.klp_tasks.specs.Members.{VersionFlags, has, IsSetOf}
 use Rattle.klp_tasks.proofs.MemberLemmas.{same_any}
@@ -157,3 +159,9 @@ pub started : (state : ℤ) (tasks : Tasks) (log : RecordList) → SetSoFar stat
 started state tasks log =
     let none = rows_same 0 tasks in
     record { tasks = refl; records = rw (none, append-nil) refl; undo = rw none refl }
+
+-- a change of a row is that of the step
+pub step_changes : (state : State) (number : ℕ) (f : Task → Task) (task : Option Task)
+    → change_task state number f task ≡ with_tasks state (changed_row state.tasks number f task)
+step_changes state number f None = refl
+step_changes state number f (Some task) = refl

@@ -2,6 +2,7 @@
 //! model).
 #![tactic(auto)]
 
+pub mod laws;
 mod tasks;
 mod version_set;
 
