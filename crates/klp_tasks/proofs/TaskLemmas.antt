@@ -6,6 +6,7 @@ use Rattle.std.specs.Ordering.{int_eq}
 use Rattle.std.proofs.lemmas.List.{set-get_or}
 use Rattle.std.proofs.lemmas.Bool.Decides.{Decides-int_eq}
 use Rattle.klp_types.specs.declared.record.Record.{Record}
+use Rattle.klp_types.specs.declared.record.Record.TheVariants.{TaskRow}
 use Rattle.klp_types.specs.declared.task.Task.{Task}
 use Rattle.klp_types.specs.Records.{RecordList, spare_of}
 use Rattle.klp_types.specs.declared.version.Version.{Version}
@@ -165,3 +166,17 @@ pub step_changes : (state : State) (number : ℕ) (f : Task → Task) (task : Op
     → change_task state number f task ≡ with_tasks state (changed_row state.tasks number f task)
 step_changes state number f None = refl
 step_changes state number f (Some task) = refl
+
+few_told : (number : ℕ) (was now : Option Task) → length (option_to_list (row_if_moved number was now)) ≤ 1
+few_told number None now = omega arith
+few_told number (Some was) None = omega arith
+few_told number (Some was) (Some task) =
+    elim (int_eq was.state task.state) as (λ (b : Bool). length (option_to_list (cond b None (Some (TaskRow number was)))) ≤ 1) [ true ↦ omega arith | false ↦ omega arith ]
+
+pub rows_are_few : (number : ℕ) (before after : Tasks) → length (rows_moved number before after) ≤ length before
+rows_are_few number [] after = omega arith
+rows_are_few number (was ∷ before) [] = omega arith
+rows_are_few number (was ∷ before) (task ∷ after) =
+    let first = few_told number was task in
+    let behind = rows_are_few (suc number) before after in
+    grind (arith, length-append, first, behind)

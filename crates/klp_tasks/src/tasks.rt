@@ -20,7 +20,7 @@ use std::marker::Model;
 
 /// The tasks by their numbers, of which there are [`MAX_TASKS`].
 ///
-/// All room is taken by [`Tasks::new`]. Each change of one task copies its row, of some 300 bytes, into
+/// All room is taken by [`Tasks::new`]. Each change of one task copies its row, of some 200 bytes, into
 /// the record that it answers, and takes the same time however many tasks there are.
 #[derive(Debug, Drop)]
 pub struct Tasks {
@@ -100,7 +100,7 @@ impl Tasks {
         })
     }
 
-    /// A task, if it is there.
+    /// A task, if it is there. No number from [`MAX_TASKS`] on is a task's.
     pub fn get(&self, task: TaskId) -> Option<&Task>
         ensures task { option_copied result ≡ task_at self.now task }
         ensures limit { length self.now ≡ MAX_TASKS }
@@ -108,7 +108,7 @@ impl Tasks {
         self.rows.get(usize::from(task.0))?.as_ref()
     }
 
-    /// For each number the state of the task, if it is there.
+    /// For each number the state of the task, if it is there. It looks at all rows.
     pub fn states(&self) -> ArrayVec<Option<i8>, MAX_TASKS>
         ensures { result.items ≡ map (option_map (λ (t : AnyTask). t.state)) self.now }
     {
@@ -186,7 +186,7 @@ impl Tasks {
         self.replace(task, Some(entered))
     }
 
-    /// A task leaves the kernel, and is brought to the target of whatever moves.
+    /// A task leaves the kernel, and is brought to the target of whatever moves (kernel exit switching).
     pub fn leave(&mut self, task: TaskId, moving: Option<Move>) -> Record
         requires { is_some (task_at self.old task) ≡ true }
         ensures { Changes self.old self.new task result (changed self.old task (exited moving)) }
@@ -229,9 +229,9 @@ impl Tasks {
         self.replace(task, Some(woken))
     }
 
-    /// A sleeping task is brought to the target where none of its frames is blocked. Nothing is noted
-    /// of a task that stays as it was, nor of a number that no task has. It looks at no more than the
-    /// task's frames.
+    /// A sleeping task is brought to the target where none of its frames is blocked (stack checking of
+    /// sleeping tasks). Nothing is told of a task that stays as it was, nor of a number that no task
+    /// has. It looks at no more than the task's frames.
     pub fn switch_if_clear(
         &mut self,
         task: TaskId,
@@ -250,7 +250,7 @@ impl Tasks {
     }
 
     /// Every task gets the state. Each task whose state was another is noted, in the order of their
-    /// numbers.
+    /// numbers. It looks at all rows.
     pub fn set_all(&mut self, state: i8, log: &mut Records)
         requires { length (rows_moved 0 self.old (all_in state self.old)) ≤ spare_of log.old }
         ensures tasks { self.new ≡ all_in state self.old }

@@ -8,7 +8,8 @@ use klp_types::{Frames, MAX_FUNCTIONS, MAX_PATCHES, MAX_SITES, Version};
 use std::marker::Model;
 
 /// A set of versions, as of those that hold a sleeping task back. To ask for a version takes the same
-/// time whatever the set has. No call takes memory: a set is some 1,300 bytes.
+/// time whatever the set has. No call takes memory: the flags are 1,280 bytes, which `new` and `clear`
+/// write.
 #[derive(Debug, Drop)]
 pub struct VersionSet {
     /// By site, whether its original is in the set.
