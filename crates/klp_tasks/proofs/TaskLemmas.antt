@@ -1,5 +1,5 @@
 -- Changes of one row, and of the states of all.
-use Rattle.std.proofs.Common.{length-append, add-zero, add-one, zero-add, ◌≡◌, ℕ, zero, suc, ◌+◌, ◌<◌, ◌≤◌, ℤ, Bool, true, false, not, ◌&&◌, cond, List, [], ◌∷◌, ◌++◌, length, get_or, set, refl, sym, ap, ◌∙◌, arith, append_assoc, append-nil, Option, Some, None}
+use Rattle.std.proofs.Common.{length-append, add-zero, add-one, zero-add, ◌≡◌, ℕ, zero, suc, ◌+◌, ◌<◌, ◌≤◌, ℤ, Bool, true, false, not, ◌&&◌, cond, List, [], ◌∷◌, ◌++◌, length, get_or, set, refl, ap, ◌∙◌, arith, append_assoc, append-nil, Option, Some, None}
 use Rattle.std.specs.Option.{option_map, option_to_list}
 use Rattle.std.specs.List.{list_any}
 use Rattle.std.specs.Ordering.{int_eq}
@@ -55,18 +55,8 @@ next_changed state (suc count) (task ∷ tasks) =
     changed_behind (in_state state) (option_map (in_state state) task) (partly state count tasks) count (task_at (partly state count tasks) count)
     ∙ ap (λ rest. option_map (in_state state) task ∷ rest) (next_changed state count tasks)
 
-changed_is : (f : Task → Task) (tasks : Tasks) (number : ℕ) (task : Task) → task_at tasks number ≡ Some task → changed tasks number f ≡ with_task tasks number (Some (f task))
-changed_is f tasks number task there = rw there refl
-
 kept : (tasks : Tasks) (number : ℕ) (task : Task) → task_at tasks number ≡ Some task → with_task tasks number (Some task) ≡ tasks
 kept tasks number task there = rw (← there) (set-get_or tasks number None)
-
--- a task that has the state keeps its row
-pub in_place : (tasks : Tasks) (number : ℕ) (task : Task) (state : ℤ) → task_at tasks number ≡ Some task → int_eq task.state state ≡ true
-    → tasks ≡ changed tasks number (in_state state)
-in_place tasks number task state there same =
-    let is : task.state ≡ state = (Decides-int_eq task.state state).0 same in
-    sym (changed_is (in_state state) tasks number task there ∙ (rw (← is) (kept tasks number task there)))
 
 -- a sleeper that is tried, and any other task, by a set of the blocked versions
 pub tried_by : (flags : VersionFlags) (versions : List Version) → IsSetOf flags versions → (tasks : Tasks) (number : ℕ) (task : Task) (target : Bool)
