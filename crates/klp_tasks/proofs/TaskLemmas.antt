@@ -1,5 +1,5 @@
 -- Changes of one row, and of the states of all.
-use Rattle.std.proofs.Common.{length-append, add-zero, add-one, zero-add, ◌≡◌, ℕ, zero, suc, ◌+◌, ◌<◌, ◌≤◌, ℤ, Bool, true, false, not, ◌&&◌, cond, List, [], ◌∷◌, ◌++◌, length, get_or, set, refl, ap, ◌∙◌, arith, append_assoc, append-nil, Option, Some, None}
+use Rattle.std.proofs.Common.{length-append, add-zero, add-one, zero-add, ◌≡◌, ℕ, zero, suc, ◌+◌, ◌<◌, ◌≤◌, Bool, true, false, not, ◌&&◌, cond, map, List, [], ◌∷◌, ◌++◌, length, get_or, set, refl, ap, ◌∙◌, arith, append_assoc, append-nil, Option, Some, None}
 use Rattle.std.specs.Option.{option_map, option_to_list}
 use Rattle.std.specs.List.{list_any}
 use Rattle.std.specs.Ordering.{int_eq}
@@ -11,7 +11,7 @@ use Rattle.klp_types.specs.declared.task.Task.{Task}
 use Rattle.klp_types.specs.Records.{RecordList, spare_of}
 use Rattle.klp_types.specs.declared.version.Version.{Version}
 use Rattle.klp_types.specs.declared.task.Mode.TheVariants.{Asleep}
-use Rattle.klp_machine.specs.Task.{Tasks, task_at, with_task, is_mode, at_target, in_state, all_in}
+use Rattle.klp_machine.specs.Task.{Tasks, task_at, with_task, is_mode, at_target, in_state}
 use Rattle.klp_machine.specs.State.{State, with_tasks}
 use Rattle.klp_machine.specs.TaskStep.{change_task}
 use Rattle.klp_machine.specs.Blocked.{is_version, is_held, switched}
@@ -31,29 +31,29 @@ put_row tasks number (Some task) = refl
 pub row_back : (tasks : Tasks) (number : ℕ) (row : Option Task) → put_back (with_task tasks number row) (row_of number (task_at tasks number)) ≡ tasks
 row_back tasks number row = put_row (with_task tasks number row) number (task_at tasks number) ∙ set_back tasks number row
 
--- the first tasks have the state
-abbrev pub partly : ℤ → ℕ → Tasks → Tasks
-partly state zero tasks = tasks
-partly state (suc count) [] = []
-partly state (suc count) (task ∷ tasks) = option_map (in_state state) task ∷ partly state count tasks
+-- the first tasks are changed
+abbrev pub partly : (Task → Task) → ℕ → Tasks → Tasks
+partly f zero tasks = tasks
+partly f (suc count) [] = []
+partly f (suc count) (task ∷ tasks) = option_map f task ∷ partly f count tasks
 
-pub partly_all : (state : ℤ) (tasks : Tasks) → partly state (length tasks) tasks ≡ all_in state tasks
-partly_all state [] = refl
-partly_all state (task ∷ tasks) = ap (λ rest. option_map (in_state state) task ∷ rest) (partly_all state tasks)
+pub partly_all : (f : Task → Task) (tasks : Tasks) → partly f (length tasks) tasks ≡ map (option_map f) tasks
+partly_all f [] = refl
+partly_all f (task ∷ tasks) = ap (λ rest. option_map f task ∷ rest) (partly_all f tasks)
 
 changed_behind : (f : Task → Task) (first : Option Task) (tasks : Tasks) (number : ℕ) (task : Option Task)
     → changed_row (first ∷ tasks) (suc number) f task ≡ first ∷ changed_row tasks number f task
 changed_behind f first tasks number None = refl
 changed_behind f first tasks number (Some task) = refl
 
-next_changed : (state : ℤ) (count : ℕ) (tasks : Tasks) → changed (partly state count tasks) count (in_state state) ≡ partly state (suc count) tasks
-next_changed state zero [] = refl
-next_changed state zero (None ∷ tasks) = refl
-next_changed state zero (Some task ∷ tasks) = refl
-next_changed state (suc count) [] = refl
-next_changed state (suc count) (task ∷ tasks) =
-    changed_behind (in_state state) (option_map (in_state state) task) (partly state count tasks) count (task_at (partly state count tasks) count)
-    ∙ ap (λ rest. option_map (in_state state) task ∷ rest) (next_changed state count tasks)
+next_changed : (f : Task → Task) (count : ℕ) (tasks : Tasks) → changed (partly f count tasks) count f ≡ partly f (suc count) tasks
+next_changed f zero [] = refl
+next_changed f zero (None ∷ tasks) = refl
+next_changed f zero (Some task ∷ tasks) = refl
+next_changed f (suc count) [] = refl
+next_changed f (suc count) (task ∷ tasks) =
+    changed_behind f (option_map f task) (partly f count tasks) count (task_at (partly f count tasks) count)
+    ∙ ap (λ rest. option_map f task ∷ rest) (next_changed f count tasks)
 
 kept : (tasks : Tasks) (number : ℕ) (task : Task) → task_at tasks number ≡ Some task → with_task tasks number (Some task) ≡ tasks
 kept tasks number task there = rw (← there) (set-get_or tasks number None)
@@ -81,73 +81,73 @@ rows_same : (number : ℕ) (tasks : Tasks) → rows_moved number tasks tasks ≡
 rows_same number [] = refl
 rows_same number (task ∷ tasks) = rw (row_same number task) (rows_same (suc number) tasks)
 
--- one more task has the state
-rows_step : (state : ℤ) (start count : ℕ) (tasks : Tasks)
-    → rows_moved start tasks (partly state (suc count) tasks)
-    ≡ rows_moved start tasks (partly state count tasks)
-    ++ option_to_list (row_if_moved (start + count) (task_at (partly state count tasks) count) (task_at (partly state (suc count) tasks) count))
-rows_step state start zero [] = refl
-rows_step state start zero (task ∷ tasks) = rw (rows_same (suc start) tasks, row_same start task, add-zero, append-nil) refl
-rows_step state start (suc count) [] = refl
-rows_step state start (suc count) (task ∷ tasks) =
+-- one more task is changed
+rows_step : (f : Task → Task) (start count : ℕ) (tasks : Tasks)
+    → rows_moved start tasks (partly f (suc count) tasks)
+    ≡ rows_moved start tasks (partly f count tasks)
+    ++ option_to_list (row_if_moved (start + count) (task_at (partly f count tasks) count) (task_at (partly f (suc count) tasks) count))
+rows_step f start zero [] = refl
+rows_step f start zero (task ∷ tasks) = rw (rows_same (suc start) tasks, row_same start task, add-zero, append-nil) refl
+rows_step f start (suc count) [] = refl
+rows_step f start (suc count) (task ∷ tasks) =
     let number : start + suc count ≡ suc start + count = omega arith in
-    rw (number, rows_step state (suc start) count tasks, append_assoc) refl
+    rw (number, rows_step f (suc start) count tasks, append_assoc) refl
 
-rows_few : (state : ℤ) (start count : ℕ) (tasks : Tasks) → length (rows_moved start tasks (partly state count tasks)) ≤ length (rows_moved start tasks (all_in state tasks))
-rows_few state start zero tasks = rw (rows_same start tasks) (omega arith)
-rows_few state start (suc count) [] = omega arith
-rows_few state start (suc count) (task ∷ tasks) =
-    let behind = rows_few state (suc start) count tasks in
+rows_few : (f : Task → Task) (start count : ℕ) (tasks : Tasks) → length (rows_moved start tasks (partly f count tasks)) ≤ length (rows_moved start tasks (map (option_map f) tasks))
+rows_few f start zero tasks = rw (rows_same start tasks) (omega arith)
+rows_few f start (suc count) [] = omega arith
+rows_few f start (suc count) (task ∷ tasks) =
+    let behind = rows_few f (suc start) count tasks in
     grind (arith, length-append, behind)
 
 undone-append : (tasks : Tasks) (older newer : List Record) → undone tasks (older ++ newer) ≡ undone (undone tasks newer) older
 undone-append tasks [] newer = refl
 undone-append tasks (row ∷ older) newer = ap (λ t. put_back t row) (undone-append tasks older newer)
 
--- the first tasks have the state, and the log has what they were
-pub record SetSoFar (state : ℤ) (count : ℕ) (before after : Tasks) (log_before log_after : RecordList) : Type 0 where
-  pub tasks : after ≡ partly state count before
+-- the first tasks are changed, and the log has what they were
+pub record ChangedSoFar (f : Task → Task) (count : ℕ) (before after : Tasks) (log_before log_after : RecordList) : Type 0 where
+  pub tasks : after ≡ partly f count before
   pub records : log_after ≡ record log_before { noted = log_before.noted ++ rows_moved 0 before after }
   pub undo : undone after (rows_moved 0 before after) ≡ before
 
-rows_next : (state : ℤ) (count : ℕ) (before now after : Tasks) (row : Option Record) → now ≡ partly state count before → after ≡ partly state (suc count) before
+rows_next : (f : Task → Task) (count : ℕ) (before now after : Tasks) (row : Option Record) → now ≡ partly f count before → after ≡ partly f (suc count) before
     → row ≡ row_if_moved count (task_at now count) (task_at after count) → rows_moved 0 before after ≡ rows_moved 0 before now ++ option_to_list row
-rows_next state count before now after row is is_after is_row =
-    let step = rw zero-add at (rows_step state 0 count before) in
+rows_next f count before now after row is is_after is_row =
+    let step = rw zero-add at (rows_step f 0 count before) in
     rw (is_row, is, is_after) step
 
-pub one_set : (state : ℤ) (count : ℕ) (before now after : Tasks) (log_before log_now log_after : RecordList) (row : Option Record)
-    → SetSoFar state count before now log_before log_now
-    → after ≡ changed now count (in_state state) → row ≡ row_if_moved count (task_at now count) (task_at after count) → undone after (option_to_list row) ≡ now
+pub one_changed : (f : Task → Task) (count : ℕ) (before now after : Tasks) (log_before log_now log_after : RecordList) (row : Option Record)
+    → ChangedSoFar f count before now log_before log_now
+    → after ≡ changed now count f → row ≡ row_if_moved count (task_at now count) (task_at after count) → undone after (option_to_list row) ≡ now
     → log_after ≡ record log_now { noted = log_now.noted ++ option_to_list row }
-    → SetSoFar state (count + 1) before after log_before log_after
-one_set state count before now after log_before log_now log_after row so_far is is_row back noted =
-    let set_now : after ≡ partly state (suc count) before = is ∙ rw so_far.tasks (next_changed state count before) in
-    let rows = rows_next state count before now after row so_far.tasks set_now is_row in
+    → ChangedSoFar f (count + 1) before after log_before log_after
+one_changed f count before now after log_before log_now log_after row so_far is is_row back noted =
+    let is_now : after ≡ partly f (suc count) before = is ∙ rw so_far.tasks (next_changed f count before) in
+    let rows = rows_next f count before now after row so_far.tasks is_now is_row in
     record {
-      tasks = rw add-one set_now;
+      tasks = rw add-one is_now;
       records = noted ∙ rw (so_far.records, rows) (ap (λ (l : List Record). record log_before { noted = l }) (append_assoc log_before.noted (rows_moved 0 before now) (option_to_list row)));
       undo = rw (rows, undone-append after (rows_moved 0 before now) (option_to_list row), back) so_far.undo;
     }
 
-pub has_room : (state : ℤ) (count : ℕ) (before now after : Tasks) (log_before log_now : RecordList) (row : Record)
-    → SetSoFar state count before now log_before log_now
-    → after ≡ changed now count (in_state state) → Some row ≡ row_if_moved count (task_at now count) (task_at after count)
-    → length (rows_moved 0 before (all_in state before)) ≤ spare_of log_before
+pub has_room : (f : Task → Task) (count : ℕ) (before now after : Tasks) (log_before log_now : RecordList) (row : Record)
+    → ChangedSoFar f count before now log_before log_now
+    → after ≡ changed now count f → Some row ≡ row_if_moved count (task_at now count) (task_at after count)
+    → length (rows_moved 0 before (map (option_map f) before)) ≤ spare_of log_before
     → 0 < spare_of log_now
-has_room state count before now after log_before log_now row so_far is is_row room =
-    let set_now : after ≡ partly state (suc count) before = is ∙ rw so_far.tasks (next_changed state count before) in
+has_room f count before now after log_before log_now row so_far is is_row room =
+    let is_now : after ≡ partly f (suc count) before = is ∙ rw so_far.tasks (next_changed f count before) in
     let rows : length (rows_moved 0 before after) ≡ length (rows_moved 0 before now) + 1 =
-    ap length (rows_next state count before now after (Some row) so_far.tasks set_now is_row) ∙ length-append (rows_moved 0 before now) (row ∷ []) in
-    let few : length (rows_moved 0 before after) ≤ length (rows_moved 0 before (all_in state before)) = rw set_now (rows_few state 0 (suc count) before) in
+    ap length (rows_next f count before now after (Some row) so_far.tasks is_now is_row) ∙ length-append (rows_moved 0 before now) (row ∷ []) in
+    let few : length (rows_moved 0 before after) ≤ length (rows_moved 0 before (map (option_map f) before)) = rw is_now (rows_few f 0 (suc count) before) in
     rw (so_far.records, length-append log_before.noted (rows_moved 0 before now)) (omega arith)
 
-pub all_set : (state : ℤ) (count : ℕ) (before now : Tasks) (log_before log_now : RecordList) → SetSoFar state count before now log_before log_now
-    → count ≡ length before → now ≡ all_in state before
-all_set state count before now log_before log_now so_far all = so_far.tasks ∙ rw all (partly_all state before)
+pub all_changed : (f : Task → Task) (count : ℕ) (before now : Tasks) (log_before log_now : RecordList) → ChangedSoFar f count before now log_before log_now
+    → count ≡ length before → now ≡ map (option_map f) before
+all_changed f count before now log_before log_now so_far all = so_far.tasks ∙ rw all (partly_all f before)
 
-pub started : (state : ℤ) (tasks : Tasks) (log : RecordList) → SetSoFar state 0 tasks tasks log log
-started state tasks log =
+pub started : (f : Task → Task) (tasks : Tasks) (log : RecordList) → ChangedSoFar f 0 tasks tasks log log
+started f tasks log =
     let none = rows_same 0 tasks in
     record { tasks = refl; records = rw (none, append-nil) refl; undo = rw none refl }
 

@@ -6,6 +6,5 @@ pub mod laws;
 mod tasks;
 mod version_set;
 
-pub use klp_types::{MAX_FRAMES, MAX_TASKS, Mode, Task, TaskId};
 pub use tasks::Tasks;
 pub use version_set::VersionSet;
