@@ -1,0 +1,3 @@
+pub mod MemberLemmas
+pub mod TaskLemmas
+pub mod ListedLemmas

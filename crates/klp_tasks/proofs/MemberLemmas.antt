@@ -1,0 +1,50 @@
+-- Membership by flags, and by lists.
+use Rattle.std.proofs.Common.{◌≡◌, ℕ, zero, suc, Bool, true, false, List, [], ◌∷◌, get_or, take, replicate, ◌+◌, refl, Some, None}
+use Rattle.std.specs.List.{list_any, slice_get}
+use Rattle.std.proofs.lemmas.List.Folds.{list_any_at, list_any_more}
+use Rattle.std.proofs.lemmas.Option.{slice_get_within, get_or_from_slice_get}
+use Rattle.klp_types.specs.declared.limits.TheConstants.{MAX_SITES, MAX_PATCHES, MAX_FUNCTIONS}
+use Rattle.klp_types.specs.declared.version.Version.{Version}
+use Rattle.klp_types.specs.declared.version.Version.TheVariants.{Original, New}
+use Rattle.klp_machine.specs.Task.{Tasks}
+use Rattle.klp_tasks.specs.Sleepers.{sleeps_where}
+use Rattle.klp_tasks.specs.Members.{has}
+
+none_at : (n i : ℕ) → get_or (replicate n false) i false ≡ false
+none_at zero i = refl
+none_at (suc n) zero = refl
+none_at (suc n) (suc i) = none_at n i
+
+none_in : (m n p f : ℕ) → get_or (get_or (replicate m (replicate n false)) p []) f false ≡ false
+none_in zero n p f = refl
+none_in (suc m) n zero f = none_at n f
+none_in (suc m) n (suc p) f = none_in m n p f
+
+pub in_none : (version : Version) → has (record { originals = replicate MAX_SITES false; functions = replicate MAX_PATCHES (replicate MAX_FUNCTIONS false) }) version ≡ false
+in_none (Original site) = none_at MAX_SITES site
+in_none (New patch function) = none_in MAX_PATCHES MAX_FUNCTIONS patch function
+
+-- a test that a set passes alike
+pub same_any : (one other : Version → Bool) → ((version : Version) → one version ≡ other version) → (versions : List Version) → list_any one versions ≡ list_any other versions
+same_any one other same [] = refl
+same_any one other same (version ∷ versions) = rw (same version, same_any one other same versions) refl
+
+pub same_sleeping : (one other : Version → Bool) → ((version : Version) → one version ≡ other version) → (tasks : Tasks) → list_any (sleeps_where one) tasks ≡ list_any (sleeps_where other) tasks
+same_sleeping one other same [] = refl
+same_sleeping one other same (None ∷ tasks) = same_sleeping one other same tasks
+same_sleeping one other same (Some task ∷ tasks) = rw (same_any one other same task.frames, same_sleeping one other same tasks) refl
+
+-- one more frame, as at a step of a loop
+pub one_more : (test : Version → Bool) (versions : List Version) (place : ℕ) (version : Version)
+    → slice_get versions place ≡ Some version → test version ≡ false → list_any test (take place versions) ≡ false → list_any test (take (place + 1) versions) ≡ false
+one_more test versions place version at passes none =
+    let within = slice_get_within versions place version at in
+    let is = get_or_from_slice_get versions place version version at in
+    rw (list_any_more test versions place version within, is, none, passes) refl
+
+pub found : (test : Version → Bool) (versions : List Version) (place : ℕ) (version : Version)
+    → slice_get versions place ≡ Some version → test version ≡ true → list_any test versions ≡ true
+found test versions place version at passes =
+    let within = slice_get_within versions place version at in
+    let is = get_or_from_slice_get versions place version version at in
+    list_any_at test versions place version within (rw is passes)

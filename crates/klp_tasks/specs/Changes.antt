@@ -1,0 +1,50 @@
+-- Changes of tasks, the records that they note, and what undoes them.
+use Rattle.std.specs.Prelude.{◌≡◌, ℕ, suc, List, [], ◌∷◌, ◌++◌, Option, Some, None, option_to_list, if◌then◌else◌}
+use Rattle.std.specs.Ordering.{int_eq}
+use Rattle.klp_types.specs.declared.record.Record.{Record}
+use Rattle.klp_types.specs.declared.record.Record.TheVariants.{TaskRow, NoTaskRow}
+use Rattle.klp_types.specs.declared.task.Task.{Task}
+use Rattle.klp_machine.specs.Task.{Tasks, task_at, with_task}
+
+-- a change of the row of one task that is there
+abbrev pub changed_row : Tasks → ℕ → (Task → Task) → Option Task → Tasks
+changed_row tasks number f None = tasks
+changed_row tasks number f (Some task) = with_task tasks number (Some (f task))
+
+abbrev pub changed : Tasks → ℕ → (Task → Task) → Tasks
+changed tasks number f = changed_row tasks number f (task_at tasks number)
+
+-- what the row of a number was
+abbrev pub row_of : ℕ → Option Task → Record
+row_of number None = NoTaskRow number
+row_of number (Some task) = TaskRow number task
+
+-- what the row of a task that is there was, where its state is another now
+abbrev pub row_if_moved : ℕ → Option Task → Option Task → Option Record
+row_if_moved number (Some was) (Some task) = if int_eq was.state task.state then None else Some (TaskRow number was)
+row_if_moved number was task = None
+
+-- the same of each row in order, where the first has this number
+abbrev pub rows_moved : ℕ → Tasks → Tasks → List Record
+rows_moved number (was ∷ before) (task ∷ after) = option_to_list (row_if_moved number was task) ++ rows_moved (suc number) before after
+rows_moved number before after = []
+
+-- the tasks with one row as the record tells it; other records are of rows that aren't the tasks'
+abbrev pub put_back : Tasks → Record → Tasks
+put_back tasks (TaskRow number was) = with_task tasks number (Some was)
+put_back tasks (NoTaskRow number) = with_task tasks number None
+put_back tasks other = tasks
+
+-- the tasks once all records are put back, the newest, which stands last, first
+abbrev pub undone : Tasks → List Record → Tasks
+undone tasks [] = tasks
+undone tasks (row ∷ newer) = put_back (undone tasks newer) row
+
+-- a change of the row of one number makes these tasks of those before, and tells what the row was
+pub record Changes (before after : Tasks) (number : ℕ) (row : Record) (to : Tasks) : Type 0 where
+  -- the tasks are those that the change is to make
+  pub tasks : after ≡ to
+  -- the record tells the row as it was
+  pub was : row ≡ row_of number (task_at before number)
+  -- the record, put back, gives the tasks before
+  pub undo : put_back after row ≡ before

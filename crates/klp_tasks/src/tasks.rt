@@ -1,0 +1,328 @@
+ghost use Rattle.std.specs.Prelude.{◌≡◌, ◌<◌, ◌≤◌, ◌++◌, ◌&&◌, not, Bool, true, false, List, [], Some, None, length, map, replicate, is_some, option_map, option_copied, option_to_list, IfOk};
+ghost use Rattle.std.specs.List.{count_by, list_any};
+ghost use Rattle.std.specs.Ordering.{int_eq};
+ghost use Rattle.klp_types.specs.Records.{spare_of};
+ghost use Rattle.klp_types.specs.declared.version.Version.{Version as AnyVersion};
+ghost use Rattle.klp_types.specs.declared.task.Task.{Task as AnyTask};
+ghost use Rattle.klp_types.specs.declared.task.Mode.TheVariants.{Kernel, Asleep};
+ghost use Rattle.klp_machine.specs.Task.{task_at, with_task, is_mode, at_target, in_state, all_in};
+ghost use Rattle.klp_machine.specs.TaskStep.{new_task, state_of_task, exited};
+ghost use Rattle.klp_machine.specs.Blocked.{switched, lags};
+ghost use Rattle.klp_tasks.specs.Members.{has, ArePassing, IsSetOf};
+ghost use Rattle.klp_tasks.specs.Sleepers.{sleeps_where};
+ghost use Rattle.klp_tasks.specs.Changes.{Changes, changed, row_of, row_if_moved, rows_moved, put_back, undone};
+
+use crate::version_set::VersionSet;
+use arrayvec::ArrayVec;
+use klp_types::{Frames, MAX_TASKS, Mode, Move, Record, Records, Task, TaskId};
+use std::alloc::{AllocError, Global};
+use std::marker::Model;
+
+/// The tasks by their numbers, of which there are [`MAX_TASKS`].
+///
+/// All room is taken by [`Tasks::new`]. Each change of one task copies its row, of some 200 bytes, into
+/// the record that it answers, and takes the same time however many tasks there are.
+#[derive(Debug, Drop)]
+pub struct Tasks {
+    rows: Vec<Option<Task>>,
+}
+
+impl Model for Tasks {
+    ghost use Rattle.std.specs.Prelude.{◌≡◌, List, Option, vec_len};
+    ghost use Rattle.klp_types.specs.declared.task.Task.{Task};
+    ghost use Rattle.klp_types.specs.declared.limits.TheConstants.{MAX_TASKS};
+
+    ghost Value = { List (Option Task) };
+
+    ghost view = { λ t. t.rows.items };
+
+    ghost invariant = { λ t. vec_len t.rows ≡ MAX_TASKS };
+}
+
+/// Whether a task isn't at the target.
+fn lags(row: &Option<Task>, target: bool) -> bool
+    ensures { result ≡ lags target row.now }
+{
+    match row {
+        None => false,
+        Some(task) => task.state != target_state(target),
+    }
+}
+
+/// The state of a task that is brought to this target.
+fn target_state(target: bool) -> i8
+    ensures { result ≡ at_target target }
+{
+    if target { 1 } else { 0 }
+}
+
+/// Whether a task sleeps inside of one of the versions.
+fn sleeps_inside(row: &Option<Task>, versions: &VersionSet) -> bool
+    ensures { result ≡ sleeps_where (has versions.now) row.now }
+{
+    match row {
+        None => false,
+        Some(task) => task.mode == Mode::Asleep && versions.holds(&task.frames),
+    }
+}
+
+/// Whether a task sleeps and is inside of nothing that is blocked.
+fn is_free(task: &Task, blocked: &VersionSet) -> bool
+    ensures { result ≡ (is_mode task.now.mode Asleep && not (list_any (has blocked.now) task.now.frames)) }
+{
+    task.mode == Mode::Asleep && !blocked.holds(&task.frames)
+}
+
+/// Whether a task has the state.
+fn has_state(task: &Task, state: i8) -> bool
+    ensures { result ≡ int_eq task.now.state state }
+{
+    task.state == state
+}
+
+/// What the row of a number was.
+fn record_of(task: TaskId, was: Option<Task>) -> Record
+    ensures { result ≡ row_of task was }
+{
+    match was {
+        Some(was) => Record::TaskRow { task, was },
+        None => Record::NoTaskRow { task },
+    }
+}
+
+impl Tasks {
+    /// No task. An error is want of memory.
+    pub fn new(alloc: Global) -> Result<Self, AllocError>
+        ensures { IfOk result (λ tasks. tasks ≡ replicate MAX_TASKS None) }
+    {
+        Ok(Self {
+            rows: vec![in alloc; None; MAX_TASKS]?,
+        })
+    }
+
+    /// A task, if it is there. No number from [`MAX_TASKS`] on is a task's.
+    pub fn get(&self, task: TaskId) -> Option<&Task>
+        ensures task { option_copied result ≡ task_at self.now task }
+        ensures limit { length self.now ≡ MAX_TASKS }
+    {
+        self.rows.get(usize::from(task.0))?.as_ref()
+    }
+
+    /// For each number the state of the task, if it is there. It looks at all rows.
+    pub fn states(&self) -> ArrayVec<Option<i8>, MAX_TASKS>
+        ensures { result.items ≡ map (option_map (λ (t : AnyTask). t.state)) self.now }
+    {
+        let mut states = ArrayVec::new();
+        for row in &self.rows {
+            states.push(match row {
+                Some(task) => Some(task.state),
+                None => None,
+            });
+        }
+        states
+    }
+
+    /// How many tasks aren't at the target. It looks at all rows.
+    pub fn lagging(&self, target: bool) -> u8
+        ensures { result ≡ count_by (lags target) self.now }
+    {
+        self.rows.iter().filter(|row| lags(*row, target)).count() as u8
+    }
+
+    /// Whether a task sleeps inside of one of the versions. It looks at all rows and their frames.
+    pub fn sleeps_in(&self, versions: &VersionSet) -> bool
+        ensures { (test : AnyVersion → Bool) → ArePassing versions.now test → result ≡ list_any (sleeps_where test) self.now }
+    {
+        self.holds_sleeper(versions)
+    }
+
+    /// A new task is there. It runs in user space.
+    pub fn add(&mut self, task: TaskId, state: i8) -> Record
+        requires number { task < MAX_TASKS }
+        requires free { is_some (task_at self.old task) ≡ false }
+        ensures { Changes self.old self.new task result (with_task self.old task (Some (new_task state))) }
+    {
+        let added = Task {
+            state,
+            mode: Mode::User,
+            frames: Frames::new(),
+        };
+        self.replace(task, Some(added))
+    }
+
+    /// A task starts another, which takes its state over and runs in the kernel.
+    pub fn fork(&mut self, parent: TaskId, child: TaskId) -> Record
+        requires there { is_some (task_at self.old parent) ≡ true }
+        requires number { child < MAX_TASKS }
+        requires free { is_some (task_at self.old child) ≡ false }
+        ensures { Changes self.old self.new child result
+            (with_task self.old child (Some (record { state = state_of_task (task_at self.old parent); mode = Kernel; frames = [] }))) }
+    {
+        let forked = Task {
+            state: self.there(parent).state,
+            mode: Mode::Kernel,
+            frames: Frames::new(),
+        };
+        self.replace(child, Some(forked))
+    }
+
+    /// A task ends: its number is free again.
+    pub fn end(&mut self, task: TaskId) -> Record
+        requires { is_some (task_at self.old task) ≡ true }
+        ensures { Changes self.old self.new task result (with_task self.old task None) }
+    {
+        self.replace(task, None)
+    }
+
+    /// A task enters the kernel.
+    pub fn enter(&mut self, task: TaskId) -> Record
+        requires { is_some (task_at self.old task) ≡ true }
+        ensures { Changes self.old self.new task result (changed self.old task (λ (t : AnyTask). record t { mode = Kernel })) }
+    {
+        let entered = Task {
+            mode: Mode::Kernel,
+            ..self.there(task)
+        };
+        self.replace(task, Some(entered))
+    }
+
+    /// A task leaves the kernel, and is brought to the target of whatever moves (kernel exit switching).
+    pub fn leave(&mut self, task: TaskId, moving: Option<Move>) -> Record
+        requires { is_some (task_at self.old task) ≡ true }
+        ensures { Changes self.old self.new task result (changed self.old task (exited moving)) }
+    {
+        let row = self.there(task);
+        let left = Task {
+            state: match moving {
+                None => row.state,
+                Some(moving) => target_state(moving.target),
+            },
+            mode: Mode::User,
+            ..row
+        };
+        self.replace(task, Some(left))
+    }
+
+    /// A task falls asleep inside of these frames.
+    pub fn sleep(&mut self, task: TaskId, frames: Frames) -> Record
+        requires { is_some (task_at self.old task) ≡ true }
+        ensures { Changes self.old self.new task result (changed self.old task (λ (t : AnyTask). record t { mode = Asleep; frames = frames })) }
+    {
+        let asleep = Task {
+            mode: Mode::Asleep,
+            frames,
+            ..self.there(task)
+        };
+        self.replace(task, Some(asleep))
+    }
+
+    /// A task wakes up in the kernel. The record tells what it was inside of.
+    pub fn wake(&mut self, task: TaskId) -> Record
+        requires { is_some (task_at self.old task) ≡ true }
+        ensures { Changes self.old self.new task result (changed self.old task (λ (t : AnyTask). record t { mode = Kernel; frames = [] })) }
+    {
+        let woken = Task {
+            mode: Mode::Kernel,
+            frames: Frames::new(),
+            ..self.there(task)
+        };
+        self.replace(task, Some(woken))
+    }
+
+    /// A sleeping task is brought to the target where none of its frames is blocked (stack checking of
+    /// sleeping tasks). Nothing is told of a task that stays as it was, nor of a number that no task
+    /// has. It looks at no more than the task's frames.
+    pub fn switch_if_clear(
+        &mut self,
+        task: TaskId,
+        blocked: &VersionSet,
+        target: bool,
+    ) -> Option<Record>
+        ensures tasks { (versions : List AnyVersion) → IsSetOf blocked.now versions → self.new ≡ changed self.old task (switched versions target) }
+        ensures row { result ≡ row_if_moved task (task_at self.old task) (task_at self.new task) }
+        ensures undo { undone self.new (option_to_list result) ≡ self.old }
+    {
+        let row = self.get(task)?;
+        if !is_free(row, blocked) {
+            return None;
+        }
+        self.set_state(task, target_state(target))
+    }
+
+    /// Every task gets the state. Each task whose state was another is noted, in the order of their
+    /// numbers. It looks at all rows.
+    pub fn set_all(&mut self, state: i8, log: &mut Records)
+        requires { length (rows_moved 0 self.old (all_in state self.old)) ≤ spare_of log.old }
+        ensures tasks { self.new ≡ all_in state self.old }
+        ensures records { log.new ≡ record log.old { noted = log.old.noted ++ rows_moved 0 self.old (all_in state self.old) } }
+        ensures undo { undone self.new (rows_moved 0 self.old (all_in state self.old)) ≡ self.old }
+    {
+        for number in 0..self.rows.len() as u8 {
+            if let Some(row) = self.set_state(TaskId(number), state) {
+                log.note(row);
+            }
+        }
+    }
+
+    /// Gives one row what the record tells. A record of a number that no task can have, or of a row
+    /// that isn't the tasks', changes nothing.
+    pub fn put_back(&mut self, row: Record)
+        ensures { self.new ≡ put_back self.old row }
+    {
+        match row {
+            Record::TaskRow { task, was } => self.put(task, Some(was)),
+            Record::NoTaskRow { task } => self.put(task, None),
+            _ => {}
+        }
+    }
+
+    /// Whether a task sleeps inside of one of the versions.
+    fn holds_sleeper(&self, versions: &VersionSet) -> bool
+        ensures { result ≡ list_any (sleeps_where (has versions.now)) self.now }
+    {
+        self.rows.iter().any(|row| sleeps_inside(row, versions))
+    }
+
+    /// A task that is there.
+    fn there(&self, task: TaskId) -> Task
+        requires { is_some (task_at self.now task) ≡ true }
+        ensures { task_at self.now task ≡ Some result }
+    {
+        match self.rows[usize::from(task.0)] {
+            Some(row) => row,
+            None => unreachable!(),
+        }
+    }
+
+    /// The row of a number, if there may be one, is this.
+    fn put(&mut self, task: TaskId, row: Option<Task>)
+        ensures { self.new ≡ with_task self.old task row }
+    {
+        let task = usize::from(task.0);
+        if task < MAX_TASKS {
+            self.rows[task] = row;
+        }
+    }
+
+    /// The row of a number, if there may be one, is this, and the record tells what it was.
+    fn replace(&mut self, task: TaskId, row: Option<Task>) -> Record
+        ensures { Changes self.old self.new task result (with_task self.old task row) }
+    {
+        let was = self.get(task).copied();
+        self.put(task, row);
+        record_of(task, was)
+    }
+
+    /// A task gets the state, if it is there. What it was is told where its state was another.
+    fn set_state(&mut self, task: TaskId, state: i8) -> Option<Record>
+        ensures tasks { self.new ≡ changed self.old task (in_state state) }
+        ensures row { result ≡ row_if_moved task (task_at self.old task) (task_at self.new task) }
+        ensures undo { undone self.new (option_to_list result) ≡ self.old }
+    {
+        let row = *self.get(task)?;
+        if has_state(&row, state) {
+            return None;
+        }
+        Some(self.replace(task, Some(Task { state, ..row })))
+    }
+}
