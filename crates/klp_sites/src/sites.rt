@@ -5,7 +5,7 @@ ghost use Rattle.klp_text.specs.TextImage.{site_count};
 ghost use Rattle.klp_machine.specs.Blocked.{blocked_among};
 ghost use Rattle.klp_machine.specs.Rows.{word_of};
 ghost use Rattle.klp_stack.specs.Stack.{entries_at, has_entry};
-ghost use Rattle.klp_sites.specs.Table.{bytes_at, image_of, opening};
+ghost use Rattle.klp_sites.specs.Table.{bytes_at, image_of, is_hooked_at, opening};
 ghost use Rattle.klp_sites.specs.Changes.{Changes, pushed, taken, rows_of_push, rows_of_take};
 ghost use Rattle.klp_sites.specs.Undo.{put_back, put_loaded};
 
@@ -49,6 +49,13 @@ fn count_sites(image: &Image) -> usize
     sites
 }
 
+/// Whether a site is to be hooked: it has an entry.
+fn is_hooked(stacks: &Stacks, site: Site) -> bool
+    ensures { result ≡ is_hooked_at stacks.now site }
+{
+    stacks.hooks(site) > 0
+}
+
 impl Sites {
     /// The image with a stack without entries for each site. An error is want of memory, and the
     /// image is dropped with it.
@@ -69,9 +76,9 @@ impl Sites {
         requires records { length (rows_of_push self.old site entry) ≤ spare_of log.old }
         ensures changes { Changes self.old self.new log.old log.new (pushed self.old site entry) (rows_of_push self.old site entry) }
     {
-        let is_first = self.stacks.hooks(site) == 0;
+        let was_hooked = is_hooked(&self.stacks, site);
         log.note(self.stacks.push(site, entry));
-        if is_first {
+        if !was_hooked {
             self.image.hook(site);
             log.note(Record::HookFlag { site, was: false });
         }
@@ -85,7 +92,7 @@ impl Sites {
         ensures changes { Changes self.old self.new log.old log.new (taken self.old site patch) (rows_of_take self.old site patch) }
     {
         log.note(self.stacks.take(site, patch));
-        if self.stacks.hooks(site) == 0 {
+        if !is_hooked(&self.stacks, site) {
             self.image.unhook(site);
             log.note(Record::HookFlag { site, was: true });
         }
@@ -134,15 +141,16 @@ impl Sites {
     fn put_entry(&mut self, site: Site, patch: PatchId, was: Option<Place>)
         ensures { self.new ≡ put_back self.old (Record.StackEntry site patch was) }
     {
-        let was_hooked = self.stacks.hooks(site) > 0;
+        let was_hooked = is_hooked(&self.stacks, site);
         self.stacks
             .put_back(Record::StackEntry { site, patch, was });
-        let is_hooked = self.stacks.hooks(site) > 0;
-        if is_hooked && !was_hooked {
-            self.image.hook(site);
-        }
-        if was_hooked && !is_hooked {
-            self.image.unhook(site);
+        let is_hooked = is_hooked(&self.stacks, site);
+        if is_hooked != was_hooked {
+            if is_hooked {
+                self.image.hook(site);
+            } else {
+                self.image.unhook(site);
+            }
         }
     }
 
