@@ -1,10 +1,10 @@
 -- The image and the stacks stay in step where the stack of one site changes.
-use Rattle.std.proofs.Common.{◌≡◌, ℕ, zero, suc, Bool, true, false, not, List, [], ◌∷◌, length, get_or, map, set, ◌<◌, refl, sym, ap, ◌∙◌, arith, ltb}
+use Rattle.std.proofs.Common.{◌≡◌, ℕ, zero, suc, Bool, true, false, not, List, [], ◌∷◌, length, get_or, map, replicate, set, ◌<◌, refl, sym, ap, ◌∙◌, arith, ltb}
 use Rattle.std.proofs.Math.Bool.{beq}
 use Rattle.std.proofs.lemmas.Bool.{lt-ltb}
-use Rattle.std.proofs.lemmas.List.{length-set, get_or-set_same, set-get_or}
+use Rattle.std.proofs.lemmas.List.{length-replicate, length-set, get_or-set_same, set-get_or}
 use Rattle.klp_types.specs.declared.version.Entry.{Entry}
-use Rattle.klp_text.specs.TextImage.{TextImage}
+use Rattle.klp_text.specs.TextImage.{TextImage, site_count}
 use Rattle.klp_stack.specs.Stack.{has_entry}
 use Rattle.klp_sites.specs.Table.{is_stacked, is_hooked_at, IsInStep}
 
@@ -58,3 +58,15 @@ same_flag true true e = refl
 same_flag true false e = cc
 same_flag false true e = cc
 same_flag false false e = refl
+
+flags_resting : (n : ℕ) → replicate n false ≡ map is_stacked (replicate n [])
+flags_resting zero = refl
+flags_resting (suc n) = ap (λ rest. false ∷ rest) (flags_resting n)
+
+-- an image that isn't hooked anywhere is in step with stacks without entries
+pub opened : (image : TextImage) (n : ℕ) (stacks : List Entries) → n ≡ site_count image.image → image.hooked ≡ replicate (site_count image.image) false → stacks ≡ replicate n []
+    → IsInStep image stacks
+opened image n stacks count resting is = record {
+  each_stack = ap length is ∙ length-replicate n [] ∙ count;
+  hooks = resting ∙ flags_resting (site_count image.image) ∙ sym (ap (map is_stacked) (is ∙ ap (λ k. replicate k []) count));
+}

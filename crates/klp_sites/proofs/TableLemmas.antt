@@ -1,5 +1,5 @@
 -- What the image's answers are by the stacks, and records of objects put back.
-use Rattle.std.proofs.Common.{◌≡◌, ℕ, zero, suc, ◌+◌, ◌<◌, Bool, true, false, cond, List, [], ◌∷◌, length, drop, get_or, set, refl, sym, ap, ◌∙◌, arith, length-append, Option, Some, None}
+use Rattle.std.proofs.Common.{◌≡◌, ℕ, zero, suc, ◌+◌, ◌<◌, Bool, false, cond, List, [], ◌∷◌, length, drop, get_or, set, refl, ap, ◌∙◌, length-append, Option, Some, None}
 use Rattle.std.specs.List.{slice_get}
 use Rattle.std.specs.Option.{option_map, option_and_then, unwrap_or}
 use Rattle.std.proofs.lemmas.Bool.{lt-ltb}
@@ -35,10 +35,11 @@ same_bytes image stacks kept object number =
     )
 
 -- an object that was made loaded, or one that isn't, is again what it was
-pub loaded_undone : (table : SiteTable) (object : ℕ) (flag : Bool) → object < length table.image.objects
-    → put_loaded (record table { loaded = set table.loaded object flag }) object (get_or table.loaded object false) ≡ table
-loaded_undone table object flag there =
-    let was = get_or table.loaded object false in
+pub loaded_undone : (table after : SiteTable) (object : ℕ) (flag was : Bool) → object < length table.image.objects → after ≡ record table { loaded = set table.loaded object flag }
+    → was ≡ get_or table.loaded object false → put_loaded after object was ≡ table
+loaded_undone table after object flag was there is read =
     let changed : SiteTable = record table { loaded = set table.loaded object flag } in
-    ap (λ found. cond found (record changed { loaded = set changed.loaded object was }) changed) (lt-ltb object (length table.image.objects) there)
-    ∙ ap (λ flags. record table { loaded = flags }) (set-set table.loaded object flag was ∙ set-get_or table.loaded object false)
+    ap (λ t. put_loaded t object was) is
+    ∙ ap (λ found. cond found (record changed { loaded = set changed.loaded object was }) changed) (lt-ltb object (length table.image.objects) there)
+    ∙ ap (λ flags. record table { loaded = flags })
+    (set-set table.loaded object flag was ∙ ap (set table.loaded object) read ∙ set-get_or table.loaded object false)

@@ -106,9 +106,7 @@ impl Sites {
         ensures table { self.new ≡ record self.old { loaded = slice_set self.old.loaded object true } }
         ensures undo { put_back self.new result ≡ self.old }
     {
-        let was = self.image.is_loaded(object);
-        self.image.load(object);
-        Record::LoadedFlag { object, was }
+        self.set_loaded(object, true)
     }
 
     /// Makes an object one that isn't loaded, and answers whether it was. Its sites stay hooked or
@@ -119,9 +117,7 @@ impl Sites {
         ensures table { self.new ≡ record self.old { loaded = slice_set self.old.loaded object false } }
         ensures undo { put_back self.new result ≡ self.old }
     {
-        let was = self.image.is_loaded(object);
-        self.image.unload(object);
-        Record::LoadedFlag { object, was }
+        self.set_loaded(object, false)
     }
 
     /// Gives one row what the record tells: an entry, with which the hook of its site comes or goes,
@@ -158,17 +154,30 @@ impl Sites {
         ensures { self.new ≡ put_loaded self.old object was }
     {
         if object.0 < self.image.objects() {
-            if was {
-                self.image.load(object);
-            } else {
-                self.image.unload(object);
-            }
+            self.set_loaded(object, was);
         }
+    }
+
+    /// Makes an object loaded or one that isn't, and answers which it was.
+    fn set_loaded(&mut self, object: ObjId, loaded: bool) -> Record
+        requires { object < length self.old.image.objects }
+        ensures row { result ≡ Record.LoadedFlag object (slice_index_or self.old.loaded object false) }
+        ensures table { self.new ≡ record self.old { loaded = slice_set self.old.loaded object loaded } }
+        ensures undo { put_back self.new result ≡ self.old }
+    {
+        let was = self.is_loaded(object);
+        if loaded {
+            self.image.load(object);
+        } else {
+            self.image.unload(object);
+        }
+        Record::LoadedFlag { object, was }
     }
 
     /// The image as it stands, with its names and addresses. It is this one's to change.
     pub fn image(&self) -> &Image
-        ensures { result.now ≡ image_of self.now }
+        ensures value { result.now ≡ image_of self.now }
+        ensures sites { length self.now.stacks ≡ site_count self.now.image }
     {
         &self.image
     }

@@ -1,7 +1,6 @@
-use Rattle.std.proofs.Common.{true, false, refl, sym, ◌∙◌}
+use Rattle.std.proofs.Common.{true, false, sym, ◌∙◌}
 use Rattle.klp_stack.specs.Stack.{entries_at}
 use Rattle.klp_stack.specs.Undo.{put_entry}
-use Rattle.klp_sites.specs.Table.{is_hooked_at}
 use Rattle.klp_sites.proofs.StepLemmas.{turned, unturned, same_flag}
 use Rattle.klp_sites.proofs.sites.Sites.put_entry.Goals as goal
 
