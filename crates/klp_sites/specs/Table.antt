@@ -1,0 +1,47 @@
+-- The image and the stacks of its sites, in step.
+use Rattle.std.specs.Prelude.{◌≡◌, ℕ, Bool, false, not, List, [], length, map, replicate, Option, None, option_map, slice_index_or, if◌then◌else◌}
+use Rattle.klp_types.specs.declared.version.Entry.{Entry}
+use Rattle.klp_types.specs.Bytes.{symbol_in, text_where}
+use Rattle.klp_types.specs.Entries.{is_empty}
+use Rattle.klp_types.specs.Image.{Symbol, Image}
+use Rattle.klp_text.specs.TextImage.{TextImage, site_count}
+use Rattle.klp_stack.specs.Stack.{entries_at}
+
+pub record SiteTable : Type 0 where
+  -- as it was given
+  pub image : Image
+  -- for each object, whether it is loaded
+  pub loaded : List Bool
+  -- for each site its entries, newest first
+  pub stacks : List (List Entry)
+
+-- whether a stack has an entry: its site is hooked exactly then
+abbrev pub is_stacked : List Entry → Bool
+is_stacked entries = not (is_empty entries)
+
+-- whether a site is hooked; one that isn't there isn't
+abbrev pub is_hooked_at : List (List Entry) → ℕ → Bool
+is_hooked_at stacks site = is_stacked (entries_at stacks site)
+
+-- the image as it stands, with a hook at each site that has an entry
+abbrev pub image_of : SiteTable → TextImage
+image_of table = record { image = table.image; loaded = table.loaded; hooked = map is_stacked table.stacks }
+
+-- an image and stacks are in step
+pub record IsInStep (image : TextImage) (stacks : List (List Entry)) : Type 0 where
+  -- each site has a stack
+  pub each_stack : length stacks ≡ site_count image.image
+  -- the hooked sites are those whose stack has an entry
+  pub hooks : image.hooked ≡ map is_stacked stacks
+
+-- the image as it was given, with no entries
+abbrev pub opening : TextImage → SiteTable
+opening image = record { image = image.image; loaded = image.loaded; stacks = replicate (site_count image.image) [] }
+
+-- the symbols of a loaded object, with the bytes that a processor would run
+abbrev pub text_at : SiteTable → ℕ → Option (List Symbol)
+text_at table object = if slice_index_or table.loaded object false then text_where table.image (is_hooked_at table.stacks) object else None
+
+-- the bytes of one of them
+abbrev pub bytes_at : SiteTable → ℕ → ℕ → Option (List ℕ)
+bytes_at table object number = option_map (λ (symbol : Symbol). symbol.body) (symbol_in (text_at table object) number)

@@ -1,0 +1,231 @@
+ghost use Rattle.std.specs.Prelude.{◌≡◌, ◌<◌, ◌≤◌, true, false, length, replicate, option_map, slice_index_or, slice_set, IfOk};
+ghost use Rattle.std.specs.Option.{option_to_list};
+ghost use Rattle.klp_types.specs.Records.{spare_of};
+ghost use Rattle.klp_text.specs.TextImage.{site_count};
+ghost use Rattle.klp_machine.specs.Blocked.{blocked_among};
+ghost use Rattle.klp_machine.specs.Rows.{word_of};
+ghost use Rattle.klp_stack.specs.Stack.{entries_at, has_entry};
+ghost use Rattle.klp_sites.specs.Table.{bytes_at, image_of, is_hooked_at, opening};
+ghost use Rattle.klp_sites.specs.Changes.{Changes, pushed, taken, rows_of_push, rows_of_take};
+ghost use Rattle.klp_sites.specs.Undo.{put_back, put_loaded};
+
+use arrayvec::ArrayVec;
+use klp_stack::Stacks;
+use klp_text::Image;
+use klp_types::{
+    Entry, MAX_PATCHES, Move, ObjId, PatchId, Place, Record, Records, Site, SiteWord, Version,
+};
+use std::alloc::{AllocError, Global};
+use std::marker::Model;
+
+/// The image and the function stacks of its sites.
+///
+/// All room is taken by [`Sites::new`]. Each change notes or answers a record of every row that it
+/// changes, as it was. To put these records back, newest first, gives the table before the changes.
+#[derive(Debug, Drop)]
+pub struct Sites {
+    image: Image,
+    stacks: Stacks,
+}
+
+impl Model for Sites {
+    ghost use Rattle.klp_sites.specs.Table.{SiteTable, IsInStep};
+
+    ghost Value = { SiteTable };
+
+    ghost view = { λ s. record { image = s.image.image; loaded = s.image.loaded; stacks = s.stacks } };
+
+    ghost invariant = { λ s. IsInStep s.image s.stacks };
+}
+
+/// How many sites the objects of an image have, loaded or not.
+fn count_sites(image: &Image) -> usize
+    ensures { result ≡ site_count image.now.image }
+{
+    let mut sites = 0;
+    for object in 0..image.objects() {
+        sites += usize::from(image.symbols(ObjId(object)).unwrap_or(0));
+    }
+    sites
+}
+
+/// Whether a site is to be hooked: it has an entry.
+fn is_hooked(stacks: &Stacks, site: Site) -> bool
+    ensures { result ≡ is_hooked_at stacks.now site }
+{
+    stacks.hooks(site) > 0
+}
+
+impl Sites {
+    /// The image with a stack without entries for each site. An error is want of memory, and the
+    /// image is dropped with it.
+    pub fn new(alloc: Global, image: Image) -> Result<Self, AllocError>
+        requires { image.hooked ≡ replicate (site_count image.image) false }
+        ensures { IfOk result (λ sites. sites ≡ opening image) }
+    {
+        let stacks = Stacks::new(alloc, count_sites(&image))?;
+        Ok(Self { image, stacks })
+    }
+
+    /// Puts an entry on top of a site's stack, and hooks the site with its first. The cost is
+    /// constant.
+    pub fn push(&mut self, site: Site, entry: Entry, log: &mut Records)
+        requires there { site < length self.old.stacks }
+        requires fresh { has_entry entry.patch (entries_at self.old.stacks site) ≡ false }
+        requires number { entry.patch < MAX_PATCHES }
+        requires records { length (rows_of_push self.old site entry) ≤ spare_of log.old }
+        ensures changes { Changes self.old self.new log.old log.new (pushed self.old site entry) (rows_of_push self.old site entry) }
+    {
+        let was_hooked = is_hooked(&self.stacks, site);
+        log.note(self.stacks.push(site, entry));
+        if !was_hooked {
+            self.image.hook(site);
+            log.note(Record::HookFlag { site, was: false });
+        }
+    }
+
+    /// Takes the entry of a patch out of a site's stack, and unhooks the site with its last. The cost
+    /// is at most the stack's height.
+    pub fn take(&mut self, site: Site, patch: PatchId, log: &mut Records)
+        requires there { has_entry patch (entries_at self.old.stacks site) ≡ true }
+        requires records { length (rows_of_take self.old site patch) ≤ spare_of log.old }
+        ensures changes { Changes self.old self.new log.old log.new (taken self.old site patch) (rows_of_take self.old site patch) }
+    {
+        log.note(self.stacks.take(site, patch));
+        if !is_hooked(&self.stacks, site) {
+            self.image.unhook(site);
+            log.note(Record::HookFlag { site, was: true });
+        }
+    }
+
+    /// Makes an object loaded, and answers whether it was. Its sites stay hooked or unhooked as they
+    /// are. The cost is constant.
+    pub fn load(&mut self, object: ObjId) -> Record
+        requires { object < length self.old.image.objects }
+        ensures row { result ≡ Record.LoadedFlag object (slice_index_or self.old.loaded object false) }
+        ensures table { self.new ≡ record self.old { loaded = slice_set self.old.loaded object true } }
+        ensures undo { put_back self.new result ≡ self.old }
+    {
+        self.set_loaded(object, true)
+    }
+
+    /// Makes an object one that isn't loaded, and answers whether it was. Its sites stay hooked or
+    /// unhooked as they are. The cost is constant.
+    pub fn unload(&mut self, object: ObjId) -> Record
+        requires { object < length self.old.image.objects }
+        ensures row { result ≡ Record.LoadedFlag object (slice_index_or self.old.loaded object false) }
+        ensures table { self.new ≡ record self.old { loaded = slice_set self.old.loaded object false } }
+        ensures undo { put_back self.new result ≡ self.old }
+    {
+        self.set_loaded(object, false)
+    }
+
+    /// Gives one row what the record tells: an entry, with which the hook of its site comes or goes,
+    /// or whether an object is loaded. Nothing changes where there is no such site or object, and by
+    /// a record of another kind. The cost is at most the stack's height.
+    pub fn put_back(&mut self, row: Record)
+        ensures { self.new ≡ put_back self.old row }
+    {
+        match row {
+            Record::StackEntry { site, patch, was } => self.put_entry(site, patch, was),
+            Record::LoadedFlag { object, was } => self.put_loaded(object, was),
+            _ => {}
+        }
+    }
+
+    /// Puts an entry of the site back, or takes it out.
+    fn put_entry(&mut self, site: Site, patch: PatchId, was: Option<Place>)
+        ensures { self.new ≡ put_back self.old (Record.StackEntry site patch was) }
+    {
+        let was_hooked = is_hooked(&self.stacks, site);
+        self.stacks
+            .put_back(Record::StackEntry { site, patch, was });
+        let is_hooked = is_hooked(&self.stacks, site);
+        if is_hooked != was_hooked {
+            if is_hooked {
+                self.image.hook(site);
+            } else {
+                self.image.unhook(site);
+            }
+        }
+    }
+
+    fn put_loaded(&mut self, object: ObjId, was: bool)
+        ensures { self.new ≡ put_loaded self.old object was }
+    {
+        if object.0 < self.image.objects() {
+            self.set_loaded(object, was);
+        }
+    }
+
+    /// Makes an object loaded or one that isn't, and answers which it was.
+    fn set_loaded(&mut self, object: ObjId, loaded: bool) -> Record
+        requires { object < length self.old.image.objects }
+        ensures row { result ≡ Record.LoadedFlag object (slice_index_or self.old.loaded object false) }
+        ensures table { self.new ≡ record self.old { loaded = slice_set self.old.loaded object loaded } }
+        ensures undo { put_back self.new result ≡ self.old }
+    {
+        let was = self.is_loaded(object);
+        if loaded {
+            self.image.load(object);
+        } else {
+            self.image.unload(object);
+        }
+        Record::LoadedFlag { object, was }
+    }
+
+    /// The image as it stands, with its names and addresses. It is this one's to change.
+    pub fn image(&self) -> &Image
+        ensures value { result.now ≡ image_of self.now }
+        ensures sites { length self.now.stacks ≡ site_count self.now.image }
+    {
+        &self.image
+    }
+
+    /// Whether an object is loaded. An object that isn't there isn't.
+    pub fn is_loaded(&self, object: ObjId) -> bool
+        ensures { result ≡ slice_index_or self.now.loaded object false }
+    {
+        self.image.is_loaded(object)
+    }
+
+    /// The bytes of a symbol of a loaded object, as a processor would run them. Symbols count from
+    /// 0 in each object. There is none where the object isn't loaded or has no such symbol. The cost
+    /// is constant.
+    pub fn bytes(&self, object: ObjId, number: u16) -> Option<&[u8]>
+        ensures { option_map (λ b. b.now) result ≡ bytes_at self.now object number }
+    {
+        self.image.bytes(object, number)
+    }
+
+    /// How many entries a site has, nops among them; a site that isn't there has none. It is hooked
+    /// while it has one. The cost is constant.
+    pub fn hooks(&self, site: Site) -> u16
+        ensures { result ≡ length (entries_at self.now.stacks site) }
+    {
+        self.stacks.hooks(site)
+    }
+
+    /// What a call at a site needs to know while this patch moves, at a constant cost.
+    pub fn word(&self, site: Site, moving: Option<Move>) -> SiteWord
+        ensures { result ≡ word_of moving (entries_at self.now.stacks site) }
+    {
+        self.stacks.word(site, moving)
+    }
+
+    /// The entries of a site, newest first. The cost is the stack's height.
+    pub fn entries(&self, site: Site) -> ArrayVec<Entry, MAX_PATCHES>
+        ensures { result.items ≡ entries_at self.now.stacks site }
+    {
+        self.stacks.entries(site)
+    }
+
+    /// The version at a site that a task mustn't be inside of when it switches: none where the moving
+    /// patch has no entry there (the kernel's `klp_check_stack_func`). The cost is at most the
+    /// stack's height.
+    pub fn blocked(&self, site: Site, moving: Move) -> Option<Version>
+        ensures { option_to_list result ≡ blocked_among site moving (entries_at self.now.stacks site) }
+    {
+        self.stacks.blocked(site, moving)
+    }
+}
