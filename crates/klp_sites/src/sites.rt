@@ -207,7 +207,7 @@ impl Sites {
     }
 
     /// What a call at a site needs to know while this patch moves, at a constant cost.
-    pub fn word(&self, site: Site, moving: Option<Move>) -> SiteWord
+    pub fn word(&self, site: Site, moving: Option<PatchId>) -> SiteWord
         ensures { result ≡ word_of moving (entries_at self.now.stacks site) }
     {
         self.stacks.word(site, moving)
