@@ -206,7 +206,8 @@ impl Sites {
         self.stacks.hooks(site)
     }
 
-    /// What a call at a site needs to know while this patch moves, at a constant cost.
+    /// What a call at a site needs to know, at a constant cost. `moving` is the patch in transition, if
+    /// there is one.
     pub fn word(&self, site: Site, moving: Option<PatchId>) -> SiteWord
         ensures { result ≡ word_of moving (entries_at self.now.stacks site) }
     {
@@ -220,9 +221,9 @@ impl Sites {
         self.stacks.entries(site)
     }
 
-    /// The version at a site that a task mustn't be inside of when it switches: none where the moving
-    /// patch has no entry there (the kernel's `klp_check_stack_func`). The cost is at most the
-    /// stack's height.
+    /// The version at a site that a task mustn't be inside of when it switches (what the kernel's
+    /// `klp_check_stack_func` looks for): none where the moving patch has no entry there. The cost is
+    /// at most the stack's height.
     pub fn blocked(&self, site: Site, moving: Move) -> Option<Version>
         ensures { option_to_list result ≡ blocked_among site moving (entries_at self.now.stacks site) }
     {

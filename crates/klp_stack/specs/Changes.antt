@@ -4,7 +4,7 @@ use Rattle.klp_types.specs.declared.record.Record.{Record}
 use Rattle.klp_types.specs.declared.version.Entry.{Entry}
 use Rattle.klp_stack.specs.Undo.{put_back}
 
--- a change makes these stacks of those before, and tells what the entry was that it changes
+-- a change makes these stacks of those before
 pub record Changes (before after : List (List Entry)) (row : Record) (to : List (List Entry)) : Type 0 where
   -- the stacks are those that the change is to make
   pub stacks : after ≡ to

@@ -17,18 +17,18 @@ use Rattle.klp_machine.specs.TaskStep.{change_task}
 use Rattle.klp_machine.specs.Blocked.{is_version, is_held, switched}
 use Rattle.klp_tasks.specs.Members.{VersionFlags, has, IsSetOf}
 use Rattle.klp_tasks.proofs.MemberLemmas.{same_any}
-use Rattle.klp_tasks.specs.Changes.{row_of, put_back, undone, changed_row, changed, row_if_moved, rows_moved}
+use Rattle.klp_tasks.specs.Changes.{record_of, put_back, undone, changed_row, changed, record_if_switched, records_switched}
 
 set_back : (tasks : Tasks) (number : ℕ) (row : Option Task) → set (set tasks number row) number (get_or tasks number None) ≡ tasks
 set_back [] number row = refl
 set_back (first ∷ tasks) zero row = refl
 set_back (first ∷ tasks) (suc number) row = ap (λ rest. first ∷ rest) (set_back tasks number row)
 
-put_row : (tasks : Tasks) (number : ℕ) (row : Option Task) → put_back tasks (row_of number row) ≡ with_task tasks number row
+put_row : (tasks : Tasks) (number : ℕ) (row : Option Task) → put_back tasks (record_of number row) ≡ with_task tasks number row
 put_row tasks number None = refl
 put_row tasks number (Some task) = refl
 
-pub row_back : (tasks : Tasks) (number : ℕ) (row : Option Task) → put_back (with_task tasks number row) (row_of number (task_at tasks number)) ≡ tasks
+pub row_back : (tasks : Tasks) (number : ℕ) (row : Option Task) → put_back (with_task tasks number row) (record_of number (task_at tasks number)) ≡ tasks
 row_back tasks number row = put_row (with_task tasks number row) number (task_at tasks number) ∙ set_back tasks number row
 
 -- the first tasks are changed
@@ -73,19 +73,19 @@ pub option_cases : {A : Type 0} (P : Option A → Type 0) → P None → ((x : A
 option_cases P none some None = none
 option_cases P none some (Some x) = some x
 
-row_same : (number : ℕ) (task : Option Task) → option_to_list (row_if_moved number task task) ≡ []
+row_same : (number : ℕ) (task : Option Task) → option_to_list (record_if_switched number task task) ≡ []
 row_same number None = refl
 row_same number (Some task) = rw ((Decides-int_eq task.state task.state).1 refl) refl
 
-rows_same : (number : ℕ) (tasks : Tasks) → rows_moved number tasks tasks ≡ []
+rows_same : (number : ℕ) (tasks : Tasks) → records_switched number tasks tasks ≡ []
 rows_same number [] = refl
 rows_same number (task ∷ tasks) = rw (row_same number task) (rows_same (suc number) tasks)
 
 -- one more task is changed
 rows_step : (f : Task → Task) (start count : ℕ) (tasks : Tasks)
-    → rows_moved start tasks (partly f (suc count) tasks)
-    ≡ rows_moved start tasks (partly f count tasks)
-    ++ option_to_list (row_if_moved (start + count) (task_at (partly f count tasks) count) (task_at (partly f (suc count) tasks) count))
+    → records_switched start tasks (partly f (suc count) tasks)
+    ≡ records_switched start tasks (partly f count tasks)
+    ++ option_to_list (record_if_switched (start + count) (task_at (partly f count tasks) count) (task_at (partly f (suc count) tasks) count))
 rows_step f start zero [] = refl
 rows_step f start zero (task ∷ tasks) = rw (rows_same (suc start) tasks, row_same start task, add-zero, append-nil) refl
 rows_step f start (suc count) [] = refl
@@ -93,7 +93,7 @@ rows_step f start (suc count) (task ∷ tasks) =
     let number : start + suc count ≡ suc start + count = omega arith in
     rw (number, rows_step f (suc start) count tasks, append_assoc) refl
 
-rows_few : (f : Task → Task) (start count : ℕ) (tasks : Tasks) → length (rows_moved start tasks (partly f count tasks)) ≤ length (rows_moved start tasks (map (option_map f) tasks))
+rows_few : (f : Task → Task) (start count : ℕ) (tasks : Tasks) → length (records_switched start tasks (partly f count tasks)) ≤ length (records_switched start tasks (map (option_map f) tasks))
 rows_few f start zero tasks = rw (rows_same start tasks) (omega arith)
 rows_few f start (suc count) [] = omega arith
 rows_few f start (suc count) (task ∷ tasks) =
@@ -107,18 +107,18 @@ undone-append tasks (row ∷ older) newer = ap (λ t. put_back t row) (undone-ap
 -- the first tasks are changed, and the log has what they were
 pub record ChangedSoFar (f : Task → Task) (count : ℕ) (before after : Tasks) (log_before log_after : RecordList) : Type 0 where
   pub tasks : after ≡ partly f count before
-  pub records : log_after ≡ record log_before { noted = log_before.noted ++ rows_moved 0 before after }
-  pub undo : undone after (rows_moved 0 before after) ≡ before
+  pub records : log_after ≡ record log_before { noted = log_before.noted ++ records_switched 0 before after }
+  pub undo : undone after (records_switched 0 before after) ≡ before
 
 rows_next : (f : Task → Task) (count : ℕ) (before now after : Tasks) (row : Option Record) → now ≡ partly f count before → after ≡ partly f (suc count) before
-    → row ≡ row_if_moved count (task_at now count) (task_at after count) → rows_moved 0 before after ≡ rows_moved 0 before now ++ option_to_list row
+    → row ≡ record_if_switched count (task_at now count) (task_at after count) → records_switched 0 before after ≡ records_switched 0 before now ++ option_to_list row
 rows_next f count before now after row is is_after is_row =
     let step = rw zero-add at (rows_step f 0 count before) in
     rw (is_row, is, is_after) step
 
 pub one_changed : (f : Task → Task) (count : ℕ) (before now after : Tasks) (log_before log_now log_after : RecordList) (row : Option Record)
     → ChangedSoFar f count before now log_before log_now
-    → after ≡ changed now count f → row ≡ row_if_moved count (task_at now count) (task_at after count) → undone after (option_to_list row) ≡ now
+    → after ≡ changed now count f → row ≡ record_if_switched count (task_at now count) (task_at after count) → undone after (option_to_list row) ≡ now
     → log_after ≡ record log_now { noted = log_now.noted ++ option_to_list row }
     → ChangedSoFar f (count + 1) before after log_before log_after
 one_changed f count before now after log_before log_now log_after row so_far is is_row back noted =
@@ -126,21 +126,21 @@ one_changed f count before now after log_before log_now log_after row so_far is 
     let rows = rows_next f count before now after row so_far.tasks is_now is_row in
     record {
       tasks = rw add-one is_now;
-      records = noted ∙ rw (so_far.records, rows) (ap (λ (l : List Record). record log_before { noted = l }) (append_assoc log_before.noted (rows_moved 0 before now) (option_to_list row)));
-      undo = rw (rows, undone-append after (rows_moved 0 before now) (option_to_list row), back) so_far.undo;
+      records = noted ∙ rw (so_far.records, rows) (ap (λ (l : List Record). record log_before { noted = l }) (append_assoc log_before.noted (records_switched 0 before now) (option_to_list row)));
+      undo = rw (rows, undone-append after (records_switched 0 before now) (option_to_list row), back) so_far.undo;
     }
 
 pub has_room : (f : Task → Task) (count : ℕ) (before now after : Tasks) (log_before log_now : RecordList) (row : Record)
     → ChangedSoFar f count before now log_before log_now
-    → after ≡ changed now count f → Some row ≡ row_if_moved count (task_at now count) (task_at after count)
-    → length (rows_moved 0 before (map (option_map f) before)) ≤ spare_of log_before
+    → after ≡ changed now count f → Some row ≡ record_if_switched count (task_at now count) (task_at after count)
+    → length (records_switched 0 before (map (option_map f) before)) ≤ spare_of log_before
     → 0 < spare_of log_now
 has_room f count before now after log_before log_now row so_far is is_row room =
     let is_now : after ≡ partly f (suc count) before = is ∙ rw so_far.tasks (next_changed f count before) in
-    let rows : length (rows_moved 0 before after) ≡ length (rows_moved 0 before now) + 1 =
-    ap length (rows_next f count before now after (Some row) so_far.tasks is_now is_row) ∙ length-append (rows_moved 0 before now) (row ∷ []) in
-    let few : length (rows_moved 0 before after) ≤ length (rows_moved 0 before (map (option_map f) before)) = rw is_now (rows_few f 0 (suc count) before) in
-    rw (so_far.records, length-append log_before.noted (rows_moved 0 before now)) (omega arith)
+    let rows : length (records_switched 0 before after) ≡ length (records_switched 0 before now) + 1 =
+    ap length (rows_next f count before now after (Some row) so_far.tasks is_now is_row) ∙ length-append (records_switched 0 before now) (row ∷ []) in
+    let few : length (records_switched 0 before after) ≤ length (records_switched 0 before (map (option_map f) before)) = rw is_now (rows_few f 0 (suc count) before) in
+    rw (so_far.records, length-append log_before.noted (records_switched 0 before now)) (omega arith)
 
 pub all_changed : (f : Task → Task) (count : ℕ) (before now : Tasks) (log_before log_now : RecordList) → ChangedSoFar f count before now log_before log_now
     → count ≡ length before → now ≡ map (option_map f) before
@@ -157,13 +157,13 @@ pub step_changes : (state : State) (number : ℕ) (f : Task → Task) (task : Op
 step_changes state number f None = refl
 step_changes state number f (Some task) = refl
 
-few_told : (number : ℕ) (was now : Option Task) → length (option_to_list (row_if_moved number was now)) ≤ 1
+few_told : (number : ℕ) (was now : Option Task) → length (option_to_list (record_if_switched number was now)) ≤ 1
 few_told number None now = omega arith
 few_told number (Some was) None = omega arith
 few_told number (Some was) (Some task) =
     elim (int_eq was.state task.state) as (λ (b : Bool). length (option_to_list (cond b None (Some (TaskRow number was)))) ≤ 1) [ true ↦ omega arith | false ↦ omega arith ]
 
-pub rows_are_few : (number : ℕ) (before after : Tasks) → length (rows_moved number before after) ≤ length before
+pub rows_are_few : (number : ℕ) (before after : Tasks) → length (records_switched number before after) ≤ length before
 rows_are_few number [] after = omega arith
 rows_are_few number (was ∷ before) [] = omega arith
 rows_are_few number (was ∷ before) (task ∷ after) =

@@ -11,23 +11,24 @@ abbrev pub changed_row : Tasks → ℕ → (Task → Task) → Option Task → T
 changed_row tasks number f None = tasks
 changed_row tasks number f (Some task) = with_task tasks number (Some (f task))
 
+-- the same, where the task may not be there: then nothing changes
 abbrev pub changed : Tasks → ℕ → (Task → Task) → Tasks
 changed tasks number f = changed_row tasks number f (task_at tasks number)
 
 -- what the row of a number was
-abbrev pub row_of : ℕ → Option Task → Record
-row_of number None = NoTaskRow number
-row_of number (Some task) = TaskRow number task
+abbrev pub record_of : ℕ → Option Task → Record
+record_of number None = NoTaskRow number
+record_of number (Some task) = TaskRow number task
 
 -- what the row of a task that is there was, where its state is another now
-abbrev pub row_if_moved : ℕ → Option Task → Option Task → Option Record
-row_if_moved number (Some was) (Some task) = if int_eq was.state task.state then None else Some (TaskRow number was)
-row_if_moved number was task = None
+abbrev pub record_if_switched : ℕ → Option Task → Option Task → Option Record
+record_if_switched number (Some was) (Some task) = if int_eq was.state task.state then None else Some (TaskRow number was)
+record_if_switched number was task = None
 
 -- the same of each row in order, where the first has this number
-abbrev pub rows_moved : ℕ → Tasks → Tasks → List Record
-rows_moved number (was ∷ before) (task ∷ after) = option_to_list (row_if_moved number was task) ++ rows_moved (suc number) before after
-rows_moved number before after = []
+abbrev pub records_switched : ℕ → Tasks → Tasks → List Record
+records_switched number (was ∷ before) (task ∷ after) = option_to_list (record_if_switched number was task) ++ records_switched (suc number) before after
+records_switched number before after = []
 
 -- the tasks with one row as the record tells it; other records are of rows that aren't the tasks'
 abbrev pub put_back : Tasks → Record → Tasks
@@ -45,6 +46,6 @@ pub record Changes (before after : Tasks) (number : ℕ) (row : Record) (to : Ta
   -- the tasks are those that the change is to make
   pub tasks : after ≡ to
   -- the record tells the row as it was
-  pub was : row ≡ row_of number (task_at before number)
+  pub was : row ≡ record_of number (task_at before number)
   -- the record, put back, gives the tasks before
   pub undo : put_back after row ≡ before

@@ -6,7 +6,7 @@ ghost use Rattle.klp_types.specs.declared.version.Version.{Version as AnyVersion
 ghost use Rattle.klp_machine.specs.Task.{Tasks};
 ghost use Rattle.klp_machine.specs.State.{State, with_tasks};
 ghost use Rattle.klp_machine.specs.TaskStep.{change};
-ghost use Rattle.klp_tasks.specs.Changes.{changed, rows_moved};
+ghost use Rattle.klp_tasks.specs.Changes.{changed, records_switched};
 ghost use Rattle.klp_tasks.specs.Members.{VersionFlags, IsSetOf};
 
 /// A change of one task's row is that of the step of a task event.
@@ -17,7 +17,7 @@ pub fn rows_change_as_the_step_says()
 
 /// No more rows are told than there are tasks' numbers.
 pub fn records_are_few()
-    ensures { (number : ℕ) (before : Tasks) (after : Tasks) → length (rows_moved number before after) ≤ length before }
+    ensures { (number : ℕ) (before : Tasks) (after : Tasks) → length (records_switched number before after) ≤ length before }
 {}
 
 /// Each set has exactly the versions of some list: what is told of sets over their lists is told of

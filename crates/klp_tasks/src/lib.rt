@@ -1,5 +1,5 @@
-//! The table of tasks, and the switching of tasks to the patch in transition (livepatch, Consistency
-//! model).
+//! The table of tasks, sets of versions, and the switching of tasks to the patch in transition (livepatch,
+//! Consistency model).
 #![tactic(auto)]
 
 pub mod laws;

@@ -10,7 +10,7 @@ ghost use Rattle.klp_machine.specs.TaskStep.{new_task, state_of_task, exited};
 ghost use Rattle.klp_machine.specs.Blocked.{switched, lags};
 ghost use Rattle.klp_tasks.specs.Members.{has, ArePassing, IsSetOf};
 ghost use Rattle.klp_tasks.specs.Sleepers.{sleeps_where};
-ghost use Rattle.klp_tasks.specs.Changes.{Changes, changed, row_of, row_if_moved, rows_moved, put_back, undone};
+ghost use Rattle.klp_tasks.specs.Changes.{Changes, changed, record_of, record_if_switched, records_switched, put_back, undone};
 
 use crate::version_set::VersionSet;
 use arrayvec::ArrayVec;
@@ -20,7 +20,7 @@ use std::marker::Model;
 
 /// The tasks by their numbers, of which there are [`MAX_TASKS`].
 ///
-/// All room is taken by [`Tasks::new`]. Each change of one task copies its row, of some 200 bytes, into
+/// All room is taken by [`Tasks::new`]. Each change of one task copies its row, of some 130 bytes, into
 /// the record that it answers, and takes the same time however many tasks there are.
 #[derive(Debug, Drop)]
 pub struct Tasks {
@@ -82,7 +82,7 @@ fn has_state(task: &Task, state: i8) -> bool
 
 /// What the row of a number was.
 fn record_of(task: TaskId, was: Option<Task>) -> Record
-    ensures { result ≡ row_of task was }
+    ensures { result ≡ record_of task was }
 {
     match was {
         Some(was) => Record::TaskRow { task, was },
@@ -239,7 +239,7 @@ impl Tasks {
         target: bool,
     ) -> Option<Record>
         ensures tasks { (versions : List AnyVersion) → IsSetOf blocked.now versions → self.new ≡ changed self.old task (switched versions target) }
-        ensures row { result ≡ row_if_moved task (task_at self.old task) (task_at self.new task) }
+        ensures row { result ≡ record_if_switched task (task_at self.old task) (task_at self.new task) }
         ensures undo { undone self.new (option_to_list result) ≡ self.old }
     {
         let row = self.get(task)?;
@@ -252,10 +252,10 @@ impl Tasks {
     /// Every task gets the state. Each task whose state was another is noted, in the order of their
     /// numbers. It looks at all rows.
     pub fn set_all(&mut self, state: i8, log: &mut Records)
-        requires { length (rows_moved 0 self.old (all_in state self.old)) ≤ spare_of log.old }
+        requires { length (records_switched 0 self.old (all_in state self.old)) ≤ spare_of log.old }
         ensures tasks { self.new ≡ all_in state self.old }
-        ensures records { log.new ≡ record log.old { noted = log.old.noted ++ rows_moved 0 self.old (all_in state self.old) } }
-        ensures undo { undone self.new (rows_moved 0 self.old (all_in state self.old)) ≡ self.old }
+        ensures records { log.new ≡ record log.old { noted = log.old.noted ++ records_switched 0 self.old (all_in state self.old) } }
+        ensures undo { undone self.new (records_switched 0 self.old (all_in state self.old)) ≡ self.old }
     {
         for number in 0..self.rows.len() as u8 {
             if let Some(row) = self.set_state(TaskId(number), state) {
@@ -316,7 +316,7 @@ impl Tasks {
     /// A task gets the state, if it is there. What it was is told where its state was another.
     fn set_state(&mut self, task: TaskId, state: i8) -> Option<Record>
         ensures tasks { self.new ≡ changed self.old task (in_state state) }
-        ensures row { result ≡ row_if_moved task (task_at self.old task) (task_at self.new task) }
+        ensures row { result ≡ record_if_switched task (task_at self.old task) (task_at self.new task) }
         ensures undo { undone self.new (option_to_list result) ≡ self.old }
     {
         let row = *self.get(task)?;
