@@ -21,12 +21,12 @@ pushed table site entry = with_entries table site (entry ∷ entries_at table.st
 abbrev pub taken : SiteTable → ℕ → ℕ → SiteTable
 taken table site patch = with_entries table site (entries_of_others patch (entries_at table.stacks site))
 
--- where an entry comes, and is the first, the site wasn't hooked
+-- what a push notes: the patch had no entry there; and where the entry is the site's first, the site wasn't hooked
 abbrev pub rows_of_push : SiteTable → ℕ → Entry → List Record
 rows_of_push table site entry =
     StackEntry site entry.patch None ∷ (if is_empty (entries_at table.stacks site) then HookFlag site false ∷ [] else [])
 
--- where an entry goes, and was the last, the site was hooked
+-- what a take notes: the patch's entry, with its place; and where it is the site's last, the site was hooked
 abbrev pub rows_of_take : SiteTable → ℕ → ℕ → List Record
 rows_of_take table site patch =
     StackEntry site patch (place_of patch (entries_at table.stacks site))

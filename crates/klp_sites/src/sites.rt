@@ -174,7 +174,8 @@ impl Sites {
         Record::LoadedFlag { object, was }
     }
 
-    /// The image as it stands, with its names and addresses. It is this one's to change.
+    /// The image as it stands, to be looked at: its names, its addresses, and its bytes with the
+    /// hooks.
     pub fn image(&self) -> &Image
         ensures value { result.now ≡ image_of self.now }
         ensures sites { length self.now.stacks ≡ site_count self.now.image }
