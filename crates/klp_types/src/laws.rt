@@ -71,6 +71,7 @@ pub fn keys_are_in_order()
     ensures total { IsTotalOrder key_cmp }
     ensures antisymmetric { finite.IsAntisymmetric key_cmp }
     ensures same { (key own : ShadowKey) → eq_by_cmp key_cmp key own ≡ is_key own key }
+    ensures one { (own key : ShadowKey) → is_key own key ≡ true → own ≡ key }
 {}
 
 /// Where shadow variables are taken out, no more are left than there were.
