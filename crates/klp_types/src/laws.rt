@@ -1,17 +1,18 @@
 //! What is proved of the definitions themselves. Each law is the contract of a function that does
 //! nothing: it keeps the definitions honest, and a crate above may rely on it.
-ghost use Rattle.std.specs.Prelude.{◌≡◌, ℕ, ◌+◌, ◌<◌, ◌≤◌, Bool, ◌&&◌, true, false, not, List, [], ◌∷◌, ◌++◌, length, map, take, drop, get_or, slice_get, Option, Some, option_map};
-ghost use Rattle.std.specs.List.{list_any};
+ghost use Rattle.std.specs.Prelude.{◌≡◌, ℕ, ◌+◌, ◌<◌, ◌≤◌, Bool, ◌==◌, ◌&&◌, ◌||◌, true, false, not, List, [], ◌∷◌, ◌++◌, length, map, take, drop, get_or, slice_get, Option, Some, is_some, option_map, IfSome};
+ghost use Rattle.std.specs.List.{All, list_any};
 ghost use Rattle.std.specs.Cmp.{IsTotalOrder};
 ghost use Rattle.std.specs.Ordering.{eq_by_cmp};
 ghost use Rattle.std.specs.FinMap as finite;
 ghost use Rattle.klp_types.specs.declared.event.Event.{Event as AnyEvent};
 ghost use Rattle.klp_types.specs.declared.shadow.ShadowKey.{ShadowKey};
 ghost use Rattle.klp_types.specs.declared.edit.Edit.{Edit};
+ghost use Rattle.klp_types.specs.declared.version.Entry.{Entry};
 ghost use Rattle.klp_types.specs.Image.{Object, symbols_of, first_site, given_symbol};
-ghost use Rattle.klp_types.specs.Setting.{Setting};
+ghost use Rattle.klp_types.specs.Setting.{Setting, functions_of, function_for, replaces};
 ghost use Rattle.klp_types.specs.State.{State, is_loaded, installed_patches};
-ghost use Rattle.klp_types.specs.Entries.{is_site_loaded, patches_site, entries_from, is_empty, is_hooked};
+ghost use Rattle.klp_types.specs.Entries.{is_site_loaded, patches_site, entry_of, entries_from, is_empty, is_hooked};
 ghost use Rattle.klp_types.specs.Bytes.{symbol_in, patched, resting, text_of};
 ghost use Rattle.klp_types.specs.World.{Installed, World, Shadow, key_cmp, variable, states_of};
 ghost use Rattle.klp_types.specs.Script.{Script, alloc_count, is_key, value_taken, edited, edited_at, edited_by, made_of, edits_made, effect, edit_touches, touches};
@@ -154,6 +155,27 @@ pub fn sites_of_an_object_stand_together()
 /// Patches put an entry on a site exactly where one of them has a function for it.
 pub fn entries_stand_where_functions_are()
     ensures { (setting : Setting) (site : ℕ) (patches : List ℕ) → not (is_empty (entries_from setting site patches)) ≡ list_any (patches_site setting site) patches }
+{}
+
+/// A patch that is put last gets its entry on top of those of the older patches: its function, or a
+/// nop where it replaces and there is an entry to stand over.
+pub fn the_newest_entry_is_on_top()
+    ensures { (setting : Setting) (site patch : ℕ) (older : List ℕ)
+        → entries_from setting site (patch ∷ older)
+        ≡ entry_of patch (function_for (functions_of setting patch) site) (replaces setting patch && not (is_empty (entries_from setting site older)))
+        ++ entries_from setting site older }
+{}
+
+/// An entry is that of one of the patches. Its patch has a function for the site, or replaces, and an
+/// entry that isn't a nop names a function that its patch has.
+pub fn entries_are_of_their_patches()
+    ensures installed { (setting : Setting) (site patch : ℕ) (patches : List ℕ)
+        → list_any (λ (e : Entry). e.patch == patch) (entries_from setting site patches) ≡ true → list_any (λ p. p == patch) patches ≡ true }
+    ensures own { (setting : Setting) (site patch : ℕ) (patches : List ℕ)
+        → list_any (λ (e : Entry). e.patch == patch) (entries_from setting site patches) ≡ true
+        → (is_some (function_for (functions_of setting patch) site) || replaces setting patch) ≡ true }
+    ensures functions { (setting : Setting) (site : ℕ) (patches : List ℕ)
+        → All (λ (e : Entry). IfSome e.func (λ f. f < length (functions_of setting e.patch))) (entries_from setting site patches) }
 {}
 
 /// How much there may be of everything.
