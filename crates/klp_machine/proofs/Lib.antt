@@ -18,3 +18,6 @@ pub mod MixedLemmas
 pub mod ObservedExamples
 pub mod LeavingLemmas
 pub mod LegalLemmas
+pub mod SettledLemmas
+pub mod ReplacingLemmas
+pub mod StatedLemmas

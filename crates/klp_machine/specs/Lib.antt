@@ -27,3 +27,4 @@ pub mod Observed
 pub mod Consistent
 pub mod ObservedExamples
 pub mod Legal
+pub mod Stated

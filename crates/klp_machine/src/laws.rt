@@ -1,9 +1,11 @@
 //! What is proved of the definitions themselves. Each law is the contract of a function that does
 //! nothing: it keeps the definitions honest, and a crate above may rely on it.
-ghost use Rattle.std.specs.Prelude.{◌≡◌, ℕ, ℤ, pos, Bool, true, false, not, ◌==◌, List, [], ◌∷◌, ◌++◌, map, reverse, filter, Some, None, is_none, Ok};
+ghost use Rattle.std.specs.Prelude.{◌≡◌, ℕ, ◌≤◌, ℤ, pos, Bool, true, false, not, ◌==◌, ◌&&◌, List, [], ◌∷◌, ◌++◌, map, reverse, filter, Some, None, is_some, is_none, option_map, Ok};
+ghost use Rattle.std.specs.List.{count_by, list_any};
 ghost use Rattle.klp_types.specs.declared.shadow.ShadowKey.{ShadowKey};
-ghost use Rattle.klp_types.specs.Setting.{Setting};
-ghost use Rattle.klp_types.specs.World.{variable, without_patch};
+ghost use Rattle.klp_types.specs.Setting.{Setting, replaces, state_ids};
+ghost use Rattle.klp_types.specs.World.{Installed, variable, state_value, installed_before, without_patch};
+ghost use Rattle.klp_types.specs.declared.version.Version.{Version as AnyVersion};
 ghost use Rattle.klp_types.specs.declared.version.Entry.{Entry};
 ghost use Rattle.klp_types.specs.declared.version.Move.{Move};
 ghost use Rattle.klp_types.specs.Entries.{is_empty};
@@ -14,16 +16,20 @@ ghost use Rattle.klp_types.specs.FirstOf.{first_of};
 ghost use Rattle.klp_machine.specs.declared.event.Reply.{Reply as AnyReply};
 ghost use Rattle.klp_machine.specs.declared.event.Refusal.{Refusal};
 ghost use Rattle.klp_machine.specs.Refusals.{accepts, NoneHolds};
-ghost use Rattle.klp_machine.specs.State.{State, installed_patches, with_world};
+ghost use Rattle.klp_machine.specs.State.{State, installed_patches, is_installed, with_world};
+ghost use Rattle.klp_machine.specs.Task.{Tasks};
+ghost use Rattle.klp_machine.specs.Blocked.{switched, lags};
 ghost use Rattle.klp_machine.specs.Entries.{is_site_loaded, entries_of};
 ghost use Rattle.klp_machine.specs.Pick.{pick_in};
 ghost use Rattle.klp_machine.specs.Versions.{version_in, others};
 ghost use Rattle.klp_machine.specs.EventCalls.{calls};
 ghost use Rattle.klp_machine.specs.ShadowStep.{shadow_changed};
+ghost use Rattle.klp_machine.specs.Completing.{without_older};
 ghost use Rattle.klp_machine.specs.Step.{accepted};
 ghost use Rattle.klp_machine.specs.Run.{answer, next, run};
 ghost use Rattle.klp_machine.specs.Legal.{History, IsLegal, state_after_history, history_of};
-ghost use Rattle.klp_machine.specs.Allowed.{Allowed};
+ghost use Rattle.klp_machine.specs.Allowed.{is_one_of, Allowed};
+ghost use Rattle.klp_machine.specs.Stated.{IsStated};
 ghost use Rattle.klp_machine.specs.Opening.{opening_state};
 
 /// The state that a manager is booted with is allowed, if the image has an object.
@@ -90,4 +96,38 @@ pub fn accepted_events_lead_where_all_lead()
     ensures legal { (setting : Setting) (state : State) (events : List AnyEvent) → IsLegal setting state (history_of setting state events) }
     ensures state { (setting : Setting) (state : State) (events : List AnyEvent)
         → state_after_history setting state (history_of setting state events) ≡ run setting state events }
+{}
+
+/// Where no task lags, sleepers that are tried change nothing.
+pub fn where_none_lags_none_is_switched()
+    ensures { (blocked : List AnyVersion) (target : Bool) (tasks : Tasks) → count_by (lags target) tasks ≡ 0 → map (option_map (switched blocked target)) tasks ≡ tasks }
+{}
+
+/// When a cumulative patch has replaced the older ones, their entries are gone, and so are its own
+/// nops; the others are as they were. Where it had older ones, its own functions alone are left: it is
+/// the newest. One that is the oldest itself, disabled and enabled again, may have newer ones, which
+/// stay.
+pub fn a_replacement_takes_the_older_entries_along()
+    ensures older { (setting : Setting) (state : State) (move : Move) (site : ℕ) → Allowed setting state → state.moving ≡ Some move → replaces setting move.patch ≡ true
+        → entries_of setting (with_world state (without_older true state.world move.patch)) site
+        ≡ filter (λ (e : Entry). not (is_one_of e.patch (map (λ (i : Installed). i.patch) (installed_before move.patch state.world.installed))) && not (e.patch == move.patch && is_none e.func))
+        (entries_of setting state site) }
+    ensures own { (setting : Setting) (state : State) (move : Move) (site : ℕ) → Allowed setting state → state.moving ≡ Some move → replaces setting move.patch ≡ true
+        → is_empty (installed_before move.patch state.world.installed) ≡ false
+        → entries_of setting (with_world state (without_older true state.world move.patch)) site
+        ≡ filter (λ (e : Entry). e.patch == move.patch && is_some e.func) (entries_of setting state site) }
+{}
+
+/// Of the installed patches at most two replace: the oldest, and one that moves.
+pub fn at_most_two_patches_replace()
+    ensures { (setting : Setting) (state : State) → Allowed setting state → count_by (replaces setting) (installed_patches state) ≤ 2 }
+{}
+
+/// In every state that is reached, an installed patch has a value for each system state that the
+/// catalog tells of it, and for no other.
+pub fn installed_patches_have_their_states()
+    ensures opening { (setting : Setting) → IsStated setting (opening_state setting) }
+    ensures step { (setting : Setting) (state : State) (event : AnyEvent) → IsStated setting state → IsStated setting (next setting state event) }
+    ensures look { (setting : Setting) (state : State) (patch id : ℕ) → IsStated setting state
+        → is_some (state_value state.world patch id) ≡ (is_installed state patch && list_any (λ own. own == id) (state_ids setting patch)) }
 {}
