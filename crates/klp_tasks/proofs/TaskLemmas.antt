@@ -1,5 +1,5 @@
 -- Changes of one row, and of the states of all.
-use Rattle.std.proofs.Common.{length-append, add-zero, add-one, zero-add, ◌≡◌, ℕ, zero, suc, ◌+◌, ◌<◌, ◌≤◌, Bool, true, false, not, ◌&&◌, cond, map, List, [], ◌∷◌, ◌++◌, length, get_or, set, refl, ap, ◌∙◌, arith, append_assoc, append-nil, Option, Some, None}
+use Rattle.std.proofs.Common.{length-append, add-zero, add-one, zero-add, ◌≡◌, ℕ, zero, suc, ◌+◌, ◌<◌, ◌≤◌, Bool, true, false, not, ◌&&◌, cond, map, List, [], ◌∷◌, ◌++◌, length, get_or, set, refl, sym, ap, ◌∙◌, arith, append_assoc, append-nil, Option, Some, None}
 use Rattle.std.specs.Option.{option_map, option_to_list}
 use Rattle.std.specs.List.{list_any}
 use Rattle.std.specs.Ordering.{int_eq}
@@ -68,6 +68,16 @@ tried_by flags versions same tasks number task target there =
     (elim (is_mode task.mode Asleep && not (is_held versions task.frames)) as
     (λ (b : Bool). with_task tasks number (Some (cond b (in_state (at_target target) task) task)) ≡ cond b (with_task tasks number (Some (in_state (at_target target) task))) tasks)
     [ true ↦ refl | false ↦ kept tasks number task there ])
+
+-- the lists of one set hold the same tasks back
+pub switched_alike : (flags : VersionFlags) (one other : List Version) → IsSetOf flags one → IsSetOf flags other → (target : Bool) (tasks : Tasks)
+    → map (option_map (switched one target)) tasks ≡ map (option_map (switched other target)) tasks
+switched_alike flags one other is_one is_other target [] = refl
+switched_alike flags one other is_one is_other target (None ∷ tasks) = ap (λ rest. None ∷ rest) (switched_alike flags one other is_one is_other target tasks)
+switched_alike flags one other is_one is_other target (Some task ∷ tasks) =
+    let held = same_any (λ version. list_any (is_version version) one) (λ version. list_any (is_version version) other) (λ version. sym (is_one version) ∙ is_other version) task.frames in
+    ap (λ b. Some (cond (is_mode task.mode Asleep && not b) (in_state (at_target target) task) task) ∷ map (option_map (switched one target)) tasks) held
+    ∙ ap (λ rest. Some (switched other target task) ∷ rest) (switched_alike flags one other is_one is_other target tasks)
 
 pub option_cases : {A : Type 0} (P : Option A → Type 0) → P None → ((x : A) → P (Some x)) → (o : Option A) → P o
 option_cases P none some None = none

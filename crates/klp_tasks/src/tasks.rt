@@ -249,6 +249,22 @@ impl Tasks {
         self.set_state(task, target_state(target))
     }
 
+    /// Each sleeping task that is inside of nothing blocked is brought to the target (the kernel's
+    /// `klp_try_switch_task`, for sleepers). Each task that changed is noted, in the order of their
+    /// numbers. It looks at all rows.
+    pub fn try_all(&mut self, blocked: &VersionSet, target: bool, log: &mut Records)
+        requires { length self.old ≤ spare_of log.old }
+        ensures tasks { (versions : List AnyVersion) → IsSetOf blocked.now versions → self.new ≡ map (option_map (switched versions target)) self.old }
+        ensures records { log.new ≡ record log.old { noted = log.old.noted ++ records_switched 0 self.old self.new } }
+        ensures undo { undone self.new (records_switched 0 self.old self.new) ≡ self.old }
+    {
+        for number in 0..self.rows.len() as u8 {
+            if let Some(row) = self.switch_if_clear(TaskId(number), blocked, target) {
+                log.note(row);
+            }
+        }
+    }
+
     /// Every task gets the state. Each task whose state was another is noted, in the order of their
     /// numbers. It looks at all rows.
     pub fn set_all(&mut self, state: i8, log: &mut Records)
