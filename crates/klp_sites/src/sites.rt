@@ -1,10 +1,11 @@
-ghost use Rattle.std.specs.Prelude.{◌≡◌, ◌<◌, ◌≤◌, true, false, length, replicate, option_map, slice_index_or, slice_set, IfOk};
+ghost use Rattle.std.specs.Prelude.{◌≡◌, ◌<◌, ◌≤◌, ◌==◌, find, true, false, length, replicate, option_map, slice_index_or, slice_set, IfOk};
 ghost use Rattle.std.specs.Option.{option_to_list};
 ghost use Rattle.klp_types.specs.Records.{spare_of};
 ghost use Rattle.klp_text.specs.TextImage.{site_count};
 ghost use Rattle.klp_machine.specs.Blocked.{blocked_among};
 ghost use Rattle.klp_machine.specs.Rows.{word_of};
-ghost use Rattle.klp_stack.specs.Stack.{entries_at, has_entry};
+ghost use Rattle.klp_types.specs.declared.version.Entry.{Entry as AnyEntry};
+ghost use Rattle.klp_stack.specs.Stack.{IsStack, entries_at, has_entry};
 ghost use Rattle.klp_sites.specs.Table.{bytes_at, image_of, is_hooked_at, opening};
 ghost use Rattle.klp_sites.specs.Changes.{Changes, pushed, taken, rows_of_push, rows_of_take};
 ghost use Rattle.klp_sites.specs.Undo.{put_back, put_loaded};
@@ -205,6 +206,24 @@ impl Sites {
         ensures { result ≡ length (entries_at self.now.stacks site) }
     {
         self.stacks.hooks(site)
+    }
+
+    /// How many sites there are, at a constant cost.
+    pub fn sites(&self) -> usize
+        ensures value { result ≡ length self.now.stacks }
+        ensures image { result ≡ site_count self.now.image }
+    {
+        self.stacks.sites()
+    }
+
+    /// The entry of a patch on a site's stack, if it has one there. The cost is at most the stack's
+    /// height.
+    pub fn entry(&self, site: Site, patch: PatchId) -> Option<Entry>
+        ensures value { result ≡ find (λ (e : AnyEntry). e.patch == patch) (entries_at self.now.stacks site) }
+        // what each stack keeps to
+        ensures stack { IsStack (entries_at self.now.stacks site) }
+    {
+        self.stacks.entry(site, patch)
     }
 
     /// What a call at a site needs to know, at a constant cost. `moving` is the patch in transition, if

@@ -1,7 +1,7 @@
 -- One entry of a stack, with those above it and those below it.
 use Rattle.std.proofs.Common.{◌≡◌, ℕ, suc, ◌-◌, ◌<◌, ◌≤◌, true, false, ◌||◌, eqb, List, [], ◌∷◌, ◌++◌, length, drop, map, refl, ap, subst, ◌∙◌, arith, length-append, Some, None}
 use Rattle.std.specs.Bool.{◌==◌}
-use Rattle.std.specs.List.{list_any, insert, IsDistinct, AllByRecursion}
+use Rattle.std.specs.List.{list_any, find, insert, IsDistinct, AllByRecursion}
 use Rattle.std.proofs.lemmas.Bool.{eqb-true, or_parts, or_from, not_from_true, not_from_false, cond-true, cond-false}
 use Rattle.std.specs.Cmp.{nat_eq_equiv}
 use Rattle.std.proofs.lemmas.List.{take_at, drop_at}
@@ -28,6 +28,12 @@ module _ (patch : ℕ) where
   all_others (entry ∷ older) none =
       let parts = or_parts (entry.patch == patch) (has_entry patch older) none in
       cond-true _ _ _ (not_from_false _ parts.0) ∙ ap (λ rest. entry ∷ rest) (all_others older parts.1)
+
+pub no_entry : (patch : ℕ) (entries : List Entry) → has_entry patch entries ≡ false → find (λ (e : Entry). e.patch == patch) entries ≡ None
+no_entry patch [] none = refl
+no_entry patch (entry ∷ older) none =
+    let parts = or_parts (entry.patch == patch) (has_entry patch older) none in
+    cond-false _ _ _ parts.0 ∙ no_entry patch older parts.1
 
 pub none_blocked : (site : ℕ) (move : Move) (entries : List Entry) → has_entry move.patch entries ≡ false → blocked_among site move entries ≡ []
 none_blocked site move [] none = refl
@@ -88,6 +94,12 @@ module _ (entry : Entry) (older : List Entry) where
     its_place (first ∷ newer) none =
         let parts = or_parts (first.patch == patch) (has_entry patch newer) none in
         cond-false _ _ _ parts.0 ∙ its_place newer parts.1
+
+    pub its_entry : (newer : List Entry) → has_entry patch newer ≡ false → find (λ (e : Entry). e.patch == patch) (newer ++ entry ∷ older) ≡ Some entry
+    its_entry [] none = cond-true _ _ _ own
+    its_entry (first ∷ newer) none =
+        let parts = or_parts (first.patch == patch) (has_entry patch newer) none in
+        cond-false _ _ _ parts.0 ∙ its_entry newer parts.1
 
     pub its_others : (newer : List Entry) → has_entry patch newer ≡ false → has_entry patch older ≡ false → entries_of_others patch (newer ++ entry ∷ older) ≡ newer ++ older
     its_others [] none none_older =

@@ -2,7 +2,7 @@
 use Rattle.std.proofs.Common.{◌≡◌, ℕ, suc, ◌+◌, ◌-◌, ◌<◌, ◌≤◌, Bool, true, false, not, ◌&&◌, cond, ltb, leb, List, [], ◌∷◌, ◌++◌, length, take, drop, get_or, reverse, refl, sym, ap, subst, ◌∙◌, arith, length-append, append_assoc, drop-cons, Option, Some, None}
 use Rattle.std.specs.Bool.{◌==◌}
 use Rattle.std.specs.Option.{is_some}
-use Rattle.std.specs.List.{list_any, insert, remove, position, position_or_len}
+use Rattle.std.specs.List.{list_any, find, insert, remove, position, position_or_len}
 use Rattle.std.proofs.lemmas.Bool.{eqb-true, lt-ltb, le-leb, leb-true, ltb-true, ltb-false, not-true, not-false, not_from_false, and_parts, and_from, or_from, cond-true}
 use Rattle.std.proofs.lemmas.Grind.{reverse_onto}
 use Rattle.std.proofs.lemmas.List.{reverse-append, length-reverse, take-append-drop, length-take-le, take_more, get_or_default}
@@ -19,7 +19,7 @@ use Rattle.klp_types.specs.Pick.{newest_version}
 use Rattle.klp_machine.specs.Blocked.{held_version, blocked_among}
 use Rattle.klp_stack.specs.Stack.{has_entry, entries_of_others, place_of, IsStack}
 use Rattle.klp_stack.specs.Undo.{may_stand, put_at, put_entry}
-use Rattle.klp_stack.proofs.EntryLemmas.{Stands, stands, no_place, all_others, none_blocked, put_between, at_its_place, its_place, its_others, its_version, few_entries}
+use Rattle.klp_stack.proofs.EntryLemmas.{Stands, stands, no_place, all_others, none_blocked, put_between, at_its_place, its_place, its_others, its_version, its_entry, no_entry, few_entries}
 
 -- the entry of a patch, once it is taken out
 pub record Taken (patch : ℕ) (now rest : List Entry) (was : Option Place) : Type 0 where
@@ -157,6 +157,9 @@ module _ (patch : ℕ) (seen row : List Entry) (i : ℕ) (entry : Entry) (same_r
         undo = ap (put_entry patch was) parts ∙ taken_undo ∙ view;
       }
 
+  pub own_entry : (now : List Entry) → reverse row ≡ now → Some entry ≡ find (is_own patch) now
+  own_entry now view = sym (its_entry entry older patch own newer none_newer) ∙ ap (find (is_own patch)) (sym at ∙ view)
+
   pub held : (site : ℕ) (move : Move) (now : List Entry) → move.patch ≡ patch → reverse row ≡ now → held_version site move.target entry older ∷ [] ≡ blocked_among site move now
   held site move now moving view =
       sym (its_version entry older site move (subst (λ p. (entry.patch == p) ≡ true) (sym moving) own) newer (subst (λ p. has_entry p newer ≡ false) (sym moving) none_newer))
@@ -171,6 +174,10 @@ not_taken patch seen row now same_row view stack none =
       entries = sym (all_others patch now absent);
       undo = all_others patch now absent;
     }
+
+pub none_own : (patch : ℕ) (seen row now : List Entry) → seen ≡ row → reverse row ≡ now → None ≡ position (is_own patch) seen → None ≡ find (is_own patch) now
+none_own patch seen row now same_row view none =
+    sym (no_entry patch now (subst (λ es. has_entry patch es ≡ false) view (missing patch row (none ∙ ap (position (is_own patch)) same_row))))
 
 -- What holds a sleeper back.
 module _ (site : ℕ) (move : Move) (seen row now : List Entry) (same_row : seen ≡ row) (view : reverse row ≡ now) where

@@ -1,9 +1,9 @@
-ghost use Rattle.std.specs.Prelude.{◌≡◌, ◌<◌, ◌≤◌, ◌==◌, false, [], ◌∷◌, length, position, slice_get};
+ghost use Rattle.std.specs.Prelude.{◌≡◌, ◌<◌, ◌≤◌, ◌==◌, false, [], ◌∷◌, find, length, position, slice_get};
 ghost use Rattle.std.specs.Option.{option_to_list};
 ghost use Rattle.klp_types.specs.declared.version.Entry.{Entry as AnyEntry};
 ghost use Rattle.klp_machine.specs.Blocked.{blocked_among};
 ghost use Rattle.klp_machine.specs.Rows.{word_of};
-ghost use Rattle.klp_stack.specs.Stack.{has_entry, entries_of_others, place_of};
+ghost use Rattle.klp_stack.specs.Stack.{IsStack, has_entry, entries_of_others, place_of};
 ghost use Rattle.klp_stack.specs.Undo.{may_stand, put_entry};
 
 use crate::handler::version;
@@ -90,6 +90,17 @@ impl Stack {
             index: index as u8,
             func,
         })
+    }
+
+    /// The entry of a patch, if it has one.
+    pub(crate) fn entry(&self, patch: PatchId) -> Option<Entry>
+        ensures value { result ≡ find (λ (e : AnyEntry). e.patch == patch) self.now }
+        ensures stack { IsStack self.now }
+    {
+        let Some(place) = place_in(&self.row, patch) else {
+            return None;
+        };
+        Some(self.row[place])
     }
 
     fn has(&self, patch: PatchId) -> bool

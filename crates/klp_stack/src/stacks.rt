@@ -1,8 +1,9 @@
-ghost use Rattle.std.specs.Prelude.{◌≡◌, ◌<◌, true, false, [], ◌∷◌, length, replicate, slice_set, None, IfOk};
+ghost use Rattle.std.specs.Prelude.{◌≡◌, ◌<◌, ◌==◌, find, true, false, [], ◌∷◌, length, replicate, slice_set, None, IfOk};
 ghost use Rattle.std.specs.Option.{option_to_list};
 ghost use Rattle.klp_machine.specs.Blocked.{blocked_among};
 ghost use Rattle.klp_machine.specs.Rows.{word_of};
-ghost use Rattle.klp_stack.specs.Stack.{entries_at, has_entry, entries_of_others, place_of};
+ghost use Rattle.klp_types.specs.declared.version.Entry.{Entry as AnyEntry};
+ghost use Rattle.klp_stack.specs.Stack.{IsStack, entries_at, has_entry, entries_of_others, place_of};
 ghost use Rattle.klp_stack.specs.Undo.{put_back};
 ghost use Rattle.klp_stack.specs.Changes.{Changes};
 
@@ -95,6 +96,26 @@ impl Stacks {
         match self.stacks.get(usize::from(site.0)) {
             Some(stack) => stack.len() as u16,
             None => 0,
+        }
+    }
+
+    /// How many sites there are, at a constant cost.
+    pub fn sites(&self) -> usize
+        ensures { result ≡ length self.now }
+    {
+        self.stacks.len()
+    }
+
+    /// The entry of a patch on a site's stack, if it has one there. The cost is at most the stack's
+    /// height.
+    pub fn entry(&self, site: Site, patch: PatchId) -> Option<Entry>
+        ensures value { result ≡ find (λ (e : AnyEntry). e.patch == patch) (entries_at self.now site) }
+        // what each stack keeps to
+        ensures stack { IsStack (entries_at self.now site) }
+    {
+        match self.stacks.get(usize::from(site.0)) {
+            Some(stack) => stack.entry(patch),
+            None => None,
         }
     }
 
