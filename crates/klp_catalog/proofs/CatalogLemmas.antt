@@ -118,7 +118,7 @@ apart_in_patch names (patch ∷ patches) p h = by (has_same_site (functions_of_p
     by false e rest zero later = e
     by false e rest (suc p) later = later p rest
 
-objects_in_patch : (names : List ObjectNames) (found : Option PlanPatch) → patch_objects (option_map (setting_patch names) found) ≡ map (patch_object names) (targets_of_patch found)
+pub objects_in_patch : (names : List ObjectNames) (found : Option PlanPatch) → patch_objects (option_map (setting_patch names) found) ≡ map (patch_object names) (targets_of_patch found)
 objects_in_patch names None = refl
 objects_in_patch names (Some patch) = refl
 

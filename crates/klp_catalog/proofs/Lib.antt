@@ -2,4 +2,5 @@ pub mod AssembleLemmas
 pub mod CatalogLemmas
 pub mod CountLemmas
 pub mod NumberLemmas
+pub mod PlaceLemmas
 pub mod RunLemmas

@@ -1,5 +1,5 @@
-ghost use Rattle.std.specs.Prelude.{◌≡◌, ℕ, ◌<◌, ◌≤◌, false, List, Option, length, map, position, bytes_eq, slice_get, option_map, ◌+◌, is_some, option_and_then, IfOk, IfErr, IfSome};
-ghost use Rattle.std.specs.List.{All};
+ghost use Rattle.std.specs.Prelude.{◌≡◌, ℕ, ◌<◌, ◌≤◌, ◌==◌, false, List, Option, length, map, position, bytes_eq, slice_get, option_map, ◌+◌, is_some, option_and_then, IfOk, IfErr, IfSome};
+ghost use Rattle.std.specs.List.{All, count_by};
 ghost use Rattle.klp_types.specs.Setting.{all_functions, patch_objects};
 ghost use Rattle.klp_modules.specs.Names.{ObjectNames};
 ghost use Rattle.klp_types.specs.Setting.{PatchObject};
@@ -195,6 +195,18 @@ impl Catalog {
     {
         let target = patch::targets_of(&self.patches, patch).get(usize::from(number))?;
         Some(target.object)
+    }
+
+    /// The place of an object among those that a patch changes, from 0. No patch changes an object
+    /// twice.
+    pub fn place(&self, patch: PatchId, object: ObjId) -> Option<u8>
+        ensures place { result ≡ place_of object (objects_at self.now patch) }
+        // so it is the object's only place
+        ensures once { count_by (λ (found : PatchObject). found.object == object) (objects_at self.now patch) ≤ 1 }
+    {
+        let targets = patch::targets_of(&self.patches, patch);
+        let place = patch::place_of(targets, object)?;
+        Some(place as u8)
     }
 
     /// The ids of the system states that a patch names, in the order of the text (system-state). A
