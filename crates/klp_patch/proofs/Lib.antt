@@ -1,0 +1,6 @@
+pub mod CoverLemmas
+pub mod SiteLemmas
+pub mod MadeLemmas
+pub mod FunctionLemmas
+pub mod PatchLemmas
+pub mod BlockLemmas

@@ -1,0 +1,29 @@
+use Rattle.std.proofs.Common.{ℕ, length, true, sym, ◌∙◌, arith}
+use Rattle.klp_patch.specs.Covered.{functions_in}
+use Rattle.klp_patch.specs.Changes.{most_entries}
+use Rattle.klp_patch.proofs.MadeLemmas.{sites_kept, notes_put, room_when_put}
+use Rattle.klp_patch.proofs.PatchLemmas.{most_is}
+use Rattle.klp_patch.proofs.patch.patch_sites.Goals as goal
+
+pub put_nops-requires-clause-sites : goal.put_nops-requires-clause-sites
+put_nops-requires-clause-sites g c =
+    let same = sites_kept c.args.sites.now c.put_functions.new.sites c.args.log.now c.put_functions.new.log _ _ _ c.put_functions.ensures.notes in
+    omega (arith, same, c.requires.sites)
+
+pub put_nops-requires-clause-records : goal.put_nops-requires-clause-records
+put_nops-requires-clause-records g c =
+    let before = c.args.sites.now in
+    let functions : ℕ = length (functions_in c.args.catalog.now c.args.patch) in
+    let same = sites_kept before c.put_functions.new.sites c.args.log.now c.put_functions.new.log _ _ _ c.put_functions.ensures.notes in
+    let most = most_is c.args.catalog.now c.args.patch before true (sym c.replaces.ensures ∙ c.if-replaces.true) in
+    room_when_put before c.put_functions.new.sites c.args.log.now c.put_functions.new.log functions (length c.put_functions.new.sites.stacks) c.put_functions.ensures.notes
+    (omega (arith, same, most, c.requires.records))
+
+pub returns-then-replaces-clause-notes : goal.returns-then-replaces-clause-notes
+returns-then-replaces-clause-notes g c =
+    let before = c.args.sites.now in
+    let functions : ℕ = length (functions_in c.args.catalog.now c.args.patch) in
+    let same = sites_kept before c.put_functions.new.sites c.args.log.now c.put_functions.new.log _ _ _ c.put_functions.ensures.notes in
+    let most = most_is c.args.catalog.now c.args.patch before true (sym c.replaces.ensures ∙ c.if-replaces.true) in
+    notes_put before c.put_functions.new.sites c.put_nops.new.sites c.args.log.now c.put_functions.new.log c.put_nops.new.log functions (length c.put_functions.new.sites.stacks) (most_entries c.args.catalog.now c.args.patch before)
+    (omega (arith, same, most)) c.put_functions.ensures.notes c.put_nops.ensures.notes

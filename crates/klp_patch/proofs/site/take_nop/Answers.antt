@@ -1,0 +1,22 @@
+use Rattle.std.proofs.Common.{refl, sym, false, ◌∙◌}
+use Rattle.klp_stack.specs.Stack.{entries_at, entries_of_others}
+use Rattle.klp_patch.specs.Changes.{without_nop}
+use Rattle.klp_patch.proofs.SiteLemmas.{made_alike, unmade_at, looked, none_is, no_nop, nop_goes, function_stays}
+use Rattle.klp_patch.proofs.site.take_nop.Goals as goal
+
+pub returns-then-is_none-clause-entries : goal.returns-then-is_none-clause-entries
+returns-then-is_none-clause-entries c =
+    let seen = entries_at c.args.sites.now.stacks c.args.site in
+    made_alike c.args.sites.now c.take.new.sites c.args.site (λ other entries. entries_of_others c.args.patch entries) (λ other entries. without_nop c.args.patch entries) c.take.ensures.entries
+    (sym (nop_goes c.args.patch seen c.in-Some.entry c.in-Some.ensures.stack (sym c.in-Some.ensures.value) (none_is c.in-Some.entry.func c.is_none.result c.is_none.ensures ∙ c.if-is_none.true)))
+
+pub returns-else-is_none-clause-entries : goal.returns-else-is_none-clause-entries
+returns-else-is_none-clause-entries c =
+    let seen = entries_at c.args.sites.now.stacks c.args.site in
+    unmade_at c.args.sites.now c.args.site (λ other entries. without_nop c.args.patch entries)
+    (function_stays c.args.patch seen c.in-Some.entry c.in-Some.ensures.stack (sym c.in-Some.ensures.value) (none_is c.in-Some.entry.func c.is_none.result c.is_none.ensures ∙ c.if-is_none.false))
+
+pub returns-in_default-clause-entries : goal.returns-in_default-clause-entries
+returns-in_default-clause-entries c =
+    let seen = entries_at c.args.sites.now.stacks c.args.site in
+    unmade_at c.args.sites.now c.args.site (λ other entries. without_nop c.args.patch entries) (no_nop c.args.patch seen (looked c.args.patch seen _ false c.in_default.ensures.value refl))

@@ -1,0 +1,52 @@
+-- What becomes of the entries when a patch comes to sites or leaves them, and what these changes note.
+use Rattle.std.specs.Prelude.{◌≡◌, ℕ, ◌+◌, ◌≤◌, Bool, not, ◌==◌, ◌&&◌, ◌||◌, List, ◌∷◌, ◌++◌, None, length, filter, is_none, if◌then◌else◌}
+use Rattle.std.specs.List.{count_by}
+use Rattle.klp_types.specs.declared.record.Record.{Record}
+use Rattle.klp_types.specs.declared.version.Entry.{Entry}
+use Rattle.klp_types.specs.Setting.{function_for}
+use Rattle.klp_types.specs.Entries.{entry_of, is_empty}
+use Rattle.klp_types.specs.Records.{RecordList}
+use Rattle.klp_catalog.specs.Catalog.{Catalog}
+use Rattle.klp_catalog.specs.States.{is_cumulative}
+use Rattle.klp_stack.specs.Stack.{entries_at, has_entry}
+use Rattle.klp_sites.specs.Table.{SiteTable, is_stacked}
+use Rattle.klp_sites.specs.Changes.{noting}
+use Rattle.klp_sites.specs.Undo.{undone}
+use Rattle.klp_patch.specs.Covered.{functions_in}
+
+-- what a patch puts on the entries of a site: its function, or a nop where it replaces and there are entries
+abbrev pub with_entry : Catalog → ℕ → ℕ → List Entry → List Entry
+with_entry catalog patch site entries =
+    entry_of patch (function_for (functions_in catalog patch) site) (is_cumulative catalog patch && not (is_empty entries)) ++ entries
+
+-- a nop on top, where there are entries but none of this patch
+abbrev pub with_nop : ℕ → List Entry → List Entry
+with_nop patch entries = if is_empty entries || has_entry patch entries then entries else record { patch = patch; func = None } ∷ entries
+
+-- the entries but the nop of this patch
+abbrev pub without_nop : ℕ → List Entry → List Entry
+without_nop patch entries = filter (λ (e : Entry). not (e.patch == patch && is_none e.func)) entries
+
+-- the entries of the sites that a change is about are made anew, and nothing else changes
+pub record AreMade (before after : SiteTable) (covers : ℕ → Bool) (made : ℕ → List Entry → List Entry) : Type 0 where
+  pub image : after.image ≡ before.image
+  pub loaded : after.loaded ≡ before.loaded
+  pub entries : (site : ℕ) → entries_at after.stacks site
+      ≡ (if covers site then made site (entries_at before.stacks site) else entries_at before.stacks site)
+
+-- how many sites are hooked
+abbrev pub hooked_count : SiteTable → ℕ
+hooked_count table = count_by is_stacked table.stacks
+
+-- how many entries a patch has at most: one for each function, and a nop on every other site where it replaces
+abbrev pub most_entries : Catalog → ℕ → SiteTable → ℕ
+most_entries catalog patch table = length (functions_in catalog patch) + (if is_cumulative catalog patch then length table.stacks else 0)
+
+-- the rows that changed are noted as they were, as the newest: no more than these many entries, and one for each site that is
+-- hooked or unhooked. So many sites were hooked before, or are afterwards, and so many are afterwards, or were before.
+pub record Notes (before after : SiteTable) (log_before log_after : RecordList) (most from to : ℕ) : Type 0 where
+  pub rows : List Record
+  pub noted : log_after ≡ noting log_before rows
+  -- put back newest first, they give the table before
+  pub undo : undone after rows ≡ before
+  pub few : length rows + from ≤ most + to

@@ -1,0 +1,27 @@
+-- The sites that a change of the entries is about, and the functions of a patch.
+use Rattle.std.specs.Prelude.{ℕ, Bool, false, ◌==◌, List, length, Option, Some, None, option_map, unwrap_or, slice_get, slice_index_or}
+use Rattle.klp_types.specs.Image.{Object, object_of}
+use Rattle.klp_types.specs.Setting.{Function, all_functions, patch_objects}
+use Rattle.klp_catalog.specs.Catalog.{Catalog, patches_of}
+use Rattle.klp_sites.specs.Table.{SiteTable}
+
+-- the functions of a patch of the catalog, over its objects in order
+abbrev pub functions_in : Catalog → ℕ → List Function
+functions_in catalog patch = all_functions (patch_objects (slice_get (patches_of catalog) patch))
+
+-- whether a change of one object, or of all that are loaded, is about this object
+abbrev pub is_meant : Option ℕ → List Bool → ℕ → Bool
+is_meant None loaded object = slice_index_or loaded object false
+is_meant (Some own) loaded object = object == own
+
+abbrev pub is_object_meant : Option ℕ → List Bool → Option ℕ → Bool
+is_object_meant only loaded None = false
+is_object_meant only loaded (Some object) = is_meant only loaded object
+
+-- whether it is about the object of this site; a site that isn't there has none
+abbrev pub is_covered : SiteTable → Option ℕ → ℕ → Bool
+is_covered table only site = is_object_meant only table.loaded (object_of table.image.objects site)
+
+-- how many symbols an object has; one that isn't there has none
+abbrev pub symbol_count : List Object → ℕ → ℕ
+symbol_count objects object = unwrap_or (option_map (λ (found : Object). length found.symbols) (slice_get objects object)) 0

@@ -1,0 +1,81 @@
+ghost use Rattle.std.specs.Prelude.{◌≡◌, ℕ, ◌<◌, ◌≤◌, ◌||◌, ◌++◌, true, List, [], length, is_some};
+ghost use Rattle.klp_types.specs.declared.version.Version.{Version as AnyVersion};
+ghost use Rattle.klp_types.specs.Setting.{function_for};
+ghost use Rattle.klp_machine.specs.Blocked.{blocked_among};
+ghost use Rattle.klp_modules.specs.Names.{names_of};
+ghost use Rattle.klp_catalog.specs.States.{is_cumulative};
+ghost use Rattle.klp_stack.specs.Stack.{entries_at, has_entry};
+ghost use Rattle.klp_tasks.specs.Members.{IsSetOf};
+ghost use Rattle.klp_patch.specs.Covered.{functions_in};
+ghost use Rattle.klp_patch.specs.Blocked.{blocked_at, AreFunctions};
+
+use crate::patch::replaces;
+use klp_catalog::Catalog;
+use klp_sites::Sites;
+use klp_tasks::VersionSet;
+use klp_types::{MAX_SITES, Move, Site};
+
+/// Puts what is blocked at one site into the set.
+fn block_at(sites: &Sites, site: Site, moving: &Move, blocked: &mut VersionSet)
+    requires number { AreFunctions (entries_at sites.now.stacks site) }
+    requires sites { length sites.now.stacks ≤ MAX_SITES }
+    ensures { (versions : List AnyVersion) → IsSetOf blocked.old versions → IsSetOf blocked.new (versions ++ blocked_among site moving.now (entries_at sites.now.stacks site)) }
+{
+    // where the patch has no entry, it holds nobody back
+    if sites.entry(site, moving.patch).is_none() {
+        return;
+    }
+    if let Some(version) = sites.blocked(site, *moving) {
+        blocked.insert(version);
+    }
+}
+
+/// Puts what is blocked at all sites into the empty set.
+fn block_all(sites: &Sites, moving: &Move, blocked: &mut VersionSet)
+    requires empty { IsSetOf blocked.old [] }
+    requires number { (site : ℕ) → AreFunctions (entries_at sites.now.stacks site) }
+    requires sites { length sites.now.stacks ≤ MAX_SITES }
+    ensures { IsSetOf blocked.new (blocked_at 0 moving.now sites.now.stacks) }
+{
+    for site in 0..sites.sites() {
+        block_at(sites, Site(site as u16), moving, blocked);
+    }
+}
+
+/// Puts what is blocked at the sites of the patch's functions into the empty set.
+fn block_functions(sites: &Sites, catalog: &Catalog, moving: &Move, blocked: &mut VersionSet)
+    requires empty { IsSetOf blocked.old [] }
+    requires number { (site : ℕ) → AreFunctions (entries_at sites.now.stacks site) }
+    requires sites { length sites.now.stacks ≤ MAX_SITES }
+    requires own { (site : ℕ) → has_entry moving.now.patch (entries_at sites.now.stacks site) ≡ true
+        → is_some (function_for (functions_in catalog.now moving.now.patch) site) ≡ true }
+    ensures { IsSetOf blocked.new (blocked_at 0 moving.now sites.now.stacks) }
+{
+    let functions = catalog.functions(moving.patch);
+    for number in 0..functions.len() {
+        if let Some(site) = functions[number].site() {
+            block_at(sites, site, moving, blocked);
+        }
+    }
+}
+
+/// Makes the set that of the versions that a task mustn't be inside of when it switches to the target
+/// of the patch in transition. What the set had before is gone.
+///
+/// It costs as much as the patch has functions; for a cumulative one as much as there are sites.
+pub fn block(sites: &Sites, catalog: &Catalog, moving: Move, blocked: &mut VersionSet)
+    requires number { (site : ℕ) → AreFunctions (entries_at sites.now.stacks site) }
+    requires sites { length sites.now.stacks ≤ MAX_SITES }
+    requires names { catalog.now.names ≡ names_of sites.now.image.objects }
+    // only a cumulative patch has entries where it has no function
+    requires own { (site : ℕ) → has_entry moving.patch (entries_at sites.now.stacks site) ≡ true
+        → (is_some (function_for (functions_in catalog.now moving.patch) site) || is_cumulative catalog.now moving.patch) ≡ true }
+    ensures { IsSetOf blocked.new (blocked_at 0 moving sites.now.stacks) }
+{
+    blocked.clear();
+    if replaces(catalog, moving.patch) {
+        block_all(sites, &moving, blocked);
+    } else {
+        block_functions(sites, catalog, &moving, blocked);
+    }
+}

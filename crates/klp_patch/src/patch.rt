@@ -1,0 +1,165 @@
+ghost use Rattle.std.specs.Prelude.{◌≡◌, ℕ, ◌+◌, ◌<◌, ◌≤◌, ◌||◌, ◌&&◌, ◌++◌, true, false, length, is_some, None};
+ghost use Rattle.klp_types.specs.Setting.{function_for};
+ghost use Rattle.klp_types.specs.Entries.{entry_of};
+ghost use Rattle.klp_types.specs.Records.{spare_of};
+ghost use Rattle.klp_modules.specs.Names.{names_of};
+ghost use Rattle.klp_catalog.specs.States.{is_cumulative};
+ghost use Rattle.klp_stack.specs.Stack.{entries_at, has_entry, entries_of_others};
+ghost use Rattle.klp_patch.specs.Covered.{functions_in, is_covered};
+ghost use Rattle.klp_patch.specs.Changes.{AreMade, Notes, with_entry, with_nop, without_nop, hooked_count, most_entries};
+
+use crate::covered::{covered_sites, meant_site};
+use crate::site::{put, put_nop, take, take_nop};
+use klp_catalog::Catalog;
+use klp_sites::Sites;
+use klp_types::{Entry, MAX_PATCHES, MAX_SITES, ObjId, PatchId, Records, Site};
+
+/// Whether a patch is a cumulative one.
+pub(crate) fn replaces(catalog: &Catalog, patch: PatchId) -> bool
+    ensures { result ≡ is_cumulative catalog.now patch }
+{
+    catalog.replaces(patch).unwrap_or(false)
+}
+
+/// Puts the functions of a patch on top of the stacks of their sites.
+fn put_functions(
+    sites: &mut Sites,
+    catalog: &Catalog,
+    patch: PatchId,
+    only: &Option<ObjId>,
+    log: &mut Records,
+)
+    requires number { patch < MAX_PATCHES }
+    requires sites { length sites.old.stacks ≤ MAX_SITES }
+    requires names { catalog.now.names ≡ names_of sites.old.image.objects }
+    requires fresh { (site : ℕ) → is_covered sites.old only.now site ≡ true → has_entry patch (entries_at sites.old.stacks site) ≡ false }
+    requires records { length (functions_in catalog.now patch) + MAX_SITES ≤ spare_of log.old + hooked_count sites.old }
+    ensures entries { AreMade sites.old sites.new (is_covered sites.old only.now)
+        (λ site entries. entry_of patch (function_for (functions_in catalog.now patch) site) false ++ entries) }
+    ensures notes { Notes sites.old sites.new log.old log.new (length (functions_in catalog.now patch)) (hooked_count sites.old) (hooked_count sites.new) }
+{
+    let functions = catalog.functions(patch);
+    for number in 0..functions.len() {
+        if let Some(site) = meant_site(sites, only, &functions[number]) {
+            let func = Some(number as u16);
+            put(sites, site, Entry { patch, func }, log);
+        }
+    }
+}
+
+/// Puts a nop of a patch on each site that has entries but none of the patch.
+fn put_nops(sites: &mut Sites, patch: PatchId, only: Option<ObjId>, log: &mut Records)
+    requires number { patch < MAX_PATCHES }
+    requires sites { length sites.old.stacks ≤ MAX_SITES }
+    requires records { length sites.old.stacks + MAX_SITES ≤ spare_of log.old + hooked_count sites.old }
+    ensures entries { AreMade sites.old sites.new (is_covered sites.old only) (λ site entries. with_nop patch entries) }
+    ensures notes { Notes sites.old sites.new log.old log.new (length sites.old.stacks) (hooked_count sites.old) (hooked_count sites.new) }
+{
+    let covered = covered_sites(sites, only);
+    for site in 0..covered.len() {
+        if covered[site] {
+            put_nop(sites, Site(site as u16), patch, log);
+        }
+    }
+}
+
+/// Takes the entries of a patch out of the stacks of its functions' sites.
+fn take_functions(
+    sites: &mut Sites,
+    catalog: &Catalog,
+    patch: PatchId,
+    only: &Option<ObjId>,
+    log: &mut Records,
+)
+    requires names { catalog.now.names ≡ names_of sites.old.image.objects }
+    requires records { length (functions_in catalog.now patch) + hooked_count sites.old ≤ spare_of log.old }
+    ensures entries { AreMade sites.old sites.new
+        (λ site. is_covered sites.old only.now site && is_some (function_for (functions_in catalog.now patch) site)) (λ site entries. entries_of_others patch entries) }
+    ensures notes { Notes sites.old sites.new log.old log.new (length (functions_in catalog.now patch)) (hooked_count sites.new) (hooked_count sites.old) }
+{
+    let functions = catalog.functions(patch);
+    for number in 0..functions.len() {
+        if let Some(site) = meant_site(sites, only, &functions[number]) {
+            take(sites, site, patch, log);
+        }
+    }
+}
+
+/// Takes the entries of a patch out of all stacks that the change is about.
+fn take_all(sites: &mut Sites, patch: PatchId, only: Option<ObjId>, log: &mut Records)
+    requires sites { length sites.old.stacks ≤ MAX_SITES }
+    requires records { length sites.old.stacks + hooked_count sites.old ≤ spare_of log.old }
+    ensures entries { AreMade sites.old sites.new (is_covered sites.old only) (λ site entries. entries_of_others patch entries) }
+    ensures notes { Notes sites.old sites.new log.old log.new (length sites.old.stacks) (hooked_count sites.new) (hooked_count sites.old) }
+{
+    let covered = covered_sites(sites, only);
+    for site in 0..covered.len() {
+        if covered[site] {
+            take(sites, Site(site as u16), patch, log);
+        }
+    }
+}
+
+/// Puts a patch's entries on top of the stacks of its sites: those of one object, or of all that are
+/// loaded. A cumulative patch gets a nop on each other site that has entries.
+///
+/// It costs as much as the patch has functions; for a cumulative one as much as there are sites.
+pub fn patch_sites(
+    sites: &mut Sites,
+    catalog: &Catalog,
+    patch: PatchId,
+    only: Option<ObjId>,
+    log: &mut Records,
+)
+    requires number { patch < MAX_PATCHES }
+    requires sites { length sites.old.stacks ≤ MAX_SITES }
+    requires names { catalog.now.names ≡ names_of sites.old.image.objects }
+    requires fresh { (site : ℕ) → is_covered sites.old only site ≡ true → has_entry patch (entries_at sites.old.stacks site) ≡ false }
+    requires records { most_entries catalog.now patch sites.old + MAX_SITES ≤ spare_of log.old }
+    ensures entries { AreMade sites.old sites.new (is_covered sites.old only) (with_entry catalog.now patch) }
+    ensures notes { Notes sites.old sites.new log.old log.new (most_entries catalog.now patch sites.old) (hooked_count sites.old) (hooked_count sites.new) }
+{
+    put_functions(sites, catalog, patch, &only, log);
+    if replaces(catalog, patch) {
+        put_nops(sites, patch, only, log);
+    }
+}
+
+/// Takes a patch's entries out of the stacks of its sites: those of one object, or of all that are
+/// loaded.
+///
+/// It costs as much as the patch has functions; for a cumulative one as much as there are sites.
+pub fn unpatch_sites(
+    sites: &mut Sites,
+    catalog: &Catalog,
+    patch: PatchId,
+    only: Option<ObjId>,
+    log: &mut Records,
+)
+    requires sites { length sites.old.stacks ≤ MAX_SITES }
+    requires names { catalog.now.names ≡ names_of sites.old.image.objects }
+    // only a cumulative patch has entries where it has no function
+    requires own { (site : ℕ) → is_covered sites.old only site ≡ true → has_entry patch (entries_at sites.old.stacks site) ≡ true
+        → (is_some (function_for (functions_in catalog.now patch) site) || is_cumulative catalog.now patch) ≡ true }
+    requires records { most_entries catalog.now patch sites.old + MAX_SITES ≤ spare_of log.old }
+    ensures entries { AreMade sites.old sites.new (is_covered sites.old only) (λ site entries. entries_of_others patch entries) }
+    ensures notes { Notes sites.old sites.new log.old log.new (most_entries catalog.now patch sites.old) (hooked_count sites.new) (hooked_count sites.old) }
+{
+    if replaces(catalog, patch) {
+        take_all(sites, patch, only, log);
+    } else {
+        take_functions(sites, catalog, patch, &only, log);
+    }
+}
+
+/// Takes the nops of a patch out of all stacks, at the cost of all sites.
+pub fn drop_nops(sites: &mut Sites, patch: PatchId, log: &mut Records)
+    requires sites { length sites.old.stacks ≤ MAX_SITES }
+    requires records { length sites.old.stacks + MAX_SITES ≤ spare_of log.old }
+    ensures entries { AreMade sites.old sites.new (λ site. true) (λ site entries. without_nop patch entries) }
+    ensures notes { Notes sites.old sites.new log.old log.new (length sites.old.stacks) (hooked_count sites.new) (hooked_count sites.old) }
+{
+    for site in 0..sites.sites() {
+        take_nop(sites, Site(site as u16), patch, log);
+    }
+}

@@ -1,0 +1,60 @@
+//! The entry of a patch comes to the stack of one site, or leaves it.
+ghost use Rattle.std.specs.Prelude.{◌≡◌, ℕ, ◌+◌, ◌<◌, ◌≤◌, ◌==◌, false, ◌∷◌, length};
+ghost use Rattle.klp_types.specs.Records.{spare_of};
+ghost use Rattle.klp_stack.specs.Stack.{entries_at, has_entry, entries_of_others};
+ghost use Rattle.klp_patch.specs.Changes.{AreMade, Notes, with_nop, without_nop, hooked_count};
+
+use klp_sites::Sites;
+use klp_types::{Entry, MAX_PATCHES, MAX_SITES, PatchId, Records, Site};
+
+/// Puts an entry on top of a site's stack.
+pub(crate) fn put(sites: &mut Sites, site: Site, entry: Entry, log: &mut Records)
+    requires there { site < length sites.old.stacks }
+    requires sites { length sites.old.stacks ≤ MAX_SITES }
+    requires fresh { has_entry entry.patch (entries_at sites.old.stacks site) ≡ false }
+    requires number { entry.patch < MAX_PATCHES }
+    requires records { 1 + MAX_SITES ≤ spare_of log.old + hooked_count sites.old }
+    ensures entries { AreMade sites.old sites.new (λ other. site == other) (λ other entries. entry ∷ entries) }
+    ensures notes { Notes sites.old sites.new log.old log.new 1 (hooked_count sites.old) (hooked_count sites.new) }
+{
+    sites.push(site, entry, log);
+}
+
+/// Puts a nop on top of a site's stack, where it has entries but none of the patch.
+pub(crate) fn put_nop(sites: &mut Sites, site: Site, patch: PatchId, log: &mut Records)
+    requires there { site < length sites.old.stacks }
+    requires sites { length sites.old.stacks ≤ MAX_SITES }
+    requires number { patch < MAX_PATCHES }
+    requires records { 1 + MAX_SITES ≤ spare_of log.old + hooked_count sites.old }
+    ensures entries { AreMade sites.old sites.new (λ other. site == other) (λ other entries. with_nop patch entries) }
+    ensures notes { Notes sites.old sites.new log.old log.new 1 (hooked_count sites.old) (hooked_count sites.new) }
+{
+    if sites.hooks(site) > 0 && sites.entry(site, patch).is_none() {
+        put(sites, site, Entry { patch, func: None }, log);
+    }
+}
+
+/// Takes the entry of a patch out of a site's stack, if it has one there.
+pub(crate) fn take(sites: &mut Sites, site: Site, patch: PatchId, log: &mut Records)
+    requires { 1 + hooked_count sites.old ≤ spare_of log.old }
+    ensures entries { AreMade sites.old sites.new (λ other. site == other) (λ other entries. entries_of_others patch entries) }
+    ensures notes { Notes sites.old sites.new log.old log.new 1 (hooked_count sites.new) (hooked_count sites.old) }
+{
+    if sites.entry(site, patch).is_some() {
+        sites.take(site, patch, log);
+    }
+}
+
+/// Takes the nop of a patch out of a site's stack, if it has one there.
+pub(crate) fn take_nop(sites: &mut Sites, site: Site, patch: PatchId, log: &mut Records)
+    requires { 1 + hooked_count sites.old ≤ spare_of log.old }
+    ensures entries { AreMade sites.old sites.new (λ other. site == other) (λ other entries. without_nop patch entries) }
+    ensures notes { Notes sites.old sites.new log.old log.new 1 (hooked_count sites.new) (hooked_count sites.old) }
+{
+    let Some(entry) = sites.entry(site, patch) else {
+        return;
+    };
+    if entry.func.is_none() {
+        take(sites, site, patch, log);
+    }
+}
