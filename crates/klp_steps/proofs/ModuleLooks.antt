@@ -1,0 +1,175 @@
+-- What is looked at before a module comes or goes: symbols that aren't found, and who sleeps inside of it.
+use Rattle.std.proofs.Common.{◌≡◌, ℕ, zero, suc, ◌+◌, ◌-◌, ◌<◌, ◌≤◌, Bool, true, false, ◌&&◌, ◌||◌, List, [], ◌∷◌, ◌++◌, length, map, take, Option, Some, None, refl, sym, ap, ◌∙◌, arith}
+use Rattle.std.proofs.lemmas.List.{length-map}
+use Rattle.std.specs.Prelude.{◌==◌, nat_lt, is_none, option_map, slice_get, bytes_eq, if◌then◌else◌}
+use Rattle.std.specs.List.{filter, list_any, enumerate_from, count_by}
+use Rattle.std.proofs.lemmas.List.Folds.{list_any-append}
+use Rattle.std.proofs.lemmas.Option.{slice_get-map, slice_get-get_or}
+use borrow.Author.Tests.{ltb-true, ltb-false}
+use Rattle.klp_types.specs.Image.{Symbol, Object, object_of}
+use Rattle.klp_types.specs.Setting.{Function, PatchObject, patch_objects}
+use Rattle.klp_machine.specs.Frames.{object_of_function}
+use Rattle.klp_machine.specs.ModuleCalls.{Part, parts_among}
+use Rattle.klp_machine.specs.Refusals.{lacks_symbol_of}
+use Rattle.klp_modules.specs.Names.{ObjectNames, Named, names_of, named_at, symbol_from}
+use Rattle.klp_plan.specs.Plan.{PlanFunction, PlanTarget, PlanPatch}
+use Rattle.klp_catalog.specs.Catalog.{Catalog, CatalogFunction, catalog_functions, resolved_function, site_of, setting_function, functions_of_target, functions_of_patch, targets_of_patch, patch_object, setting_patch}
+use Rattle.klp_calls.specs.Parts.{parts_at, parts_in}
+
+-- a patch has a function for the module that names no site
+
+abbrev lacks : ℕ → CatalogFunction → Bool
+lacks object f = f.object == object && is_none f.site
+
+and-or : (b x y : Bool) → (b && (x || y)) ≡ ((b && x) || (b && y))
+and-or true x y = refl
+and-or false x y = refl
+
+and-false : (b : Bool) → (b && false) ≡ false
+and-false true = refl
+and-false false = refl
+
+lacks_target : (names : List ObjectNames) (object own : ℕ) (functions : List PlanFunction)
+    → ((own == object) && list_any (λ (f : Function). is_none f.site) (map setting_function (map (resolved_function names own) functions)))
+    ≡ list_any (lacks object) (map (resolved_function names own) functions)
+lacks_target names object own [] = and-false (own == object)
+lacks_target names object own (f ∷ functions) =
+    let here = is_none (site_of names own f) in
+    let later = list_any (λ (g : Function). is_none g.site) (map setting_function (map (resolved_function names own) functions)) in
+    and-or (own == object) here later ∙ ap (λ b. ((own == object) && here) || b) (lacks_target names object own functions)
+
+one_of_them : (there : Bool) (patch place : ℕ) (own : PatchObject) (others : List (ℕ × PatchObject))
+    → list_any (λ (p : Part). lacks_symbol_of p.1.1) (parts_among patch (if there then (place, own) ∷ others else others))
+    ≡ ((there && lacks_symbol_of own) || list_any (λ (p : Part). lacks_symbol_of p.1.1) (parts_among patch others))
+one_of_them true patch place own others = refl
+one_of_them false patch place own others = refl
+
+lacks_targets : (names : List ObjectNames) (object patch place : ℕ) (targets : List PlanTarget)
+    → list_any (λ (p : Part). lacks_symbol_of p.1.1)
+    (parts_among patch (filter (λ (o : ℕ × PatchObject). o.1.object == object) (enumerate_from place (map (patch_object names) targets))))
+    ≡ list_any (lacks object) (functions_of_patch names targets)
+lacks_targets names object patch place [] = refl
+lacks_targets names object patch place (target ∷ targets) =
+    let others = filter (λ (o : ℕ × PatchObject). o.1.object == object) (enumerate_from (place + 1) (map (patch_object names) targets)) in
+    one_of_them (target.object == object) patch place (patch_object names target) others
+    ∙ ap (λ b. b || list_any (λ (p : Part). lacks_symbol_of p.1.1) (parts_among patch others)) (lacks_target names object target.object target.functions)
+    ∙ ap (λ b. list_any (lacks object) (functions_of_target names target) || b) (lacks_targets names object patch (place + 1) targets)
+    ∙ sym (list_any-append (lacks object) (functions_of_target names target) (functions_of_patch names targets))
+
+lacks_found : (names : List ObjectNames) (object patch : ℕ) (found : Option PlanPatch)
+    → list_any (λ (p : Part). lacks_symbol_of p.1.1)
+    (parts_among patch (filter (λ (o : ℕ × PatchObject). o.1.object == object) (enumerate_from 0 (patch_objects (option_map (setting_patch names) found)))))
+    ≡ list_any (lacks object) (functions_of_patch names (targets_of_patch found))
+lacks_found names object patch None = refl
+lacks_found names object patch (Some found) = lacks_targets names object patch 0 found.targets
+
+lacks_at : (catalog : Catalog) (object patch : ℕ) → list_any (λ (p : Part). lacks_symbol_of p.1.1) (parts_at catalog object patch) ≡ list_any (lacks object) (catalog_functions catalog patch)
+lacks_at catalog object patch =
+    ap (λ found. list_any (λ (p : Part). lacks_symbol_of p.1.1)
+    (parts_among patch (filter (λ (o : ℕ × PatchObject). o.1.object == object) (enumerate_from 0 (patch_objects found)))))
+    (slice_get-map (setting_patch catalog.names) catalog.patches patch)
+    ∙ lacks_found catalog.names object patch (slice_get catalog.patches patch)
+
+pub lacks_in : (catalog : Catalog) (object : ℕ) (patches : List ℕ)
+    → list_any (λ patch. list_any (λ (f : CatalogFunction). f.object == object && is_none f.site) (catalog_functions catalog patch)) patches
+    ≡ list_any (λ (p : Part). lacks_symbol_of p.1.1) (parts_in catalog object patches)
+lacks_in catalog object [] = refl
+lacks_in catalog object (patch ∷ patches) =
+    ap (λ b. list_any (lacks object) (catalog_functions catalog patch) || b) (lacks_in catalog object patches)
+    ∙ ap (λ b. b || list_any (λ (p : Part). lacks_symbol_of p.1.1) (parts_in catalog object patches)) (sym (lacks_at catalog object patch))
+    ∙ sym (list_any-append (λ (p : Part). lacks_symbol_of p.1.1) (parts_at catalog object patch) (parts_in catalog object patches))
+
+-- the object of a function
+
+at_front : {X : Type 0} (xs ys : List X) (n : ℕ) → n < length xs → slice_get (xs ++ ys) n ≡ slice_get xs n
+at_front [] ys n h = absurd (omega arith)
+at_front (x ∷ xs) ys zero h = refl
+at_front (x ∷ xs) ys (suc n) h = let below : n < length xs = omega arith in at_front xs ys n below
+
+behind : {X : Type 0} (xs ys : List X) (n : ℕ) → length xs ≤ n → slice_get (xs ++ ys) n ≡ slice_get ys (n - length xs)
+behind [] ys n h = let e : n - 0 ≡ n = omega arith in rw e refl
+behind (x ∷ xs) ys zero h = absurd (omega arith)
+behind (x ∷ xs) ys (suc n) h =
+    let below : length xs ≤ n = omega arith in
+    let e : suc n - suc (length xs) ≡ n - length xs = omega arith in
+    rw e (behind xs ys n below)
+
+object_in : (names : List ObjectNames) (object : ℕ) (functions : List PlanFunction) (number : ℕ) → number < length functions
+    → option_map (λ (f : CatalogFunction). f.object) (slice_get (map (resolved_function names object) functions) number) ≡ Some object
+object_in names object [] number below = absurd (omega arith)
+object_in names object (f ∷ functions) zero below = refl
+object_in names object (f ∷ functions) (suc number) below = object_in names object functions number (omega arith)
+
+either_target : (names : List ObjectNames) (target : PlanTarget) (other : Option ℕ) (others : List CatalogFunction) (number : ℕ) (below : Bool)
+    → nat_lt number (length (functions_of_target names target)) ≡ below
+    → option_map (λ (f : CatalogFunction). f.object) (slice_get others (number - length (functions_of_target names target))) ≡ other
+    → option_map (λ (f : CatalogFunction). f.object)
+    (slice_get (functions_of_target names target ++ others) number)
+    ≡ (if below then Some target.object else other)
+either_target names target other others number true is later =
+    let within = ltb-true number (length (functions_of_target names target)) is in
+    let count = length-map target.functions (resolved_function names target.object) in
+    ap (option_map (λ (f : CatalogFunction). f.object)) (at_front (functions_of_target names target) others number within)
+    ∙ object_in names target.object target.functions number (omega (arith, within, count))
+either_target names target other others number false is later =
+    ap (option_map (λ (f : CatalogFunction). f.object)) (behind (functions_of_target names target) others number (ltb-false number (length (functions_of_target names target)) is))
+    ∙ later
+
+object_of_targets : (names : List ObjectNames) (targets : List PlanTarget) (number : ℕ)
+    → option_map (λ (f : CatalogFunction). f.object) (slice_get (functions_of_patch names targets) number) ≡ object_of_function (map (patch_object names) targets) number
+object_of_targets names [] number = refl
+object_of_targets names (target ∷ targets) number =
+    let own = functions_of_target names target in
+    let count : length (map setting_function own) ≡ length own = length-map own setting_function in
+    let later = object_of_targets names targets (number - length own) in
+    either_target names target (object_of_function (map (patch_object names) targets) (number - length own)) (functions_of_patch names targets) number (nat_lt number (length own)) refl later
+    ∙ ap (λ n. if nat_lt number n then Some target.object else object_of_function (map (patch_object names) targets) (number - n)) (sym count)
+
+object_of_found : (names : List ObjectNames) (found : Option PlanPatch) (number : ℕ)
+    → option_map (λ (f : CatalogFunction). f.object) (slice_get (functions_of_patch names (targets_of_patch found)) number)
+    ≡ object_of_function (patch_objects (option_map (setting_patch names) found)) number
+object_of_found names None number = refl
+object_of_found names (Some found) number = object_of_targets names found.targets number
+
+pub function_lies_in : (catalog : Catalog) (patch number : ℕ)
+    → option_map (λ (f : CatalogFunction). f.object) (slice_get (catalog_functions catalog patch) number)
+    ≡ object_of_function (patch_objects (slice_get (map (setting_patch catalog.names) catalog.patches) patch)) number
+function_lies_in catalog patch number =
+    object_of_found catalog.names (slice_get catalog.patches patch) number
+    ∙ ap (λ found. object_of_function (patch_objects found) number) (sym (slice_get-map (setting_patch catalog.names) catalog.patches patch))
+
+-- the object of a site
+
+named_there : (number : ℕ) (symbols : List (List ℕ)) (place : ℕ) → place < length symbols → option_map (λ (s : Named). s.object) (named_at number symbols place) ≡ Some (number + 0)
+named_there number symbols place below =
+    let e : number ≡ number + 0 = omega arith in
+    ap (λ o. option_map (λ (s : Named). s.object) (option_map (λ name. record { object = number; name = name; position = count_by (bytes_eq name) (take (place + 1) symbols) }) o))
+    (slice_get-get_or symbols place [] below)
+    ∙ ap Some e
+
+numbered_on : (number : ℕ) (found : Option ℕ) → option_map (λ k. suc number + k) found ≡ option_map (λ k. number + k) (option_map suc found)
+numbered_on number None = refl
+numbered_on number (Some k) = let e : suc number + k ≡ number + suc k = omega arith in ap Some e
+
+either_object : (number : ℕ) (symbols : List (List ℕ)) (objects : List Object) (site : ℕ) (below : Bool) → nat_lt site (length symbols) ≡ below
+    → option_map (λ (s : Named). s.object) (symbol_from (suc number) (names_of objects) (site - length symbols)) ≡ option_map (λ k. suc number + k) (object_of objects (site - length symbols))
+    → option_map (λ (s : Named). s.object) (if below then named_at number symbols site else symbol_from (suc number) (names_of objects) (site - length symbols))
+    ≡ option_map (λ k. number + k) (if below then Some 0 else option_map suc (object_of objects (site - length symbols)))
+either_object number symbols objects site true is later = named_there number symbols site (ltb-true site (length symbols) is)
+either_object number symbols objects site false is later = later ∙ numbered_on number (object_of objects (site - length symbols))
+
+site_from : (number : ℕ) (objects : List Object) (site : ℕ)
+    → option_map (λ (s : Named). s.object) (symbol_from number (names_of objects) site) ≡ option_map (λ k. number + k) (object_of objects site)
+site_from number [] site = refl
+site_from number (object ∷ objects) site =
+    let symbols = map (λ (s : Symbol). s.name) object.symbols in
+    let count : length symbols ≡ length object.symbols = length-map object.symbols (λ (s : Symbol). s.name) in
+    either_object number symbols objects site (nat_lt site (length symbols)) refl (site_from (suc number) objects (site - length symbols))
+    ∙ ap (λ n. option_map (λ k. number + k) (if nat_lt site n then Some 0 else option_map suc (object_of objects (site - n)))) count
+
+from_zero : (found : Option ℕ) → option_map (λ k. 0 + k) found ≡ found
+from_zero None = refl
+from_zero (Some k) = let e : 0 + k ≡ k = omega arith in ap Some e
+
+pub site_lies_in : (objects : List Object) (site : ℕ) → option_map (λ (s : Named). s.object) (symbol_from 0 (names_of objects) site) ≡ object_of objects site
+site_lies_in objects site = site_from 0 objects site ∙ from_zero (object_of objects site)

@@ -1,0 +1,31 @@
+use Rattle.std.proofs.Common.{◌≤◌, false, length, ap, ◌∙◌, arith}
+use Rattle.std.proofs.lemmas.List.{length-map}
+use Rattle.klp_types.specs.declared.limits.TheConstants.{MAX_SITES, MAX_FUNCTIONS}
+use Rattle.klp_types.specs.Records.{RecordList}
+use Rattle.klp_machine.specs.Task.{all_in, at_target}
+use Rattle.klp_text.specs.TextImage.{site_count}
+use Rattle.klp_catalog.specs.Catalog.{setting_function}
+use Rattle.klp_patch.specs.Covered.{functions_in}
+use Rattle.klp_patch.specs.Changes.{most_entries}
+use Rattle.klp_steps.proofs.RoomLemmas.{few_noted, most_at}
+use Rattle.klp_steps.proofs.parts.Parts.start.Goals as goal
+
+pub set_all-requires : goal.set_all-requires
+set_all-requires g c =
+    let catalog = c.args.catalog.now in
+    let before = c.args.self.now.sites in
+    let after = c.patch_sites.new.sites in
+    let tasks = c.args.self.now.tasks in
+    let functions : length (functions_in catalog c.args.patch) ≤ MAX_FUNCTIONS =
+    let same = ap length c.functions.ensures.setting in
+    let count = length-map c.functions.result.now setting_function in
+    omega (arith, same, count, c.functions.ensures.few)
+    in
+    let sites : length before.stacks ≤ MAX_SITES = omega (arith, c.sites.ensures.value, c.sites.ensures.image, c.requires.sites) in
+    let image = ap site_count c.patch_sites.ensures.entries.image in
+    let left : length after.stacks ≤ MAX_SITES = omega (arith, c.sites-2.ensures.value, c.sites-2.ensures.image, image, c.requires.sites) in
+    let most = most_at catalog c.args.patch before functions sites in
+    let noted = few_noted before after c.args.self.now.log c.patch_sites.new.log (most_entries catalog c.args.patch before) c.patch_sites.ensures.notes left in
+    let room = ap (λ (l : RecordList). l.room) c.patch_sites.ensures.notes.noted ∙ c.requires.log in
+    let rows = c.records_are_few.ensures 0 tasks (all_in (at_target false) tasks) in
+    omega (arith, rows, noted, most, room, c.requires.records, c.requires.tasks)

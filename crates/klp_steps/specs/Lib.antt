@@ -1,0 +1,5 @@
+pub mod Managed
+pub mod Events
+pub mod Invariant
+pub mod StepLaws
+pub mod Complete

@@ -1,0 +1,130 @@
+//! A patch is disabled, or its transition turns round (livepatch, Disabling; callbacks, the case of a
+//! transition that is reversed).
+ghost use Rattle.std.specs.Prelude.{◌≡◌, ◌≤◌, true, false, not, None};
+ghost use Rattle.klp_types.specs.Pick.{moves};
+ghost use Rattle.klp_machine.specs.declared.event.Event.TheVariants.{SetEnabled};
+ghost use Rattle.klp_machine.specs.Refusals.{refusal, moves_out};
+ghost use Rattle.klp_machine.specs.EventCalls.{lacks_room, disable_calls};
+ghost use Rattle.klp_calls.specs.Calls.{records_of};
+ghost use Rattle.klp_steps.specs.Managed.{setting_of, managed_of};
+ghost use Rattle.klp_steps.specs.Invariant.{Invariant};
+ghost use Rattle.klp_steps.specs.Events.{PartsTake, PartsAccept};
+
+use crate::forcing::target_state;
+use crate::parts::Parts;
+use crate::step::steps_keep;
+use klp_calls::{allocs, run_callbacks};
+use klp_catalog::Catalog;
+use klp_machine::{Refusal, Reply};
+use klp_tasks::laws::records_are_few;
+use klp_types::{MAX_VARIABLES, Move, PatchId, Which};
+
+impl Parts {
+    /// A value is written to the `enabled` file of an installed patch. A transition of the patch turns
+    /// round, and nothing runs; else the patch starts to be disabled, object by object with pre-unpatch.
+    pub fn set_enabled(
+        &mut self,
+        catalog: &mut Catalog,
+        patch: PatchId,
+        value: bool,
+    ) -> Result<Reply, Refusal>
+        requires { Invariant self.old catalog.old }
+        ensures { PartsTake self.old self.new catalog.old catalog.new (SetEnabled patch value) result }
+    {
+        match self.set_refusal(catalog, patch, value) {
+            Some(refusal) => Err(refusal),
+            None => Ok(self.turn(catalog, patch, value)),
+        }
+    }
+
+    /// Why the value isn't written.
+    fn set_refusal(&self, catalog: &Catalog, patch: PatchId, value: bool) -> Option<Refusal>
+        requires { Invariant self.now catalog.now }
+        ensures refusal { result ≡ refusal (setting_of (managed_of self.now catalog.now)) (managed_of self.now catalog.now).state (SetEnabled patch value) }
+        ensures records { records_of (disable_calls (setting_of (managed_of self.now catalog.now)) (managed_of self.now catalog.now).state patch) ≤ 256 }
+    {
+        let lacks_room = self.lacks_room_to_set(catalog, patch, value);
+        if patch.0 >= catalog.patches() {
+            Some(Refusal::NoPatch)
+        } else if !self.world.is_installed(patch) {
+            Some(Refusal::NotFound)
+        } else if value == self.enabled_value(patch) {
+            Some(Refusal::SameValue)
+        } else if !value && self.moving.is_some() && !self.moves(patch) {
+            Some(Refusal::Busy)
+        } else if lacks_room {
+            Some(Refusal::Full)
+        } else {
+            None
+        }
+    }
+
+    /// What the `enabled` file of an installed patch reads.
+    pub(crate) fn enabled_value(&self, patch: PatchId) -> bool
+        ensures { result ≡ not (moves_out self.now.moving patch) }
+    {
+        match self.moving {
+            Some(moving) => moving.patch != patch || moving.target,
+            None => true,
+        }
+    }
+
+    /// Whether there is no room for what the callbacks add.
+    fn lacks_room_to_set(&self, catalog: &Catalog, patch: PatchId, value: bool) -> bool
+        requires { Invariant self.now catalog.now }
+        ensures room { result ≡ lacks_room (setting_of (managed_of self.now catalog.now)) (managed_of self.now catalog.now).state (SetEnabled patch value) }
+        ensures records { records_of (disable_calls (setting_of (managed_of self.now catalog.now)) (managed_of self.now catalog.now).state patch) ≤ 256 }
+    {
+        let pre_un = if self.moves(patch) {
+            0
+        } else {
+            allocs(catalog, &self.modules, patch, Which::PreUn)
+        };
+        usize::from(self.world.count()) + pre_un > MAX_VARIABLES
+    }
+
+    /// A transition turns round, or a disabling starts.
+    fn turn(&mut self, catalog: &mut Catalog, patch: PatchId, value: bool) -> Reply
+        requires kept { Invariant self.old catalog.old }
+        requires free { refusal (setting_of (managed_of self.old catalog.old)) (managed_of self.old catalog.old).state (SetEnabled patch value) ≡ None }
+        requires records { records_of (disable_calls (setting_of (managed_of self.old catalog.old)) (managed_of self.old catalog.old).state patch) ≤ 256 }
+        ensures { PartsAccept self.old self.new catalog.old catalog.new (SetEnabled patch value) result }
+    {
+        steps_keep();
+        if self.moves(patch) {
+            self.moving = Some(Move {
+                patch,
+                target: value,
+            });
+            return Reply::Reversed;
+        }
+        self.disable(catalog, patch, value)
+    }
+
+    /// A disabling starts.
+    fn disable(&mut self, catalog: &mut Catalog, patch: PatchId, value: bool) -> Reply
+        requires kept { Invariant self.old catalog.old }
+        requires free { refusal (setting_of (managed_of self.old catalog.old)) (managed_of self.old catalog.old).state (SetEnabled patch value) ≡ None }
+        requires records { records_of (disable_calls (setting_of (managed_of self.old catalog.old)) (managed_of self.old catalog.old).state patch) ≤ 256 }
+        requires rests { moves self.old.moving patch ≡ false }
+        ensures { PartsAccept self.old self.new catalog.old catalog.new (SetEnabled patch value) result }
+    {
+        steps_keep();
+        records_are_few();
+        self.log.clear();
+        run_callbacks(
+            catalog,
+            &self.modules,
+            patch,
+            Which::PreUn,
+            &mut self.world,
+            &mut self.log,
+        );
+        self.tasks.set_all(target_state(true), &mut self.log);
+        self.moving = Some(Move {
+            patch,
+            target: false,
+        });
+        Reply::Started
+    }
+}
