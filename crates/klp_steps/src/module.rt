@@ -321,7 +321,7 @@ impl Parts {
     }
 
     /// The object that a version lies in: that of its site, or that of the function of a patch.
-    fn object_of(&self, catalog: &Catalog, version: Version) -> Option<ObjId>
+    pub fn object_of(&self, catalog: &Catalog, version: Version) -> Option<ObjId>
         requires { Invariant self.now catalog.now }
         ensures { result ≡ object_of_version (setting_of (managed_of self.now catalog.now)) version }
     {

@@ -1,0 +1,30 @@
+-- What a manager is booted with.
+use Rattle.std.specs.Prelude.{◌≡◌, ℕ, ◌⊎◌, List, map, length}
+use Rattle.klp_types.specs.Image.{Object, Image}
+use Rattle.klp_modules.specs.Names.{ObjectNames, ModuleTable, names_of}
+use Rattle.klp_catalog.specs.Catalog.{Catalog}
+use Rattle.klp_manager.specs.declared.fault.BootFault.{BootFault}
+use Rattle.klp_manager.specs.declared.fault.BootFault.TheVariants.{Mismatch, NoMemory}
+
+-- how many symbols each object has
+abbrev pub symbol_counts : List Object → List ℕ
+symbol_counts objects = map (λ (o : Object). length o.symbols) objects
+
+-- the same of objects that are told by their names
+abbrev pub name_counts : List ObjectNames → List ℕ
+name_counts names = map (λ (o : ObjectNames). length o.symbols) names
+
+-- image, modules and catalog have the same objects as far as numbers of symbols tell
+pub record IsMatch (image : Image) (modules : ModuleTable) (catalog : Catalog) : Type 0 where
+  pub modules_match : name_counts modules.names ≡ symbol_counts image.objects
+  pub catalog_matches : name_counts catalog.names ≡ symbol_counts image.objects
+
+-- the modules have the image's names in order, and so had the modules that the catalog was assembled over
+pub record AreNamed (image : Image) (modules : ModuleTable) (catalog : Catalog) : Type 0 where
+  pub modules_named : modules.names ≡ names_of image.objects
+  pub catalog_named : catalog.names ≡ names_of image.objects
+
+-- they don't match, or they match and memory ran out
+abbrev pub IsFaultOf : Image → ModuleTable → Catalog → BootFault → Type 0
+IsFaultOf image modules catalog fault =
+    ((IsMatch image modules catalog → ⊥) × (fault ≡ Mismatch)) ⊎ (IsMatch image modules catalog × (fault ≡ NoMemory))

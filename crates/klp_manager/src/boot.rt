@@ -1,0 +1,59 @@
+ghost use Rattle.std.specs.Prelude.{◌≡◌, IsTrue, IfOk, IfErr, false, true, length, slice_set, replicate};
+ghost use Rattle.klp_text.specs.TextImage.{IsWithinLimits, opening};
+ghost use Rattle.klp_machine.specs.Opening.{opening_state};
+ghost use Rattle.klp_steps.specs.Managed.{setting_of, managed_of};
+ghost use Rattle.klp_steps.specs.Invariant.{Invariant};
+ghost use Rattle.klp_manager.specs.Boot.{IsMatch, AreNamed, IsFaultOf};
+
+use crate::fault::BootFault;
+use klp_catalog::Catalog;
+use klp_modules::Modules;
+use klp_steps::Parts;
+use klp_text::Image;
+use klp_types::ObjId;
+use std::alloc::Global;
+
+// Whether the three have the same number of symbols for each object. Behind the last object of the
+// image, the others have none either.
+fn is_match(image: &Image, modules: &Modules, catalog: &Catalog) -> bool
+    ensures matches { IsTrue result → IsMatch image.now.image modules.now catalog.now }
+    ensures differs { result ≡ false → IsMatch image.now.image modules.now catalog.now → ⊥ }
+    // what every image has
+    ensures limits { IsWithinLimits image.now.image.objects }
+{
+    let objects = image.objects();
+    for number in 0..=objects {
+        let object = ObjId(number);
+        let symbols = image.symbols(object);
+        if modules.symbols(object) != symbols || catalog.symbols(object) != symbols {
+            return false;
+        }
+    }
+    true
+}
+
+/// The parts of a manager in its opening state, where the three match.
+pub(crate) fn parts_over(
+    alloc: Global,
+    image: Image,
+    modules: Modules,
+    catalog: &Catalog,
+) -> Result<Parts, BootFault>
+    requires image { image ≡ opening image.image.handler image.image.objects }
+    requires modules { modules.loaded ≡ slice_set (replicate (length modules.names) false) 0 true }
+    requires names { IsMatch image.image modules catalog.now → AreNamed image.image modules catalog.now }
+    ensures matches { IfOk result (λ parts. IsMatch image.image modules catalog.now) }
+    ensures kept { IfOk result (λ parts. Invariant parts catalog.now) }
+    ensures opening { IfOk result (λ parts. managed_of parts catalog.now ≡ record {
+      image = image.image;
+      catalog = catalog.now;
+      state = opening_state (setting_of (managed_of parts catalog.now));
+    }) }
+    ensures fault { IfErr result (λ fault. IsFaultOf image.image modules catalog.now fault) }
+{
+    if !is_match(&image, &modules, catalog) {
+        return Err(BootFault::Mismatch);
+    }
+    let parts = Parts::new(alloc, image, modules, catalog)?;
+    Ok(parts)
+}

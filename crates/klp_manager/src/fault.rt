@@ -1,0 +1,24 @@
+ghost use Rattle.std.specs.Prelude.{◌≡◌};
+ghost use Rattle.klp_manager.specs.declared.fault.BootFault.TheVariants.{NoMemory};
+
+use std::alloc::AllocError;
+use thiserror::Error;
+
+/// Why a manager can't be booted. The numbers are this project's own, and stay.
+#[derive(Clone, Copy, Debug, PartialEq, Eq, Error)]
+pub enum BootFault {
+    /// Image, modules and catalog don't have the same number of symbols for each object.
+    #[error("Mismatch")]
+    Mismatch = 1,
+    /// Memory ran out.
+    #[error("NoMemory")]
+    NoMemory = 2,
+}
+
+impl From<AllocError> for BootFault {
+    ghost from_gives = { λ _ fault. fault ≡ NoMemory };
+
+    fn from(_: AllocError) -> BootFault {
+        BootFault::NoMemory
+    }
+}

@@ -1,0 +1,114 @@
+//! What a call at a hooked site needs to know, and what a task runs there (the kernel's
+//! `klp_ftrace_handler`).
+ghost use Rattle.std.specs.Prelude.{◌≡◌, option_map, unwrap_or};
+ghost use Rattle.std.specs.Option.{option_to_list};
+ghost use Rattle.klp_types.specs.Pick.{address_of, newest_version};
+ghost use Rattle.klp_machine.specs.Entries.{is_site_loaded};
+ghost use Rattle.klp_machine.specs.Pick.{pick};
+ghost use Rattle.klp_machine.specs.Rows.{row_of, word_of, moving_patch};
+ghost use Rattle.klp_machine.specs.Entries.{entries_of};
+ghost use Rattle.klp_steps.specs.Managed.{setting_of};
+
+use crate::manager::Manager;
+use klp_stack::laws::the_word_is_enough;
+use klp_types::{Entry, Move, PatchId, Site, SiteRow, SiteWord, Target, TaskId, Version};
+
+/// The version of an entry, or the original where there is none.
+fn version_of(site: Site, entry: Option<Entry>) -> Version
+    ensures { result ≡ newest_version site (option_to_list entry) }
+{
+    let Some(Entry { patch, func }) = entry else {
+        return Version::Original(site);
+    };
+    match func {
+        Some(func) => Version::New(patch, func),
+        None => Version::Original(site),
+    }
+}
+
+/// The patch in transition.
+fn patch_of(moving: Option<Move>) -> Option<PatchId>
+    ensures { result ≡ moving_patch moving }
+{
+    match moving {
+        Some(moving) => Some(moving.patch),
+        None => None,
+    }
+}
+
+impl Manager {
+    /// The two newest entries of a site with their addresses. `None` where the site isn't one of a
+    /// loaded object.
+    pub fn row(&self, site: Site) -> Option<SiteRow>
+        ensures { result ≡ row_of (setting_of self.now) self.now.state site }
+    {
+        if !self.is_site_loaded(site) {
+            return None;
+        }
+        let word = self.word(site);
+        Some(SiteRow {
+            word,
+            original: self.address(Version::Original(site)),
+            top: self.address(version_of(site, word.top)),
+            below: self.address(version_of(site, word.below)),
+        })
+    }
+
+    /// What a task runs when it enters a site's function: the version and where it begins. `None` where
+    /// the task isn't there, or the site isn't one of a loaded object.
+    pub fn pick(&self, task: TaskId, site: Site) -> Option<Target>
+        ensures { result ≡ pick (setting_of self.now) self.now.state task site }
+    {
+        the_word_is_enough();
+        let state = self.patch_state(task)?;
+        if !self.is_site_loaded(site) {
+            return None;
+        }
+        let version = klp_stack::pick(site, self.word(site), state);
+        let address = self.begins_at(&version)?;
+        Some(Target { version, address })
+    }
+
+    /// Whether a site is one of a loaded object.
+    fn is_site_loaded(&self, site: Site) -> bool
+        ensures { result ≡ is_site_loaded (setting_of self.now) self.now.state site }
+    {
+        match self.parts.object_of(&self.catalog, Version::Original(site)) {
+            Some(object) => self.parts.sites.is_loaded(object),
+            None => false,
+        }
+    }
+
+    /// The two newest entries of a site.
+    fn word(&self, site: Site) -> SiteWord
+        ensures { result ≡ word_of (moving_patch self.now.state.moving) (entries_of (setting_of self.now) self.now.state site) }
+    {
+        let moving = patch_of(self.parts.moving);
+        self.parts.sites.word(site, moving)
+    }
+
+    /// Where a version begins, if there is such a version.
+    fn begins_at(&self, version: &Version) -> Option<u64>
+        ensures { result ≡ address_of (setting_of self.now) version.now }
+    {
+        match *version {
+            Version::Original(site) => {
+                if usize::from(site.0) >= self.parts.sites.sites() {
+                    return None;
+                }
+                Some(self.parts.sites.image().address(site) + 5)
+            }
+            Version::New(patch, function) => {
+                let function = self.catalog.functions(patch).get(usize::from(function))?;
+                Some(function.address())
+            }
+        }
+    }
+
+    /// The same, and 0 where there is none.
+    fn address(&self, version: Version) -> u64
+        ensures { result ≡ unwrap_or (address_of (setting_of self.now) version) 0 }
+    {
+        self.begins_at(&version).unwrap_or(0)
+    }
+}

@@ -1,0 +1,61 @@
+ghost use Rattle.std.specs.Prelude.{◌≡◌, length, slice_get, option_map};
+ghost use Rattle.klp_types.specs.Image.{Symbol};
+
+use klp_text::Image;
+use klp_types::ObjId;
+use std::marker::Model;
+
+/// The text of one loaded object, lent by the manager: its symbols in order, each with the bytes
+/// that a processor would run.
+#[derive(Debug, Drop)]
+pub struct TextView<'a> {
+    image: &'a Image,
+    object: ObjId,
+}
+
+impl<'a> Model for TextView<'a> {
+    ghost use Rattle.std.specs.Prelude.{◌≡◌, List, true, slice_index_or, false};
+    ghost use Rattle.klp_types.specs.Image.{Symbol};
+    ghost use Rattle.klp_manager.specs.View.{symbols_at};
+
+    ghost Value = { List Symbol };
+
+    ghost view = { λ v. symbols_at v.image.now v.object };
+
+    ghost invariant = { λ v. slice_index_or v.image.now.loaded v.object false ≡ true };
+}
+
+impl<'a> TextView<'a> {
+    ghost use Rattle.std.specs.Prelude.{true, false, slice_index_or};
+    ghost use Rattle.klp_manager.specs.View.{symbols_at};
+
+    pub(crate) fn new(image: &'a Image, object: ObjId) -> TextView<'a>
+        requires { slice_index_or image.now.loaded object false ≡ true }
+        ensures { result ≡ symbols_at image.now object }
+    {
+        TextView { image, object }
+    }
+
+    /// How many symbols the object has.
+    pub fn len(&self) -> u16
+        ensures { result ≡ length self.now }
+    {
+        match self.image.symbols(self.object) {
+            Some(count) => count,
+            None => 0,
+        }
+    }
+
+    /// A symbol, counted from 0: its name, its address and its bytes.
+    pub fn get(&self, number: u16) -> Option<(&str, u64, &[u8])>
+        ensures name { option_map (λ found. found.0.now) result ≡ option_map (λ (s : Symbol). s.name) (slice_get self.now number) }
+        ensures address { option_map (λ found. found.1) result ≡ option_map (λ (s : Symbol). s.address) (slice_get self.now number) }
+        ensures body { option_map (λ found. found.2.now) result ≡ option_map (λ (s : Symbol). s.body) (slice_get self.now number) }
+    {
+        let Some((name, address)) = self.image.symbol(self.object, number) else {
+            return None;
+        };
+        let body = self.image.bytes(self.object, number)?;
+        Some((name, address, body))
+    }
+}
