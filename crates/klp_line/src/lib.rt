@@ -17,3 +17,5 @@ pub use fault::TextFaultKind;
 pub use items::{Name, PlanFunction, SystemState};
 pub use line::Line;
 pub use lines::{Lines, Words};
+pub use number::number64;
+pub use words::{Spelling, spelling_of};

@@ -30,8 +30,9 @@ pub(crate) fn number32(word: &[u8]) -> Option<u32>
     text(word).parse().ok()
 }
 
+/// A decimal number: digits alone, less than 2 to the 64th.
 #[tactic(auto, using(crate::proofs::WordLemmas::ascii_from_digits))]
-pub(crate) fn number64(word: &[u8]) -> Option<u64>
+pub fn number64(word: &[u8]) -> Option<u64>
     ensures { result ≡ decimal_of (2 ^ 64) word.now }
 {
     if !has_only_digits(word) {

@@ -125,9 +125,10 @@ pub(crate) fn body(alloc: Global, word: &[u8]) -> Result<Vec<u8>, TextFaultKind>
     }
 }
 
-/// A symbol with its object and its position, as a `func` line spells it.
+/// A symbol with its object and its position, as a `func` line spells it: position 0 asks for the only
+/// symbol of that name, and n for the n-th.
 #[derive(Drop)]
-pub(crate) struct Spelling<'a> {
+pub struct Spelling<'a> {
     pub object: &'a str,
     pub symbol: &'a str,
     pub sympos: u32,
@@ -179,7 +180,9 @@ fn spelling_behind_prefix(text: &[u8]) -> Option<Spelling<'_>>
     spelling_of_parts(object, symbol, position)
 }
 
-fn spelling_of(word: &[u8]) -> Option<Spelling<'_>>
+/// What `.klp.sym.objname.symbol_name,sympos` spells (livepatch module ELF format, livepatch symbols).
+/// `None` for any other word.
+pub fn spelling_of(word: &[u8]) -> Option<Spelling<'_>>
     ensures { result ≡ spelling_of word.now }
 {
     let rest = word.strip_prefix(SYMBOL_PREFIX)?;
