@@ -26,8 +26,7 @@ use Rattle.klp_machine.specs.ModuleCalls.{Part, parts, part_refuses, coming_call
 use Rattle.klp_machine.specs.EventCalls.{lacks_room}
 use Rattle.klp_machine.specs.ShadowStep.{shadow_changed}
 use Rattle.klp_machine.specs.Step.{accepted}
-use Rattle.klp_machine.specs.Refusals.{accepts, refusals, same_bool, moves_out, is_there}
-use Rattle.klp_types.specs.Step.{is_full, has_patch}
+use Rattle.klp_machine.specs.Refusals.{has_patch, is_full, accepts, refusals, same_bool, moves_out, is_there}
 use Rattle.klp_machine.specs.Enabling.{enabled_or_gone, turned_or_started, move_to}
 use Rattle.klp_machine.specs.Forcing.{forced, pin_all, pinned_by}
 use Rattle.klp_machine.specs.Completing.{without_older, completed_or_pending, polled}

@@ -21,3 +21,6 @@ pub mod LegalLemmas
 pub mod SettledLemmas
 pub mod ReplacingLemmas
 pub mod StatedLemmas
+pub mod EntryLemmas
+pub mod TextLemmas
+pub mod RunLemmas

@@ -10,7 +10,7 @@ use Rattle.klp_machine.specs.State.{is_among}
 use Rattle.klp_machine.specs.Completing.{from_patch}
 use Rattle.klp_types.specs.Callbacks.{Call, after_calls}
 use Rattle.klp_types.specs.Script.{effect}
-use Rattle.klp_types.specs.Step.{has_patch}
+use Rattle.klp_machine.specs.Refusals.{has_patch}
 use Rattle.klp_machine.specs.Allowed.{is_one_of, AreKnown, AreDistinct, AreAbove, AreStacked}
 use Rattle.klp_types.proofs.ScriptLemmas.{installed_stay}
 

@@ -13,8 +13,7 @@ use Rattle.klp_machine.specs.State.{State, is_loaded, installed_patches}
 use Rattle.klp_types.specs.Entries.{is_empty}
 use Rattle.klp_types.specs.Pick.{moves}
 use Rattle.klp_machine.specs.Frames.{is_bad}
-use Rattle.klp_types.specs.Step.{has_patch}
-use Rattle.klp_machine.specs.Refusals.{lacks_symbol}
+use Rattle.klp_machine.specs.Refusals.{has_patch, lacks_symbol}
 
 -- whether a patch is one of these
 abbrev pub is_one_of : ℕ → List ℕ → Bool

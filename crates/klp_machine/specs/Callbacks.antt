@@ -1,8 +1,9 @@
--- Which objects of a patch callbacks run for, and what runs at the end of a transition.
-use Rattle.std.specs.Prelude.{ℕ, List, [], Option, Some, None}
+-- Which objects of a patch callbacks run for, what runs at the end of a transition, and what a callback answers.
+use Rattle.std.specs.Prelude.{ℕ, ℤ, pos, List, [], Option, Some, None}
 use Rattle.std.specs.List.{filter, enumerate_from}
 use Rattle.klp_types.specs.declared.version.Move.{Move}
 use Rattle.klp_types.specs.Setting.{Setting, PatchObject, objects_of}
+use Rattle.klp_types.specs.Script.{Script}
 use Rattle.klp_types.specs.Callbacks.{Call, calls_of, end_of}
 use Rattle.klp_machine.specs.State.{State, is_loaded}
 
@@ -14,3 +15,8 @@ loaded_objects setting state patch = filter (λ (o : ℕ × PatchObject). is_loa
 abbrev pub end_calls : Setting → State → Option Move → List Call
 end_calls setting state None = []
 end_calls setting state (Some move) = calls_of move.patch (end_of move.target) (loaded_objects setting state move.patch)
+
+-- the status that a callback answers: a callback that isn't there is as one that succeeds
+abbrev pub status_of : Option Script → ℤ
+status_of None = pos 0
+status_of (Some script) = script.status

@@ -4,13 +4,12 @@ use Rattle.klp_types.specs.declared.callback.Which.TheVariants.{Pre, PreUn}
 use Rattle.klp_machine.specs.declared.event.Reply.{Reply}
 use Rattle.klp_machine.specs.declared.event.Reply.TheVariants.{Started, Reversed, PreFailed}
 use Rattle.klp_types.specs.declared.version.Move.{Move}
-use Rattle.klp_types.specs.Step.{status_of}
 use Rattle.klp_types.specs.Setting.{Setting, PatchObject, state_ids}
 use Rattle.klp_types.specs.World.{World, with_patch, without_patch}
 use Rattle.klp_machine.specs.Task.{at_target, all_in}
 use Rattle.klp_machine.specs.State.{State, with_world}
 use Rattle.klp_types.specs.Pick.{moves}
-use Rattle.klp_machine.specs.Callbacks.{loaded_objects}
+use Rattle.klp_machine.specs.Callbacks.{loaded_objects, status_of}
 use Rattle.klp_types.specs.Callbacks.{calls_of, script_for, refuses, enable_calls, after_calls}
 
 -- a transition to this target starts, or turns round

@@ -11,7 +11,7 @@ use Rattle.klp_types.specs.Setting.{Function, Callback, PatchObject, Patch, Sett
 use Rattle.klp_types.specs.Compatible.{SystemState}
 use Rattle.klp_types.specs.World.{Installed}
 use Rattle.klp_types.specs.Callbacks.{Call}
-use Rattle.klp_types.specs.Examples.{kernel, installed, callbacks_for}
+use Rattle.klp_types.specs.Examples.{kernel, callbacks_for}
 use Rattle.klp_types.specs.declared.task.Mode.TheVariants.{User, Kernel, Asleep}
 use Rattle.klp_types.specs.declared.task.Task.{Task}
 use Rattle.klp_machine.specs.Task.{Tasks}
@@ -47,6 +47,9 @@ small_kernel = record { image = kernel; patches = p ∷ c ∷ q ∷ r ∷ [] }
 
 abbrev pub move_of : ℕ → Bool → Option Move
 move_of patch target = Some (record { patch = patch; target = target })
+
+abbrev pub installed : ℕ → Installed
+installed patch = record { patch = patch; values = [] }
 
 -- these patches are installed, oldest first; the module is loaded or not
 abbrev pub state_with : Bool → List ℕ → Option Move → Tasks → State

@@ -6,8 +6,8 @@ use Rattle.klp_machine.specs.declared.event.Reply.TheVariants.{Done, PreFailed}
 use Rattle.klp_types.specs.Setting.{Setting}
 use Rattle.klp_machine.specs.State.{State, with_world}
 use Rattle.klp_types.specs.Callbacks.{script_for, after_calls}
+use Rattle.klp_machine.specs.Callbacks.{status_of}
 use Rattle.klp_machine.specs.ModuleCalls.{Part, parts, part_refuses, coming_calls, going_calls}
-use Rattle.klp_types.specs.Step.{status_of}
 
 abbrev pub with_loaded : State → ℕ → Bool → State
 with_loaded state object flag = record state { loaded = slice_set state.loaded object flag }

@@ -1,7 +1,8 @@
 -- What an event is refused for.
 use Rattle.std.specs.Prelude.{◌≡◌, ℕ, ◌==◌, Bool, true, false, not, ◌&&◌, ◌||◌, is_some, is_none, nat_lt, nat_le, List, [], ◌∷◌, length, map, Option, Some, None}
 use Rattle.std.specs.List.{list_any}
-use Rattle.klp_types.specs.declared.limits.TheConstants.{MAX_TASKS}
+use Rattle.std.specs.FinMap as finite
+use Rattle.klp_types.specs.declared.limits.TheConstants.{MAX_VARIABLES, MAX_TASKS}
 use Rattle.klp_types.specs.declared.task.Mode.TheVariants.{User, Kernel, Asleep}
 use Rattle.klp_machine.specs.declared.event.Event.{Event}
 use Rattle.klp_machine.specs.declared.event.Event.TheVariants.{Enable, SetEnabled, Force, Poll, Coming, Going, NewTask, Fork, EndTask, EnterKernel, ExitToUser, Sleep, Wake, ShadowAlloc, ShadowGetOrAlloc, ShadowFree, ShadowFreeAll}
@@ -10,15 +11,22 @@ use Rattle.klp_machine.specs.declared.event.Refusal.TheVariants.{NoPatch, Busy, 
 use Rattle.klp_types.specs.declared.version.Move.{Move}
 use Rattle.klp_types.specs.FirstOf.{first_of}
 use Rattle.klp_types.specs.Compatible as compatible
-use Rattle.klp_types.specs.Step.{is_full, has_patch}
 use Rattle.klp_types.specs.Setting.{Setting, PatchObject, Function, objects_of, replaces, named_states}
-use Rattle.klp_types.specs.World.{variable}
+use Rattle.klp_types.specs.World.{World, variable}
 use Rattle.klp_machine.specs.Task.{task_at, is_in}
 use Rattle.klp_machine.specs.State.{State, is_flagged, is_loaded, installed_patches, is_installed, is_pinned, is_moving}
 use Rattle.klp_types.specs.Pick.{moves}
 use Rattle.klp_machine.specs.ModuleCalls.{Part, parts}
 use Rattle.klp_machine.specs.EventCalls.{lacks_room}
 use Rattle.klp_machine.specs.Frames.{is_bad, is_inside}
+
+-- whether the catalog has the patch
+abbrev pub has_patch : Setting → ℕ → Bool
+has_patch setting patch = nat_lt patch (length setting.patches)
+
+-- whether no shadow variable can be added
+abbrev pub is_full : World → Bool
+is_full world = nat_le MAX_VARIABLES (finite.len world.shadow)
 
 -- whether a function of the patch for this object names no site of it
 abbrev pub lacks_symbol_of : PatchObject → Bool

@@ -1,5 +1,6 @@
 -- What a shadow event does to the world, and which variables it concerns.
-use Rattle.std.specs.Prelude.{Bool, false, ◌==◌, List, [], ◌∷◌}
+use Rattle.std.specs.Prelude.{ℕ, ◌-◌, Bool, false, ◌==◌, List, [], ◌∷◌}
+use Rattle.std.specs.FinMap as finite
 use Rattle.klp_types.specs.declared.shadow.ShadowKey.{ShadowKey}
 use Rattle.klp_machine.specs.declared.event.Event.{Event}
 use Rattle.klp_machine.specs.declared.event.Event.TheVariants.{ShadowAlloc, ShadowGetOrAlloc, ShadowFree, ShadowFreeAll}
@@ -13,6 +14,10 @@ shadow_changed world (ShadowGetOrAlloc key value) = allocated world key value (v
 shadow_changed world (ShadowFree key) = without_variable world key
 shadow_changed world (ShadowFreeAll id) = without_id world id
 shadow_changed world other = world
+
+-- how many shadow variables of the id there are: so many are gone once they are freed
+abbrev pub freed_count : World → ℕ → ℕ
+freed_count world id = finite.len world.shadow - finite.len (without_id world id).shadow
 
 -- the changes of the shadow events of a list, in order
 abbrev pub shadow_changes : World → List Event → World

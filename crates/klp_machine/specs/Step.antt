@@ -7,7 +7,6 @@ use Rattle.klp_machine.specs.declared.event.Reply.{Reply}
 use Rattle.klp_machine.specs.declared.event.Reply.TheVariants.{Done, Value, Freed, Woken}
 use Rattle.klp_machine.specs.declared.event.Refusal.{Refusal}
 use Rattle.klp_types.specs.FirstOf.{unless}
-use Rattle.klp_types.specs.Step.{freed_count}
 use Rattle.klp_types.specs.Setting.{Setting}
 use Rattle.klp_types.specs.World.{variable}
 use Rattle.klp_types.specs.declared.task.Task.{Task}
@@ -15,7 +14,7 @@ use Rattle.klp_machine.specs.Task.{task_at}
 use Rattle.klp_machine.specs.State.{State, with_world}
 use Rattle.klp_types.specs.Callbacks.{Call}
 use Rattle.klp_machine.specs.EventCalls.{calls}
-use Rattle.klp_machine.specs.ShadowStep.{shadow_changed}
+use Rattle.klp_machine.specs.ShadowStep.{shadow_changed, freed_count}
 use Rattle.klp_machine.specs.Refusals.{refusal}
 use Rattle.klp_machine.specs.Enabling.{enabled, turned}
 use Rattle.klp_machine.specs.Forcing.{forced}

@@ -10,6 +10,7 @@ ghost use Rattle.klp_machine.specs.declared.event.Reply.TheVariants.{Done, Start
 ghost use Rattle.klp_machine.specs.declared.event.Refusal.TheVariants.{NoPatch, Busy, AlreadyThere, Pinned, Incompatible, NoModule, InUse, NoTask, TaskThere, WrongMode, BadFrame, Full, NotMoving, NotFound, SameValue};
 ghost use Rattle.klp_machine.specs.State.{State, installed_patches};
 ghost use Rattle.klp_machine.specs.Entries.{entries_of, is_hooked};
+ghost use Rattle.klp_machine.specs.Bytes.{text_of};
 ghost use Rattle.klp_machine.specs.Pick.{pick};
 ghost use Rattle.klp_machine.specs.Rows.{row_of};
 ghost use Rattle.klp_machine.specs.Blocked.{blocked};
@@ -38,10 +39,13 @@ pub fn a_disabling_starts_with_pre_unpatch()
 {}
 
 /// Pre-patch runs in the order of the patch's objects up to the one that refuses, and those before it
-/// get post-unpatch. Then the patch isn't installed, and nothing moves.
+/// get post-unpatch; objects that aren't loaded take no part. Then the patch isn't installed, and nothing
+/// moves.
 pub fn objects_before_the_one_that_refuses_get_post_unpatch()
     ensures runs { ran (calls (refusing_in 1) (record { loaded = true ∷ true ∷ true ∷ []; world = (state_with true [] None []).world; moving = None; pinned = false ∷ []; tasks = [] }) (Enable 0))
         ≡ (0, Pre) ∷ (1, Pre) ∷ (2, Pre) ∷ (0, PostUn) ∷ (1, PostUn) ∷ [] }
+    ensures unloaded { ran (calls (refusing_in 2) (record { loaded = true ∷ true ∷ false ∷ []; world = (state_with true [] None []).world; moving = None; pinned = false ∷ []; tasks = [] }) (Enable 0))
+        ≡ (1, Pre) ∷ (2, Pre) ∷ [] }
     ensures reply { (accepted small_kernel (state_with true [] None []) (Enable 3)).0 ≡ PreFailed 3 1 (negsuc 11) }
     ensures of_the_patch { ran_by (calls small_kernel (state_with true (0 ∷ []) None []) (Enable 2)) ≡ (2, Pre) ∷ [] }
     ensures next { (accepted small_kernel (state_with true [] None (in_kernel (negsuc 0) ∷ [])) (Enable 3)).1 ≡ state_with true [] None (in_kernel (negsuc 0) ∷ []) }
@@ -72,6 +76,8 @@ pub fn a_poll_waits_for_tasks()
     ensures of_the_withdrawn_patch { ran_by (calls small_kernel (state_with true (0 ∷ 2 ∷ []) (move_of 2 false) []) Poll) ≡ (2, PostUn) ∷ [] }
     ensures at_rest { (accepted small_kernel (state_with true (0 ∷ []) (move_of 0 true) (in_kernel (pos 1) ∷ [])) Poll)
         ≡ (Completed true, state_with true (0 ∷ []) None (in_kernel (negsuc 0) ∷ [])) }
+    ensures withdrawn { accepted small_kernel (state_with true (0 ∷ 2 ∷ []) (move_of 2 false) (in_kernel (pos 0) ∷ [])) Poll
+        ≡ (Completed false, state_with true (0 ∷ []) None (in_kernel (negsuc 0) ∷ [])) }
 {}
 
 /// Towards the patch a sleeping task is held by what stands below the patch's entries; away from it, by
@@ -84,12 +90,25 @@ pub fn tasks_are_held_by_what_they_would_leave()
     ensures nops { blocked small_kernel (state_with true (0 ∷ 1 ∷ []) (move_of 1 false) []) (record { patch = 1; target = false }) ≡ New 1 0 ∷ Original 1 ∷ Original 2 ∷ [] }
 {}
 
-/// A task of state 0 runs what stands below the moving patch, any other the newest version.
+/// A task of state 0 runs what stands below the moving patch, any other the newest version, which is the
+/// original where that is a nop.
 pub fn tasks_pick_by_their_state()
     ensures below { pick small_kernel (state_with true (0 ∷ 2 ∷ []) (move_of 2 true) (in_kernel (pos 0) ∷ [])) 0 0 ≡ Some (record { version = New 0 0; address = 0 }) }
     ensures newest { pick small_kernel (state_with true (0 ∷ 2 ∷ []) (move_of 2 true) (in_kernel (pos 1) ∷ [])) 0 0 ≡ Some (record { version = New 2 0; address = 0 }) }
     ensures nobody { pick small_kernel (state_with true (0 ∷ 2 ∷ []) (move_of 2 true) (in_kernel (pos 1) ∷ [])) 1 0 ≡ None }
+    ensures below_a_nop { pick small_kernel (state_with true (0 ∷ 1 ∷ []) (move_of 1 true) (in_kernel (pos 0) ∷ [])) 0 1 ≡ Some (record { version = New 0 1; address = 1 }) }
+    ensures nop { pick small_kernel (state_with true (0 ∷ 1 ∷ []) (move_of 1 true) (in_kernel (pos 1) ∷ [])) 0 1
+        ≡ Some (record { version = Original 1; address = 0xffff_ffff_8100_2005 }) }
     ensures unloaded { pick small_kernel (state_with false (0 ∷ 2 ∷ []) (move_of 2 true) (in_kernel (pos 1) ∷ [])) 0 2 ≡ None }
+    ensures no_site { pick small_kernel (state_with true (0 ∷ 2 ∷ []) (move_of 2 true) (in_kernel (pos 1) ∷ [])) 0 3 ≡ None }
+{}
+
+/// An object that isn't loaded, or isn't there, has no entries and no text.
+pub fn what_is_not_loaded_has_nothing()
+    ensures entries { entries_of small_kernel (state_with false (0 ∷ []) None []) 2 ≡ [] }
+    ensures text { text_of small_kernel (state_with false [] None []) 1 ≡ None }
+    ensures no_site { entries_of small_kernel (state_with true (0 ∷ []) None []) 3 ≡ [] }
+    ensures no_object { text_of small_kernel (state_with true [] None []) 2 ≡ None }
 {}
 
 /// The row of a site has its two newest entries with the addresses where their versions begin: for a nop,

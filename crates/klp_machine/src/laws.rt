@@ -1,6 +1,6 @@
 //! What is proved of the definitions themselves. Each law is the contract of a function that does
 //! nothing: it keeps the definitions honest, and a crate above may rely on it.
-ghost use Rattle.std.specs.Prelude.{◌≡◌, ℕ, ◌≤◌, ℤ, pos, Bool, true, false, not, ◌==◌, ◌&&◌, List, [], ◌∷◌, ◌++◌, map, reverse, filter, Some, None, is_some, is_none, option_map, Ok};
+ghost use Rattle.std.specs.Prelude.{◌≡◌, ℕ, ◌+◌, ◌≤◌, ℤ, pos, Bool, true, false, not, ◌==◌, ◌&&◌, List, [], ◌∷◌, ◌++◌, map, reverse, filter, Some, None, is_some, is_none, option_map, Ok};
 ghost use Rattle.std.specs.List.{count_by, list_any};
 ghost use Rattle.klp_types.specs.declared.shadow.ShadowKey.{ShadowKey};
 ghost use Rattle.klp_types.specs.Setting.{Setting, replaces, state_ids};
@@ -8,7 +8,9 @@ ghost use Rattle.klp_types.specs.World.{Installed, variable, state_value, instal
 ghost use Rattle.klp_types.specs.declared.version.Version.{Version as AnyVersion};
 ghost use Rattle.klp_types.specs.declared.version.Entry.{Entry};
 ghost use Rattle.klp_types.specs.declared.version.Move.{Move};
-ghost use Rattle.klp_types.specs.Entries.{is_empty};
+ghost use Rattle.klp_types.specs.Image.{first_site, given_symbol};
+ghost use Rattle.klp_types.specs.Entries.{patches_site, is_empty};
+ghost use Rattle.klp_types.specs.Bytes.{symbol_in, patched, resting};
 ghost use Rattle.klp_types.specs.Pick.{moves, is_unpatched, target_of};
 ghost use Rattle.klp_types.specs.Callbacks.{after_calls};
 ghost use Rattle.klp_machine.specs.declared.event.Event.{Event as AnyEvent};
@@ -16,17 +18,18 @@ ghost use Rattle.klp_types.specs.FirstOf.{first_of};
 ghost use Rattle.klp_machine.specs.declared.event.Reply.{Reply as AnyReply};
 ghost use Rattle.klp_machine.specs.declared.event.Refusal.{Refusal};
 ghost use Rattle.klp_machine.specs.Refusals.{accepts, NoneHolds};
-ghost use Rattle.klp_machine.specs.State.{State, installed_patches, is_installed, with_world};
+ghost use Rattle.klp_machine.specs.State.{State, is_loaded, installed_patches, is_installed, with_world};
 ghost use Rattle.klp_machine.specs.Task.{Tasks};
 ghost use Rattle.klp_machine.specs.Blocked.{switched, lags};
-ghost use Rattle.klp_machine.specs.Entries.{is_site_loaded, entries_of};
+ghost use Rattle.klp_machine.specs.Entries.{is_site_loaded, entries_of, is_hooked};
+ghost use Rattle.klp_machine.specs.Bytes.{text_of};
 ghost use Rattle.klp_machine.specs.Pick.{pick_in};
 ghost use Rattle.klp_machine.specs.Versions.{version_in, others};
 ghost use Rattle.klp_machine.specs.EventCalls.{calls};
 ghost use Rattle.klp_machine.specs.ShadowStep.{shadow_changed};
 ghost use Rattle.klp_machine.specs.Completing.{without_older};
 ghost use Rattle.klp_machine.specs.Step.{accepted};
-ghost use Rattle.klp_machine.specs.Run.{answer, next, run};
+ghost use Rattle.klp_machine.specs.Run.{answer, next, run, answers};
 ghost use Rattle.klp_machine.specs.Legal.{History, IsLegal, state_after_history, history_of};
 ghost use Rattle.klp_machine.specs.Allowed.{is_one_of, Allowed};
 ghost use Rattle.klp_machine.specs.Stated.{IsStated};
@@ -130,4 +133,47 @@ pub fn installed_patches_have_their_states()
     ensures step { (setting : Setting) (state : State) (event : AnyEvent) → IsStated setting state → IsStated setting (next setting state event) }
     ensures look { (setting : Setting) (state : State) (patch id : ℕ) → IsStated setting state
         → is_some (state_value state.world patch id) ≡ (is_installed state patch && list_any (λ own. own == id) (state_ids setting patch)) }
+{}
+
+/// A site has an entry exactly where its object is loaded and an installed patch has a function for
+/// it: a nop never stands alone.
+pub fn entry_where_patched()
+    ensures { (setting : Setting) (state : State) (site : ℕ)
+        → is_hooked setting state site
+        ≡ (is_site_loaded setting state site && list_any (patches_site setting site) (installed_patches state)) }
+{}
+
+/// A function of a loaded object reads as it was built, but for its entry site.
+pub fn reads_as_built()
+    ensures { (setting : Setting) (state : State) (object : ℕ) (number : ℕ)
+        → is_loaded state object ≡ true
+        → symbol_in (text_of setting state object) number
+        ≡ option_map (patched setting.image.handler (is_hooked setting state (first_site setting.image.objects object + number)))
+        (given_symbol setting.image object number) }
+{}
+
+/// A function without an entry reads the NOP, and behind it as it was built.
+pub fn reads_nop_without_entry()
+    ensures { (setting : Setting) (state : State) (object : ℕ) (number : ℕ)
+        → is_loaded state object ≡ true
+        → is_hooked setting state (first_site setting.image.objects object + number) ≡ false
+        → symbol_in (text_of setting state object) number ≡ option_map resting (given_symbol setting.image object number) }
+{}
+
+/// The text depends on no more than what is loaded and for which sites there are functions: not on
+/// the order of patches, nor on what moves, what is pinned and what tasks do.
+pub fn same_functions_same_text()
+    ensures { (setting : Setting) (a : State) (b : State) (object : ℕ)
+        → a.loaded ≡ b.loaded
+        → ((site : ℕ) → list_any (patches_site setting site) (installed_patches a) ≡ list_any (patches_site setting site) (installed_patches b))
+        → text_of setting a object ≡ text_of setting b object }
+{}
+
+/// A run over one list and then another is the run over the first, and from where that ends over the
+/// second.
+pub fn runs_go_on_where_they_end()
+    ensures state { (setting : Setting) (state : State) (first second : List AnyEvent)
+        → run setting state (first ++ second) ≡ run setting (run setting state first) second }
+    ensures answered { (setting : Setting) (state : State) (first second : List AnyEvent)
+        → answers setting state (first ++ second) ≡ answers setting state first ++ answers setting (run setting state first) second }
 {}

@@ -1,9 +1,8 @@
 //! The whole machine: all events of the live patching manager, and what each of them does.
 //!
 //! `specs/` has the state with its tasks, transitions and pins, the step of each event and runs of
-//! events, over the image, the patches and the scripts of `klp_types`. `klp_types` has the smaller state
-//! and the fewer events that the manager serves so far, and keeps them until it serves these. `laws` has
-//! what is proved of the definitions themselves, and `examples` what they come to over a small kernel.
+//! events, over the image, the patches and the scripts of `klp_types`. `laws` has what is proved of the
+//! definitions themselves, and `examples` what they come to over a small kernel.
 #![tactic(auto)]
 
 pub mod consistency;

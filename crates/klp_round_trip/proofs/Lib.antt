@@ -5,7 +5,6 @@ pub mod Phases
 pub mod PlaceLemmas
 pub mod PhaseLemmas
 pub mod CompanyLemmas
-pub mod RunLemmas
 pub mod TripLemmas
 pub mod RoundLemmas
 pub mod RefusingLemmas

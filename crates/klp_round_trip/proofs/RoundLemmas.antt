@@ -18,7 +18,7 @@ use Rattle.klp_machine.specs.Step.{calls_unless}
 use Rattle.klp_machine.specs.Run.{next, run, callbacks_of_run}
 use Rattle.klp_round_trip.specs.Rounds.{turns, round, rounds, those_there, kinds_for, enablings, RanInRounds, RanOneRound}
 use Rattle.klp_round_trip.specs.Company.{taking_part, company_keys, AreFair, IsFairStart, IsFairCompany}
-use Rattle.klp_round_trip.proofs.RunLemmas.{run-append}
+use Rattle.klp_machine.proofs.RunLemmas.{run-append}
 use Rattle.klp_round_trip.proofs.Phases.{PhaseAt, Stage, Advance, Ran, IsBase}
 use Rattle.klp_round_trip.proofs.Phases.Stage.{Away, Moving, Standing}
 use Rattle.klp_round_trip.proofs.Phases.Advance.{stays, enables, fails, settles, departs, begins_to_leave}

@@ -1,6 +1,7 @@
 -- The round trip: over a fair company, at every moment at which the patch isn't installed.
-use Rattle.std.proofs.Common.{◌≡◌, ℕ, Bool, true, false, not, List, [], ◌∷◌, ◌++◌, map, reverse, Option, Some, None, refl, sym, ap, subst, ◌∙◌}
+use Rattle.std.proofs.Common.{◌≡◌, ℕ, Bool, true, false, List, [], ◌∷◌, ◌++◌, map, reverse, Option, Some, None, refl, sym, ap, subst, ◌∙◌}
 use Rattle.std.specs.Prelude.{slice_index_or, if◌then◌else◌}
+use Rattle.std.specs.List.{list_any}
 use Rattle.std.proofs.lemmas.Bool.{both_ways}
 use Rattle.klp_types.specs.declared.shadow.ShadowKey.{ShadowKey}
 use Rattle.klp_types.specs.declared.callback.Which.TheVariants.{Pre, Post}
@@ -9,10 +10,9 @@ use Rattle.klp_machine.specs.declared.event.Event.TheVariants.{Enable, SetEnable
 use Rattle.klp_types.specs.Image.{object_of}
 use Rattle.klp_types.specs.Setting.{Setting}
 use Rattle.klp_types.specs.World.{Installed, World, variable}
-use Rattle.klp_machine.specs.State.{State, is_loaded, is_installed, installed_patches}
-use Rattle.klp_types.specs.Entries.{entries_from, is_empty}
-use Rattle.klp_types.specs.Bytes.{text_where}
-use Rattle.klp_machine.specs.Entries.{is_object_loaded, is_site_loaded, entries_of, is_hooked}
+use Rattle.klp_machine.specs.State.{State, is_installed, installed_patches}
+use Rattle.klp_types.specs.Entries.{patches_site, entries_from}
+use Rattle.klp_machine.specs.Entries.{is_object_loaded, is_site_loaded, entries_of}
 use Rattle.klp_machine.specs.Bytes.{text_of}
 use Rattle.klp_machine.specs.ShadowStep.{shadow_changed, shadow_changes, concerns}
 use Rattle.klp_machine.specs.EventCalls.{calls}
@@ -26,6 +26,7 @@ use Rattle.klp_round_trip.proofs.ShadowLemmas.{shadow_changed_at, shadow_leaves,
 use Rattle.std.specs.FinMap as finite
 use Rattle.klp_types.proofs.KeyLemmas.{key_total, key_antisymmetric}
 use Rattle.klp_machine.proofs.RefusalLemmas.{none_holds, next_accepted}
+use Rattle.klp_machine.proofs.TextLemmas.{text_of-same}
 use Rattle.klp_round_trip.proofs.Phases.{IsGone, PhaseAt, Stage, Onward, IsBase}
 use Rattle.klp_round_trip.proofs.Phases.Stage.{Away, Moving, Standing}
 use Rattle.klp_round_trip.proofs.CompanyLemmas as company
@@ -55,11 +56,7 @@ entries-same setting a b site loaded installed =
 pub text-same : (setting : Setting) (a b : State) (object : ℕ) → a.loaded ≡ b.loaded → a.world.installed ≡ b.world.installed
     → text_of setting a object ≡ text_of setting b object
 text-same setting a b object loaded installed =
-    ap (λ flags. if slice_index_or flags object false then text_where setting.image (is_hooked setting a) object else None) loaded
-    ∙ ap (λ (hooked : ℕ → Bool). if is_loaded b object then text_where setting.image hooked object else None) (λ i site. hooked_same site i)
-  where
-    hooked_same : (site : ℕ) → is_hooked setting a site ≡ is_hooked setting b site
-    hooked_same site = ap (λ entries. not (is_empty entries)) (entries-same setting a b site loaded installed)
+    text_of-same setting a b object loaded (λ site. ap (λ list. list_any (patches_site setting site) (map (λ (i : Installed). i.patch) list)) installed)
 
 module _ (setting : Setting) (patch : ℕ) (start : State) (fair : IsFairStart setting patch start) where
   abbrev keys : ShadowKey → Bool

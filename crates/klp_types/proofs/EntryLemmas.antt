@@ -1,6 +1,6 @@
--- When a site has an entry, and whose it is.
+-- When patches put an entry on a site, and whose it is.
 use Rattle.std.proofs.Common.{◌≡◌, ℕ, suc, ◌<◌, Bool, true, false, not, ◌&&◌, ◌||◌, cond, List, [], ◌∷◌, ◌++◌, length, reverse, Option, Some, None, is_some, refl, sym, ap, subst, ◌∙◌, arith}
-use Rattle.std.specs.Prelude.{◌==◌, IfSome, option_map, if◌then◌else◌}
+use Rattle.std.specs.Prelude.{◌==◌, IfSome, option_map}
 use Rattle.std.specs.List.{All, list_any}
 use Rattle.std.proofs.lemmas.Bool.{eq-eqb, eqb-true}
 use Rattle.std.proofs.lemmas.List.Elements.{All-nil, All-cons, All-append}
@@ -8,8 +8,7 @@ use Rattle.std.proofs.lemmas.List.Folds.{list_any-append}
 use Rattle.std.proofs.lemmas.Grind.{reverse_onto}
 use Rattle.klp_types.specs.declared.version.Entry.{Entry}
 use Rattle.klp_types.specs.Setting.{Setting, Function, functions_of, function_for, is_at, replaces}
-use Rattle.klp_types.specs.State.{State, installed_patches}
-use Rattle.klp_types.specs.Entries.{entry_of, patches_site, entries_from, is_empty, is_hooked, is_site_loaded}
+use Rattle.klp_types.specs.Entries.{entry_of, patches_site, entries_from, is_empty}
 
 or-comm : (a b : Bool) → (a || b) ≡ (b || a)
 or-comm true true = refl
@@ -45,18 +44,6 @@ entries_from-any setting site [] = refl
 entries_from-any setting site (patch ∷ older) =
     over_entries patch (function_for (functions_of setting patch) site) (replaces setting patch) (list_any (patches_site setting site) older)
     (entries_from setting site older) (entries_from-any setting site older)
-
-where_loaded : (loaded : Bool) (entries : List Entry) (any : Bool)
-    → not (is_empty entries) ≡ any
-    → not (is_empty (if loaded then entries else [])) ≡ (loaded && any)
-where_loaded true entries any h = h
-where_loaded false entries any h = refl
-
-pub is_hooked-any : (setting : Setting) (state : State) (site : ℕ)
-    → is_hooked setting state site ≡ (is_site_loaded setting state site && list_any (patches_site setting site) (installed_patches state))
-is_hooked-any setting state site =
-    where_loaded (is_site_loaded setting state site) (entries_from setting site (reverse (installed_patches state))) _
-    (entries_from-any setting site (reverse (installed_patches state)) ∙ list_any-reverse (patches_site setting site) (installed_patches state))
 
 -- a patch that is put last gets its entry on top
 pub entries-on_top : (setting : Setting) (site patch : ℕ) (older : List ℕ)

@@ -1,5 +1,4 @@
 pub mod EntryLemmas
-pub mod RunLemmas
 pub mod TextLemmas
 pub mod SiteLemmas
 pub mod FrameLemmas

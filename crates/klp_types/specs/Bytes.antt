@@ -2,9 +2,6 @@
 use Rattle.std.specs.Prelude.{ℕ, suc, ◌+◌, ◌-◌, ◌^◌, ℤ, pos, negsuc, ◌-ℤ◌, int_lt, int_le, Bool, ◌&&◌, List, [], ◌∷◌, ◌++◌, drop, Option, Some, None, option_map, if◌then◌else◌, slice_get}
 use Rattle.std.specs.Int.{to_le_bytes, cast_unsigned, w32}
 use Rattle.klp_types.specs.Image.{Symbol, Object, Image, first_site}
-use Rattle.klp_types.specs.Setting.{Setting}
-use Rattle.klp_types.specs.State.{State, is_loaded}
-use Rattle.klp_types.specs.Entries.{is_hooked}
 
 -- a NOP of five bytes: 0f 1f 44 00 00
 abbrev pub nop : List ℕ
@@ -45,10 +42,6 @@ patched_from handler hooked site (symbol ∷ symbols) =
 abbrev pub text_where : Image → (ℕ → Bool) → ℕ → Option (List Symbol)
 text_where image hooked object =
     option_map (λ (found : Object). patched_from image.handler hooked (first_site image.objects object) found.symbols) (slice_get image.objects object)
-
--- the text of a loaded object: its symbols, with the bytes that a processor would run
-abbrev pub text_of : Setting → State → ℕ → Option (List Symbol)
-text_of setting state object = if is_loaded state object then text_where setting.image (is_hooked setting state) object else None
 
 -- one symbol of an object's text
 abbrev pub symbol_in : Option (List Symbol) → ℕ → Option Symbol

@@ -1,13 +1,11 @@
--- A small kernel with patches, and states of it, over which the definitions are computed.
-use Rattle.std.specs.Prelude.{ℕ, ℤ, pos, negsuc, Bool, true, false, List, [], ◌∷◌, ◌==◌, map, Some, None, if◌then◌else◌}
-use Rattle.std.specs.FinMap as finite
+-- A small kernel with patches, over which the definitions are computed.
+use Rattle.std.specs.Prelude.{ℕ, ℤ, pos, negsuc, true, false, List, [], ◌∷◌, ◌==◌, map, Some, if◌then◌else◌}
+use Rattle.std.specs.List.{enumerate_from}
 use Rattle.klp_types.specs.declared.callback.Which.{Which}
 use Rattle.klp_types.specs.declared.callback.Which.TheVariants.{Pre, Post, PreUn, PostUn}
 use Rattle.klp_types.specs.Image.{Symbol, Image}
 use Rattle.klp_types.specs.Script.{Script}
-use Rattle.klp_types.specs.World.{Installed}
-use Rattle.klp_types.specs.Setting.{Callback, PatchObject, Patch, Setting}
-use Rattle.klp_types.specs.State.{State}
+use Rattle.klp_types.specs.Setting.{Callback, PatchObject, Patch, Setting, objects_of}
 use Rattle.klp_types.specs.Callbacks.{Call}
 
 -- f and h of the kernel (sites 0 and 1), and g of a module (site 2); their names play no part
@@ -46,17 +44,6 @@ c = record {
 abbrev pub patched_kernel : Setting
 patched_kernel = record { image = kernel; patches = p ∷ c ∷ [] }
 
-abbrev pub installed : ℕ → Installed
-installed patch = record { patch = patch; values = [] }
-
--- both patches are installed, and c moves to this target; the module isn't loaded
-abbrev pub moving_to : Bool → State
-moving_to target = record {
-  loaded = true ∷ false ∷ [];
-  world = record { installed = installed 0 ∷ installed 1 ∷ []; shadow = finite.empty };
-  moving = Some (record { patch = 1; target = target });
-}
-
 -- a script without edits that answers this status
 abbrev pub answering : ℤ → Script
 answering status = record { edits = []; status = status }
@@ -77,17 +64,9 @@ refusing_in object = record {
   patches = record { replace = false; objects = object_with object 2 ∷ object_with object 0 ∷ object_with object 1 ∷ []; states = [] } ∷ [];
 }
 
--- these objects of the three are loaded, and nothing is installed
-abbrev pub loaded_alone : List Bool → State
-loaded_alone loaded = record { loaded = loaded; world = record { installed = []; shadow = finite.empty }; moving = None }
-
--- all three are loaded, and the patch moves to this target
-abbrev pub all_moving_to : Bool → State
-all_moving_to target = record {
-  loaded = true ∷ true ∷ true ∷ [];
-  world = record { installed = installed 0 ∷ []; shadow = finite.empty };
-  moving = Some (record { patch = 0; target = target });
-}
+-- its objects, each with its place
+abbrev pub objects_refusing_in : ℕ → List (ℕ × PatchObject)
+objects_refusing_in object = enumerate_from 0 (objects_of (refusing_in object) 0)
 
 -- which callbacks run: of which of the patch's objects, and of which kind
 abbrev pub ran : List Call → List (ℕ × Which)

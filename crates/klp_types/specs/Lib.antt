@@ -3,14 +3,11 @@ pub mod World
 pub mod Script
 pub mod Compatible
 pub mod Setting
-pub mod State
 pub mod Entries
 pub mod Bytes
 pub mod Pick
 pub mod FirstOf
 pub mod Callbacks
-pub mod Step
-pub mod Run
 pub mod Records
 pub mod Examples
 pub mod Padded

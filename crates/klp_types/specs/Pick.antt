@@ -1,4 +1,4 @@
--- The version of a function that a task runs.
+-- The version that the newest of some entries gives, and where it begins.
 use Rattle.std.specs.Prelude.{ℕ, ◌+◌, Bool, false, ◌==◌, ◌&&◌, ℤ, pos, List, [], ◌∷◌, Option, Some, None, option_map, if◌then◌else◌, slice_get}
 use Rattle.klp_types.specs.declared.version.Version.{Version}
 use Rattle.klp_types.specs.declared.version.Version.TheVariants.{Original, New}
@@ -7,8 +7,6 @@ use Rattle.klp_types.specs.declared.version.Entry.{Entry}
 use Rattle.klp_types.specs.declared.version.Move.{Move}
 use Rattle.klp_types.specs.Image.{Symbol, symbol_of}
 use Rattle.klp_types.specs.Setting.{Setting, Function, functions_of}
-use Rattle.klp_types.specs.State.{State}
-use Rattle.klp_types.specs.Entries.{entries_of, is_site_loaded}
 
 -- whether this is the patch in transition
 abbrev pub moves : Option Move → ℕ → Bool
@@ -42,10 +40,3 @@ address_of setting (New patch function) = option_map (λ (f : Function). f.addre
 
 abbrev pub target_of : Setting → Version → Option Target
 target_of setting version = option_map (λ address. record { version = version; address = address }) (address_of setting version)
-
--- what a task of this state (-1, 0 or 1) runs at a site; none where the site's object isn't loaded
-abbrev pub pick : Setting → State → ℤ → ℕ → Option Target
-pick setting state task site =
-    if is_site_loaded setting state site
-    then target_of setting (newest_version site (entries_for state.moving task (entries_of setting state site)))
-    else None

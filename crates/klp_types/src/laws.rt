@@ -5,19 +5,16 @@ ghost use Rattle.std.specs.List.{All, list_any};
 ghost use Rattle.std.specs.Cmp.{IsTotalOrder};
 ghost use Rattle.std.specs.Ordering.{eq_by_cmp};
 ghost use Rattle.std.specs.FinMap as finite;
-ghost use Rattle.klp_types.specs.declared.event.Event.{Event as AnyEvent};
 ghost use Rattle.klp_types.specs.declared.shadow.ShadowKey.{ShadowKey};
 ghost use Rattle.klp_types.specs.declared.edit.Edit.{Edit};
 ghost use Rattle.klp_types.specs.declared.version.Entry.{Entry};
-ghost use Rattle.klp_types.specs.Image.{Object, symbols_of, first_site, given_symbol};
+ghost use Rattle.klp_types.specs.Image.{Image, Object, symbols_of, first_site, given_symbol};
 ghost use Rattle.klp_types.specs.Setting.{Setting, functions_of, function_for, replaces};
-ghost use Rattle.klp_types.specs.State.{State, is_loaded, installed_patches};
-ghost use Rattle.klp_types.specs.Entries.{is_site_loaded, patches_site, entry_of, entries_from, is_empty, is_hooked};
-ghost use Rattle.klp_types.specs.Bytes.{symbol_in, patched, resting, text_of};
+ghost use Rattle.klp_types.specs.Entries.{patches_site, entry_of, entries_from, is_empty};
+ghost use Rattle.klp_types.specs.Bytes.{symbol_in, patched, resting, text_where};
 ghost use Rattle.klp_types.specs.World.{Installed, World, Shadow, key_cmp, variable, states_of};
 ghost use Rattle.klp_types.specs.Script.{Script, alloc_count, is_key, value_taken, edited, edited_at, edited_by, made_of, edits_made, effect, edit_touches, touches};
 ghost use Rattle.klp_types.specs.Callbacks.{Call, after_calls};
-ghost use Rattle.klp_types.specs.Run.{answer, next, run, answers};
 
 use crate::limits::{
     ENTRY_SITE_LEN, MAX_ADDRESS_DIGITS, MAX_BODY, MAX_EDITS, MAX_FRAMES, MAX_FUNCTIONS, MAX_LINE,
@@ -25,46 +22,18 @@ use crate::limits::{
     MAX_TARGETS, MAX_TASKS, MAX_VARIABLES,
 };
 
-/// A site has an entry exactly where its object is loaded and an installed patch has a function for
-/// it: a nop never stands alone.
-pub fn entry_where_patched()
-    ensures { (setting : Setting) (state : State) (site : ℕ)
-        → is_hooked setting state site
-        ≡ (is_site_loaded setting state site && list_any (patches_site setting site) (installed_patches state)) }
+/// In the text of an object each function reads as it was built, but for its entry site.
+pub fn text_is_as_built_but_for_entry_sites()
+    ensures { (image : Image) (hooked : ℕ → Bool) (object : ℕ) (number : ℕ)
+        → symbol_in (text_where image hooked object) number
+        ≡ option_map (patched image.handler (hooked (first_site image.objects object + number))) (given_symbol image object number) }
 {}
 
-/// A function of a loaded object reads as it was built, but for its entry site.
-pub fn reads_as_built()
-    ensures { (setting : Setting) (state : State) (object : ℕ) (number : ℕ)
-        → is_loaded state object ≡ true
-        → symbol_in (text_of setting state object) number
-        ≡ option_map (patched setting.image.handler (is_hooked setting state (first_site setting.image.objects object + number)))
-        (given_symbol setting.image object number) }
-{}
-
-/// A function without an entry reads the NOP, and behind it as it was built.
-pub fn reads_nop_without_entry()
-    ensures { (setting : Setting) (state : State) (object : ℕ) (number : ℕ)
-        → is_loaded state object ≡ true
-        → is_hooked setting state (first_site setting.image.objects object + number) ≡ false
-        → symbol_in (text_of setting state object) number ≡ option_map resting (given_symbol setting.image object number) }
-{}
-
-/// The text depends on no more than what is loaded and for which sites there are functions: not on
-/// the order of patches, nor on what moves.
-pub fn same_functions_same_text()
-    ensures { (setting : Setting) (a : State) (b : State) (object : ℕ)
-        → a.loaded ≡ b.loaded
-        → ((site : ℕ) → list_any (patches_site setting site) (installed_patches a) ≡ list_any (patches_site setting site) (installed_patches b))
-        → text_of setting a object ≡ text_of setting b object }
-{}
-
-/// A run over a list and one more event is the run over the list, and one step.
-pub fn run_and_one_step()
-    ensures state { (setting : Setting) (state : State) (events : List AnyEvent) (event : AnyEvent)
-        → run setting state (events ++ event ∷ []) ≡ next setting (run setting state events) event }
-    ensures answered { (setting : Setting) (state : State) (events : List AnyEvent) (event : AnyEvent)
-        → answers setting state (events ++ event ∷ []) ≡ answers setting state events ++ answer setting (run setting state events) event ∷ [] }
+/// A function whose site isn't hooked reads the NOP, and behind it as it was built.
+pub fn text_has_a_nop_where_not_hooked()
+    ensures { (image : Image) (hooked : ℕ → Bool) (object : ℕ) (number : ℕ)
+        → hooked (first_site image.objects object + number) ≡ false
+        → symbol_in (text_where image hooked object) number ≡ option_map resting (given_symbol image object number) }
 {}
 
 /// The keys of shadow variables are in a total order, in which those that tie are the same.

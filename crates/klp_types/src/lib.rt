@@ -1,13 +1,14 @@
-//! The numbers, names and messages of the live patching manager.
+//! The numbers and names of the live patching manager, and the rows of its state.
 //!
-//! `specs/` has the definitions that every crate of this repository is proved against: the image,
-//! the patches, the state, the entries of a site, the bytes of the text, the version that a task
-//! runs, and the step. `laws` has what is proved of the definitions themselves.
+//! `specs/` has the definitions that every crate of this repository is proved against: the image, the
+//! patches, the scripts of callbacks and the world that they change, the entries that patches put on a
+//! site, the version that is the newest of some entries, and the bytes of the text. The state of the
+//! whole machine and its events stand above, in `klp_machine`. `laws` has what is proved of the
+//! definitions themselves, and `examples` what they come to over a small kernel.
 #![tactic(auto)]
 
 mod callback;
 mod edit;
-mod event;
 pub mod examples;
 pub mod laws;
 mod limits;
@@ -21,7 +22,6 @@ mod version;
 
 pub use callback::Which;
 pub use edit::Edit;
-pub use event::{Event, Refusal, Reply};
 pub use limits::{
     ENTRY_SITE_LEN, MAX_ADDRESS_DIGITS, MAX_BODY, MAX_EDITS, MAX_FRAMES, MAX_FUNCTIONS, MAX_LINE,
     MAX_NAME, MAX_OBJECTS, MAX_PATCHES, MAX_RECORDS, MAX_SITES, MAX_STATES, MAX_SYMBOL_NAME,

@@ -1,9 +1,9 @@
 -- A run over one list and then another.
 use Rattle.std.proofs.Common.{◌≡◌, List, [], ◌∷◌, ◌++◌, refl, ap}
-use Rattle.klp_types.specs.declared.event.Event.{Event}
 use Rattle.klp_types.specs.Setting.{Setting}
-use Rattle.klp_types.specs.State.{State}
-use Rattle.klp_types.specs.Run.{answer, next, run, answers}
+use Rattle.klp_machine.specs.declared.event.Event.{Event}
+use Rattle.klp_machine.specs.State.{State}
+use Rattle.klp_machine.specs.Run.{answer, next, run, answers}
 
 pub run-append : (setting : Setting) (state : State) (first second : List Event)
     → run setting state (first ++ second) ≡ run setting (run setting state first) second

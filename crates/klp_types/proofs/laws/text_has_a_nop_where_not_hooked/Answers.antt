@@ -1,5 +1,5 @@
 use Rattle.klp_types.proofs.TextLemmas.{reads_nop}
-use Rattle.klp_types.proofs.laws.reads_nop_without_entry.Goals as goal
+use Rattle.klp_types.proofs.laws.text_has_a_nop_where_not_hooked.Goals as goal
 
 pub returns : goal.returns
 returns c = reads_nop
