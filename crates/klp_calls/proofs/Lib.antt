@@ -2,6 +2,7 @@ pub mod CallLemmas
 pub mod LoopLemmas
 pub mod RanLemmas
 pub mod RunLemmas
+pub mod UndoLemmas
 pub mod RefusalLemmas
 pub mod PartLemmas
 pub mod PartsLemmas

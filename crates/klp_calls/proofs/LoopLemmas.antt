@@ -8,7 +8,7 @@ use Rattle.klp_types.specs.declared.callback.Which.TheVariants.{Pre}
 use Rattle.klp_types.specs.Setting.{PatchObject}
 use Rattle.klp_types.specs.Script.{Script, is_success}
 use Rattle.klp_types.specs.Callbacks.{Call, script_for, call_of, calls_of, is_refusing, refuses}
-use Rattle.klp_types.specs.Step.{status_of}
+use Rattle.klp_machine.specs.Callbacks.{status_of}
 use Rattle.klp_catalog.specs.Catalog.{Catalog}
 use Rattle.klp_catalog.specs.Runs.{objects_at}
 use Rattle.klp_modules.specs.Names.{ModuleTable}
@@ -60,6 +60,16 @@ next_loaded catalog first modules patch which end k same below fits =
 pub refusing-status : (script : Option Script) → is_refusing script ≡ not (is_success (status_of script))
 refusing-status None = refl
 refusing-status (Some script) = refl
+
+-- a status that is no refusal
+not_refusing : (status : ℤ) → refusal_of status ≡ None → not (is_success status) ≡ false
+not_refusing status none = elim (is_success status) as (λ b. cond b None (Some status) ≡ None → not b ≡ false) [
+  | true ↦ λ _. refl
+  | false ↦ λ some. let no : ⊥ = cc in absurd no
+] none
+
+pub refusing-none : (script : Option Script) → refusal_of (status_of script) ≡ None → is_refusing script ≡ false
+refusing-none script none = refusing-status script ∙ not_refusing (status_of script) none
 
 -- a turn in which nothing refuses
 pub record GoesOn (loaded : ℕ → Bool) (patch : ℕ) (objects : List PatchObject) (k : ℕ) (o : PatchObject) : Type 0 where

@@ -11,7 +11,7 @@ use Rattle.klp_types.specs.Setting.{PatchObject}
 use Rattle.klp_types.specs.Pick.{moves}
 use Rattle.klp_types.specs.Script.{is_success}
 use Rattle.klp_types.specs.Callbacks.{Call, script_for, call_of, is_refusing}
-use Rattle.klp_types.specs.Step.{status_of}
+use Rattle.klp_machine.specs.Callbacks.{status_of}
 use Rattle.klp_machine.specs.ModuleCalls.{Part, parts_among, part_call, still_call, part_refuses, parts_before, let_go}
 use Rattle.klp_machine.specs.EventCalls.{coming_may_run, going_may_run}
 use Rattle.klp_catalog.specs.Catalog.{Catalog}

@@ -3,10 +3,12 @@ use Rattle.std.proofs.Common.{◌≡◌, ℕ, ◌+◌, ◌≤◌, Bool, true, fa
 use Rattle.std.specs.Prelude.{IfSome}
 use Rattle.std.specs.List.{sum_by}
 use Rattle.std.proofs.lemmas.List.{append-nil, length-append}
+use Rattle.std.proofs.lemmas.List.Elements.{All-nil, All-append}
 use Rattle.std.proofs.lemmas.List.Sums.{sum_by-append}
 use Rattle.std.specs.FinMap as finite
 use Rattle.klp_types.specs.declared.callback.Which.{Which}
 use Rattle.klp_types.specs.declared.callback.Which.TheVariants.{Pre}
+use Rattle.klp_types.specs.declared.record.Record.{Record}
 use Rattle.klp_types.specs.Records.{RecordList}
 use Rattle.klp_types.specs.Setting.{PatchObject}
 use Rattle.klp_types.specs.World.{World}
@@ -14,6 +16,7 @@ use Rattle.klp_types.specs.Script.{Script, alloc_count, effect, is_success}
 use Rattle.klp_types.specs.Callbacks.{Call, script_for, call_of, calls_of, refuses, allocs_of, after_calls}
 use Rattle.klp_world.specs.Noted.{noting, rows_of_script}
 use Rattle.klp_world.specs.Changes.{HasRoom}
+use Rattle.klp_world.specs.Undo.{undone}
 use Rattle.klp_catalog.specs.Catalog.{Catalog}
 use Rattle.klp_catalog.specs.Runs.{after_runs, objects_at, rows_if, RunsAddUp}
 use Rattle.klp_modules.specs.Names.{ModuleTable}
@@ -21,6 +24,7 @@ use Rattle.klp_calls.specs.Loaded.{is_loaded_in, patches_in, loaded_from}
 use Rattle.klp_calls.specs.Objects.{loaded_call, status_for, pre_calls}
 use Rattle.klp_calls.specs.Calls.{records_of, HaveRun, HasRoomFor}
 use Rattle.klp_calls.proofs.CallLemmas.{after_calls-append, allocs-append}
+use Rattle.klp_calls.proofs.UndoLemmas.{OfWorld, undone-append, of_script}
 use Rattle.klp_calls.proofs.LoopLemmas.{IsTurn, turn-goes_on, turn-stops}
 
 pub records-append : (xs ys : List Call) → records_of (xs ++ ys) ≡ records_of xs + records_of ys
@@ -33,6 +37,10 @@ none_ran catalog world log = record {
   world = refl;
   installed = refl;
   variables = omega arith;
+  rows = [];
+  noted = sym (ap (λ (rows : List Record). record log { noted = rows }) (append-nil log.noted));
+  of_world = All-nil OfWorld;
+  undo = refl;
   records = omega arith;
   room = refl;
 }
@@ -48,6 +56,10 @@ then_ran adds first next last w0 w1 w2 l0 l1 l2 xs ys old new =
       world = new.world ∙ ap (λ w. after_calls w ys) old.world ∙ sym (after_calls-append w0 xs ys);
       installed = new.installed ∙ old.installed;
       variables = omega (arith, allocs, old.variables, new.variables);
+      rows = old.rows ++ new.rows;
+      noted = new.noted ∙ ap (λ (l : RecordList). noting l new.rows) old.noted ∙ ap (λ (rows : List Record). record l0 { noted = rows }) (append_assoc l0.noted old.rows new.rows);
+      of_world = All-append OfWorld old.rows new.rows old.of_world new.of_world;
+      undo = undone-append w2 old.rows new.rows ∙ ap (λ (w : World). undone w old.rows) new.undo ∙ old.undo;
       records = omega (arith, records, old.records, new.records);
       room = new.room ∙ old.room;
     }
@@ -123,9 +135,9 @@ pub one_ran : VariablesAreFew → RecordsAreFew → PatchesStay → (before afte
     (script : Option Script)
     → after ≡ after_runs before (call_of patch place which script)
     → changed ≡ after_calls world (call_of patch place which script)
-    → noted ≡ noting log (rows_if patch world script)
+    → noted ≡ noting log (rows_if patch world script) → undone changed (rows_if patch world script) ≡ world
     → HaveRun before after world changed log noted (call_of patch place which script)
-one_ran few_variables few_records stay before after patch place which world changed log noted None counted did notes =
+one_ran few_variables few_records stay before after patch place which world changed log noted None counted did notes back =
     let same = ap (λ (w : World). finite.len w.shadow) did in
     let count = ap (λ (l : RecordList). length l.noted) notes ∙ ap length (append-nil log.noted) in
     record {
@@ -133,10 +145,14 @@ one_ran few_variables few_records stay before after patch place which world chan
       world = did;
       installed = ap patches_in did;
       variables = omega (arith, same);
+      rows = [];
+      noted = notes;
+      of_world = of_script patch world None;
+      undo = back;
       records = omega (arith, same, count);
       room = ap (λ (l : RecordList). l.room) notes;
     }
-one_ran few_variables few_records stay before after patch place which world changed log noted (Some script) counted did notes =
+one_ran few_variables few_records stay before after patch place which world changed log noted (Some script) counted did notes back =
     let same = ap (λ (w : World). finite.len w.shadow) did in
     let count = ap (λ (l : RecordList). length l.noted) notes ∙ length-append log.noted (rows_of_script patch world script) in
     let variables = few_variables patch world script in
@@ -146,6 +162,10 @@ one_ran few_variables few_records stay before after patch place which world chan
       world = did;
       installed = ap patches_in did ∙ stay patch world script;
       variables = omega (arith, same, variables);
+      rows = rows_of_script patch world script;
+      noted = notes;
+      of_world = of_script patch world (Some script);
+      undo = back;
       records = omega (arith, same, count, records);
       room = ap (λ (l : RecordList). l.room) notes;
     }

@@ -3,7 +3,7 @@ use Rattle.std.specs.Prelude.{ℕ, ℤ, List, [], ◌∷◌, ◌++◌, Option, i
 use Rattle.klp_types.specs.declared.callback.Which.TheVariants.{Pre, Post}
 use Rattle.klp_types.specs.declared.version.Move.{Move}
 use Rattle.klp_types.specs.Callbacks.{Call, script_for}
-use Rattle.klp_types.specs.Step.{status_of}
+use Rattle.klp_machine.specs.Callbacks.{status_of}
 use Rattle.klp_machine.specs.ModuleCalls.{Part, part_call, still_call, part_refuses}
 
 -- pre-patch, and post-patch if the patch doesn't move; up to and with the first pre-patch that refuses

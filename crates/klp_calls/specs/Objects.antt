@@ -5,7 +5,7 @@ use Rattle.klp_types.specs.declared.callback.Which.TheVariants.{Pre}
 use Rattle.klp_types.specs.Setting.{PatchObject}
 use Rattle.klp_types.specs.Script.{is_success}
 use Rattle.klp_types.specs.Callbacks.{Call, script_for, call_of, calls_of, refuses}
-use Rattle.klp_types.specs.Step.{status_of}
+use Rattle.klp_machine.specs.Callbacks.{status_of}
 use Rattle.klp_modules.specs.Names.{ModuleTable}
 use Rattle.klp_catalog.specs.Catalog.{Catalog}
 use Rattle.klp_catalog.specs.Runs.{objects_at}

@@ -3,7 +3,7 @@ ghost use Rattle.std.specs.Prelude.{◌≡◌, ℕ, ◌≤◌, ◌++◌, length,
 ghost use Rattle.klp_types.specs.declared.callback.Which.TheVariants.{Pre, PostUn};
 ghost use Rattle.klp_types.specs.Setting.{PatchObject as ObjectOf};
 ghost use Rattle.klp_types.specs.Callbacks.{script_for, calls_of, enable_calls, refuses, allocs_of};
-ghost use Rattle.klp_types.specs.Step.{status_of};
+ghost use Rattle.klp_machine.specs.Callbacks.{status_of};
 ghost use Rattle.klp_catalog.specs.Runs.{objects_at};
 ghost use Rattle.klp_calls.specs.Loaded.{loaded_in};
 ghost use Rattle.klp_calls.specs.Objects.{loaded_calls, loaded_call, loaded_status, refusal_of, pre_calls};

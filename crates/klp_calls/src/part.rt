@@ -6,7 +6,7 @@ ghost use Rattle.std.specs.List.{flat_map};
 ghost use Rattle.klp_types.specs.declared.callback.Which.TheVariants.{Pre};
 ghost use Rattle.klp_types.specs.Callbacks.{allocs_of};
 ghost use Rattle.klp_types.specs.Pick as pick;
-ghost use Rattle.klp_types.specs.Step.{status_of};
+ghost use Rattle.klp_machine.specs.Callbacks.{status_of};
 ghost use Rattle.klp_machine.specs.ModuleCalls.{part_refuses, parts_before, going_calls};
 ghost use Rattle.klp_machine.specs.EventCalls.{coming_may_run, going_may_run};
 ghost use Rattle.klp_catalog.specs.Runs.{script_at};
@@ -122,6 +122,24 @@ fn run_still(
     }
 }
 
+/// Runs pre-patch for the object at this place, and answers its status where it refuses.
+fn run_pre_at(
+    catalog: &mut Catalog,
+    patch: PatchId,
+    place: u8,
+    world: &mut World,
+    log: &mut Records,
+) -> Option<i32>
+    requires { HasRoomFor world.old log.old (call_at catalog.old patch place Pre) }
+    ensures refused { result ≡ refusal_of (status_of (script_at catalog.old patch place Pre)) }
+    ensures ran { HaveRun catalog.old catalog.new world.old world.new log.old log.new (call_at catalog.old patch place Pre) }
+{
+    match run_at(catalog, patch, place, Which::Pre, world, log) {
+        0 => None,
+        status => Some(status),
+    }
+}
+
 /// Runs pre-patch, and post-patch if the patch doesn't move, for the object at this place. Where
 /// pre-patch refuses it runs alone, and its status is answered.
 fn bring_at(
@@ -137,12 +155,12 @@ fn bring_at(
     ensures ran { HaveRun catalog.old catalog.new world.old world.new log.old log.new (places.bring_at moving.now catalog.old patch place) }
 {
     runs_add_up();
-    match run_at(catalog, patch, place, Which::Pre, world, log) {
-        0 => {
+    match run_pre_at(catalog, patch, place, world, log) {
+        None => {
             run_still(catalog, patch, place, Which::Post, moving, world, log);
             None
         }
-        status => Some(status),
+        Some(status) => Some(status),
     }
 }
 

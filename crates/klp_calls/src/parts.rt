@@ -4,7 +4,7 @@ ghost use Rattle.std.specs.List.{flat_map};
 ghost use Rattle.klp_types.specs.declared.callback.Which.TheVariants.{Pre};
 ghost use Rattle.klp_types.specs.declared.limits.TheConstants.{MAX_PATCHES};
 ghost use Rattle.klp_types.specs.Callbacks.{script_for, allocs_of};
-ghost use Rattle.klp_types.specs.Step.{status_of};
+ghost use Rattle.klp_machine.specs.Callbacks.{status_of};
 ghost use Rattle.klp_machine.specs.ModuleCalls.{Part, part_refuses, parts_before, coming_calls, going_calls};
 ghost use Rattle.klp_machine.specs.EventCalls.{coming_may_run, going_may_run};
 ghost use Rattle.klp_calls.specs.Parts.{parts_in};

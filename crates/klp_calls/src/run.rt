@@ -1,6 +1,6 @@
 //! One callback.
 ghost use Rattle.std.specs.Prelude.{◌≡◌};
-ghost use Rattle.klp_types.specs.Step.{status_of};
+ghost use Rattle.klp_machine.specs.Callbacks.{status_of};
 ghost use Rattle.klp_catalog.specs.Runs.{script_at};
 ghost use Rattle.klp_calls.specs.Calls.{HaveRun, HasRoomFor};
 ghost use Rattle.klp_calls.specs.Places.{call_at};
