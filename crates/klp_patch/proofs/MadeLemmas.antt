@@ -3,6 +3,7 @@ use Rattle.std.proofs.Common.{◌≡◌, ℕ, ◌+◌, ◌-◌, ◌<◌, ◌≤�
 use Rattle.std.specs.Prelude.{cond}
 use Rattle.std.proofs.lemmas.Bool.{eqb-true, eqb-false, lt-ltb, le-ltb, ltb-true, ltb-false}
 use Rattle.std.proofs.lemmas.List.{length-set}
+use Rattle.std.proofs.lemmas.List.Elements.{All-append}
 use Rattle.klp_types.specs.declared.limits.TheConstants.{MAX_SITES}
 use Rattle.klp_types.specs.declared.record.Record.{Record}
 use Rattle.klp_types.specs.declared.record.Record.TheVariants.{StackEntry, LoadedFlag}
@@ -15,7 +16,7 @@ use Rattle.klp_sites.specs.Changes.{noting}
 use Rattle.klp_sites.specs.Undo.{put_back, undone}
 use Rattle.klp_patch.specs.Covered.{is_covered, is_object_meant}
 use Rattle.klp_patch.specs.Changes.{AreMade, Notes, hooked_count}
-use Rattle.klp_patch.proofs.SiteLemmas.{Entries}
+use Rattle.klp_patch.proofs.SiteLemmas.{Entries, OfSites}
 
 -- records put back leave the number of sites
 row_keeps : (table : SiteTable) (row : Record) → length (put_back table row).stacks ≡ length table.stacks
@@ -45,6 +46,7 @@ module _ (before now after : SiteTable) (log_before log_now log_after : RecordLi
     noted =
         more.noted ∙ ap (λ (log : RecordList). noting log more.rows) notes.noted
         ∙ ap (λ rows. record log_before { noted = rows }) (append_assoc log_before.noted notes.rows more.rows);
+    of_sites = All-append OfSites notes.rows more.rows notes.of_sites more.of_sites;
     undo = undone_both after notes.rows more.rows ∙ ap (λ t. undone t notes.rows) more.undo ∙ notes.undo;
     few = omega (arith, length-append notes.rows more.rows, notes.few, more.few, enough, balance);
   }
@@ -61,7 +63,7 @@ module _ (before now after : SiteTable) (log_before log_now log_after : RecordLi
       notes_both before now after log_before log_now log_after first second (hooked_count now) (hooked_count before) (hooked_count after) (hooked_count now) notes more most (hooked_count after) (hooked_count before) enough (omega arith)
 
 pub notes_longer : (before after : SiteTable) (log_before log_after : RecordList) (most more from to : ℕ) → most ≤ more → Notes before after log_before log_after most from to → Notes before after log_before log_after more from to
-notes_longer before after log_before log_after most more from to longer notes = record { rows = notes.rows; noted = notes.noted; undo = notes.undo; few = omega (arith, notes.few) }
+notes_longer before after log_before log_after most more from to longer notes = record { rows = notes.rows; noted = notes.noted; of_sites = notes.of_sites; undo = notes.undo; few = omega (arith, notes.few) }
 
 -- how much room a change leaves
 spare_after : (before after : SiteTable) (log_before log_after : RecordList) (most from to : ℕ) (notes : Notes before after log_before log_after most from to)

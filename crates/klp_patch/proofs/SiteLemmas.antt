@@ -3,19 +3,44 @@ use Rattle.std.proofs.Common.{◌≡◌, ℕ, zero, suc, ◌+◌, ◌<◌, ◌�
 use Rattle.std.specs.Prelude.{cond, find}
 use Rattle.std.specs.Option.{is_some, is_none}
 use Rattle.std.proofs.lemmas.Bool.{eqb-true, or_parts, not_from_false, cond-true, cond-false}
+use Rattle.std.specs.List.{All}
+use Rattle.std.proofs.lemmas.List.Elements.{All-nil, All-cons}
 use Rattle.std.proofs.lemmas.List.{length-set}
 use Rattle.std.proofs.lemmas.List.Sums.{sum_by-set, count_by-le-length}
 use Rattle.klp_types.specs.declared.limits.TheConstants.{MAX_SITES}
+use Rattle.klp_types.specs.declared.record.Record.{Record}
 use Rattle.klp_types.specs.declared.record.Record.TheVariants.{StackEntry, HookFlag}
 use Rattle.klp_types.specs.declared.version.Entry.{Entry}
 use Rattle.klp_types.specs.Entries.{is_empty}
-use Rattle.klp_stack.specs.Stack.{entries_at, has_entry, entries_of_others, IsStack}
+use Rattle.klp_stack.specs.Stack.{entries_at, has_entry, entries_of_others, place_of, IsStack}
 use Rattle.klp_sites.specs.Table.{SiteTable, is_stacked}
-use Rattle.klp_sites.specs.Changes.{pushed, rows_of_push}
-use Rattle.klp_patch.specs.Changes.{AreMade, with_nop, without_nop, hooked_count}
+use Rattle.klp_sites.specs.Changes.{pushed, rows_of_push, rows_of_take}
+use Rattle.klp_patch.specs.Changes.{AreMade, with_nop, without_nop, hooked_count, is_of_sites}
 
 abbrev pub Entries : Type 0
 Entries = List Entry
+
+-- a row of a site
+abbrev pub OfSites : Record → Type 0
+OfSites row = is_of_sites row ≡ true
+
+pub none_of_sites : All OfSites []
+none_of_sites = All-nil OfSites
+
+hook_of_site : (hooks was : Bool) (site : ℕ) → All OfSites (cond hooks (HookFlag site was ∷ []) [])
+hook_of_site hooks was site = elim hooks as (λ b. All OfSites (cond b (HookFlag site was ∷ []) [])) [
+  | true ↦ All-cons OfSites (HookFlag site was) [] refl none_of_sites
+  | false ↦ none_of_sites
+]
+
+pub push_of_sites : (table : SiteTable) (site : ℕ) (entry : Entry) → All OfSites (rows_of_push table site entry)
+push_of_sites table site entry =
+    All-cons OfSites (StackEntry site entry.patch None) _ refl (hook_of_site (is_empty (entries_at table.stacks site)) false site)
+
+pub take_of_sites : (table : SiteTable) (site patch : ℕ) → All OfSites (rows_of_take table site patch)
+take_of_sites table site patch =
+    All-cons OfSites (StackEntry site patch (place_of patch (entries_at table.stacks site))) _ refl
+    (hook_of_site (is_empty (entries_of_others patch (entries_at table.stacks site))) true site)
 
 -- what is made of the entries of one site may be said otherwise
 pub made_alike : (before after : SiteTable) (site : ℕ) (make change : ℕ → Entries → Entries) → AreMade before after (λ other. eqb site other) make

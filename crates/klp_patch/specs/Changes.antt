@@ -1,7 +1,8 @@
 -- What becomes of the entries when a patch comes to sites or leaves them, and what these changes note.
-use Rattle.std.specs.Prelude.{◌≡◌, ℕ, ◌+◌, ◌≤◌, Bool, not, ◌==◌, ◌&&◌, ◌||◌, List, ◌∷◌, ◌++◌, None, length, filter, is_none, if◌then◌else◌}
-use Rattle.std.specs.List.{count_by}
+use Rattle.std.specs.Prelude.{◌≡◌, ℕ, ◌+◌, ◌≤◌, Bool, true, false, not, ◌==◌, ◌&&◌, ◌||◌, List, ◌∷◌, ◌++◌, None, length, filter, is_none, if◌then◌else◌}
+use Rattle.std.specs.List.{All, count_by}
 use Rattle.klp_types.specs.declared.record.Record.{Record}
+use Rattle.klp_types.specs.declared.record.Record.TheVariants.{StackEntry, HookFlag}
 use Rattle.klp_types.specs.declared.version.Entry.{Entry}
 use Rattle.klp_types.specs.Setting.{function_for}
 use Rattle.klp_types.specs.Entries.{entry_of, is_empty}
@@ -42,11 +43,18 @@ hooked_count table = count_by is_stacked table.stacks
 abbrev pub most_entries : Catalog → ℕ → SiteTable → ℕ
 most_entries catalog patch table = length (functions_in catalog patch) + (if is_cumulative catalog patch then length table.stacks else 0)
 
+-- the row is one of a site: an entry or the hook
+abbrev pub is_of_sites : Record → Bool
+is_of_sites (StackEntry site patch was) = true
+is_of_sites (HookFlag site was) = true
+is_of_sites other = false
+
 -- the rows that changed are noted as they were, as the newest: no more than these many entries, and one for each site that is
 -- hooked or unhooked. So many sites were hooked before, or are afterwards, and so many are afterwards, or were before.
 pub record Notes (before after : SiteTable) (log_before log_after : RecordList) (most from to : ℕ) : Type 0 where
   pub rows : List Record
   pub noted : log_after ≡ noting log_before rows
+  pub of_sites : All (λ row. is_of_sites row ≡ true) rows
   -- put back newest first, they give the table before
   pub undo : undone after rows ≡ before
   pub few : length rows + from ≤ most + to

@@ -8,6 +8,7 @@ use klp_sites::Sites;
 use klp_types::{Entry, MAX_PATCHES, MAX_SITES, PatchId, Records, Site};
 
 /// Puts an entry on top of a site's stack.
+#[tactic(auto, using(crate::proofs::SiteLemmas::push_of_sites))]
 pub(crate) fn put(sites: &mut Sites, site: Site, entry: Entry, log: &mut Records)
     requires there { site < length sites.old.stacks }
     requires sites { length sites.old.stacks ≤ MAX_SITES }
@@ -21,6 +22,7 @@ pub(crate) fn put(sites: &mut Sites, site: Site, entry: Entry, log: &mut Records
 }
 
 /// Puts a nop on top of a site's stack, where it has entries but none of the patch.
+#[tactic(auto, using(crate::proofs::SiteLemmas::none_of_sites))]
 pub(crate) fn put_nop(sites: &mut Sites, site: Site, patch: PatchId, log: &mut Records)
     requires there { site < length sites.old.stacks }
     requires sites { length sites.old.stacks ≤ MAX_SITES }
@@ -35,6 +37,7 @@ pub(crate) fn put_nop(sites: &mut Sites, site: Site, patch: PatchId, log: &mut R
 }
 
 /// Takes the entry of a patch out of a site's stack, if it has one there.
+#[tactic(auto, using(crate::proofs::SiteLemmas::none_of_sites, crate::proofs::SiteLemmas::take_of_sites))]
 pub(crate) fn take(sites: &mut Sites, site: Site, patch: PatchId, log: &mut Records)
     requires { 1 + hooked_count sites.old ≤ spare_of log.old }
     ensures entries { AreMade sites.old sites.new (λ other. site == other) (λ other entries. entries_of_others patch entries) }
@@ -46,6 +49,7 @@ pub(crate) fn take(sites: &mut Sites, site: Site, patch: PatchId, log: &mut Reco
 }
 
 /// Takes the nop of a patch out of a site's stack, if it has one there.
+#[tactic(auto, using(crate::proofs::SiteLemmas::none_of_sites))]
 pub(crate) fn take_nop(sites: &mut Sites, site: Site, patch: PatchId, log: &mut Records)
     requires { 1 + hooked_count sites.old ≤ spare_of log.old }
     ensures entries { AreMade sites.old sites.new (λ other. site == other) (λ other entries. without_nop patch entries) }
