@@ -1,7 +1,7 @@
 -- What is left when a transition is complete.
-use Rattle.std.proofs.Common.{◌≡◌, ℕ, ◌+◌, ◌*◌, ◌≤◌, Bool, cond, true, false, List, [], ◌∷◌, length, map, drop, filter, ◌||◌, ◌&&◌, None, refl, sym, ap, ◌∙◌, arith}
+use Rattle.std.proofs.Common.{◌≡◌, ℕ, ◌+◌, ◌*◌, ◌≤◌, Bool, cond, true, false, List, [], ◌∷◌, length, map, drop, filter, ◌||◌, None, refl, sym, ap, ◌∙◌, arith}
 use Rattle.std.specs.Prelude.{not, ◌==◌, if◌then◌else◌}
-use Rattle.std.specs.List.{count_by, list_any}
+use Rattle.std.specs.List.{count_by}
 use Rattle.std.specs.Cmp.{nat_eq_equiv}
 use Rattle.std.proofs.lemmas.List.{length-append, length-map}
 use Rattle.std.proofs.lemmas.List.{drop_all}
@@ -17,6 +17,7 @@ use Rattle.klp_sites.specs.Table.{SiteTable}
 use Rattle.klp_patch.specs.Covered.{is_covered, functions_in}
 use Rattle.klp_patch.specs.Changes.{Notes, AreMade, hooked_count, most_entries}
 use Rattle.klp_steps.specs.Complete.{AreOwn}
+use Rattle.klp_steps.proofs.ModuleLemmas.{any-filter}
 
 -- the entries without those of these patches
 abbrev pub without_all : List ℕ → List Entry → List Entry
@@ -41,27 +42,8 @@ pub record SoFar (catalog : Catalog) (first now : SiteTable) (log_first log_now 
 
 -- lists with some elements taken out
 
-or-right : (a b : Bool) → b ≡ true → (a || b) ≡ true
-or-right true b is = refl
-or-right false b is = is
-
-and-second : (a b : Bool) → (a && b) ≡ true → b ≡ true
-and-second true b is = is
-and-second false b is = let no : ⊥ = cc in absurd no
-
-any_filtered : (test keep : Entry → Bool) (entries : List Entry) → list_any test (filter keep entries) ≡ true → list_any test entries ≡ true
-any_filtered test keep [] is = is
-any_filtered test keep (e ∷ entries) is =
-    elim (keep e) as (λ b. list_any test (if b then e ∷ filter keep entries else filter keep entries) ≡ true → (test e || list_any test entries) ≡ true) [
-      | true ↦ elim (test e) as (λ b. (b || list_any test (filter keep entries)) ≡ true → (b || list_any test entries) ≡ true) [
-        | true ↦ λ own. refl
-        | false ↦ any_filtered test keep entries
-      ]
-      | false ↦ λ other. or-right (test e) (list_any test entries) (any_filtered test keep entries other)
-    ] is
-
 kept_entry : (covered : Bool) (patch own : ℕ) (entries : List Entry) → has_entry own (if covered then entries_of_others patch entries else entries) ≡ true → has_entry own entries ≡ true
-kept_entry true patch own entries is = any_filtered (λ (e : Entry). e.patch == own) (λ (e : Entry). not (e.patch == patch)) entries is
+kept_entry true patch own entries is = any-filter (λ (e : Entry). e.patch == own) (λ (e : Entry). not (e.patch == patch)) entries is
 kept_entry false patch own entries is = is
 
 none_out : (entries : List Entry) → without_all [] entries ≡ entries
@@ -121,13 +103,6 @@ next_so_far catalog first now after log_first log_now log_after all left patch s
       omega (arith, noted, both, notes.few, most, spent, one);
   room = ap (λ (l : RecordList). l.room) notes.noted ∙ so.room;
 }
-
-pub most_within : (catalog : Catalog) (patch : ℕ) (table : SiteTable) → length (functions_in catalog patch) ≤ 64 → length table.stacks ≤ MAX_SITES → most_entries catalog patch table ≤ 320
-most_within catalog patch table few sites =
-    elim (is_cumulative catalog patch) as (λ b. length (functions_in catalog patch) + (if b then length table.stacks else 0) ≤ 320) [
-      | true ↦ omega (arith, few, sites)
-      | false ↦ omega (arith, few)
-    ]
 
 pub few_functions : (catalog : Catalog) (patch : ℕ) (functions : List CatalogFunction) → map setting_function functions ≡ functions_in catalog patch → length functions ≤ 64
     → length (functions_in catalog patch) ≤ 64

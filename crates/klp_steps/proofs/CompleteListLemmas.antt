@@ -7,6 +7,7 @@ use Rattle.klp_types.specs.World.{Installed, World, taken_out, installed_before,
 use Rattle.klp_types.specs.declared.version.Move.{Move}
 use Rattle.klp_machine.specs.Completing.{from_patch, settled, without_older}
 use Rattle.klp_catalog.specs.States as numbers
+use Rattle.klp_steps.proofs.InstalledLemmas.{taken_number, numbers-taken}
 
 abbrev pub first_of_list : List Installed → Option ℕ
 first_of_list installed = slice_get (map (λ (i : Installed). i.patch) installed) 0
@@ -46,24 +47,12 @@ all_dropped world first patch same shadow left =
 
 -- the numbers of the patches that are left depend on the numbers alone
 
-abbrev taken_number : ℕ → List ℕ → List ℕ
-taken_number patch [] = []
-taken_number patch (first ∷ newer) = if first == patch then newer else first ∷ taken_number patch newer
-
 abbrev from_number : ℕ → List ℕ → List ℕ
 from_number patch [] = []
 from_number patch (first ∷ newer) = if first == patch then first ∷ newer else from_number patch newer
 
 abbrev numbers_in : List Installed → List ℕ
 numbers_in installed = map (λ (i : Installed). i.patch) installed
-
-numbers-taken : (patch : ℕ) (installed : List Installed) → numbers_in (taken_out patch installed) ≡ taken_number patch (numbers_in installed)
-numbers-taken patch [] = refl
-numbers-taken patch (i ∷ newer) =
-    elim (i.patch == patch) as (λ b. numbers_in (if b then newer else i ∷ taken_out patch newer) ≡ (if b then numbers_in newer else i.patch ∷ taken_number patch (numbers_in newer))) [
-      | true ↦ refl
-      | false ↦ ap (λ rest. i.patch ∷ rest) (numbers-taken patch newer)
-    ]
 
 numbers-from : (patch : ℕ) (installed : List Installed) → numbers_in (from_patch patch installed) ≡ from_number patch (numbers_in installed)
 numbers-from patch [] = refl

@@ -1,21 +1,13 @@
 -- The entries of sites when a transition is complete.
-use Rattle.std.proofs.Common.{◌≡◌, ℕ, ◌≤◌, Bool, cond, true, false, ◌&&◌, List, [], ◌∷◌, filter, Option, Some, None, refl, sym, ap, ◌∙◌, arith}
+use Rattle.std.proofs.Common.{◌≡◌, ℕ, ◌≤◌, Bool, cond, true, false, ◌&&◌, List, [], ◌∷◌, filter, refl, sym, ap, ◌∙◌, arith}
 use Rattle.std.specs.Prelude.{not, ◌==◌, if◌then◌else◌, is_none}
 use Rattle.std.specs.List.{count_by}
 use Rattle.std.proofs.lemmas.List.Sums.{sum_by-cons}
 use Rattle.klp_types.specs.declared.version.Entry.{Entry}
-use Rattle.klp_machine.specs.State.{State}
-use Rattle.klp_machine.specs.Entries.{is_object_loaded}
 use Rattle.klp_machine.specs.Allowed.{is_one_of}
 use Rattle.klp_catalog.specs.States as numbers
 use Rattle.klp_patch.specs.Changes.{without_nop}
-use Rattle.klp_patch.specs.Covered.{is_object_meant}
 use Rattle.klp_steps.proofs.CompleteLemmas.{without_all}
-
--- the sites of loaded objects
-pub loaded_object : (state : State) (object : Option ℕ) → is_object_meant None state.loaded object ≡ is_object_loaded state object
-loaded_object state None = refl
-loaded_object state (Some object) = refl
 
 -- elsewhere there is no entry
 pub nowhere_else : (f : List Entry → List Entry) → f [] ≡ [] → (covered loaded : Bool) → covered ≡ loaded → (entries here : List Entry) → entries ≡ (if loaded then here else [])

@@ -2,6 +2,7 @@
 use Rattle.std.proofs.Common.{◌≡◌, ℕ, ℤ, suc, zero, ◌<◌, ◌≤◌, Bool, true, false, ◌&&◌, ◌||◌, List, [], ◌∷◌, length, map, Option, Some, None, refl, sym, ap, ◌∙◌, arith, subst}
 use Rattle.std.specs.Prelude.{not, ◌==◌, if◌then◌else◌, is_some, option_map, slice_get, slice_index_or, IfSome, reverse}
 use Rattle.std.specs.List.{All, AllByRecursion, list_any}
+use Rattle.std.proofs.lemmas.Bool.{and_parts}
 use Rattle.std.proofs.lemmas.List.{length-append, length-map}
 use Rattle.std.proofs.lemmas.List.Sums.{sum_by-cons}
 use Rattle.klp_types.specs.declared.limits.TheConstants.{MAX_FUNCTIONS, MAX_RECORDS}
@@ -96,10 +97,6 @@ functions_in_stacks law parts catalog within entries site =
 
 -- tasks that are tried stay right
 
-and-second : (a b : Bool) → (a && b) ≡ true → b ≡ true
-and-second true b is = is
-and-second false b is = let no : ⊥ = cc in absurd no
-
 target_right : (target : Bool) (move : Move) (b : Bool) → b ≡ true → (is_right_state (Some move) (at_target target) && b) ≡ true
 target_right true move b is = is
 target_right false move b is = is
@@ -109,7 +106,7 @@ right_one : (setting : Setting) (move : Move) (versions : List Version) (row : O
 right_one setting move versions None right = refl
 right_one setting move versions (Some task) right =
     elim (is_mode task.mode Asleep && not (is_held versions task.frames)) as (λ b. is_right_task setting (Some move) (Some (if b then in_state (at_target move.target) task else task)) ≡ true) [
-      | true ↦ target_right move.target move (are_right_frames setting task) (and-second (is_right_state (Some move) task.state) (are_right_frames setting task) right)
+      | true ↦ target_right move.target move (are_right_frames setting task) (and_parts (is_right_state (Some move) task.state) (are_right_frames setting task) right).1
       | false ↦ right
     ]
 

@@ -4,24 +4,22 @@ use Rattle.std.specs.Prelude.{is_none, not}
 use Rattle.std.specs.Prelude.{ℤ, find, option_map}
 use Rattle.klp_types.specs.FirstOf.{first_of}
 use Rattle.klp_types.specs.Setting.{Setting}
-use Rattle.klp_types.specs.Step.{has_patch}
 use Rattle.klp_machine.specs.declared.event.Event.TheVariants.{Enable}
 use Rattle.klp_machine.specs.declared.event.Refusal.{Refusal}
 use Rattle.klp_machine.specs.State.{State, is_installed}
 use Rattle.klp_machine.specs.EventCalls.{lacks_room}
-use Rattle.klp_machine.specs.Refusals.{refusal, refusals, NoneHolds}
+use Rattle.klp_machine.specs.Refusals.{has_patch, refusal, refusals, NoneHolds}
 use Rattle.klp_types.specs.declared.callback.Which.TheVariants.{Pre}
 use Rattle.klp_types.specs.declared.limits.TheConstants.{MAX_RECORDS}
 use Rattle.klp_types.specs.Image.{object_of}
 use Rattle.klp_types.specs.Setting.{PatchObject, state_ids}
 use Rattle.klp_types.specs.World.{World, with_patch, without_patch}
 use Rattle.klp_types.specs.Callbacks.{enable_calls, refuses, after_calls, script_for}
-use Rattle.klp_types.specs.Step.{status_of}
 use Rattle.klp_machine.specs.declared.event.Reply.{Reply}
 use Rattle.klp_machine.specs.declared.event.Reply.TheVariants.{Started, PreFailed}
 use Rattle.klp_machine.specs.Task.{all_in, at_target}
 use Rattle.klp_machine.specs.Enabling.{enabled_or_gone, move_to}
-use Rattle.klp_machine.specs.Callbacks.{loaded_objects}
+use Rattle.klp_machine.specs.Callbacks.{loaded_objects, status_of}
 use Rattle.klp_machine.specs.Allowed.{is_one_of}
 use Rattle.klp_modules.specs.Names.{ModuleTable}
 use Rattle.klp_catalog.specs.Catalog.{Catalog}

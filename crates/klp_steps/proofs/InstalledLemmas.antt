@@ -8,7 +8,7 @@ use Rattle.std.proofs.lemmas.Map.Keys.{IsDistinct-cons}
 use Rattle.std.proofs.lemmas.Map.Steps.{length-le_from_distinct_below}
 use Rattle.klp_types.specs.Setting.{Setting}
 use Rattle.klp_types.specs.World.{Installed, World, with_patch, without_patch, taken_out}
-use Rattle.klp_types.specs.Step.{has_patch}
+use Rattle.klp_machine.specs.Refusals.{has_patch}
 use Rattle.klp_machine.specs.Allowed.{is_one_of, AreDistinct, AreKnown}
 use borrow.Author.Tests.{eqb-true, ltb-true}
 
@@ -27,11 +27,11 @@ numbers-with world patch ids = map-append (λ (i : Installed). i.patch) world.in
 
 -- and is taken out again
 
-abbrev taken_number : ℕ → List ℕ → List ℕ
+abbrev pub taken_number : ℕ → List ℕ → List ℕ
 taken_number patch [] = []
 taken_number patch (first ∷ newer) = cond (first == patch) newer (first ∷ taken_number patch newer)
 
-numbers-taken : (patch : ℕ) (installed : List Installed)
+pub numbers-taken : (patch : ℕ) (installed : List Installed)
     → map (λ (i : Installed). i.patch) (taken_out patch installed) ≡ taken_number patch (map (λ (i : Installed). i.patch) installed)
 numbers-taken patch [] = refl
 numbers-taken patch (first ∷ newer) =

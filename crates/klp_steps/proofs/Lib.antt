@@ -16,3 +16,4 @@ pub mod CompleteListLemmas
 pub mod CompleteTaskLemmas
 pub mod CompleteSiteLemmas
 pub mod CompletePollLemmas
+pub mod PreviousLemmas

@@ -6,11 +6,11 @@ use Rattle.std.proofs.lemmas.Bool.{eq-eqb, eqb-true}
 use Rattle.std.proofs.lemmas.List.{take_more, reverse-append}
 use Rattle.std.proofs.lemmas.List.Folds.{list_any-append, list_any_at}
 use Rattle.std.proofs.lemmas.List.Sums.{sum_by-append}
-use Rattle.std.proofs.lemmas.Grind.{reverse_onto}
 use Rattle.klp_types.specs.declared.version.Entry.{Entry}
 use Rattle.klp_types.specs.Image.{Image, object_of}
 use Rattle.klp_types.specs.Setting.{Setting, functions_of, function_for, replaces}
 use Rattle.klp_types.specs.Entries.{entry_of, entries_from, is_empty}
+use Rattle.klp_types.proofs.EntryLemmas.{list_any-reverse}
 use Rattle.klp_machine.specs.Allowed.{is_one_of, AreDistinct}
 use Rattle.klp_catalog.specs.Catalog.{Catalog, patches_of}
 use Rattle.klp_stack.specs.Stack.{entries_at, has_entry, entries_of_others}
@@ -32,12 +32,6 @@ or-false : (a : Bool) → (a || false) ≡ a
 or-false true = refl
 or-false false = refl
 
-or-comm : (a b : Bool) → (a || b) ≡ (b || a)
-or-comm true true = refl
-or-comm true false = refl
-or-comm false true = refl
-or-comm false false = refl
-
 or-later : (a b : Bool) → b ≡ true → (a || b) ≡ true
 or-later true b is = refl
 or-later false b is = is
@@ -58,16 +52,7 @@ eqb-sym a b =
 
 -- lists
 
-pub list_any-reverse : {X : Type 0} (p : X → Bool) (xs : List X) → list_any p (reverse xs) ≡ list_any p xs
-list_any-reverse p [] = refl
-list_any-reverse p (x ∷ xs) =
-    ap (list_any p) (reverse_onto xs x [])
-    ∙ list_any-append p (reverse xs) (x ∷ [])
-    ∙ ap (λ b. b || (p x || false)) (list_any-reverse p xs)
-    ∙ ap (λ b. list_any p xs || b) (or-false (p x))
-    ∙ or-comm (list_any p xs) (p x)
-
-any-filter : {X : Type 0} (p keep : X → Bool) (xs : List X) → list_any p (filter keep xs) ≡ true → list_any p xs ≡ true
+pub any-filter : {X : Type 0} (p keep : X → Bool) (xs : List X) → list_any p (filter keep xs) ≡ true → list_any p xs ≡ true
 any-filter p keep [] there = there
 any-filter p keep (x ∷ xs) there =
     elim (keep x) as (λ v. list_any p (if v then x ∷ filter keep xs else filter keep xs) ≡ true → (p x || list_any p xs) ≡ true) [

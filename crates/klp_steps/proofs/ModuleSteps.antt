@@ -12,7 +12,7 @@ use Rattle.klp_types.specs.declared.callback.Which.TheVariants.{Pre, Post, PreUn
 use Rattle.klp_types.specs.declared.version.Entry.{Entry}
 use Rattle.klp_types.specs.declared.version.Move.{Move}
 use Rattle.klp_types.specs.Callbacks.{Call, script_for}
-use Rattle.klp_types.specs.Step.{status_of}
+use Rattle.klp_machine.specs.Callbacks.{status_of}
 use Rattle.klp_types.specs.Setting.{Setting}
 use Rattle.klp_types.specs.Entries.{entries_from}
 use Rattle.klp_types.specs.Image.{Image, object_of}

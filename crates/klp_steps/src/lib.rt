@@ -5,6 +5,7 @@ mod completing;
 mod disabling;
 mod enabling;
 mod forcing;
+pub mod laws;
 mod module;
 mod parts;
 mod pins;

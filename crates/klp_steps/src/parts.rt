@@ -32,7 +32,8 @@ pub struct Parts {
     pub pinned: Pins,
     /// Where a transition puts the versions that hold sleepers back, while it is tried.
     pub blocked: VersionSet,
-    /// The rows that an event changed, as they were: emptied before each event that changes some.
+    /// The rows of world and sites that an event changed, as they were. An event that may change such
+    /// rows empties it first; nothing else reads it.
     pub log: Records,
 }
 

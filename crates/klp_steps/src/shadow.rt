@@ -1,6 +1,6 @@
 //! The events that change shadow variables (shadow-vars, Implementation details).
 ghost use Rattle.std.specs.Prelude.{◌≡◌};
-ghost use Rattle.klp_types.specs.Step.{is_full};
+ghost use Rattle.klp_machine.specs.Refusals.{is_full};
 ghost use Rattle.klp_machine.specs.declared.event.Event.TheVariants.{ShadowAlloc, ShadowGetOrAlloc, ShadowFree, ShadowFreeAll};
 ghost use Rattle.klp_steps.specs.Invariant.{Invariant};
 ghost use Rattle.klp_steps.specs.Events.{PartsTake};

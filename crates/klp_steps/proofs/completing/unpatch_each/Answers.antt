@@ -3,14 +3,15 @@ use Rattle.klp_types.specs.declared.limits.TheConstants.{MAX_SITES}
 use Rattle.klp_stack.specs.Stack.{entries_at}
 use Rattle.klp_patch.specs.Covered.{is_covered}
 use Rattle.klp_steps.proofs.ListLemmas.{next_left}
-use Rattle.klp_steps.proofs.CompleteLemmas.{SoFar, next_so_far, most_within, few_functions, where_covered, covered_none, none_behind}
+use Rattle.klp_steps.proofs.RoomLemmas.{most_at}
+use Rattle.klp_steps.proofs.CompleteLemmas.{SoFar, next_so_far, few_functions, where_covered, covered_none, none_behind}
 use Rattle.klp_steps.proofs.completing.unpatch_each.Goals as goal
 
 pub unpatch_sites-requires-clause-records : goal.unpatch_sites-requires-clause-records
 unpatch_sites-requires-clause-records g c =
     let sites : length c.loop-patch.sites.stacks ≤ MAX_SITES = subst (λ n. n ≤ MAX_SITES) c.sites.ensures.value c.if-prove.false in
     let few = few_functions c.args.catalog.now c.patch-item.result c.functions.result.now c.functions.ensures.setting c.if-prove-2.false in
-    let most = most_within c.args.catalog.now c.patch-item.result c.loop-patch.sites few sites in
+    let most = most_at c.args.catalog.now c.patch-item.result c.loop-patch.sites few sites in
     let budget = c.loop-patch.invariant.budget in
     let all = c.requires.records in
     let room = c.loop-patch.invariant.room in

@@ -8,7 +8,7 @@ use Rattle.klp_types.specs.declared.callback.Which.TheVariants.{Pre}
 use Rattle.klp_types.specs.Callbacks.{allocs_of, after_calls, script_for}
 use Rattle.klp_types.specs.Entries.{entries_from}
 use Rattle.klp_types.specs.Records.{RecordList}
-use Rattle.klp_types.specs.Step.{status_of}
+use Rattle.klp_machine.specs.Callbacks.{status_of}
 use Rattle.klp_machine.specs.declared.event.Event.TheVariants.{Coming}
 use Rattle.klp_machine.specs.declared.event.Reply.{Reply}
 use Rattle.klp_machine.specs.declared.event.Reply.TheVariants.{Done}

@@ -17,7 +17,8 @@ use Rattle.klp_steps.proofs.StepLemmas.{setting_in, state_in}
 use Rattle.klp_steps.proofs.CompleteLemmas.{without_all}
 use Rattle.klp_steps.proofs.CompleteListLemmas.{before_numbers, before_fewer}
 use Rattle.klp_steps.proofs.CompleteTaskLemmas.{own_in}
-use Rattle.klp_steps.proofs.CompleteSiteLemmas.{loaded_object, nowhere_else, both_out, count_before}
+use Rattle.klp_steps.proofs.EntryLemmas.{loaded_meant}
+use Rattle.klp_steps.proofs.CompleteSiteLemmas.{nowhere_else, both_out, count_before}
 use Rattle.klp_steps.proofs.parts.Parts.replace_sites.Goals as goal
 
 few_older : (test : ℕ → Bool) (patch noted hooked sites : ℕ) (installed older : List ℕ) → older ≡ installed_before patch installed → length installed ≤ 16 → count_by test installed ≤ 2
@@ -67,7 +68,7 @@ returns-clause-entries g c = λ site.
     let are = c.older_than-older.ensures ∙ ap (installed_before move.patch) c.installed.ensures.value ∙ sym (before_numbers move.patch parts.world.installed) in
     c.drop_nops.ensures.entries.entries site
     ∙ ap (without_nop move.patch) (c.unpatch_each.ensures.entries site
-    ∙ nowhere_else (without_all older) refl (is_covered parts.sites None site) (is_site_loaded setting state site) (loaded_object state (object_of parts.sites.image.objects site))
+    ∙ nowhere_else (without_all older) refl (is_covered parts.sites None site) (is_site_loaded setting state site) (loaded_meant state (object_of parts.sites.image.objects site))
     (entries_at parts.sites.stacks site) (entries_from setting site (reverse (installed_patches state))) (c.requires.kept.entries site)
     ∙ ap (without_all older) (c.requires.kept.entries site)
     ∙ ap (λ ps. without_all ps (entries_of setting state site)) are)

@@ -12,7 +12,8 @@ use Rattle.klp_stack.specs.Stack.{entries_at, entries_of_others}
 use Rattle.klp_patch.specs.Covered.{is_covered}
 use Rattle.klp_steps.proofs.StepLemmas.{setting_in, state_in}
 use Rattle.klp_steps.proofs.CompleteTaskLemmas.{own_in}
-use Rattle.klp_steps.proofs.CompleteSiteLemmas.{loaded_object, nowhere_else}
+use Rattle.klp_steps.proofs.EntryLemmas.{loaded_meant}
+use Rattle.klp_steps.proofs.CompleteSiteLemmas.{nowhere_else}
 use Rattle.klp_steps.proofs.parts.Parts.settle_sites.Goals as goal
 
 pub unpatch_sites-requires-clause-own : goal.unpatch_sites-requires-clause-own
@@ -28,7 +29,7 @@ returns-then-not-moving-clause-entries g c = λ site.
     let out : move.target ≡ false = cc in
     let moves_it : moves state.moving move.patch ≡ true = ap (λ m. moves m move.patch) c.requires.moving ∙ nat_eq_equiv.refl move.patch in
     c.unpatch_sites.ensures.entries.entries site
-    ∙ nowhere_else (entries_of_others move.patch) refl (is_covered parts.sites None site) (is_site_loaded setting state site) (loaded_object state (object_of parts.sites.image.objects site))
+    ∙ nowhere_else (entries_of_others move.patch) refl (is_covered parts.sites None site) (is_site_loaded setting state site) (loaded_meant state (object_of parts.sites.image.objects site))
     (entries_at parts.sites.stacks site) (entries_from setting site (reverse (installed_patches state))) (c.requires.kept.entries site)
     ∙ ap (entries_of_others move.patch) (c.requires.kept.entries site)
     ∙ sym (c.a_patch_leaves_the_entries_of_the_others.ensures setting state move.patch site c.requires.kept.allowed moves_it)

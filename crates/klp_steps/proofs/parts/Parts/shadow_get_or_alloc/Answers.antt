@@ -8,7 +8,7 @@ use Rattle.klp_machine.specs.declared.event.Event.TheVariants.{ShadowGetOrAlloc}
 use Rattle.klp_steps.proofs.parts.Parts.shadow_get_or_alloc.Goals as goal
 use Rattle.klp_steps.proofs.parts.Parts.shadow_get_or_alloc.Goals.{else-is_none-via-then-is_none+else-is_full, else-is_none-via-else-is_none}
 use Rattle.std.specs.Prelude.{◌&&◌, is_none}
-use Rattle.klp_types.specs.Step.{is_full}
+use Rattle.klp_machine.specs.Refusals.{is_full}
 use Rattle.klp_steps.proofs.ShadowLemmas.{both_not, first_not, there_not_none}
 
 pub returns : goal.returns
