@@ -1,74 +1,14 @@
 -- What a manager keeps when it is booted.
-use Rattle.std.proofs.Common.{◌≡◌, ℕ, zero, suc, ◌+◌, ◌<◌, Bool, true, false, cond, List, [], ◌∷◌, length, replicate, Option, Some, None, refl, sym, ap, ◌∙◌, eqb, arith}
-use Rattle.std.specs.Prelude.{not, nat_lt, slice_get, slice_index_or, slice_set, option_map}
+use Rattle.std.proofs.Common.{◌≡◌, ℕ, zero, suc, ◌+◌, ◌<◌, Bool, true, false, List, [], ◌∷◌, length, Option, Some, None, refl, sym, ap, ◌∙◌, eqb, arith}
+use Rattle.std.specs.Prelude.{not, nat_lt, slice_get, option_map}
 use Rattle.std.specs.Option.{option_eq}
 use Rattle.std.specs.Cmp.{nat_eq_equiv}
-use Rattle.std.specs.List.{IsDistinct}
 use Rattle.std.proofs.lemmas.List.{length-map}
 use Rattle.std.proofs.lemmas.Option.{slice_get-map}
-use Rattle.std.specs.FinMap as finite
-use Rattle.klp_types.specs.Image.{Object, symbols_of}
-use Rattle.klp_types.specs.World.{World, key_cmp}
-use Rattle.klp_types.specs.declared.version.Entry.{Entry}
-use Rattle.klp_types.specs.Entries.{is_empty, is_site_loaded}
-use Rattle.klp_text.specs.TextImage.{TextImage, opening, IsWithinLimits}
-use Rattle.klp_modules.specs.Names.{ObjectNames, ModuleTable, names_of, names_of_object}
-use Rattle.klp_catalog.specs.Catalog.{Catalog}
-use Rattle.klp_core.specs.Boot.{AreNamed, name_counts, symbol_counts}
-use Rattle.klp_core.specs.Managed.{setting_of}
-use Rattle.klp_core.specs.Invariant.{managed_of, Invariant}
-use Rattle.klp_core.proofs.EnableLemmas.{no_flag}
+use Rattle.klp_types.specs.Image.{Object}
+use Rattle.klp_modules.specs.Names.{ObjectNames}
+use Rattle.klp_core.specs.Boot.{name_counts, symbol_counts}
 use borrow.Author.Tests.{eqb-true, ltb-true, ltb-false, not-false}
-
-length_flags : (count : ℕ) → length (replicate count false) ≡ count
-length_flags zero = refl
-length_flags (suc count) = ap suc (length_flags count)
-
--- whether its object is loaded or not, a site has no entry where nothing is installed
-nothing_hooked : (loaded : Bool) → not (is_empty {A = Entry} (cond loaded [] [])) ≡ false
-nothing_hooked true = refl
-nothing_hooked false = refl
-
-distinct_none : IsDistinct eqb []
-unfolding IsDistinct
-distinct_none = tt
-
-abbrev pub empty_world : World
-empty_world = record { installed = []; shadow = finite.empty }
-
-pub invariant_at_boot : (text : TextImage) (modules : ModuleTable) (catalog : Catalog) → text ≡ opening text.image.handler text.image.objects
-    → IsWithinLimits text.image.objects → modules.loaded ≡ slice_set (replicate (length modules.names) false) 0 true
-    → AreNamed text.image modules catalog → Invariant text modules catalog empty_world None
-invariant_at_boot text modules catalog made limits flags named =
-    let fresh = managed_of text catalog empty_world None in
-    let hooked = ap (λ (t : TextImage). t.hooked) made in
-    let loaded = ap (λ (t : TextImage). t.loaded) made in
-    let count : length modules.names ≡ length text.image.objects = ap length named.modules_named ∙ length-map text.image.objects names_of_object in
-    record {
-      allowed = record {
-        limits = limits;
-        loaded = loaded;
-        known = λ patch among. let no : ⊥ = cc in absurd no;
-        distinct = distinct_none;
-        resolved = λ patch among. let no : ⊥ = cc in absurd no;
-        stated = refl;
-        forward = λ move is. let no : ⊥ = cc in absurd no;
-        moving_there = λ move is. let no : ⊥ = cc in absurd no;
-        variables = omega (arith, finite.len-empty key_cmp ℕ);
-      };
-      text_of_state = record {
-        modules_are = same_table modules (names_of text.image.objects) text.loaded named.modules_named
-            (flags ∙ ap (λ n. slice_set (replicate n false) 0 true) count ∙ sym loaded);
-        catalog_names = named.catalog_named;
-        sites = ap length hooked ∙ length_flags (length (symbols_of text.image.objects));
-        hooked = λ site. ap (λ (fs : List Bool). slice_index_or fs site false) hooked
-            ∙ no_flag (length (symbols_of text.image.objects)) site
-            ∙ sym (nothing_hooked (is_site_loaded (setting_of fresh) fresh.state site));
-      };
-    }
-  where
-    same_table : (m : ModuleTable) (names : List ObjectNames) (l : List Bool) → m.names ≡ names → m.loaded ≡ l → m ≡ record { names = names; loaded = l }
-    same_table m names l n e = rw (← n, ← e) refl
 
 -- lists of numbers that agree
 

@@ -3,18 +3,21 @@ use Rattle.std.proofs.Common.{◌≡◌, ℕ, suc, ◌+◌, ◌<◌, Bool, cond,
 use Rattle.std.specs.Prelude.{count_by, OnErr, Result, Ok, Err}
 use Rattle.std.proofs.Math.Seq.{drop-cons}
 use Rattle.std.proofs.lemmas.List.Sums.{sum_by-cons}
-use Rattle.klp_types.specs.declared.event.Event.{Event}
-use Rattle.klp_types.specs.declared.event.Reply.{Reply}
-use Rattle.klp_types.specs.declared.event.Refusal.{Refusal}
-use Rattle.klp_types.specs.State.{State}
+use Rattle.klp_machine.specs.declared.event.Event.{Event}
+use Rattle.klp_machine.specs.declared.event.Reply.{Reply}
+use Rattle.klp_machine.specs.declared.event.Refusal.{Refusal}
+use Rattle.klp_machine.specs.State.{State}
 use Rattle.klp_types.specs.FirstOf.{first_of, unless}
-use Rattle.klp_types.specs.Callbacks.{Call, calls}
-use Rattle.klp_types.specs.Step.{refusals, accepted, calls_unless, callbacks_of}
-use Rattle.klp_types.specs.Run.{answer_of, state_after, answer, next, run, callbacks_of_run}
+use Rattle.klp_types.specs.Callbacks.{Call}
+use Rattle.klp_machine.specs.EventCalls.{calls}
+use Rattle.klp_machine.specs.Refusals.{refusals}
+use Rattle.klp_machine.specs.Step.{accepted, calls_unless, callbacks_of}
+use Rattle.klp_machine.specs.Run.{answer_of, state_after, answer, next, run, callbacks_of_run}
 use Rattle.klp_catalog.specs.Catalog.{Catalog}
 use Rattle.klp_catalog.specs.Runs.{after_runs, RunsAddUp}
-use Rattle.klp_core.specs.Managed.{Managed, setting_of}
-use Rattle.klp_core.specs.Events.{Takes, after_event, after_events, answers_to}
+use Rattle.klp_steps.specs.Managed.{Managed, setting_of}
+use Rattle.klp_steps.specs.Events.{Takes, after_event}
+use Rattle.klp_core.specs.Events.{after_events, answers_to}
 
 pub next_event : {A : Type 0} (xs : List A) (i : ℕ) (x : A) → i < length xs → x ≡ get_or xs i x → drop i xs ≡ x ∷ drop (i + 1) xs
 next_event xs i x below is =

@@ -1,14 +1,3 @@
-pub mod HookLemmas
-pub mod EnableLemmas
 pub mod BootLemmas
-pub mod ViewLemmas
-pub mod WorldLemmas
-pub mod CallLemmas
-pub mod LoopLemmas
-pub mod RanLemmas
-pub mod RoomLemmas
-pub mod InstallLemmas
-pub mod RunLemmas
 pub mod EventLemmas
-pub mod StateLemmas
-pub mod PreviousLemmas
+pub mod ViewLemmas

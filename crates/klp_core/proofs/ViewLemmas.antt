@@ -1,11 +1,15 @@
 -- The text of one object, symbol by symbol.
-use Rattle.std.proofs.Common.{◌≡◌, ℕ, zero, suc, ◌+◌, Bool, true, false, List, [], ◌∷◌, length, Option, Some, None, is_some, refl, sym, ap, ◌∙◌, arith}
+use Rattle.std.proofs.Common.{◌≡◌, ℕ, zero, suc, ◌+◌, Bool, true, false, List, [], ◌∷◌, length, map, Option, Some, None, is_some, refl, sym, ap, ◌∙◌, arith}
 use Rattle.std.specs.Prelude.{slice_get, slice_index_or, option_map, option_and_then, if◌then◌else◌}
 use Rattle.klp_types.specs.Image.{Symbol, Object, first_site, given_symbol}
-use Rattle.klp_types.specs.Bytes.{patched, patched_from, text_where, text_of}
+use Rattle.klp_types.specs.Bytes.{patched, patched_from, text_where}
+use Rattle.klp_machine.specs.Bytes.{text_of}
 use Rattle.klp_types.specs.Setting.{Setting}
-use Rattle.klp_types.specs.State.{State}
-use Rattle.klp_types.specs.Entries.{is_hooked}
+use Rattle.klp_machine.specs.State.{State}
+use Rattle.klp_machine.specs.Entries.{is_hooked}
+use Rattle.klp_types.specs.declared.version.Entry.{Entry}
+use Rattle.klp_stack.specs.Stack.{entries_at}
+use Rattle.klp_sites.specs.Table.{is_stacked}
 use Rattle.klp_text.specs.TextImage.{TextImage, is_hooked_at, bytes_at}
 use Rattle.klp_core.specs.View.{or_none, symbols_at}
 
@@ -109,3 +113,9 @@ pub text_shown : (text : TextImage) (setting : Setting) (state : State) (object 
 text_shown text setting state object same hooked count loaded =
     rw (loaded, ← same) (shown_in setting.image.handler (first_site setting.image.objects object) (is_hooked_at text) (is_hooked setting state)
     (slice_get setting.image.objects object) hooked (flag_within setting.image.objects state.loaded object count loaded))
+
+-- whether a site is hooked, by its stack
+pub hooked_at : (stacks : List (List Entry)) (site : ℕ) → slice_index_or (map is_stacked stacks) site false ≡ is_stacked (entries_at stacks site)
+hooked_at [] site = refl
+hooked_at (entries ∷ stacks) zero = refl
+hooked_at (entries ∷ stacks) (suc site) = hooked_at stacks site

@@ -1,20 +1,10 @@
--- What a manager is booted with, and its opening state.
-use Rattle.std.specs.Prelude.{◌≡◌, ℕ, ◌⊎◌, true, false, List, [], map, length, None, slice_set, replicate}
-use Rattle.std.specs.FinMap as finite
+-- What a manager is booted with.
+use Rattle.std.specs.Prelude.{◌≡◌, ℕ, ◌⊎◌, List, map, length}
 use Rattle.klp_types.specs.Image.{Object, Image}
-use Rattle.klp_types.specs.State.{State}
 use Rattle.klp_modules.specs.Names.{ObjectNames, ModuleTable, names_of}
 use Rattle.klp_catalog.specs.Catalog.{Catalog}
 use Rattle.klp_core.specs.declared.fault.BootFault.{BootFault}
 use Rattle.klp_core.specs.declared.fault.BootFault.TheVariants.{Mismatch, NoMemory}
-
--- object 0 alone is loaded, nothing is installed, and there is no shadow variable
-abbrev pub opening_state : Image → State
-opening_state image = record {
-  loaded = slice_set (replicate (length image.objects) false) 0 true;
-  world = record { installed = []; shadow = finite.empty };
-  moving = None;
-}
 
 -- how many symbols each object has
 abbrev pub symbol_counts : List Object → List ℕ

@@ -1,14 +1,16 @@
-ghost use Rattle.std.specs.Prelude.{◌≡◌, IsTrue, IfOk, IfErr, OnOk, false, []};
-ghost use Rattle.std.specs.FinMap as finite;
-ghost use Rattle.klp_text.specs.TextImage.{IsWithinLimits};
-ghost use Rattle.klp_core.specs.Boot.{IsMatch, IsFaultOf};
+ghost use Rattle.std.specs.Prelude.{◌≡◌, IsTrue, IfOk, IfErr, false, true, length, slice_set, replicate};
+ghost use Rattle.klp_text.specs.TextImage.{IsWithinLimits, opening};
+ghost use Rattle.klp_machine.specs.Opening.{opening_state};
+ghost use Rattle.klp_steps.specs.Managed.{setting_of, managed_of};
+ghost use Rattle.klp_steps.specs.Invariant.{Invariant};
+ghost use Rattle.klp_core.specs.Boot.{IsMatch, AreNamed, IsFaultOf};
 
 use crate::fault::BootFault;
 use klp_catalog::Catalog;
 use klp_modules::Modules;
+use klp_steps::Parts;
 use klp_text::Image;
-use klp_types::{MAX_RECORDS, ObjId, Records};
-use klp_world::World;
+use klp_types::ObjId;
 use std::alloc::Global;
 
 // Whether the three have the same number of symbols for each object. Behind the last object of the
@@ -30,24 +32,28 @@ fn is_match(image: &Image, modules: &Modules, catalog: &Catalog) -> bool
     true
 }
 
-/// Takes all room that the events of a manager need, where the three match: for a world in which
-/// nothing is installed, and for the records of an event.
-pub(crate) fn room_over(
+/// The parts of a manager in its opening state, where the three match.
+pub(crate) fn parts_over(
     alloc: Global,
-    image: &Image,
-    modules: &Modules,
+    image: Image,
+    modules: Modules,
     catalog: &Catalog,
-) -> Result<(World, Records), BootFault>
-    ensures matches { OnOk result (IsMatch image.now.image modules.now catalog.now) }
-    ensures world { IfOk result (λ room. room.0 ≡ record { installed = []; shadow = finite.empty }) }
-    ensures records { IfOk result (λ room. room.1.room ≡ MAX_RECORDS) }
-    ensures fault { IfErr result (λ fault. IsFaultOf image.now.image modules.now catalog.now fault) }
-    ensures limits { IsWithinLimits image.now.image.objects }
+) -> Result<Parts, BootFault>
+    requires image { image ≡ opening image.image.handler image.image.objects }
+    requires modules { modules.loaded ≡ slice_set (replicate (length modules.names) false) 0 true }
+    requires names { IsMatch image.image modules catalog.now → AreNamed image.image modules catalog.now }
+    ensures matches { IfOk result (λ parts. IsMatch image.image modules catalog.now) }
+    ensures kept { IfOk result (λ parts. Invariant parts catalog.now) }
+    ensures opening { IfOk result (λ parts. managed_of parts catalog.now ≡ record {
+      image = image.image;
+      catalog = catalog.now;
+      state = opening_state (setting_of (managed_of parts catalog.now));
+    }) }
+    ensures fault { IfErr result (λ fault. IsFaultOf image.image modules catalog.now fault) }
 {
-    if !is_match(image, modules, catalog) {
+    if !is_match(&image, &modules, catalog) {
         return Err(BootFault::Mismatch);
     }
-    let world = World::new(alloc)?;
-    let records = Records::new(alloc, MAX_RECORDS)?;
-    Ok((world, records))
+    let parts = Parts::new(alloc, image, modules, catalog)?;
+    Ok(parts)
 }

@@ -1,13 +1,12 @@
-//! The manager: it takes events, and keeps the text as the installed patches want it.
+//! The live patching manager: events in, replies out.
 #![tactic(auto)]
 
 mod boot;
-mod callbacks;
 mod fault;
-mod hooks;
-pub mod laws;
+mod looks;
 mod manager;
-mod shadow;
+mod row;
+mod take;
 mod view;
 
 pub use fault::BootFault;

@@ -1,6 +1,6 @@
 use Rattle.std.proofs.Common.{◌≡◌, ◌+◌, ◌≤◌, drop}
 use Rattle.std.specs.Prelude.{count_by, is_ok, is_err}
-use Rattle.klp_core.specs.Managed.{setting_of}
+use Rattle.klp_steps.specs.Managed.{setting_of}
 use Rattle.klp_core.specs.Events.{after_events, answers_to}
 use Rattle.klp_core.proofs.manager.Manager.run.Given as goal
 

@@ -3,7 +3,7 @@ use Rattle.klp_stack.specs.Stack.{entries_at}
 use Rattle.klp_machine.specs.Rows.{word_of, moving_patch}
 use Rattle.klp_machine.specs.Entries.{entries_of}
 use Rattle.klp_steps.specs.Managed.{Managed, setting_of}
-use Rattle.klp_manager.proofs.manager.Manager.word.Goals as goal
+use Rattle.klp_core.proofs.manager.Manager.word.Goals as goal
 
 pub returns : goal.returns
 returns g c =

@@ -1,3 +1,0 @@
-pub mod BootLemmas
-pub mod EventLemmas
-pub mod ViewLemmas

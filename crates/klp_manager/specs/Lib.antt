@@ -1,3 +1,0 @@
-pub mod Events
-pub mod Boot
-pub mod View
