@@ -1,6 +1,6 @@
-//! Tests of the layers that the manager doesn't use yet: that there is one where memory is there, and what
-//! a small kernel's stacks, tasks and sites answer. They stand in a crate of their own, so that what they
-//! test is proved once.
+//! Tests of the layers of a manager: that there is one where memory is there, and what a small kernel's
+//! stacks, tasks and sites answer. They stand in a crate of their own, so that what they test is proved
+//! once.
 #![tactic(auto)]
 
 #[cfg(test)]

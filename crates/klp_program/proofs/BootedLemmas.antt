@@ -15,12 +15,13 @@ use Rattle.klp_plan.specs.Plan.{Plan}
 use Rattle.klp_plan.specs.Scripts.{scripts_of}
 use Rattle.klp_catalog.specs.declared.assemble.AssembleFault.{AssembleFault}
 use Rattle.klp_catalog.specs.Assembled.{without_scripts, scripts_told, counts_told, IsAssembleFault}
-use Rattle.klp_catalog.specs.Catalog.{Catalog, some_same_site}
+use Rattle.klp_catalog.specs.Catalog.{Catalog, some_same_site, patches_of}
 use Rattle.klp_catalog.specs.Runs.{HasCounts}
 use Rattle.klp_core.specs.declared.fault.BootFault.{BootFault}
 use Rattle.klp_core.specs.declared.fault.BootFault.TheVariants as boot
-use Rattle.klp_core.specs.Boot.{opening_state, symbol_counts, name_counts, IsMatch}
-use Rattle.klp_core.specs.Managed.{Managed}
+use Rattle.klp_core.specs.Boot.{symbol_counts, name_counts, IsMatch}
+use Rattle.klp_machine.specs.Opening.{opening_state}
+use Rattle.klp_steps.specs.Managed.{Managed, setting_of}
 use Rattle.std.specs.Result.{IsErrAnd, IfErr}
 use Rattle.klp_program.specs.declared.fault.Fault.{Fault}
 use Rattle.klp_program.specs.declared.fault.Fault.TheVariants as faults
@@ -37,7 +38,7 @@ pub booted_over : (plan after : Plan) (handler : ℕ) (objects : List Object) (c
     → image ≡ text.opening handler objects → modules ≡ names.opening image.image.objects
     → catalog.names ≡ modules.names → map without_scripts catalog.patches ≡ map without_scripts after.patches
     → scripts_of catalog.patches ≡ scripts_told callbacks → HasCounts catalog.patches catalog.runs → catalog.runs ≡ counts_told callbacks
-    → manager ≡ record { image = image.image; catalog = catalog; state = opening_state image.image }
+    → manager ≡ record { image = image.image; catalog = catalog; state = opening_state (record { image = image.image; patches = patches_of catalog }) }
     → IsBootedOver plan manager
 booted_over plan after handler objects callbacks image modules catalog manager rest taken handled given made numbered named patched scripted shaped counted booted =
     let over : image.image ≡ image_of plan = rw (made, handled, taken, rest) refl in
@@ -48,7 +49,7 @@ booted_over plan after handler objects callbacks image modules catalog manager r
       scripts = ap (λ (m : Managed). scripts_of m.catalog.patches) booted ∙ scripted ∙ ap scripts_told given ∙ scripts_made (scripts_of plan.patches);
       shape = subst (λ (m : Managed). HasCounts m.catalog.patches m.catalog.runs) (sym booted) shaped;
       counts = ap (λ (m : Managed). m.catalog.runs) booted ∙ counted ∙ ap counts_told given;
-      state = ap (λ (m : Managed). m.state) booted ∙ ap opening_state over;
+      state = subst (λ (m : Managed). m.state ≡ opening_state (setting_of m)) (sym booted) refl;
     }
 
 named_handler : (plan after : Plan) (handler : ℕ) → after ≡ record plan { objects = [] } → handler ≡ after.handler → handler ≡ plan.handler

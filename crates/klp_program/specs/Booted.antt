@@ -11,8 +11,8 @@ use Rattle.klp_plan.specs.Scripts.{scripts_of}
 use Rattle.klp_catalog.specs.Assembled.{without_scripts, counts_told, IsAssembleFault}
 use Rattle.klp_catalog.specs.Runs.{HasCounts}
 use Rattle.klp_core.specs.declared.fault.BootFault.TheVariants as boot
-use Rattle.klp_core.specs.Boot.{opening_state}
-use Rattle.klp_core.specs.Managed.{Managed}
+use Rattle.klp_machine.specs.Opening.{opening_state}
+use Rattle.klp_steps.specs.Managed.{Managed, setting_of}
 use Rattle.klp_program.specs.declared.fault.Fault.{Fault}
 use Rattle.klp_program.specs.declared.fault.Fault.TheVariants.{NoMemory, Image, Assemble, Boot}
 
@@ -25,7 +25,7 @@ abbrev pub image_of : Plan → types.Image
 image_of plan = record { handler = plan.handler; objects = plan.objects }
 
 -- the manager is that of a plan: over the image of its objects, with its patches over the names of that
--- image and its scripts in the order of the text; there is a count for each callback, none ran, and nothing is installed
+-- image and its scripts in the order of the text; there is a count for each callback, none ran, and the state is the opening one
 pub record IsBootedOver (plan : Plan) (manager : Managed) : Type 0 where
   pub image : manager.image ≡ image_of plan
   pub names : manager.catalog.names ≡ names_of plan.objects
@@ -33,7 +33,7 @@ pub record IsBootedOver (plan : Plan) (manager : Managed) : Type 0 where
   pub scripts : scripts_of manager.catalog.patches ≡ scripts_of plan.patches
   pub shape : HasCounts manager.catalog.patches manager.catalog.runs
   pub counts : manager.catalog.runs ≡ counts_told (map never_ran (scripts_of plan.patches))
-  pub state : manager.state ≡ opening_state (image_of plan)
+  pub state : manager.state ≡ opening_state (setting_of manager)
 
 -- why a plan isn't booted: a fault of the image; else one of the catalog, which has the names of that image and a
 -- callback for each script; want of memory may stand in place of the others

@@ -5,11 +5,16 @@
 mod arguments;
 mod booted;
 mod command;
+mod event;
 mod fault;
 mod kind;
+mod look;
+mod names;
 mod sample;
 mod serve;
 mod wanted;
+mod word;
+mod write;
 
 pub use arguments::{refused, told, words};
 pub use booted::boot;

@@ -1,170 +1,89 @@
 ghost use Rattle.std.specs.Prelude.{◌≡◌, ◌⊎◌};
-ghost use Rattle.klp_core.specs.Boot.{opening_state};
+ghost use Rattle.klp_machine.specs.Opening.{opening_state};
+ghost use Rattle.klp_steps.specs.Managed.{setting_of};
 
 use crate::arguments::told;
 use crate::booted::boot;
 use crate::command::{Command, Line, read};
+use crate::event::event_of;
 use crate::fault::Fault;
 use crate::kind::{Kind, callback_of};
+use crate::look::{Unseen, look};
+use crate::write::wrote;
+use crate::{names, write};
 use klp_callback::Boxed;
 use klp_catalog::Catalog;
 use klp_core::Manager;
-use klp_types::{Event, ObjId, PatchId, Refusal, Reply, Which};
+use klp_machine::{Event, Refusal, Reply};
 use std::alloc::Global;
-use std::io::{self, BufRead, Write};
+use std::io::{BufRead, Write};
 
-// The number that the console gives a refusal: that of an error of Linux with a like meaning.
-fn number(refusal: Refusal) -> u8 {
-    match refusal {
-        Refusal::NoPatch => 2,
-        Refusal::Full => 12,
-        Refusal::Busy => 16,
-        Refusal::AlreadyThere
-        | Refusal::Incompatible
-        | Refusal::NoSymbol
-        | Refusal::NotMoving
-        | Refusal::Exists => 22,
-    }
-}
-
-// What is told where a write to the output fails.
-fn wrote(written: io::Result<()>) -> Result<(), Fault> {
-    match written {
-        Ok(()) => Ok(()),
-        Err(_) => Err(Fault::Write),
-    }
-}
-
-// That the pre-patch callback of a patch for an object answered a status. Both are the catalog's.
-fn write_failed<W: Write>(
+// Answers a line that asks for no event.
+fn answer_other<W: Write>(
+    alloc: Global,
     manager: &Manager,
-    patch: PatchId,
-    object: ObjId,
-    status: i32,
+    command: &Command<'_>,
     output: &mut W,
-) -> Result<(), Fault> {
-    let patch = manager.catalog().patch_name(patch).unwrap_or("");
-    let object = manager.modules().object_name(object).unwrap_or("");
-    wrote(writeln!(output, "prefailed {patch} {object} {status}"))
+) -> Result<(), Unseen> {
+    match command {
+        Command::Look(asked) => look(alloc, manager, asked, output),
+        Command::Force(name, _) => {
+            names::installed(manager, names::patch(manager, name)?)?;
+            Ok(wrote(writeln!(output, "ok"))?)
+        }
+        _ => Ok(wrote(writeln!(output, "error 22 BadValue"))?),
+    }
 }
 
-fn write_reply<W: Write>(manager: &Manager, reply: Reply, output: &mut W) -> Result<(), Fault> {
-    let written = match reply {
-        Reply::Done => writeln!(output, "ok"),
-        Reply::Started => writeln!(output, "started"),
-        Reply::Completed(target) => writeln!(output, "completed {}", u8::from(target)),
-        Reply::PreFailed(patch, object, status) => {
-            return write_failed(manager, patch, object, status, output);
+// Answers a line that asks for no event, or whose names aren't known; else tells the event.
+fn answer_or_event<W: Write>(
+    alloc: Global,
+    manager: &Manager,
+    line: &Line<'_>,
+    output: &mut W,
+) -> Result<Option<Event>, Unseen> {
+    match line {
+        Line::Command(command) => {
+            let event = event_of(manager, command)?;
+            if event.is_none() {
+                answer_other(alloc, manager, command, output)?;
+            }
+            Ok(event)
         }
-        Reply::Value(value) => writeln!(output, "value {value}"),
-        Reply::Freed(count) => writeln!(output, "freed {count}"),
-    };
-    wrote(written)
+        Line::Bad => {
+            wrote(writeln!(output, "error 22 BadLine"))?;
+            Ok(None)
+        }
+        Line::Empty => Ok(None),
+    }
+}
+
+// The same, with a refusal written.
+fn asked<W: Write>(
+    alloc: Global,
+    manager: &Manager,
+    line: &Line<'_>,
+    output: &mut W,
+) -> Result<Option<Event>, Fault> {
+    match answer_or_event(alloc, manager, line, output) {
+        Ok(event) => Ok(event),
+        Err(Unseen::Refused(refusal)) => {
+            write::refusal(refusal, output)?;
+            Ok(None)
+        }
+        Err(Unseen::Fault(fault)) => Err(fault),
+    }
 }
 
 // What an event answered.
 fn write_answer<W: Write>(
     manager: &Manager,
-    answer: Result<Reply, Refusal>,
+    answer: &Result<Reply, Refusal>,
     output: &mut W,
 ) -> Result<(), Fault> {
     match answer {
-        Ok(reply) => write_reply(manager, reply, output),
-        Err(refusal) => wrote(writeln!(output, "error {} {refusal}", number(refusal))),
-    }
-}
-
-// A line for each symbol of a loaded object: its name, its address and its bytes.
-fn write_text<W: Write>(
-    alloc: Global,
-    manager: &Manager,
-    name: &str,
-    output: &mut W,
-) -> Result<(), Fault> {
-    let text = match manager.modules().object(name) {
-        Some(object) => manager.text(object),
-        None => None,
-    };
-    let Some(text) = text else {
-        return wrote(writeln!(output, "error 2 NoModule"));
-    };
-    for number in 0..text.len() {
-        if let Some((name, address, body)) = text.get(number) {
-            let body = hex::encode(alloc, body)?;
-            wrote(writeln!(output, "{name} {address:016x} {body}"))?;
-        }
-    }
-    Ok(())
-}
-
-// Whether the patch changes the object.
-fn is_target(catalog: &Catalog, patch: PatchId, object: ObjId) -> bool {
-    (0..catalog.targets(patch)).any(|place| catalog.target(patch, place) == Some(object))
-}
-
-// How often each callback of a patch for an object ran.
-fn write_counts<W: Write>(
-    manager: &Manager,
-    patch: PatchId,
-    object: ObjId,
-    output: &mut W,
-) -> Result<(), Fault> {
-    wrote(write!(output, "runs"))?;
-    for which in [Which::Pre, Which::Post, Which::PreUn, Which::PostUn] {
-        let written = match manager.callback_runs(patch, object, which) {
-            Some(count) => write!(output, " {count}"),
-            None => write!(output, " -"),
-        };
-        wrote(written)?;
-    }
-    wrote(writeln!(output))
-}
-
-// The counts of the callbacks of a patch for an object, both given by name.
-fn write_runs<W: Write>(
-    manager: &Manager,
-    patch: &str,
-    object: &str,
-    output: &mut W,
-) -> Result<(), Fault> {
-    let Some(patch) = manager.catalog().patch(patch) else {
-        return wrote(writeln!(output, "error 2 NoPatch"));
-    };
-    let Some(object) = manager.modules().object(object) else {
-        return wrote(writeln!(output, "error 2 NoModule"));
-    };
-    if !is_target(manager.catalog(), patch, object) {
-        return wrote(writeln!(output, "error 2 NotFound"));
-    }
-    write_counts(manager, patch, object, output)
-}
-
-// The event that a line asks for, where it asks for one and its names are known.
-fn event_of(catalog: &Catalog, line: &Line<'_>) -> Option<Event> {
-    match line {
-        Line::Command(Command::Load(patch)) => Some(Event::Enable(catalog.patch(patch)?)),
-        Line::Command(Command::Event(event)) => Some(*event),
-        _ => None,
-    }
-}
-
-// Answers a line that asks for no event.
-fn write_look<W: Write>(
-    alloc: Global,
-    manager: &Manager,
-    line: &Line<'_>,
-    output: &mut W,
-) -> Result<(), Fault> {
-    match line {
-        Line::Command(Command::Text(object)) => write_text(alloc, manager, object, output),
-        Line::Command(Command::Runs(patch, object)) => write_runs(manager, patch, object, output),
-        Line::Command(Command::Load(_)) => wrote(writeln!(output, "error 2 NoPatch")),
-        Line::Command(Command::ShadowGet(key)) => match manager.shadow_get(*key) {
-            Some(value) => wrote(writeln!(output, "value {value}")),
-            None => wrote(writeln!(output, "none")),
-        },
-        Line::Bad => wrote(writeln!(output, "error 22 BadLine")),
-        Line::Empty | Line::Command(Command::Event(_)) => Ok(()),
+        Ok(reply) => write::reply(manager, reply, output),
+        Err(refusal) => write::refusal(*refusal, output),
     }
 }
 
@@ -182,7 +101,7 @@ fn read_line<R: BufRead>(input: &mut R, line: &mut Vec<u8>) -> Result<usize, Fau
 fn next_event<R: BufRead, W: Write>(
     alloc: Global,
     manager: &Manager,
-    answer: Option<Result<Reply, Refusal>>,
+    answer: &Option<Result<Reply, Refusal>>,
     input: &mut R,
     line: &mut Vec<u8>,
     out: &mut W,
@@ -195,12 +114,11 @@ fn next_event<R: BufRead, W: Write>(
         if read_line(input, line)? == 0 {
             break;
         }
-        let asked = read(line.strip_suffix(b"\n").unwrap_or(line));
-        let event = event_of(manager.catalog(), &asked);
+        let line = read(line.strip_suffix(b"\n").unwrap_or(line));
+        let event = asked(alloc, manager, &line, out)?;
         if event.is_some() {
             return Ok(event);
         }
-        write_look(alloc, manager, &asked, out)?;
         wrote(out.flush())?;
     }
     Ok(None)
@@ -213,12 +131,12 @@ fn serve_lines<R: BufRead, W: Write>(
     input: &mut R,
     out: &mut W,
 ) -> Result<(), Fault>
-    requires { manager.old.state ≡ opening_state manager.old.image }
+    requires { manager.old.state ≡ opening_state (setting_of manager.old) }
 {
     let mut line = Vec::new(alloc);
     let mut answer = None;
     for _ in 0..u64::MAX {
-        match next_event(alloc, manager, answer, input, &mut line, out)? {
+        match next_event(alloc, manager, &answer, input, &mut line, out)? {
             Some(event) => answer = Some(manager.apply(event)),
             None => break,
         }

@@ -1,7 +1,8 @@
 //! What only calls tell of a manager: the two counts of `run`, the installed patches, the values of
 //! system states, and which boots fail. What a catalog and a script show stands beside the examples.
 use crate::shown::outcome;
-use klp_types::{Event, PatchId};
+use klp_machine::Event;
+use klp_types::PatchId;
 use std::test::Fail;
 
 const KERNEL: &str = "handler 1000\nobject vmlinux\nsymbol f 2000 e800000000c3\n";

@@ -1,9 +1,9 @@
 //! The numbers of faults and refusals, and the names that faults print.
 use klp_catalog::AssembleFault;
 use klp_core::BootFault;
+use klp_machine::Refusal;
 use klp_modules::SymbolFault;
 use klp_text::ImageFault;
-use klp_types::Refusal;
 use std::alloc::Global;
 use std::fmt;
 use std::fmt::{Display, Write};
@@ -59,7 +59,7 @@ fn faults_print_their_names(rt: HostRuntime) {
 }
 
 /// The numbers of faults and refusals, and what they have to be.
-const NUMBERS: [(u8, u8); 23] = [
+const NUMBERS: [(u8, u8); 33] = [
     (ImageFault::Overlap as u8, 1),
     (ImageFault::ShortSymbol as u8, 2),
     (ImageFault::Displacement as u8, 3),
@@ -78,11 +78,21 @@ const NUMBERS: [(u8, u8); 23] = [
     (Refusal::NoPatch as u8, 1),
     (Refusal::Busy as u8, 2),
     (Refusal::AlreadyThere as u8, 3),
+    (Refusal::Pinned as u8, 4),
     (Refusal::Incompatible as u8, 5),
     (Refusal::NoSymbol as u8, 6),
+    (Refusal::NoModule as u8, 7),
+    (Refusal::InUse as u8, 8),
+    (Refusal::NoTask as u8, 9),
+    (Refusal::TaskThere as u8, 10),
+    (Refusal::WrongMode as u8, 11),
+    (Refusal::BadFrame as u8, 12),
     (Refusal::Full as u8, 13),
+    (Refusal::JournalFull as u8, 14),
     (Refusal::NotMoving as u8, 15),
     (Refusal::Exists as u8, 16),
+    (Refusal::NotFound as u8, 17),
+    (Refusal::SameValue as u8, 18),
 ];
 
 #[test]

@@ -10,11 +10,12 @@ use arrayvec::ArrayVec;
 use klp_callback::{Boxed, Scripted};
 use klp_catalog::Catalog;
 use klp_core::Manager;
+use klp_machine::Event;
 use klp_modules::Modules;
 use klp_plan::Plan;
 use klp_program::Fault;
 use klp_text::Image;
-use klp_types::{Event, MAX_PATCHES, PatchId};
+use klp_types::{MAX_PATCHES, PatchId};
 use klp_world::Script;
 use std::alloc::Global;
 

@@ -2,7 +2,6 @@ use Rattle.std.proofs.Common.{◌≡◌, ℕ, pos, List, [], ◌∷◌, ◌++◌
 use Rattle.std.specs.List.{slice_get}
 use Rattle.klp_types.specs.Script.{Script}
 use Rattle.klp_callback.specs.Told.{Told}
-use Rattle.klp_core.specs.Boot.{opening_state}
 use Rattle.klp_plan.specs.Plan.{Plan}
 use Rattle.klp_plan.specs.Scripts.{scripts_of}
 use Rattle.klp_program.specs.Booted.{never_ran}
@@ -74,4 +73,4 @@ boot-requires-clause-callbacks g c =
 -- the manager is over the image that it opens with
 pub serve_lines-ended-requires : goal.serve_lines-ended-requires
 serve_lines-ended-requires g c =
-    c.in_ok-manager.ensures.booted.state ∙ sym (ap opening_state c.in_ok-manager.ensures.booted.image)
+    c.in_ok-manager.ensures.booted.state
