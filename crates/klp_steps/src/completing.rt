@@ -1,14 +1,11 @@
 //! A transition is tried and completed (livepatch, Consistency model; cumulative-patches).
-ghost use Rattle.std.specs.Prelude.{◌≡◌, ℕ, ◌+◌, ◌*◌, ◌≤◌, true, [], None, Some, not, ◌==◌, length, map, slice_get, if◌then◌else◌};
-ghost use Rattle.std.specs.List.{filter, count_by};
+ghost use Rattle.std.specs.Prelude.{◌≡◌, ℕ, ◌+◌, ◌*◌, ◌≤◌, true, [], None, Some, ◌==◌, length};
 ghost use Rattle.std.specs.FinMap as finite;
 ghost use Rattle.klp_types.specs.declared.limits.TheConstants.{MAX_SITES, MAX_RECORDS, MAX_TASKS, MAX_VARIABLES};
-ghost use Rattle.klp_types.specs.declared.version.Entry.{Entry};
 ghost use Rattle.klp_types.specs.Callbacks.{end_of, allocs_of};
-ghost use Rattle.klp_types.specs.World.{Installed};
 ghost use Rattle.klp_machine.specs.declared.event.Event.TheVariants.{Poll};
 ghost use Rattle.klp_machine.specs.declared.event.Reply.TheVariants.{Completed};
-ghost use Rattle.klp_machine.specs.Allowed.{Allowed, is_one_of};
+ghost use Rattle.klp_machine.specs.Allowed.{Allowed};
 ghost use Rattle.klp_machine.specs.Blocked.{tried, pending};
 ghost use Rattle.klp_machine.specs.Callbacks.{end_calls};
 ghost use Rattle.klp_machine.specs.Completing.{completed, settled, without_older};
@@ -17,20 +14,18 @@ ghost use Rattle.klp_machine.specs.EventCalls.{may_run};
 ghost use Rattle.klp_machine.specs.Refusals.{refusal};
 ghost use Rattle.klp_machine.specs.State.{with_world};
 ghost use Rattle.klp_machine.specs.Task.{all_in, at_rest};
-ghost use Rattle.klp_text.specs.TextImage.{IsWithinLimits, site_count};
+ghost use Rattle.klp_text.specs.TextImage.{IsWithinLimits};
 ghost use Rattle.klp_modules.specs.Names.{names_of};
-ghost use Rattle.klp_catalog.specs.Runs.{after_runs};
-ghost use Rattle.klp_catalog.specs.States.{installed_before, is_cumulative};
+ghost use Rattle.klp_catalog.specs.States.{is_cumulative};
 ghost use Rattle.klp_calls.specs.Calls.{records_of};
 ghost use Rattle.klp_stack.specs.Stack.{entries_at};
-ghost use Rattle.klp_patch.specs.Covered.{is_covered};
-ghost use Rattle.klp_patch.specs.Changes.{hooked_count};
 ghost use Rattle.klp_steps.specs.Managed.{setting_of, managed_of};
 ghost use Rattle.klp_steps.specs.Invariant.{Invariant};
 ghost use Rattle.klp_steps.specs.Events.{PartsTake, PartsAccept};
-ghost use Rattle.klp_steps.specs.Complete.{AreOwn, IsCompleted};
+ghost use Rattle.klp_steps.specs.Complete.{IsCompleted};
 
 use crate::parts::Parts;
+use crate::replacing::{drop_older, older_than, unpatch_each};
 use crate::step::steps_keep;
 use klp_calls::{allocs, run_callbacks};
 use klp_catalog::Catalog;
@@ -41,13 +36,9 @@ use klp_machine::laws::{
 use klp_machine::{Refusal, Reply};
 use klp_patch::laws::the_stacks_tell_what_is_blocked;
 use klp_patch::{block, drop_nops, unpatch_sites};
-use klp_sites::Sites;
 use klp_tasks::laws::records_are_few;
 use klp_types::laws::entries_are_of_their_patches;
-use klp_types::{
-    MAX_FUNCTIONS, MAX_PATCHES, MAX_SITES, MAX_VARIABLES, Move, PatchId, Records, Which,
-};
-use klp_world::World;
+use klp_types::{MAX_FUNCTIONS, MAX_PATCHES, MAX_SITES, MAX_VARIABLES, Move, PatchId, Which};
 
 /// The kind of callback that runs at the end of a transition to this target.
 fn end_of(target: bool) -> Which
@@ -61,40 +52,6 @@ fn replaces(catalog: &Catalog, patch: PatchId) -> bool
     ensures { result ≡ is_cumulative catalog.now patch }
 {
     catalog.replaces(patch).unwrap_or(false)
-}
-
-/// Of these patches those before this one.
-fn older_than(patch: PatchId, installed: &[PatchId]) -> &[PatchId]
-    ensures { result.now ≡ installed_before patch installed.now }
-{
-    for place in 0..installed.len() {
-        if installed[place] == patch {
-            return &installed[..place];
-        }
-    }
-    installed
-}
-
-/// Takes the entries of these patches out of the stacks of all loaded sites.
-fn unpatch_each(sites: &mut Sites, catalog: &Catalog, patches: &[PatchId], log: &mut Records)
-    requires sites { site_count sites.old.image ≤ MAX_SITES }
-    requires names { catalog.now.names ≡ names_of sites.old.image.objects }
-    requires own { AreOwn catalog.now sites.old.stacks }
-    requires records { length log.old.noted + hooked_count sites.old + 64 * length patches.now + 256 * count_by (is_cumulative catalog.now) patches.now ≤ 3000 }
-    requires log { log.old.room ≡ MAX_RECORDS }
-    ensures image { sites.new.image ≡ sites.old.image }
-    ensures loaded { sites.new.loaded ≡ sites.old.loaded }
-    ensures entries { (site : ℕ) → entries_at sites.new.stacks site
-        ≡ (if is_covered sites.old None site then filter (λ (e : Entry). not (is_one_of e.patch patches.now)) (entries_at sites.old.stacks site) else entries_at sites.old.stacks site) }
-    ensures records { length log.new.noted + hooked_count sites.new
-        ≤ length log.old.noted + hooked_count sites.old + 64 * length patches.now + 256 * count_by (is_cumulative catalog.now) patches.now }
-    ensures log { log.new.room ≡ MAX_RECORDS }
-{
-    for &patch in patches {
-        prove!(sites.sites() <= MAX_SITES);
-        prove!(catalog.functions(patch).len() <= MAX_FUNCTIONS);
-        unpatch_sites(sites, catalog, patch, None, log);
-    }
 }
 
 impl Parts {
@@ -292,32 +249,5 @@ impl Parts {
         } else if replaces(catalog, moving.patch) {
             drop_older(&mut self.world, moving.patch, &mut self.log);
         }
-    }
-}
-
-/// The oldest installed patch, if there is one.
-fn oldest(world: &World) -> Option<PatchId>
-    ensures { result ≡ slice_get (map (λ (i : Installed). i.patch) world.now.installed) 0 }
-{
-    world.installed().first().copied()
-}
-
-/// Takes the patches before this one out of the list, oldest first.
-fn drop_older(world: &mut World, patch: PatchId, log: &mut Records)
-    requires records { length log.old.noted ≤ 3500 }
-    requires log { log.old.room ≡ MAX_RECORDS }
-    ensures world { world.new ≡ without_older true world.old patch }
-    ensures records { length log.new.noted ≤ 3800 }
-    ensures log { log.new.room ≡ MAX_RECORDS }
-{
-    for _dropped in 0..world.installed().len() {
-        let Some(oldest) = oldest(world) else {
-            return;
-        };
-        if oldest == patch {
-            return;
-        }
-        prove!(world.drop_records(oldest) <= log.spare());
-        world.drop_states(oldest, log);
     }
 }

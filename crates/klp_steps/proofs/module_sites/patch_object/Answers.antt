@@ -2,7 +2,7 @@ use Rattle.std.proofs.Common.{length, ap, ◌∙◌, arith, length-append}
 use Rattle.klp_types.specs.Records.{RecordList}
 use Rattle.klp_catalog.specs.States.{is_cumulative}
 use Rattle.klp_steps.proofs.ModuleLemmas.{none_came, still_fresh, one_came, count_more}
-use Rattle.klp_steps.proofs.module.patch_object.Goals as goal
+use Rattle.klp_steps.proofs.module_sites.patch_object.Goals as goal
 
 pub loop-patch-init : goal.loop-patch-init
 loop-patch-init g c = record {

@@ -5,7 +5,7 @@ use Rattle.klp_patch.specs.Covered.{is_covered}
 use Rattle.klp_steps.proofs.ListLemmas.{next_left}
 use Rattle.klp_steps.proofs.RoomLemmas.{most_at}
 use Rattle.klp_steps.proofs.CompleteLemmas.{SoFar, next_so_far, few_functions, where_covered, covered_none, none_behind}
-use Rattle.klp_steps.proofs.completing.unpatch_each.Goals as goal
+use Rattle.klp_steps.proofs.replacing.unpatch_each.Goals as goal
 
 pub unpatch_sites-requires-clause-records : goal.unpatch_sites-requires-clause-records
 unpatch_sites-requires-clause-records g c =

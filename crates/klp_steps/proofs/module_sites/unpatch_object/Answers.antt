@@ -3,7 +3,7 @@ use Rattle.std.proofs.lemmas.List.{take_all}
 use Rattle.klp_types.specs.Records.{RecordList}
 use Rattle.klp_catalog.specs.States.{is_cumulative}
 use Rattle.klp_steps.proofs.ModuleLemmas.{HaveLeft, none_left_yet, own_entry, one_left, all_left, count_more}
-use Rattle.klp_steps.proofs.module.unpatch_object.Goals as goal
+use Rattle.klp_steps.proofs.module_sites.unpatch_object.Goals as goal
 
 pub loop-patch-init : goal.loop-patch-init
 loop-patch-init g c = record {

@@ -1,6 +1,6 @@
 use Rattle.std.proofs.Common.{◌≡◌, take, drop, ◌++◌}
 use Rattle.klp_catalog.specs.States.{installed_before}
-use Rattle.klp_steps.proofs.completing.older_than.Given as goal
+use Rattle.klp_steps.proofs.replacing.older_than.Given as goal
 
 -- none of those so far is the patch
 abbrev pub invariant-loop-place : goal.invariant-loop-place

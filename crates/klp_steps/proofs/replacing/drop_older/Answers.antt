@@ -6,7 +6,7 @@ use Rattle.klp_machine.specs.Completing.{from_patch}
 use borrow.Author.Tests.{eqb-true}
 use Rattle.klp_world.specs.Noted.{rows_of_drop}
 use Rattle.klp_steps.proofs.CompleteListLemmas.{own_first, older_dropped, one_fewer, all_dropped}
-use Rattle.klp_steps.proofs.completing.drop_older.Goals as goal
+use Rattle.klp_steps.proofs.replacing.drop_older.Goals as goal
 
 pub returns-then-eq-clause-world : goal.returns-then-eq-clause-world
 returns-then-eq-clause-world c =

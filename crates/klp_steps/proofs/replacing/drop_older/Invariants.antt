@@ -1,7 +1,7 @@
 use Rattle.std.proofs.Common.{◌≡◌, ◌+◌, ◌*◌, ◌≤◌, length}
 use Rattle.klp_machine.specs.Completing.{from_patch}
 use Rattle.klp_types.specs.declared.limits.TheConstants.{MAX_RECORDS}
-use Rattle.klp_steps.proofs.completing.drop_older.Given as goal
+use Rattle.klp_steps.proofs.replacing.drop_older.Given as goal
 
 -- older ones alone have left the list
 abbrev pub invariant-loop-dropped : goal.invariant-loop-dropped
