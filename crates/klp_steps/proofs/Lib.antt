@@ -1,4 +1,5 @@
 pub mod StepLemmas
+pub mod RowLemmas
 pub mod TaskLemmas
 pub mod ShadowLemmas
 pub mod ListLemmas

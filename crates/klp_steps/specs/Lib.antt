@@ -3,3 +3,4 @@ pub mod Events
 pub mod Invariant
 pub mod StepLaws
 pub mod Complete
+pub mod Rows
