@@ -111,7 +111,7 @@ fn symbol(word: &[u8]) -> Option<&[u8]> {
     Some(word)
 }
 
-/// What stands before the last byte `at`, and what behind it.
+/// What stands before the first byte `at`, and what behind it.
 fn cut(word: &[u8], at: u8) -> Option<(&[u8], &[u8])> {
     let place = word.iter().position(|byte| *byte == at)?;
     let (before, rest) = word.split_at(place);
