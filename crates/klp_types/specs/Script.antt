@@ -4,7 +4,7 @@ use Rattle.std.specs.List.{list_any}
 use Rattle.klp_types.specs.declared.shadow.ShadowKey.{ShadowKey}
 use Rattle.klp_types.specs.declared.edit.Edit.{Edit}
 use Rattle.klp_types.specs.declared.edit.Edit.TheVariants.{Alloc, Free, FreeAll, SetData, TakePrev}
-use Rattle.klp_types.specs.World.{World, variable, previous_value, with_variable, without_variable, without_id, with_value}
+use Rattle.klp_types.specs.World.{World, ShadowValue, variable, previous_value, with_variable, without_variable, without_id, with_value}
 
 -- whether two keys are the same
 abbrev pub is_key : ShadowKey → ShadowKey → Bool
@@ -28,7 +28,7 @@ alloc_count [] = 0
 alloc_count (edit ∷ edits) = if is_alloc edit then 1 + alloc_count edits else alloc_count edits
 
 -- a variable that isn't there is added; one that is there keeps its value
-abbrev pub allocated : World → ShadowKey → ℕ → Option ℕ → World
+abbrev pub allocated : World → ShadowKey → ShadowValue → Option ShadowValue → World
 allocated world key value (Some there) = world
 allocated world key value None = with_variable world key value
 
@@ -46,7 +46,7 @@ edited patch world (SetData id value) = with_value world patch id value
 edited patch world (TakePrev id) = value_taken world patch id (previous_value world patch id)
 
 -- what an edit makes of one variable: an edit changes each key by itself
-abbrev pub edited_at : ShadowKey → Option ℕ → Edit → Option ℕ
+abbrev pub edited_at : ShadowKey → Option ShadowValue → Edit → Option ShadowValue
 edited_at key was (Alloc own value) = if is_key own key then Some (unwrap_or was value) else was
 edited_at key was (Free own) = if is_key own key then None else was
 edited_at key was (FreeAll id) = if id == key.id then None else was
@@ -54,7 +54,7 @@ edited_at key was (SetData id value) = was
 edited_at key was (TakePrev id) = was
 
 -- what edits make of one variable, one after another
-abbrev pub made_of : ShadowKey → Option ℕ → List Edit → Option ℕ
+abbrev pub made_of : ShadowKey → Option ShadowValue → List Edit → Option ShadowValue
 made_of key was [] = was
 made_of key was (edit ∷ edits) = made_of key (edited_at key was edit) edits
 

@@ -14,9 +14,13 @@ pub record Installed : Type 0 where
 abbrev pub key_cmp : ShadowKey → ShadowKey → Ordering
 key_cmp a b = ordering_then (nat_cmp a.obj b.obj) (nat_cmp a.id b.id)
 
+-- the value of a shadow variable: a number
+abbrev pub ShadowValue : Type 0
+ShadowValue = ℕ
+
 -- the shadow variables: a finite map from their keys to their values
 abbrev pub Shadow : Type 0
-Shadow = finite.FinMap key_cmp ℕ
+Shadow = finite.FinMap key_cmp ShadowValue
 
 pub record World : Type 0 where
   -- the installed patches, oldest first
@@ -24,7 +28,7 @@ pub record World : Type 0 where
   pub shadow : Shadow
 
 -- the value of a shadow variable, if it is there
-abbrev pub variable : World → ShadowKey → Option ℕ
+abbrev pub variable : World → ShadowKey → Option ShadowValue
 variable world key = finite.get world.shadow key
 
 -- the states of an installed patch, each an id and a value
@@ -79,7 +83,7 @@ taken_out patch [] = []
 taken_out patch (first ∷ newer) = if first.patch == patch then newer else first ∷ taken_out patch newer
 
 -- a variable is there with this value
-abbrev pub with_variable : World → ShadowKey → ℕ → World
+abbrev pub with_variable : World → ShadowKey → ShadowValue → World
 with_variable world key value = record world { shadow = finite.insert world.shadow key value }
 
 -- a variable isn't there

@@ -1,4 +1,4 @@
-use crate::shadow::ShadowKey;
+use crate::shadow::{ShadowKey, ShadowValue};
 
 /// What a script does in one step, for the patch whose callback runs it. The edits are this
 /// project's own: a kernel's callback is code, and these stand for what such code does to shadow
@@ -6,7 +6,7 @@ use crate::shadow::ShadowKey;
 #[derive(Clone, Copy, Debug, PartialEq, Eq)]
 pub enum Edit {
     /// Adds a shadow variable with this value; nothing where it is there.
-    Alloc(ShadowKey, u64),
+    Alloc(ShadowKey, ShadowValue),
     /// Removes a shadow variable; nothing where it isn't there.
     Free(ShadowKey),
     /// Removes the shadow variables of this id, whatever their parent objects.

@@ -11,15 +11,16 @@ ghost use Rattle.klp_types.specs.declared.version.Entry.{Entry};
 ghost use Rattle.klp_types.specs.Image.{Image, Object, symbols_of, first_site, given_symbol};
 ghost use Rattle.klp_types.specs.Setting.{Setting, functions_of, function_for, replaces};
 ghost use Rattle.klp_types.specs.Entries.{patches_site, entry_of, entries_from, is_empty};
-ghost use Rattle.klp_types.specs.Bytes.{symbol_in, patched, resting, text_where};
-ghost use Rattle.klp_types.specs.World.{Installed, World, Shadow, key_cmp, variable, states_of};
+ghost use Rattle.klp_types.specs.Bytes.{entry_offset, entry_end, symbol_in, patched, resting, text_where};
+ghost use Rattle.klp_types.specs.World.{Installed, World, Shadow, ShadowValue, key_cmp, variable, states_of};
 ghost use Rattle.klp_types.specs.Script.{Script, alloc_count, is_key, value_taken, edited, edited_at, edited_by, made_of, edits_made, effect, edit_touches, touches};
 ghost use Rattle.klp_types.specs.Callbacks.{Call, after_calls};
 
 use crate::limits::{
-    ENTRY_SITE_LEN, MAX_ADDRESS_DIGITS, MAX_BODY, MAX_EDITS, MAX_FRAMES, MAX_FUNCTIONS, MAX_LINE,
-    MAX_NAME, MAX_OBJECTS, MAX_PATCHES, MAX_RECORDS, MAX_SITES, MAX_STATES, MAX_SYMBOL_NAME,
-    MAX_TARGETS, MAX_TASKS, MAX_VARIABLES,
+    ENTRY_SITE_END, ENTRY_SITE_LEN, ENTRY_SITE_OFFSET, MAX_ADDRESS_DIGITS, MAX_BODY, MAX_EDITS,
+    MAX_FRAMES, MAX_FUNCTIONS, MAX_GROUPS, MAX_JOURNAL_RECORDS, MAX_LINE, MAX_NAME, MAX_OBJECTS,
+    MAX_PATCHES, MAX_RECORDS, MAX_SITES, MAX_STATES, MAX_SYMBOL_NAME, MAX_TARGETS, MAX_TASKS,
+    MAX_VARIABLES,
 };
 
 /// In the text of an object each function reads as it was built, but for its entry site.
@@ -57,7 +58,7 @@ pub fn edits_go_key_by_key()
 
 /// A shadow variable that no edit touches stays as it is, and one that a script doesn't touch.
 pub fn untouched_variables_stay()
-    ensures edits { (edits : List Edit) (key : ShadowKey) (was : Option ℕ) → list_any (edit_touches key) edits ≡ false → made_of key was edits ≡ was }
+    ensures edits { (edits : List Edit) (key : ShadowKey) (was : Option ShadowValue) → list_any (edit_touches key) edits ≡ false → made_of key was edits ≡ was }
     ensures script { (patch : ℕ) (world : World) (script : Script) (key : ShadowKey) → touches script key ≡ false → variable (effect patch world script) key ≡ variable world key }
 {}
 
@@ -147,11 +148,13 @@ pub fn entries_are_of_their_patches()
         → All (λ (e : Entry). IfSome e.func (λ f. f < length (functions_of setting e.patch))) (entries_from setting site patches) }
 {}
 
-/// How much there may be of everything.
+/// How much there may be of everything, and where an entry site stands.
 pub fn limits_are_these()
     ensures objects { MAX_OBJECTS ≡ 17 }
     ensures sites { MAX_SITES ≡ 256 }
     ensures entry_site { ENTRY_SITE_LEN ≡ 5 }
+    ensures entry_begins { ENTRY_SITE_OFFSET ≡ entry_offset }
+    ensures entry_ends { ENTRY_SITE_END ≡ entry_end }
     ensures body { MAX_BODY ≡ 256 }
     ensures patches { MAX_PATCHES ≡ 16 }
     ensures targets { MAX_TARGETS ≡ 8 }
@@ -162,6 +165,8 @@ pub fn limits_are_these()
     ensures tasks { MAX_TASKS ≡ 64 }
     ensures frames { MAX_FRAMES ≡ 32 }
     ensures records { MAX_RECORDS ≡ 4096 }
+    ensures groups { MAX_GROUPS ≡ 4096 }
+    ensures journal_records { MAX_JOURNAL_RECORDS ≡ 16384 }
     ensures line { MAX_LINE ≡ 2048 }
     ensures name { MAX_NAME ≡ 55 }
     ensures symbol_name { MAX_SYMBOL_NAME ≡ 127 }

@@ -23,14 +23,15 @@ mod version;
 pub use callback::Which;
 pub use edit::Edit;
 pub use limits::{
-    ENTRY_SITE_LEN, MAX_ADDRESS_DIGITS, MAX_BODY, MAX_EDITS, MAX_FRAMES, MAX_FUNCTIONS, MAX_LINE,
-    MAX_NAME, MAX_OBJECTS, MAX_PATCHES, MAX_RECORDS, MAX_SITES, MAX_STATES, MAX_SYMBOL_NAME,
-    MAX_TARGETS, MAX_TASKS, MAX_VARIABLES,
+    ENTRY_SITE_END, ENTRY_SITE_LEN, ENTRY_SITE_OFFSET, MAX_ADDRESS_DIGITS, MAX_BODY, MAX_EDITS,
+    MAX_FRAMES, MAX_FUNCTIONS, MAX_GROUPS, MAX_JOURNAL_RECORDS, MAX_LINE, MAX_NAME, MAX_OBJECTS,
+    MAX_PATCHES, MAX_RECORDS, MAX_SITES, MAX_STATES, MAX_SYMBOL_NAME, MAX_TARGETS, MAX_TASKS,
+    MAX_VARIABLES,
 };
 pub use number::{ObjId, PatchId, Site};
 pub use record::{Place, Record, Records};
 pub use row::{SiteRow, SiteWord};
-pub use shadow::ShadowKey;
+pub use shadow::{ShadowKey, ShadowValue};
 pub use task::{Frames, Mode, Task, TaskId};
 pub use text::{ObjectText, SymbolText};
 pub use version::{Entry, Move, Target, Version};

@@ -1,5 +1,5 @@
-//! How much there may be of everything. All limits stand here, and are this project's own but for the
-//! length of an entry site, which is that of a call.
+//! How much there may be of everything, and where the entry site of a body stands. All limits stand
+//! here, and are this project's own but for the length of an entry site, which is that of a call.
 
 /// How many objects an image may have, `vmlinux` among them.
 pub const MAX_OBJECTS: usize = 17;
@@ -7,8 +7,15 @@ pub const MAX_OBJECTS: usize = 17;
 /// How many symbols all objects of an image may have together, which are its sites.
 pub const MAX_SITES: usize = 256;
 
-/// How many bytes an entry site has: as many as a call of the handler. No body may be shorter.
+/// How many bytes an entry site has: as many as a call of the handler.
 pub const ENTRY_SITE_LEN: usize = 5;
+
+/// Where in a body its entry site begins.
+pub const ENTRY_SITE_OFFSET: usize = 0;
+
+/// Where in a body its entry site ends: what stands behind it is as it was built. No body may be
+/// shorter.
+pub const ENTRY_SITE_END: usize = ENTRY_SITE_OFFSET + ENTRY_SITE_LEN;
 
 /// How many bytes the body of a symbol may have.
 pub const MAX_BODY: usize = 256;
@@ -39,6 +46,12 @@ pub const MAX_FRAMES: usize = 32;
 
 /// How many records one event may note.
 pub const MAX_RECORDS: usize = 4096;
+
+/// How many accepted events the journal holds.
+pub const MAX_GROUPS: usize = 4096;
+
+/// How many records all of them may have together.
+pub const MAX_JOURNAL_RECORDS: usize = 16384;
 
 /// How many bytes a line of a catalog's text that isn't skipped may have, without those that end it.
 pub const MAX_LINE: usize = 2048;

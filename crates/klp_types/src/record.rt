@@ -1,8 +1,8 @@
-ghost use Rattle.std.specs.Prelude.{◌≡◌, ◌<◌, [], ◌∷◌, ◌++◌, IfOk, IfSome, IfNone};
+ghost use Rattle.std.specs.Prelude.{◌≡◌, ◌<◌, ◌≤◌, [], ◌∷◌, ◌++◌, length, IfOk, IfSome, IfNone};
 ghost use Rattle.klp_types.specs.Records.{spare_of};
 
 use crate::number::{ObjId, PatchId, Site};
-use crate::shadow::ShadowKey;
+use crate::shadow::{ShadowKey, ShadowValue};
 use crate::task::{Task, TaskId};
 use crate::version::Move;
 use std::alloc::{AllocError, Global};
@@ -14,7 +14,7 @@ pub enum Record {
     /// A shadow variable: its value, or `None` where it wasn't there.
     ShadowVariable {
         key: ShadowKey,
-        was: Option<u64>,
+        was: Option<ShadowValue>,
     },
     /// The value of a system state of an installed patch.
     StateValue {
@@ -110,6 +110,14 @@ impl Records {
             noted: Vec::with_capacity(alloc, room)?,
             room,
         })
+    }
+
+    /// The records, oldest first.
+    pub fn noted(&self) -> &[Record]
+        ensures records { result.now ≡ self.now.noted }
+        ensures limit { length result.now ≤ self.now.room }
+    {
+        &self.noted
     }
 
     /// How many more records there is room for.

@@ -5,3 +5,6 @@ pub struct ShadowKey {
     pub obj: u64,
     pub id: u64,
 }
+
+/// The value of a shadow variable.
+pub type ShadowValue = u64;
