@@ -1,4 +1,4 @@
-use klp_types::{Frames, ObjId, PatchId, ShadowKey, TaskId};
+use klp_types::{Frames, ObjId, PatchId, ShadowKey, ShadowValue, TaskId};
 use thiserror::Error;
 
 /// What may happen to the manager. One event is one atomic step.
@@ -32,10 +32,10 @@ pub enum Event {
     /// A task wakes up.
     Wake(TaskId),
     /// A shadow variable is added with this value (`klp_shadow_alloc`).
-    ShadowAlloc(ShadowKey, u64),
+    ShadowAlloc(ShadowKey, ShadowValue),
     /// The value of a shadow variable is asked for; where it isn't there it is added with this value
     /// (`klp_shadow_get_or_alloc`).
-    ShadowGetOrAlloc(ShadowKey, u64),
+    ShadowGetOrAlloc(ShadowKey, ShadowValue),
     /// A shadow variable is removed (`klp_shadow_free`).
     ShadowFree(ShadowKey),
     /// The shadow variables of this id are removed, whatever their parent objects
@@ -60,7 +60,7 @@ pub enum Reply {
     /// patch isn't installed, or the module isn't loaded.
     PreFailed(PatchId, ObjId, i32),
     /// The value of the shadow variable.
-    Value(u64),
+    Value(ShadowValue),
     /// How many shadow variables were removed.
     Freed(u16),
     /// The functions that the task was inside of, innermost last.
