@@ -1,9 +1,9 @@
 -- What an image keeps: the objects as they were given, and beside them a table of the sites.
-use Rattle.std.specs.Prelude.{◌≡◌, ℕ, ◌+◌, ◌^◌, ◌<◌, ◌≤◌, FitsSigned, Bool, false, List, [], ◌∷◌, ◌++◌, length, drop, map}
+use Rattle.std.specs.Prelude.{◌≡◌, ℕ, ◌+◌, ◌^◌, ◌<◌, ◌≤◌, FitsSigned, Bool, false, List, [], ◌∷◌, length, map}
 use Rattle.std.specs.Int.{w32}
 use Rattle.std.specs.List.{All, AllZip}
 use Rattle.klp_types.specs.Image.{Symbol, Object, symbols_of}
-use Rattle.klp_types.specs.Bytes.{nop, patched, displacement}
+use Rattle.klp_types.specs.Bytes.{entry_end, nop, with_entry, patched, displacement}
 use Rattle.klp_text.specs.TextImage.{IsWithinLimits}
 use Rattle.klp_text.specs.declared.stored.StoredSymbol.{StoredSymbol}
 
@@ -14,7 +14,7 @@ first_sites_from site (object ∷ objects) = site ∷ first_sites_from (site + l
 
 -- a body has an entry site
 abbrev pub IsLong : Symbol → Type 0
-IsLong symbol = 5 ≤ length symbol.body
+IsLong symbol = entry_end ≤ length symbol.body
 
 -- a call at the entry site reaches the handler
 abbrev pub IsNear : ℕ → Symbol → Type 0
@@ -33,7 +33,7 @@ pub record IsStored (handler : ℕ) (stored : StoredSymbol) (symbol : Symbol) : 
 pub record IsResting (stored : StoredSymbol) (symbol : Symbol) : Type 0 where
   pub address : stored.address ≡ symbol.address
   pub flag : stored.hooked ≡ false
-  pub body : stored.body.items ≡ nop ++ drop 5 symbol.body
+  pub body : stored.body.items ≡ with_entry nop symbol.body
 
 -- which of the sites are hooked
 abbrev pub hooked_of : List StoredSymbol → List Bool

@@ -5,7 +5,7 @@ ghost use Rattle.klp_text.specs.Faults as faults;
 
 use crate::entry::can_reach;
 use crate::fault::ImageFault;
-use klp_types::{ENTRY_SITE_LEN, MAX_BODY, MAX_OBJECTS, MAX_SITES, ObjectText, SymbolText};
+use klp_types::{ENTRY_SITE_END, MAX_BODY, MAX_OBJECTS, MAX_SITES, ObjectText, SymbolText};
 
 /// The name of the first object.
 const KERNEL: &str = "vmlinux";
@@ -120,7 +120,7 @@ fn symbol_fault(
 ) -> Option<ImageFault>
     ensures { result ≡ faults.first_fault (faults.symbol_tests handler (symbols_of objects.now ++ symbols.now) symbol.now) }
 {
-    if symbol.body.len() < ENTRY_SITE_LEN {
+    if symbol.body.len() < ENTRY_SITE_END {
         Some(ImageFault::ShortSymbol)
     } else if !can_reach(handler, symbol.address) {
         Some(ImageFault::Displacement)

@@ -1,5 +1,6 @@
 ghost use Rattle.std.specs.Prelude.{◌≡◌, ◌+◌, ◌^◌, ◌<◌, ◌≤◌, ◌⊎◌, true, false, length, slice_get, slice_set, slice_index_or, option_map, IfOk, IfErr, OnOk, None};
 ghost use Rattle.klp_types.specs.Image.{Symbol, Object, given_symbol, symbol_of, symbols_of};
+ghost use Rattle.klp_types.specs.Bytes.{entry_end};
 ghost use Rattle.klp_text.specs.TextImage.{opening, bytes_at, site_count, IsWithinLimits};
 ghost use Rattle.std.specs.List.{All, AllZip};
 ghost use Rattle.klp_text.specs.Faults as faults;
@@ -155,7 +156,7 @@ impl Image {
         requires { site < site_count self.now.image }
         ensures value { option_map (λ (s : Symbol). s.address) (symbol_of self.now.image site) ≡ Some result }
         // the entry site lies within 64 bits, and an address stands behind it
-        ensures end { result + 5 < 2 ^ 64 }
+        ensures end { result + entry_end < 2 ^ 64 }
     {
         self.sites[usize::from(site.0)].address
     }

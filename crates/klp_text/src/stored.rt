@@ -1,9 +1,9 @@
-ghost use Rattle.std.specs.Prelude.{◌≡◌, ◌≤◌, ◌++◌, drop, length, FitsSigned, IfOk, false};
+ghost use Rattle.std.specs.Prelude.{◌≡◌, ◌≤◌, length, FitsSigned, IfOk, false};
 ghost use Rattle.std.specs.Int.{w32};
-ghost use Rattle.klp_types.specs.Bytes.{nop, displacement, entry_bytes};
+ghost use Rattle.klp_types.specs.Bytes.{entry_end, nop, with_entry, displacement, entry_bytes};
 
 use crate::entry::{NOP, call};
-use klp_types::{ENTRY_SITE_LEN, SymbolText};
+use klp_types::{ENTRY_SITE_END, ENTRY_SITE_LEN, ENTRY_SITE_OFFSET, SymbolText};
 use std::alloc::{AllocError, Global};
 
 /// A symbol as it stands in the text.
@@ -17,10 +17,10 @@ pub struct StoredSymbol {
 impl StoredSymbol {
     /// The symbol with a NOP at its entry site.
     pub fn new(alloc: Global, symbol: &SymbolText) -> Result<StoredSymbol, AllocError>
-        requires { 5 ≤ length symbol.now.body }
+        requires { entry_end ≤ length symbol.now.body }
         ensures address { IfOk result (λ s. s.address ≡ symbol.now.address) }
         ensures resting { IfOk result (λ s. s.hooked ≡ false) }
-        ensures body { IfOk result (λ s. s.body.items ≡ nop ++ drop 5 symbol.now.body) }
+        ensures body { IfOk result (λ s. s.body.items ≡ with_entry nop symbol.now.body) }
     {
         let mut body = Vec::from_slice(alloc, symbol.body.as_slice())?;
         write_entry(&mut body, &NOP);
@@ -33,11 +33,11 @@ impl StoredSymbol {
 
     /// Puts a call of the handler at the entry site, or the NOP.
     pub fn set_hooked(&mut self, handler: u64, hooked: bool)
-        requires long { 5 ≤ length self.old.body.items }
+        requires long { entry_end ≤ length self.old.body.items }
         requires near { FitsSigned w32 (displacement handler self.old.address) }
         ensures address { self.new.address ≡ self.old.address }
         ensures flag { self.new.hooked ≡ hooked }
-        ensures body { self.new.body.items ≡ entry_bytes handler self.old.address hooked ++ drop 5 self.old.body.items }
+        ensures body { self.new.body.items ≡ with_entry (entry_bytes handler self.old.address hooked) self.old.body.items }
     {
         let entry = if hooked {
             call(handler, self.address)
@@ -51,8 +51,8 @@ impl StoredSymbol {
 
 /// Writes over the entry site of a body, in one step.
 fn write_entry(body: &mut [u8], entry: &[u8; ENTRY_SITE_LEN])
-    requires { 5 ≤ length body.old }
-    ensures { body.new ≡ entry.now ++ drop 5 body.old }
+    requires { entry_end ≤ length body.old }
+    ensures { body.new ≡ with_entry entry.now body.old }
 {
-    body[..ENTRY_SITE_LEN].copy_from_slice(entry);
+    body[ENTRY_SITE_OFFSET..ENTRY_SITE_END].copy_from_slice(entry);
 }
