@@ -7,3 +7,4 @@ pub mod UndoLemmas
 pub mod NotedLemmas
 pub mod BucketLemmas
 pub mod ScriptLemmas
+pub mod KindLemmas

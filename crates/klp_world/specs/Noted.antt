@@ -8,7 +8,7 @@ use Rattle.klp_types.specs.declared.edit.Edit.{Edit}
 use Rattle.klp_types.specs.declared.edit.Edit.TheVariants.{Alloc, Free, FreeAll, SetData, TakePrev}
 use Rattle.klp_types.specs.Records.{RecordList}
 use Rattle.klp_types.specs.World.{Installed}
-use Rattle.klp_types.specs.World.{World, variable, state_value, states_of, previous_value}
+use Rattle.klp_types.specs.World.{World, ShadowValue, variable, state_value, states_of, previous_value}
 use Rattle.klp_types.specs.Script.{Script, edited, edits_made}
 
 -- a list with these records noted too
@@ -16,7 +16,7 @@ abbrev pub noting : RecordList → List Record → RecordList
 noting log rows = record log { noted = log.noted ++ rows }
 
 -- a variable is added
-abbrev pub row_if_added : ShadowKey → Option ℕ → List Record
+abbrev pub row_if_added : ShadowKey → Option ShadowValue → List Record
 row_if_added key (Some there) = []
 row_if_added key None = ShadowVariable key None ∷ []
 
@@ -24,7 +24,7 @@ abbrev pub rows_of_alloc : World → ShadowKey → List Record
 rows_of_alloc world key = row_if_added key (variable world key)
 
 -- a variable is removed
-abbrev pub row_if_removed : ShadowKey → Option ℕ → List Record
+abbrev pub row_if_removed : ShadowKey → Option ShadowValue → List Record
 row_if_removed key None = []
 row_if_removed key (Some was) = ShadowVariable key (Some was) ∷ []
 
@@ -32,11 +32,11 @@ abbrev pub rows_of_free : World → ShadowKey → List Record
 rows_of_free world key = row_if_removed key (variable world key)
 
 -- the variables of an id are removed, in the order of their keys
-abbrev pub variable_row : ShadowKey × ℕ → Record
+abbrev pub variable_row : ShadowKey × ShadowValue → Record
 variable_row v = ShadowVariable v.0 (Some v.1)
 
-abbrev pub variable_rows : ℕ → List (ShadowKey × ℕ) → List Record
-variable_rows id variables = map variable_row (filter (λ (v : ShadowKey × ℕ). v.0.id == id) variables)
+abbrev pub variable_rows : ℕ → List (ShadowKey × ShadowValue) → List Record
+variable_rows id variables = map variable_row (filter (λ (v : ShadowKey × ShadowValue). v.0.id == id) variables)
 
 abbrev pub rows_of_free_all : World → ℕ → List Record
 rows_of_free_all world id = variable_rows id (finite.entries world.shadow)

@@ -1,15 +1,15 @@
 -- Records put back: each gives one row of the world what it was.
-use Rattle.std.specs.Prelude.{ℕ, ◌++◌, ◌==◌, nat_lt, List, [], ◌∷◌, length, insert, Option, Some, None, if◌then◌else◌}
+use Rattle.std.specs.Prelude.{ℕ, Bool, true, false, ◌++◌, ◌==◌, nat_lt, List, [], ◌∷◌, length, insert, Option, Some, None, if◌then◌else◌}
 use Rattle.std.specs.FinMap as finite
 use Rattle.klp_types.specs.declared.shadow.ShadowKey.{ShadowKey}
 use Rattle.klp_types.specs.declared.record.Record.{Record}
 use Rattle.klp_types.specs.declared.record.Record.TheVariants.{ShadowVariable, StateValue, StateRow, InstalledPatch}
 use Rattle.klp_types.specs.World.{Installed}
-use Rattle.klp_types.specs.World.{World, with_variable, without_variable, with_value, change_states, taken_out}
+use Rattle.klp_types.specs.World.{World, ShadowValue, with_variable, without_variable, with_value, change_states, taken_out}
 use Rattle.klp_types.specs.declared.limits.TheConstants.{MAX_VARIABLES, MAX_PATCHES, MAX_STATES}
 
 -- a variable is taken out again, or set where there is room for it
-abbrev pub put_variable : World → ShadowKey → Option ℕ → World
+abbrev pub put_variable : World → ShadowKey → Option ShadowValue → World
 put_variable world key None = without_variable world key
 put_variable world key (Some value) = if nat_lt (finite.len world.shadow) MAX_VARIABLES then with_variable world key value else world
 
@@ -28,6 +28,14 @@ abbrev pub put_patch : ℕ → Option ℕ → List Installed → List Installed
 put_patch patch None installed = taken_out patch installed
 put_patch patch (Some place) installed =
     if nat_lt (length installed) MAX_PATCHES then insert installed place (record { patch = patch; values = [] }) else installed
+
+-- the row is one of the world: a shadow variable, a state or an installed patch
+abbrev pub is_of_world : Record → Bool
+is_of_world (ShadowVariable key was) = true
+is_of_world (StateValue patch id was) = true
+is_of_world (StateRow patch id was) = true
+is_of_world (InstalledPatch patch place) = true
+is_of_world other = false
 
 -- the world with one row as the record tells it; other records are of rows that aren't the world's
 abbrev pub put_back : World → Record → World

@@ -1,11 +1,13 @@
 //! What is proved of the records of scripts. A function here does nothing: its contract is the law, and
 //! holds of every world, patch and script.
-ghost use Rattle.std.specs.Prelude.{◌≡◌, ℕ, ◌+◌, ◌≤◌, length};
+ghost use Rattle.std.specs.Prelude.{◌≡◌, ℕ, ◌+◌, ◌≤◌, true, List, length};
+ghost use Rattle.std.specs.List.{All};
+ghost use Rattle.klp_types.specs.declared.shadow.ShadowKey.{ShadowKey};
 ghost use Rattle.std.specs.FinMap as finite;
 ghost use Rattle.klp_types.specs.World.{World, without_id};
 ghost use Rattle.klp_types.specs.Script.{Script, alloc_count, effect};
-ghost use Rattle.klp_world.specs.Noted.{rows_of_script, rows_of_free_all};
-ghost use Rattle.klp_world.specs.Undo.{undone};
+ghost use Rattle.klp_world.specs.Noted.{rows_of_alloc, rows_of_free, rows_of_free_all, rows_of_add, rows_of_drop, rows_of_script};
+ghost use Rattle.klp_world.specs.Undo.{undone, is_of_world};
 
 use klp_types::MAX_VARIABLES;
 
@@ -26,4 +28,15 @@ pub fn freed_and_left_are_all()
 pub fn scripts_are_undone()
     ensures { (patch : ℕ) (world : World) (script : Script) → finite.len world.shadow + alloc_count script.edits ≤ MAX_VARIABLES
         → undone (effect patch world script) (rows_of_script patch world script) ≡ world }
+{}
+
+/// What changes of the world note is rows of the world and of nothing else.
+#[tactic(auto, using(crate::proofs::KindLemmas::of_free_all, crate::proofs::KindLemmas::of_add, crate::proofs::KindLemmas::of_drop, crate::proofs::KindLemmas::of_script))]
+pub fn what_is_noted_is_of_the_world()
+    ensures alloc { (world : World) (key : ShadowKey) → All (λ row. is_of_world row ≡ true) (rows_of_alloc world key) }
+    ensures free { (world : World) (key : ShadowKey) → All (λ row. is_of_world row ≡ true) (rows_of_free world key) }
+    ensures free_all { (world : World) (id : ℕ) → All (λ row. is_of_world row ≡ true) (rows_of_free_all world id) }
+    ensures add { (patch : ℕ) (ids : List ℕ) → All (λ row. is_of_world row ≡ true) (rows_of_add patch ids) }
+    ensures drop { (world : World) (patch : ℕ) → All (λ row. is_of_world row ≡ true) (rows_of_drop world patch) }
+    ensures script { (patch : ℕ) (world : World) (script : Script) → All (λ row. is_of_world row ≡ true) (rows_of_script patch world script) }
 {}

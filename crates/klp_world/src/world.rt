@@ -12,7 +12,9 @@ ghost use Rattle.klp_world.specs.Noted.{noting, rows_of_alloc, rows_of_free, row
 use crate::patch::{InstalledPatch, SystemState, place_of_patch};
 use crate::shadow::ShadowMap;
 use arrayvec::ArrayVec;
-use klp_types::{MAX_PATCHES, MAX_STATES, MAX_VARIABLES, PatchId, Record, Records, ShadowKey};
+use klp_types::{
+    MAX_PATCHES, MAX_STATES, MAX_VARIABLES, PatchId, Record, Records, ShadowKey, ShadowValue,
+};
 use std::alloc::{AllocError, Global};
 use std::marker::Model;
 
@@ -90,7 +92,7 @@ impl World {
     }
 
     /// The value of a shadow variable, if it is there (`klp_shadow_get`).
-    pub fn get(&self, key: ShadowKey) -> Option<u64>
+    pub fn get(&self, key: ShadowKey) -> Option<ShadowValue>
         ensures { result ≡ variable self.now key }
     {
         self.shadow.get(key)
@@ -142,7 +144,7 @@ impl World {
 
     /// Adds a shadow variable, and answers whether it did: a variable that is there keeps its value
     /// (`klp_shadow_alloc`).
-    pub fn alloc(&mut self, key: ShadowKey, value: u64, log: &mut Records) -> bool
+    pub fn alloc(&mut self, key: ShadowKey, value: ShadowValue, log: &mut Records) -> bool
         requires room { variable self.old key ≡ None → finite.len self.old.shadow < MAX_VARIABLES }
         requires records { length (rows_of_alloc self.old key) ≤ spare_of log.old }
         ensures answer { result ≡ is_none (variable self.old key) }
@@ -158,7 +160,12 @@ impl World {
 
     /// The value of a shadow variable, which is added with this value where it isn't there
     /// (`klp_shadow_get_or_alloc`).
-    pub fn get_or_alloc(&mut self, key: ShadowKey, value: u64, log: &mut Records) -> u64
+    pub fn get_or_alloc(
+        &mut self,
+        key: ShadowKey,
+        value: ShadowValue,
+        log: &mut Records,
+    ) -> ShadowValue
         requires room { variable self.old key ≡ None → finite.len self.old.shadow < MAX_VARIABLES }
         requires records { length (rows_of_alloc self.old key) ≤ spare_of log.old }
         ensures answer { result ≡ unwrap_or (variable self.old key) value }
@@ -304,7 +311,7 @@ impl World {
         self.patches.remove(place)
     }
 
-    fn put_variable(&mut self, key: ShadowKey, was: Option<u64>)
+    fn put_variable(&mut self, key: ShadowKey, was: Option<ShadowValue>)
         ensures { self.new ≡ put_variable self.old key was }
     {
         match was {
