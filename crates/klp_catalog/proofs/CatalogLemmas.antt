@@ -57,7 +57,7 @@ picked-among (s ∷ sites) (suc n) site h = (n, there (slice_get (s ∷ sites) n
     there (Some x) e = e
     there None e = let no : ⊥ = cc in absurd no
 
-site_in_object : (names : List ObjectNames) (object : ℕ) (function : PlanFunction) (site : ℕ) → site_of names object function ≡ Some site → IsInObject names object site
+pub site_in_object : (names : List ObjectNames) (object : ℕ) (function : PlanFunction) (site : ℕ) → site_of names object function ≡ Some site → IsInObject names object site
 site_in_object names object function site h =
     let among = picked-among _ function.sympos site h in
     let within = sites_where-within _ (first_site names object) (symbol_names (slice_get names object)) site among.0 among.1 in

@@ -4,3 +4,4 @@ pub mod CountLemmas
 pub mod NumberLemmas
 pub mod PlaceLemmas
 pub mod RunLemmas
+pub mod SiteLemmas

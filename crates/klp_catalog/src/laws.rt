@@ -1,10 +1,21 @@
-//! What is proved of the counts of callbacks. A function here does nothing: its contract is the law.
+//! What is proved of the sites of functions, and of the counts of callbacks. A function here does
+//! nothing: its contract is the law.
 ghost use Rattle.std.specs.Prelude.{◌≡◌, ℕ, List, Some, option_map};
+ghost use Rattle.klp_types.specs.Image.{Object, object_of};
 ghost use Rattle.klp_types.specs.declared.callback.Which.{Which};
 ghost use Rattle.klp_types.specs.Callbacks.{Call};
-ghost use Rattle.klp_catalog.specs.Catalog.{Catalog};
+ghost use Rattle.klp_modules.specs.Names.{names_of};
+ghost use Rattle.klp_plan.specs.Plan.{PlanFunction};
+ghost use Rattle.klp_catalog.specs.Catalog.{Catalog, site_of};
 ghost use Rattle.klp_catalog.specs.Runs.{objects_at, place_of, after_runs, runs_of, callback_runs, RunsAddUp};
 ghost use Rattle.klp_catalog.specs.Counts.{times, grown};
+
+/// The site that a function's name and position pick, by the names of an image, lies in the object
+/// that the function is for.
+pub fn sites_lie_in_their_objects()
+    ensures { (objects : List Object) (object : ℕ) (function : PlanFunction) (site : ℕ)
+        → site_of (names_of objects) object function ≡ Some site → object_of objects site ≡ Some object }
+{}
 
 /// When callbacks ran, each callback's count has grown by the number of times that it stands among
 /// them, up to the greatest number, and no other count changes; patches, scripts and names stay.
