@@ -1,16 +1,15 @@
 -- What runs of callbacks leave, and the room that they need.
-use Rattle.std.specs.Prelude.{◌≡◌, ℕ, ◌+◌, ◌≤◌, Bool, true, false, List, length}
+use Rattle.std.specs.Prelude.{◌≡◌, ℕ, ◌+◌, ◌≤◌, true, List, length}
 use Rattle.std.specs.List.{sum_by, All}
 use Rattle.std.specs.FinMap as finite
 use Rattle.klp_types.specs.declared.limits.TheConstants.{MAX_VARIABLES}
 use Rattle.klp_types.specs.declared.record.Record.{Record}
-use Rattle.klp_types.specs.declared.record.Record.TheVariants.{ShadowVariable, StateValue, StateRow, InstalledPatch}
 use Rattle.klp_types.specs.Records.{RecordList}
 use Rattle.klp_types.specs.Script.{alloc_count}
 use Rattle.klp_types.specs.World.{World}
 use Rattle.klp_types.specs.Callbacks.{Call, allocs_of, after_calls}
 use Rattle.klp_world.specs.Noted.{noting}
-use Rattle.klp_world.specs.Undo.{undone}
+use Rattle.klp_world.specs.Undo.{undone, is_of_world}
 use Rattle.klp_catalog.specs.Catalog.{Catalog}
 use Rattle.klp_catalog.specs.Runs.{after_runs}
 use Rattle.klp_calls.specs.Loaded.{patches_in}
@@ -19,14 +18,6 @@ use Rattle.klp_calls.specs.Loaded.{patches_in}
 -- one more for each that adds a variable
 abbrev pub records_of : List Call → ℕ
 records_of calls = sum_by (λ (c : Call). length c.script.edits + alloc_count c.script.edits) calls
-
--- the row is one of the world: a shadow variable, a state or an installed patch
-abbrev pub is_of_world : Record → Bool
-is_of_world (ShadowVariable key was) = true
-is_of_world (StateValue patch id was) = true
-is_of_world (StateRow patch id was) = true
-is_of_world (InstalledPatch patch place) = true
-is_of_world other = false
 
 -- these callbacks ran, in this order
 pub record HaveRun (before after : Catalog) (world_before world_after : World) (log_before log_after : RecordList) (calls : List Call) : Type 0 where
