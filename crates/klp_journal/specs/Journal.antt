@@ -1,0 +1,24 @@
+-- The journal: the accepted events, oldest first, and how much room there is for more.
+use Rattle.std.specs.Prelude.{ℕ, ◌-◌, Bool, ◌&&◌, nat_lt, nat_le, List, length, sum_by}
+use Rattle.klp_types.specs.declared.limits.TheConstants.{MAX_GROUPS, MAX_JOURNAL_RECORDS, MAX_RECORDS}
+use Rattle.klp_types.specs.declared.record.Record.{Record}
+use Rattle.klp_machine.specs.declared.event.Event.{Event}
+use Rattle.klp_machine.specs.declared.event.Reply.{Reply}
+
+-- an accepted event: its reply, and the rows that it changed as they were, in the order in which they were noted
+pub record Group : Type 0 where
+  pub event : Event
+  pub reply : Reply
+  pub rows : List Record
+
+-- how many records they have together
+abbrev pub records_in : List Group → ℕ
+records_in groups = sum_by (λ (g : Group). length g.rows) groups
+
+-- how many more records there is room for
+abbrev pub records_free : List Group → ℕ
+records_free groups = MAX_JOURNAL_RECORDS - records_in groups
+
+-- one more event can be noted whatever it changes: a group is free, and as many records as one event may note
+abbrev pub has_room : List Group → Bool
+has_room groups = nat_lt (length groups) MAX_GROUPS && nat_le MAX_RECORDS (records_free groups)
