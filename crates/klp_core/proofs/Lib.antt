@@ -1,3 +1,6 @@
 pub mod BootLemmas
 pub mod EventLemmas
+pub mod PlacedLemmas
 pub mod ViewLemmas
+pub mod JournalLemmas
+pub mod RunLemmas

@@ -22,3 +22,8 @@ impl From<AllocError> for BootFault {
         BootFault::NoMemory
     }
 }
+
+/// There are not so many standing events.
+#[derive(Clone, Copy, Debug, PartialEq, Eq, Error)]
+#[error("BadMark")]
+pub struct BadMark;

@@ -20,7 +20,7 @@ use arrayvec::ArrayVec;
 use klp_catalog::Catalog;
 use klp_machine::laws::installed_patches_have_their_states;
 use klp_modules::Modules;
-use klp_types::{Entry, MAX_PATCHES, ObjId, PatchId, ShadowKey, Site, TaskId, Which};
+use klp_types::{Entry, MAX_PATCHES, ObjId, PatchId, ShadowKey, ShadowValue, Site, TaskId, Which};
 
 fn copy_of(patches: &[PatchId]) -> ArrayVec<PatchId, MAX_PATCHES>
     requires { length patches.now ≤ MAX_PATCHES }
@@ -34,7 +34,7 @@ fn copy_of(patches: &[PatchId]) -> ArrayVec<PatchId, MAX_PATCHES>
 impl Manager {
     /// The text of an object, as a processor would run it: `None` where the object isn't loaded.
     pub fn text(&self, object: ObjId) -> Option<TextView<'_>>
-        ensures { result ≡ text_of (setting_of self.now) self.now.state object }
+        ensures { result ≡ text_of (setting_of self.now.managed) self.now.managed.state object }
     {
         if self.parts.modules.is_loaded(object) {
             Some(TextView::new(self.parts.sites.image(), object))
@@ -46,14 +46,14 @@ impl Manager {
     /// The function stack of a site, newest first; empty where its object isn't loaded, and where there
     /// is no such site.
     pub fn stack(&self, site: Site) -> ArrayVec<Entry, MAX_PATCHES>
-        ensures { result.items ≡ entries_of (setting_of self.now) self.now.state site }
+        ensures { result.items ≡ entries_of (setting_of self.now.managed) self.now.managed.state site }
     {
         self.parts.sites.entries(site)
     }
 
     /// The installed patches, oldest first.
     pub fn installed(&self) -> ArrayVec<PatchId, MAX_PATCHES>
-        ensures { result.items ≡ installed_patches self.now.state }
+        ensures { result.items ≡ installed_patches self.now.managed.state }
     {
         copy_of(self.parts.world.installed())
     }
@@ -61,7 +61,7 @@ impl Manager {
     /// What the `enabled` file of a patch reads: no for one that moves out. `None` where the patch isn't
     /// installed.
     pub fn enabled(&self, patch: PatchId) -> Option<bool>
-        ensures { result ≡ (if is_installed self.now.state patch then Some (enabled_value self.now.state patch) else None) }
+        ensures { result ≡ (if is_installed self.now.managed.state patch then Some (enabled_value self.now.managed.state patch) else None) }
     {
         if !self.parts.world.is_installed(patch) {
             return None;
@@ -74,7 +74,7 @@ impl Manager {
 
     /// Whether the patch is in transition. `None` where it isn't installed.
     pub fn transition(&self, patch: PatchId) -> Option<bool>
-        ensures { result ≡ (if is_installed self.now.state patch then Some (moves self.now.state.moving patch) else None) }
+        ensures { result ≡ (if is_installed self.now.managed.state patch then Some (moves self.now.managed.state.moving patch) else None) }
     {
         if !self.parts.world.is_installed(patch) {
             return None;
@@ -87,15 +87,15 @@ impl Manager {
 
     /// The state of a task, -1 where nothing moves, if the task is there.
     pub fn patch_state(&self, task: TaskId) -> Option<i8>
-        ensures { result ≡ option_map (λ (t : AnyTask). t.state) (task_at self.now.state.tasks task) }
+        ensures { result ≡ option_map (λ (t : AnyTask). t.state) (task_at self.now.managed.state.tasks task) }
     {
         let row = self.parts.tasks.get(task)?;
         Some(row.state)
     }
 
     /// The value of a shadow variable, if it is there.
-    pub fn shadow_get(&self, key: ShadowKey) -> Option<u64>
-        ensures { result ≡ variable self.now.state.world key }
+    pub fn shadow_get(&self, key: ShadowKey) -> Option<ShadowValue>
+        ensures { result ≡ variable self.now.managed.state.world key }
     {
         self.parts.world.get(key)
     }
@@ -103,9 +103,9 @@ impl Manager {
     /// The value of a system state of an installed patch. `None` where the patch isn't installed or
     /// doesn't name the state.
     pub fn state_of(&self, patch: PatchId, id: u64) -> Option<u64>
-        ensures value { result ≡ state_value self.now.state.world patch id }
+        ensures value { result ≡ state_value self.now.managed.state.world patch id }
         // exactly the states that the catalog tells of installed patches are there
-        ensures there { is_some result ≡ (is_installed self.now.state patch && list_any (λ own. own == id) (state_ids (setting_of self.now) patch)) }
+        ensures there { is_some result ≡ (is_installed self.now.managed.state patch && list_any (λ own. own == id) (state_ids (setting_of self.now.managed) patch)) }
     {
         installed_patches_have_their_states();
         self.parts.world.value(patch, id)
@@ -114,24 +114,24 @@ impl Manager {
     /// How often a callback ran: that of a patch for an object, of a kind. `None` where the patch
     /// has none. The greatest number stays.
     pub fn callback_runs(&self, patch: PatchId, object: ObjId, which: Which) -> Option<u64>
-        ensures runs { result ≡ callback_runs self.now.catalog patch object which }
-        ensures there { is_some result ≡ is_some (option_and_then (λ place. script_at self.now.catalog patch place which) (place_of object (objects_at self.now.catalog patch))) }
+        ensures runs { result ≡ callback_runs self.now.managed.catalog patch object which }
+        ensures there { is_some result ≡ is_some (option_and_then (λ place. script_at self.now.managed.catalog patch place which) (place_of object (objects_at self.now.managed.catalog patch))) }
     {
         self.catalog.callback_runs(patch, object, which)
     }
 
     /// The catalog that the manager was booted with. Its callbacks have run since.
     pub fn catalog(&self) -> &Catalog
-        ensures catalog { result.now ≡ self.now.catalog }
+        ensures catalog { result.now ≡ self.now.managed.catalog }
         // so its sites are those of the image
-        ensures names { self.now.catalog.names ≡ names_of self.now.image.objects }
+        ensures names { self.now.managed.catalog.names ≡ names_of self.now.managed.image.objects }
     {
         &self.catalog
     }
 
     /// The names of the image's objects and symbols, and which objects are loaded.
     pub fn modules(&self) -> &Modules
-        ensures { result.now ≡ record { names = names_of self.now.image.objects; loaded = self.now.state.loaded } }
+        ensures { result.now ≡ record { names = names_of self.now.managed.image.objects; loaded = self.now.managed.state.loaded } }
     {
         &self.parts.modules
     }

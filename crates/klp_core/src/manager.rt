@@ -1,54 +1,61 @@
-ghost use Rattle.std.specs.Prelude.{◌≡◌, true, false, IfOk, IfErr, OnErr, slice_set, replicate, length};
+ghost use Rattle.std.specs.Prelude.{◌≡◌, ◌<◌, ◌≤◌, true, false, [], IfOk, IfErr, OnErr, slice_set, replicate, length};
 ghost use Rattle.klp_machine.specs.Opening.{opening_state};
 ghost use Rattle.klp_machine.specs.Step.{callbacks_of};
 ghost use Rattle.klp_text.specs.TextImage.{opening};
 ghost use Rattle.klp_catalog.specs.Catalog.{patches_of};
+ghost use Rattle.klp_journal.specs.Journal.{records_free};
 ghost use Rattle.klp_steps.specs.Managed.{setting_of};
-ghost use Rattle.klp_steps.specs.Events.{Takes};
 ghost use Rattle.klp_core.specs.Boot.{IsMatch, AreNamed, IsFaultOf};
-ghost use Rattle.klp_core.specs.Events.{TakesAll, AreCounted};
+ghost use Rattle.klp_core.specs.Events.{AreCounted};
+ghost use Rattle.klp_core.specs.Journaled.{Stands};
+ghost use Rattle.klp_core.specs.Taking.{IsTaken, AreTaken};
+ghost use Rattle.klp_core.specs.Rewinding.{IsRewound};
+ghost use Rattle.klp_core.specs.Withdrawal.{LeavesNoTrace};
 
 use crate::boot::parts_over;
-use crate::fault::BootFault;
-use crate::take::take;
+use crate::fault::{BadMark, BootFault};
+use crate::journal::{rewind_to, take_and_append};
 use klp_catalog::Catalog;
 use klp_catalog::laws::{counts_grow_by_runs, runs_add_up};
+use klp_journal::Journal;
 use klp_machine::{Event, Refusal, Reply};
 use klp_modules::Modules;
+use klp_round_trip::laws::{gone_at_the_end, only_shadow_events_outside};
 use klp_steps::Parts;
 use klp_text::Image;
 use std::alloc::Global;
 use std::marker::Model;
 
 /// The live patching manager: the image with its text, the catalog with its patches, which of them
-/// are installed and in transition, the tasks, and the shadow variables.
+/// are installed and in transition, the tasks, the shadow variables, and a journal of the events that
+/// were accepted, by which they can be taken back.
 #[derive(Drop)]
 pub struct Manager {
     pub(crate) parts: Parts,
     pub(crate) catalog: Catalog,
+    pub(crate) journal: Journal,
 }
 
 impl Model for Manager {
-    ghost use Rattle.klp_steps.specs.Managed.{Managed};
     ghost use Rattle.std.specs.Coded.{codes};
     ghost use Rattle.klp_world.specs.Coded.{world_code};
+    ghost use Rattle.klp_core.specs.Journaled.{Journaled};
 
-    ghost Value = { Managed };
+    ghost Value = { Journaled };
 
     ghost coded = { Prim.hlevel (codes, world_code) };
 
-    ghost use Rattle.klp_steps.specs.Managed.{managed_of};
-    ghost use Rattle.klp_steps.specs.Invariant.{Invariant};
+    ghost use Rattle.klp_core.specs.Journaled.{journaled_of, IsSound};
 
-    ghost view = { λ m. managed_of m.parts m.catalog };
+    ghost view = { λ m. journaled_of m.parts m.catalog m.journal };
 
-    ghost invariant = { λ m. Invariant m.parts m.catalog };
+    ghost invariant = { λ m. IsSound m.parts m.catalog m.journal };
 }
 
 impl Manager {
     /// Boots a manager over an image, its modules and a catalog, all as they were made: `vmlinux`
-    /// alone is loaded, nothing is installed, and there is no task and no shadow variable. The three
-    /// are kept as they come. All room that events need is taken here.
+    /// alone is loaded, nothing is installed, there is no task and no shadow variable, and no event
+    /// stands. The three are kept as they come. All room that events need is taken here.
     ///
     /// They don't match where they differ in how many objects there are or in how many symbols one
     /// of them has; that their names are the same too is the caller's to know. The three are dropped
@@ -63,39 +70,62 @@ impl Manager {
         requires modules { modules.loaded ≡ slice_set (replicate (length modules.names) false) 0 true }
         requires names { IsMatch image.image modules catalog → AreNamed image.image modules catalog }
         ensures ok { IfOk result (λ manager. IsMatch image.image modules catalog × (manager ≡ record {
-          image = image.image;
-          catalog = catalog;
-          state = opening_state (record { image = image.image; patches = patches_of catalog });
+          managed = record {
+            image = image.image;
+            catalog = catalog;
+            state = opening_state (record { image = image.image; patches = patches_of catalog });
+          };
+          base = opening_state (record { image = image.image; patches = patches_of catalog });
+          groups = [];
         })) }
+        ensures stands { IfOk result (λ manager. Stands manager) }
         ensures fault { IfErr result (λ fault. IsFaultOf image.image modules catalog fault) }
     {
         let parts = parts_over(alloc, image, modules, &catalog)?;
-        Ok(Manager { parts, catalog })
+        let journal = Journal::new(alloc)?;
+        Ok(Manager {
+            parts,
+            catalog,
+            journal,
+        })
     }
 
     /// Takes one event: one atomic step. It costs as much as the functions and callbacks of its own
     /// patch and the tasks that it looks at, or as a change of the shadow variables. A module that comes
     /// or goes costs as much as what installed patches have for it. A cumulative patch looks at every site,
     /// when its transition starts and when it ends, and takes all older patches out.
+    ///
+    /// An accepted event is appended to the journal, at the cost of the rows that it changed. Where the
+    /// journal has no room for another event, one that nothing else refuses is refused.
     pub fn apply(&mut self, event: Event) -> Result<Reply, Refusal>
-        ensures taken { Takes self.old self.new event result }
-        ensures counts { AreCounted self.old.catalog self.new.catalog (callbacks_of (setting_of self.old) self.old.state event) }
+        ensures taken { IsTaken self.old self.new event result }
+        ensures counts { IfOk result (λ reply. AreCounted self.old.managed.catalog self.new.managed.catalog (callbacks_of (setting_of self.old.managed) self.old.managed.state event)) }
         // runs of callbacks change no more than their counts
-        ensures setting { setting_of self.new ≡ setting_of self.old }
-        ensures refused { OnErr result (self.new ≡ self.old) }
+        ensures setting { setting_of self.new.managed ≡ setting_of self.old.managed }
+        ensures stands { Stands self.new }
     {
         counts_grow_by_runs();
-        take(&mut self.parts, &mut self.catalog, event)
+        take_and_append(
+            &mut self.parts,
+            &mut self.catalog,
+            &mut self.journal,
+            &event,
+        )
     }
 
     /// Takes events in order, and answers how many of them were accepted and how many refused. A
     /// refused event leaves everything as it was, and the next one is taken.
     pub fn run(&mut self, events: &[Event]) -> (u64, u64)
-        ensures taken { TakesAll self.old self.new events.now result }
+        ensures taken { AreTaken self.old self.new events.now result }
+        ensures withdrawn { LeavesNoTrace self.old self.new }
         // so runs can be joined
-        ensures setting { setting_of self.new ≡ setting_of self.old }
+        ensures setting { setting_of self.new.managed ≡ setting_of self.old.managed }
+        ensures stands { Stands self.new }
     {
         runs_add_up();
+        gone_at_the_end();
+        only_shadow_events_outside();
+        let _standing = self.mark();
         let mut accepted = 0;
         let mut refused = 0;
         for event in events {
@@ -105,5 +135,48 @@ impl Manager {
             }
         }
         (accepted, refused)
+    }
+
+    /// How many accepted events stand: those since the manager was booted or sealed that weren't taken
+    /// back. The cost is constant.
+    pub fn mark(&self) -> u32
+        ensures mark { result ≡ length self.now.groups }
+        ensures stands { Stands self.now }
+    {
+        self.journal.mark()
+    }
+
+    /// Takes all standing events back but for the first so many, newest first: text, hooks, function
+    /// stacks, system states, shadow variables and tasks are again what they were when those had been
+    /// accepted. No callback runs, and their counts stay. It costs as much as the rows that it puts back.
+    pub fn rewind(&mut self, mark: u32) -> Result<(), BadMark>
+        ensures rewound { IfOk result (λ _. (mark ≤ length self.old.groups) × IsRewound self.old self.new mark) }
+        ensures bad_mark { IfErr result (λ _. length self.old.groups < mark) }
+        ensures refused { OnErr result (self.new ≡ self.old) }
+        ensures setting { setting_of self.new.managed ≡ setting_of self.old.managed }
+        ensures stands { Stands self.new }
+    {
+        if mark > self.journal.mark() {
+            return Err(BadMark);
+        }
+        rewind_to(&mut self.parts, &self.catalog, &mut self.journal, mark);
+        Ok(())
+    }
+
+    /// Empties the journal: no event can be taken back any more, and what is now is what events are
+    /// taken back to. It costs at most as much as the records that are let go.
+    pub fn seal(&mut self)
+        ensures sealed { self.new ≡ record { managed = self.old.managed; base = self.old.managed.state; groups = [] } }
+        ensures stands { Stands self.new }
+    {
+        self.journal.clear();
+    }
+
+    /// How many more records the journal has room for, at a constant cost. An event that changes rows
+    /// needs as many as one event may note.
+    pub fn records_free(&self) -> u32
+        ensures { result ≡ records_free self.now.groups }
+    {
+        self.journal.records_free()
     }
 }

@@ -11,7 +11,9 @@ ghost use Rattle.klp_steps.specs.Managed.{setting_of};
 
 use crate::manager::Manager;
 use klp_stack::laws::the_word_is_enough;
-use klp_types::{Entry, Move, PatchId, Site, SiteRow, SiteWord, Target, TaskId, Version};
+use klp_types::{
+    ENTRY_SITE_END, Entry, Move, PatchId, Site, SiteRow, SiteWord, Target, TaskId, Version,
+};
 
 /// The version of an entry, or the original where there is none.
 fn version_of(site: Site, entry: Option<Entry>) -> Version
@@ -40,7 +42,7 @@ impl Manager {
     /// The two newest entries of a site with their addresses. `None` where the site isn't one of a
     /// loaded object.
     pub fn row(&self, site: Site) -> Option<SiteRow>
-        ensures { result ≡ row_of (setting_of self.now) self.now.state site }
+        ensures { result ≡ row_of (setting_of self.now.managed) self.now.managed.state site }
     {
         if !self.is_site_loaded(site) {
             return None;
@@ -57,7 +59,7 @@ impl Manager {
     /// What a task runs when it enters a site's function: the version and where it begins. `None` where
     /// the task isn't there, or the site isn't one of a loaded object.
     pub fn pick(&self, task: TaskId, site: Site) -> Option<Target>
-        ensures { result ≡ pick (setting_of self.now) self.now.state task site }
+        ensures { result ≡ pick (setting_of self.now.managed) self.now.managed.state task site }
     {
         the_word_is_enough();
         let state = self.patch_state(task)?;
@@ -71,7 +73,7 @@ impl Manager {
 
     /// Whether a site is one of a loaded object.
     fn is_site_loaded(&self, site: Site) -> bool
-        ensures { result ≡ is_site_loaded (setting_of self.now) self.now.state site }
+        ensures { result ≡ is_site_loaded (setting_of self.now.managed) self.now.managed.state site }
     {
         match self.parts.object_of(&self.catalog, Version::Original(site)) {
             Some(object) => self.parts.sites.is_loaded(object),
@@ -81,7 +83,7 @@ impl Manager {
 
     /// The two newest entries of a site.
     fn word(&self, site: Site) -> SiteWord
-        ensures { result ≡ word_of (moving_patch self.now.state.moving) (entries_of (setting_of self.now) self.now.state site) }
+        ensures { result ≡ word_of (moving_patch self.now.managed.state.moving) (entries_of (setting_of self.now.managed) self.now.managed.state site) }
     {
         let moving = patch_of(self.parts.moving);
         self.parts.sites.word(site, moving)
@@ -89,14 +91,14 @@ impl Manager {
 
     /// Where a version begins, if there is such a version.
     fn begins_at(&self, version: &Version) -> Option<u64>
-        ensures { result ≡ address_of (setting_of self.now) version.now }
+        ensures { result ≡ address_of (setting_of self.now.managed) version.now }
     {
         match *version {
             Version::Original(site) => {
                 if usize::from(site.0) >= self.parts.sites.sites() {
                     return None;
                 }
-                Some(self.parts.sites.image().address(site) + 5)
+                Some(self.parts.sites.image().address(site) + ENTRY_SITE_END as u64)
             }
             Version::New(patch, function) => {
                 let function = self.catalog.functions(patch).get(usize::from(function))?;
@@ -107,7 +109,7 @@ impl Manager {
 
     /// The same, and 0 where there is none.
     fn address(&self, version: Version) -> u64
-        ensures { result ≡ unwrap_or (address_of (setting_of self.now) version) 0 }
+        ensures { result ≡ unwrap_or (address_of (setting_of self.now.managed) version) 0 }
     {
         self.begins_at(&version).unwrap_or(0)
     }

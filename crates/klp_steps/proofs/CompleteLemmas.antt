@@ -1,4 +1,6 @@
 -- What is left when a transition is complete.
+use Rattle.klp_steps.specs.Rows.{SitesGoBack}
+use Rattle.klp_steps.proofs.RowLemmas.{patch_back}
 use Rattle.std.proofs.Common.{◌≡◌, ℕ, ◌+◌, ◌*◌, ◌≤◌, Bool, cond, true, false, List, [], ◌∷◌, length, map, drop, filter, ◌||◌, None, refl, sym, ap, ◌∙◌, arith}
 use Rattle.std.specs.Prelude.{not, ◌==◌, if◌then◌else◌}
 use Rattle.std.specs.List.{count_by}
@@ -38,6 +40,7 @@ pub record SoFar (catalog : Catalog) (first now : SiteTable) (log_first log_now 
   pub entries : (site : ℕ) → where_covered (is_covered first None site) left (entries_at now.stacks site)
       ≡ where_covered (is_covered first None site) all (entries_at first.stacks site)
   pub budget : budget catalog now log_now left ≤ budget catalog first log_first all
+  pub back : SitesGoBack first now log_first log_now
   pub room : log_now.room ≡ MAX_RECORDS
 
 -- lists with some elements taken out
@@ -101,6 +104,7 @@ next_so_far catalog first now after log_first log_now log_after all left patch s
       let spent = so.budget in
       let one = sum_by-cons (λ p. cond (is_cumulative catalog p) 1 0) patch left in
       omega (arith, noted, both, notes.few, most, spent, one);
+  back = λ rows. patch_back now after log_now log_after _ _ _ notes rows ∙ so.back rows;
   room = ap (λ (l : RecordList). l.room) notes.noted ∙ so.room;
 }
 

@@ -1,7 +1,6 @@
 pub mod StepLemmas
 pub mod RowLemmas
 pub mod TaskLemmas
-pub mod ShadowLemmas
 pub mod ListLemmas
 pub mod RoomLemmas
 pub mod InstalledLemmas

@@ -1,5 +1,7 @@
 -- Records put back give each row what it was, whatever other rows they are among.
-use Rattle.std.proofs.Common.{◌≡◌, ℕ, suc, cond, true, false, List, [], ◌∷◌, ◌++◌, Option, Some, None, refl, sym, ap, ◌∙◌, append-nil, append_assoc}
+use Rattle.std.proofs.Common.{◌≡◌, ℕ, ◌+◌, ◌-◌, ◌<◌, ◌≤◌, length, take, get_or, arith, Bool, suc, cond, true, false, List, [], ◌∷◌, ◌++◌, Option, Some, None, refl, sym, ap, ◌∙◌}
+use Rattle.std.specs.Prelude.{slice_set, slice_index_or}
+use Rattle.std.proofs.lemmas.List.{set-set, set-get_or, length-set, take_more}
 use Rattle.std.specs.List.{All}
 use Rattle.std.specs.Option.{option_to_list}
 use Rattle.std.specs.Ordering.{int_eq}
@@ -16,25 +18,17 @@ use Rattle.klp_tasks.specs.Changes as of_tasks
 use Rattle.klp_sites.specs.Table.{SiteTable}
 use Rattle.klp_sites.specs.Changes.{noting}
 use Rattle.klp_sites.specs.Undo as of_sites
-use Rattle.klp_calls.specs.Calls.{is_of_world}
+use Rattle.klp_world.specs.Undo.{is_of_world}
+use Rattle.klp_patch.specs.Changes as patched
 use Rattle.klp_patch.specs.Changes.{is_of_sites}
-use Rattle.klp_steps.specs.Rows.{Rows, is_of_tasks, row_of_moving, put_back, undone, Notes}
+use Rattle.klp_calls.specs.Calls.{HaveRun}
+use Rattle.klp_catalog.specs.Catalog.{Catalog}
+use Rattle.klp_types.specs.Callbacks.{Call}
+use Rattle.klp_steps.specs.Rows.{Rows, is_of_tasks, row_of_moving, put_back, undone, WorldGoesBack, SitesGoBack, TasksGoBack, MovingGoesBack, PinsGoBack}
 
 undone-append : (rows : Rows) (older newer : List Record) → undone rows (older ++ newer) ≡ undone (undone rows newer) older
 undone-append rows [] newer = refl
 undone-append rows (row ∷ older) newer = ap (λ r. put_back r row) (undone-append rows older newer)
-
--- nothing changed
-pub nothing_noted : (rows : Rows) (log : RecordList) → Notes rows rows log log
-nothing_noted rows log = record { rows = []; noted = sym (ap (λ noted. record log { noted = noted }) (append-nil log.noted)); undo = refl }
-
--- one change, and then another
-pub noted_both : (before now after : Rows) (l0 l1 l2 : RecordList) → Notes before now l0 l1 → Notes now after l1 l2 → Notes before after l0 l2
-noted_both before now after l0 l1 l2 old new = record {
-  rows = old.rows ++ new.rows;
-  noted = new.noted ∙ ap (λ (l : RecordList). noting l new.rows) old.noted ∙ ap (λ noted. record l0 { noted = noted }) (append_assoc l0.noted old.rows new.rows);
-  undo = undone-append after old.rows new.rows ∙ ap (λ r. undone r old.rows) new.undo ∙ old.undo;
-}
 
 -- a row of the world is none of the others
 row_of_world : (rows : Rows) (row : Record) → is_of_world row ≡ true → put_back rows row ≡ record rows { world = of_world.put_back rows.world row }
@@ -42,29 +36,13 @@ row_of_world rows (ShadowVariable key was) is = refl
 row_of_world rows (StateValue patch id was) is = refl
 row_of_world rows (StateRow patch id was) is = refl
 row_of_world rows (InstalledPatch patch place) is = refl
-row_of_world rows (LoadedFlag object was) is = let no : ⊥ = cc in absurd no
-row_of_world rows (StackEntry site patch was) is = let no : ⊥ = cc in absurd no
-row_of_world rows (HookFlag site was) is = let no : ⊥ = cc in absurd no
-row_of_world rows (TaskRow task was) is = let no : ⊥ = cc in absurd no
-row_of_world rows (NoTaskRow task) is = let no : ⊥ = cc in absurd no
-row_of_world rows (Moving was) is = let no : ⊥ = cc in absurd no
-row_of_world rows NothingMoving is = let no : ⊥ = cc in absurd no
-row_of_world rows (PinnedFlag patch was) is = let no : ⊥ = cc in absurd no
+row_of_world rows other is = let no : ⊥ = cc in absurd no
 
 -- a row of a site is none of the others
 row_of_site : (rows : Rows) (row : Record) → is_of_sites row ≡ true → put_back rows row ≡ record rows { sites = of_sites.put_back rows.sites row }
 row_of_site rows (StackEntry site patch was) is = refl
 row_of_site rows (HookFlag site was) is = refl
-row_of_site rows (ShadowVariable key was) is = let no : ⊥ = cc in absurd no
-row_of_site rows (StateValue patch id was) is = let no : ⊥ = cc in absurd no
-row_of_site rows (StateRow patch id was) is = let no : ⊥ = cc in absurd no
-row_of_site rows (InstalledPatch patch place) is = let no : ⊥ = cc in absurd no
-row_of_site rows (LoadedFlag object was) is = let no : ⊥ = cc in absurd no
-row_of_site rows (TaskRow task was) is = let no : ⊥ = cc in absurd no
-row_of_site rows (NoTaskRow task) is = let no : ⊥ = cc in absurd no
-row_of_site rows (Moving was) is = let no : ⊥ = cc in absurd no
-row_of_site rows NothingMoving is = let no : ⊥ = cc in absurd no
-row_of_site rows (PinnedFlag patch was) is = let no : ⊥ = cc in absurd no
+row_of_site rows other is = let no : ⊥ = cc in absurd no
 
 undone_world : (rows : Rows) (records : List Record) → All (λ row. is_of_world row ≡ true) records → undone rows records ≡ record rows { world = of_world.undone rows.world records }
 undone_world rows [] all = refl
@@ -80,38 +58,11 @@ undone_sites rows (row ∷ newer) all =
     let rest = undone_sites rows newer (All-tail (λ row. is_of_sites row ≡ true) row newer all) in
     ap (λ r. put_back r row) rest ∙ row_of_site (record rows { sites = of_sites.undone rows.sites newer }) row first
 
--- a change of the world alone
-pub world_noted : (before : Rows) (world : World) (l0 l1 : RecordList) (records : List Record) → All (λ row. is_of_world row ≡ true) records
-    → l1 ≡ noting l0 records → of_world.undone world records ≡ before.world → Notes before (record before { world = world }) l0 l1
-world_noted before world l0 l1 records all noted undo = record {
-  rows = records;
-  noted = noted;
-  undo = undone_world (record before { world = world }) records all ∙ ap (λ (w : World). record before { world = w }) undo;
-}
-
--- a change of the sites alone
-pub sites_noted : (before : Rows) (sites : SiteTable) (l0 l1 : RecordList) (records : List Record) → All (λ row. is_of_sites row ≡ true) records
-    → l1 ≡ noting l0 records → of_sites.undone sites records ≡ before.sites → Notes before (record before { sites = sites }) l0 l1
-sites_noted before sites l0 l1 records all noted undo = record {
-  rows = records;
-  noted = noted;
-  undo = undone_sites (record before { sites = sites }) records all ∙ ap (λ (t : SiteTable). record before { sites = t }) undo;
-}
-
 -- a row of a task is none of the others
 row_of_task : (rows : Rows) (row : Record) → is_of_tasks row ≡ true → put_back rows row ≡ record rows { tasks = of_tasks.put_back rows.tasks row }
 row_of_task rows (TaskRow task was) is = refl
 row_of_task rows (NoTaskRow task) is = refl
-row_of_task rows (StackEntry site patch was) is = let no : ⊥ = cc in absurd no
-row_of_task rows (HookFlag site was) is = let no : ⊥ = cc in absurd no
-row_of_task rows (ShadowVariable key was) is = let no : ⊥ = cc in absurd no
-row_of_task rows (StateValue patch id was) is = let no : ⊥ = cc in absurd no
-row_of_task rows (StateRow patch id was) is = let no : ⊥ = cc in absurd no
-row_of_task rows (InstalledPatch patch place) is = let no : ⊥ = cc in absurd no
-row_of_task rows (LoadedFlag object was) is = let no : ⊥ = cc in absurd no
-row_of_task rows (Moving was) is = let no : ⊥ = cc in absurd no
-row_of_task rows NothingMoving is = let no : ⊥ = cc in absurd no
-row_of_task rows (PinnedFlag patch was) is = let no : ⊥ = cc in absurd no
+row_of_task rows other is = let no : ⊥ = cc in absurd no
 
 undone_tasks : (rows : Rows) (records : List Record) → All (λ row. is_of_tasks row ≡ true) records → undone rows records ≡ record rows { tasks = of_tasks.undone rows.tasks records }
 undone_tasks rows [] all = refl
@@ -119,15 +70,6 @@ undone_tasks rows (row ∷ newer) all =
     let first = All-head (λ row. is_of_tasks row ≡ true) row newer all in
     let rest = undone_tasks rows newer (All-tail (λ row. is_of_tasks row ≡ true) row newer all) in
     ap (λ r. put_back r row) rest ∙ row_of_task (record rows { tasks = of_tasks.undone rows.tasks newer }) row first
-
--- a change of the tasks alone
-pub tasks_noted : (before : Rows) (tasks : Tasks) (l0 l1 : RecordList) (records : List Record) → All (λ row. is_of_tasks row ≡ true) records
-    → l1 ≡ noting l0 records → of_tasks.undone tasks records ≡ before.tasks → Notes before (record before { tasks = tasks }) l0 l1
-tasks_noted before tasks l0 l1 records all noted undo = record {
-  rows = records;
-  noted = noted;
-  undo = undone_tasks (record before { tasks = tasks }) records all ∙ ap (λ (t : Tasks). record before { tasks = t }) undo;
-}
 
 -- what a change of one task tells is a row of a task
 pub of_task : (number : ℕ) (was : Option Task) → is_of_tasks (of_tasks.record_of number was) ≡ true
@@ -150,10 +92,107 @@ switched_of_tasks number (was ∷ before) (task ∷ after) =
 switched_of_tasks number [] after = All-nil (λ row. is_of_tasks row ≡ true)
 switched_of_tasks number (was ∷ before) [] = All-nil (λ row. is_of_tasks row ≡ true)
 
--- something else moves, or nothing
-pub moving_noted : (before : Rows) (moving : Option Move) (l0 l1 : RecordList) → l1 ≡ noting l0 (row_of_moving before.moving ∷ []) → Notes before (record before { moving = moving }) l0 l1
-moving_noted before moving l0 l1 noted = record { rows = row_of_moving before.moving ∷ []; noted = noted; undo = back before.moving refl }
+-- the newest are put back first
+noted_behind : (rows : Rows) (l0 l1 : RecordList) (records : List Record) → l1 ≡ noting l0 records → undone rows l1.noted ≡ undone (undone rows records) l0.noted
+noted_behind rows l0 l1 records noted = ap (λ (l : RecordList). undone rows l.noted) noted ∙ undone-append rows l0.noted records
+
+-- rows of the world give the world back
+pub world_back : (before after : World) (l0 l1 : RecordList) (records : List Record) → All (λ row. is_of_world row ≡ true) records → l1 ≡ noting l0 records
+    → of_world.undone after records ≡ before → WorldGoesBack before after l0 l1
+world_back before after l0 l1 records all noted undo rows =
+    let now : Rows = record rows { world = after } in
+    noted_behind now l0 l1 records noted
+    ∙ ap (λ r. undone r l0.noted) (undone_world now records all ∙ ap (λ (w : World). record rows { world = w }) undo)
+
+-- rows of sites give the sites back
+pub sites_back : (before after : SiteTable) (l0 l1 : RecordList) (records : List Record) → All (λ row. is_of_sites row ≡ true) records → l1 ≡ noting l0 records
+    → of_sites.undone after records ≡ before → SitesGoBack before after l0 l1
+sites_back before after l0 l1 records all noted undo rows =
+    let now : Rows = record rows { sites = after } in
+    noted_behind now l0 l1 records noted
+    ∙ ap (λ r. undone r l0.noted) (undone_sites now records all ∙ ap (λ (t : SiteTable). record rows { sites = t }) undo)
+
+-- rows of tasks give the tasks back
+pub tasks_back : (before after : Tasks) (l0 l1 : RecordList) (records : List Record) → All (λ row. is_of_tasks row ≡ true) records → l1 ≡ noting l0 records
+    → of_tasks.undone after records ≡ before → TasksGoBack before after l0 l1
+tasks_back before after l0 l1 records all noted undo rows =
+    let now : Rows = record rows { tasks = after } in
+    noted_behind now l0 l1 records noted
+    ∙ ap (λ r. undone r l0.noted) (undone_tasks now records all ∙ ap (λ (t : Tasks). record rows { tasks = t }) undo)
+
+-- tasks that are brought to another state
+pub switched_back : (before after to : Tasks) (l0 l1 : RecordList) → after ≡ to → l1 ≡ noting l0 (of_tasks.records_switched 0 before to)
+    → of_tasks.undone after (of_tasks.records_switched 0 before to) ≡ before → TasksGoBack before after l0 l1
+switched_back before after to l0 l1 is noted undo =
+    tasks_back before after l0 l1 (of_tasks.records_switched 0 before to) (switched_of_tasks 0 before to) noted undo
+
+-- what moved is noted
+pub moving_back : (before after : Option Move) (l0 l1 : RecordList) → l1 ≡ noting l0 (row_of_moving before ∷ []) → MovingGoesBack before after l0 l1
+moving_back before after l0 l1 noted rows =
+    let now : Rows = record rows { moving = after } in
+    noted_behind now l0 l1 (row_of_moving before ∷ []) noted ∙ ap (λ r. undone r l0.noted) (back before)
   where
-    back : (was : Option Move) → before.moving ≡ was → put_back (record before { moving = moving }) (row_of_moving was) ≡ before
-    back None is = ap (λ (m : Option Move). record before { moving = m }) (sym is)
-    back (Some was) is = ap (λ (m : Option Move). record before { moving = m }) (sym is)
+    back : (was : Option Move) → put_back (record rows { moving = after }) (row_of_moving was) ≡ record rows { moving = was }
+    back None = refl
+    back (Some was) = refl
+
+-- whether an object was loaded is noted
+pub loaded_back : (before after : SiteTable) (object : ℕ) (was : Bool) (l0 l1 : RecordList) → l1 ≡ noting l0 (LoadedFlag object was ∷ [])
+    → of_sites.put_back after (LoadedFlag object was) ≡ before → SitesGoBack before after l0 l1
+loaded_back before after object was l0 l1 noted undo rows =
+    let now : Rows = record rows { sites = after } in
+    noted_behind now l0 l1 (LoadedFlag object was ∷ []) noted ∙ ap (λ (t : SiteTable). undone (record rows { sites = t }) l0.noted) undo
+
+-- whether a patch was pinned is noted
+pub pinned_back : (before after : List Bool) (patch : ℕ) (was : Bool) (l0 l1 : RecordList) → l1 ≡ noting l0 (PinnedFlag patch was ∷ [])
+    → slice_set after patch was ≡ before → PinsGoBack before after l0 l1
+pinned_back before after patch was l0 l1 noted undo rows =
+    let now : Rows = record rows { pinned = after } in
+    noted_behind now l0 l1 (PinnedFlag patch was ∷ []) noted ∙ ap (λ (p : List Bool). undone (record rows { pinned = p }) l0.noted) undo
+
+-- callbacks ran
+pub callbacks_back : (before after : Catalog) (world now : World) (l0 l1 : RecordList) (calls : List Call) → HaveRun before after world now l0 l1 calls → WorldGoesBack world now l0 l1
+callbacks_back before after world now l0 l1 calls ran = world_back world now l0 l1 ran.rows ran.of_world ran.noted ran.undo
+
+-- a patch came to sites, or left them
+pub patch_back : (before after : SiteTable) (l0 l1 : RecordList) (most from to : ℕ) → patched.Notes before after l0 l1 most from to → SitesGoBack before after l0 l1
+patch_back before after l0 l1 most from to notes = sites_back before after l0 l1 notes.rows notes.of_sites notes.noted notes.undo
+
+-- a patch that wasn't pinned is pinned
+pub pinned_now : (flags after : List Bool) (patch : ℕ) (l0 l1 : RecordList) → after ≡ slice_set flags patch true → l1 ≡ noting l0 (PinnedFlag patch false ∷ [])
+    → slice_index_or flags patch false ≡ false → PinsGoBack flags after l0 l1
+pinned_now flags after patch l0 l1 is noted free =
+    pinned_back flags after patch false l0 l1 noted
+    (ap (λ fs. slice_set fs patch false) is ∙ set-set flags patch true false ∙ ap (slice_set flags patch) (sym free) ∙ set-get_or flags patch false)
+
+-- the newest that is left is put back, and the older ones are left
+pub one_back : (rows : Rows) (records : List Record) (place : ℕ) (row : Record) → 0 < place → place ≤ length records → row ≡ get_or records (place - 1) row
+    → undone (put_back rows row) (take (place - 1) records) ≡ undone rows (take place records)
+one_back rows records place row some within is =
+    let below : place - 1 < length records = omega arith in
+    let next : (place - 1) + 1 ≡ place = omega arith in
+    sym (undone-append rows (take (place - 1) records) (row ∷ []))
+    ∙ ap (λ r. undone rows (take (place - 1) records ++ r ∷ [])) is
+    ∙ ap (undone rows) (sym (take_more records (place - 1) row below))
+    ∙ ap (λ n. undone rows (take n records)) next
+
+flag_put : (table : SiteTable) (object : ℕ) (was : Bool) (within : Bool) → length table.loaded ≡ length table.image.objects
+    → length (cond within (record table { loaded = slice_set table.loaded object was }) table).loaded ≡ length (cond within (record table { loaded = slice_set table.loaded object was }) table).image.objects
+flag_put table object was true each = length-set table.loaded object was ∙ each
+flag_put table object was false each = each
+
+-- each object still has its flag
+pub flags_put_back : (rows : Rows) (row : Record) → length rows.sites.loaded ≡ length rows.sites.image.objects
+    → length (put_back rows row).sites.loaded ≡ length (put_back rows row).sites.image.objects
+flags_put_back rows (LoadedFlag object was) each = flag_put rows.sites object was _ each
+flags_put_back rows (StackEntry site patch was) each = each
+flags_put_back rows (HookFlag site was) each = each
+flags_put_back rows (ShadowVariable key was) each = each
+flags_put_back rows (StateValue patch id was) each = each
+flags_put_back rows (StateRow patch id was) each = each
+flags_put_back rows (InstalledPatch patch place) each = each
+flags_put_back rows (TaskRow task was) each = each
+flags_put_back rows (NoTaskRow task) each = each
+flags_put_back rows (Moving was) each = each
+flags_put_back rows NothingMoving each = each
+flags_put_back rows (PinnedFlag patch was) each = each

@@ -1,17 +1,15 @@
 -- What a step keeps of the parts, whatever the event.
-use Rattle.std.proofs.Common.{◌≡◌, ℕ, Bool, List, [], map, Option, Some, None, Ok, refl, sym, ap, subst, ◌∙◌}
+use Rattle.std.proofs.Common.{◌≡◌, ℕ, Bool, List, map, Option, Some, None, Ok, refl, sym, ap, subst, ◌∙◌}
 use Rattle.klp_types.specs.declared.limits.TheConstants.{MAX_RECORDS}
 use Rattle.klp_types.specs.Image.{Image, object_of}
 use Rattle.klp_types.specs.FirstOf.{unless}
 use Rattle.klp_types.specs.Setting.{Setting}
 use Rattle.klp_types.specs.Callbacks.{Call}
-use Rattle.klp_types.specs.Records.{RecordList}
-use Rattle.klp_types.specs.World.{Installed, World}
+use Rattle.klp_types.specs.World.{Installed}
 use Rattle.klp_machine.specs.declared.event.Event.{Event}
 use Rattle.klp_machine.specs.declared.event.Reply.{Reply}
 use Rattle.klp_machine.specs.declared.event.Refusal.{Refusal}
-use Rattle.klp_machine.specs.Task.{Tasks}
-use Rattle.klp_machine.specs.State.{State, installed_patches, with_tasks, with_world}
+use Rattle.klp_machine.specs.State.{State, installed_patches}
 use Rattle.klp_machine.specs.Entries.{is_object_loaded, entries_of}
 use Rattle.klp_machine.specs.EventCalls.{calls}
 use Rattle.klp_machine.specs.Refusals.{refusal}
@@ -29,6 +27,7 @@ use Rattle.klp_steps.specs.Managed.{setting_of, managed_of}
 use Rattle.klp_steps.specs.Invariant.{Invariant}
 use Rattle.klp_steps.specs.Events.{PartsTake, PartsAccept}
 use Rattle.klp_steps.specs.StepLaws.{StepLaws}
+use Rattle.klp_steps.specs.Alone.{AreTasksTaken, IsWorldTaken}
 
 abbrev pub setting_in : Parts → Catalog → Setting
 setting_in parts catalog = setting_of (managed_of parts catalog)
@@ -147,27 +146,20 @@ taken_at_sites laws before after catalog now event reply holds free step =
     accepted_taken before after catalog now event reply free (accepted_at_sites laws before after catalog now event reply holds free step)
 
 -- an event that changes the tasks alone
-pub tasks_taken : StepLaws → (before : Parts) (catalog : Catalog) (tasks : Tasks) (event : Event) (reply : Reply) → Invariant before catalog
-    → refusal (setting_in before catalog) (state_in before catalog) event ≡ None → calls (setting_in before catalog) (state_in before catalog) event ≡ []
-    → accepted (setting_in before catalog) (state_in before catalog) event ≡ (reply, with_tasks (state_in before catalog) tasks)
-    → PartsTake before (record before { tasks = tasks }) catalog catalog event (Ok reply)
-tasks_taken laws before catalog tasks event reply holds free quiet is =
-    taken_at_sites laws before (record before { tasks = tasks }) catalog catalog event reply holds free (record {
+pub tasks_taken : AreTasksTaken
+tasks_taken laws before catalog tasks log event reply holds free quiet is room =
+    taken_at_sites laws before (record before { tasks = tasks; log = log }) catalog catalog event reply holds free (record {
       says = rw is refl;
       state = rw is refl;
       runs = sym (ap (after_runs catalog) quiet ∙ laws.none catalog);
       sites = refl;
       modules = refl;
       installed = refl;
-      room = holds.room;
+      room = room;
     })
 
 -- an event that changes the world alone, and leaves the list of installed patches
-pub world_taken : StepLaws → (before : Parts) (catalog : Catalog) (world : World) (log : RecordList) (event : Event) (reply : Reply) → Invariant before catalog
-    → refusal (setting_in before catalog) (state_in before catalog) event ≡ None → calls (setting_in before catalog) (state_in before catalog) event ≡ []
-    → accepted (setting_in before catalog) (state_in before catalog) event ≡ (reply, with_world (state_in before catalog) world)
-    → map (λ (i : Installed). i.patch) world.installed ≡ map (λ (i : Installed). i.patch) before.world.installed → log.room ≡ MAX_RECORDS
-    → PartsTake before (record before { world = world; log = log }) catalog catalog event (Ok reply)
+pub world_taken : IsWorldTaken
 world_taken laws before catalog world log event reply holds free quiet is same room =
     taken_at_sites laws before (record before { world = world; log = log }) catalog catalog event reply holds free (record {
       says = rw is refl;

@@ -4,3 +4,4 @@ pub mod Invariant
 pub mod StepLaws
 pub mod Complete
 pub mod Rows
+pub mod Alone

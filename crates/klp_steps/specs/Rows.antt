@@ -1,15 +1,16 @@
 -- The rows that events change, and what gives each of them back.
-use Rattle.std.specs.Prelude.{◌≡◌, Bool, true, false, List, [], ◌∷◌, Option, Some, None, slice_set}
+use Rattle.std.specs.Prelude.{◌≡◌, Bool, true, false, List, [], ◌∷◌, Option, Some, None, slice_set, Result, IfOk, OnErr}
 use Rattle.klp_types.specs.declared.record.Record.{Record}
 use Rattle.klp_types.specs.declared.record.Record.TheVariants.{TaskRow, NoTaskRow, Moving, NothingMoving, PinnedFlag}
 use Rattle.klp_types.specs.declared.version.Move.{Move}
 use Rattle.klp_types.specs.Records.{RecordList}
 use Rattle.klp_types.specs.World.{World}
 use Rattle.klp_machine.specs.Task.{Tasks}
+use Rattle.klp_machine.specs.declared.event.Reply.{Reply}
+use Rattle.klp_machine.specs.declared.event.Refusal.{Refusal}
 use Rattle.klp_world.specs.Undo as of_world
 use Rattle.klp_tasks.specs.Changes as of_tasks
 use Rattle.klp_sites.specs.Table.{SiteTable}
-use Rattle.klp_sites.specs.Changes.{noting}
 use Rattle.klp_sites.specs.Undo as of_sites
 use Rattle.klp_steps.specs.declared.parts.Parts.{Parts}
 
@@ -61,8 +62,34 @@ abbrev pub undone : Rows → List Record → Rows
 undone rows [] = rows
 undone rows (row ∷ newer) = put_back (undone rows newer) row
 
--- each row that changed is noted as it was, as the newest; put back newest first, the records give the rows before
-pub record Notes (before after : Rows) (log_before log_after : RecordList) : Type 0 where
-  pub rows : List Record
-  pub noted : log_after ≡ noting log_before rows
-  pub undo : undone after rows ≡ before
+-- the rows before all that is noted
+abbrev pub rows_before : Parts → Rows
+rows_before parts = undone (rows_in parts) parts.log.noted
+
+-- The rows before all that is noted stay those that they were, whatever the other rows are: of a change of the world, of the sites, of
+-- the tasks, of what moves and of what is pinned.
+
+abbrev pub WorldGoesBack : World → World → RecordList → RecordList → Type 0
+WorldGoesBack before after log_before log_after =
+    (rows : Rows) → undone (record rows { world = after }) log_after.noted ≡ undone (record rows { world = before }) log_before.noted
+
+abbrev pub SitesGoBack : SiteTable → SiteTable → RecordList → RecordList → Type 0
+SitesGoBack before after log_before log_after =
+    (rows : Rows) → undone (record rows { sites = after }) log_after.noted ≡ undone (record rows { sites = before }) log_before.noted
+
+abbrev pub TasksGoBack : Tasks → Tasks → RecordList → RecordList → Type 0
+TasksGoBack before after log_before log_after =
+    (rows : Rows) → undone (record rows { tasks = after }) log_after.noted ≡ undone (record rows { tasks = before }) log_before.noted
+
+abbrev pub MovingGoesBack : Option Move → Option Move → RecordList → RecordList → Type 0
+MovingGoesBack before after log_before log_after =
+    (rows : Rows) → undone (record rows { moving = after }) log_after.noted ≡ undone (record rows { moving = before }) log_before.noted
+
+abbrev pub PinsGoBack : List Bool → List Bool → RecordList → RecordList → Type 0
+PinsGoBack before after log_before log_after =
+    (rows : Rows) → undone (record rows { pinned = after }) log_after.noted ≡ undone (record rows { pinned = before }) log_before.noted
+
+-- an event was taken: where it was accepted, what is noted gives the rows before it, and where it was refused, nothing has changed
+pub record IsNoted (before after : Parts) (result : Result Reply Refusal) : Type 0 where
+  pub accepted : IfOk result (λ reply. rows_before after ≡ rows_in before)
+  pub refused : OnErr result (after ≡ before)

@@ -23,10 +23,11 @@ ghost use Rattle.klp_steps.specs.Managed.{setting_of, managed_of};
 ghost use Rattle.klp_steps.specs.Invariant.{Invariant};
 ghost use Rattle.klp_steps.specs.Events.{PartsTake, PartsAccept};
 ghost use Rattle.klp_steps.specs.Complete.{IsCompleted};
+ghost use Rattle.klp_steps.specs.Rows.{rows_in, rows_before, IsNoted};
 
+use crate::laws::steps_keep;
 use crate::parts::Parts;
 use crate::replacing::{drop_older, older_than, unpatch_each};
-use crate::step::steps_keep;
 use klp_calls::{allocs, run_callbacks};
 use klp_catalog::Catalog;
 use klp_machine::laws::{
@@ -39,6 +40,7 @@ use klp_patch::{block, drop_nops, unpatch_sites};
 use klp_tasks::laws::records_are_few;
 use klp_types::laws::entries_are_of_their_patches;
 use klp_types::{MAX_FUNCTIONS, MAX_PATCHES, MAX_SITES, MAX_VARIABLES, Move, PatchId, Which};
+use klp_world::laws::what_is_noted_is_of_the_world;
 
 /// The kind of callback that runs at the end of a transition to this target.
 fn end_of(target: bool) -> Which
@@ -59,7 +61,8 @@ impl Parts {
     /// the target, and where no task lags it is completed.
     pub fn poll(&mut self, catalog: &mut Catalog) -> Result<Reply, Refusal>
         requires { Invariant self.old catalog.old }
-        ensures { PartsTake self.old self.new catalog.old catalog.new Poll result }
+        ensures taken { PartsTake self.old self.new catalog.old catalog.new Poll result }
+        ensures noted { IsNoted self.old self.new result }
     {
         match self.poll_refusal(catalog) {
             Some(refusal) => Err(refusal),
@@ -68,7 +71,7 @@ impl Parts {
     }
 
     /// Why the transition isn't tried.
-    fn poll_refusal(&self, catalog: &Catalog) -> Option<Refusal>
+    pub fn poll_refusal(&self, catalog: &Catalog) -> Option<Refusal>
         requires { Invariant self.now catalog.now }
         ensures refusal { result ≡ refusal (setting_of (managed_of self.now catalog.now)) (managed_of self.now catalog.now).state Poll }
         ensures records { records_of (may_run (setting_of (managed_of self.now catalog.now)) (managed_of self.now catalog.now).state Poll) ≤ 256 }
@@ -88,7 +91,8 @@ impl Parts {
         requires kept { Invariant self.old catalog.old }
         requires free { refusal (setting_of (managed_of self.old catalog.old)) (managed_of self.old catalog.old).state Poll ≡ None }
         requires records { records_of (may_run (setting_of (managed_of self.old catalog.old)) (managed_of self.old catalog.old).state Poll) ≤ 256 }
-        ensures { PartsAccept self.old self.new catalog.old catalog.new Poll result }
+        ensures accepted { PartsAccept self.old self.new catalog.old catalog.new Poll result }
+        ensures noted { rows_before self.new ≡ rows_in self.old }
     {
         steps_keep();
         let Some(moving) = self.moving else {
@@ -114,6 +118,7 @@ impl Parts {
         } }
         ensures left { result ≡ pending (setting_of (managed_of self.old catalog.now)) (managed_of self.old catalog.now).state moving.now }
         ensures kept { Invariant self.new catalog.now }
+        ensures noted { rows_before self.new ≡ rows_in self.old }
         ensures records { length self.new.log.noted ≤ 64 }
     {
         where_none_lags_none_is_switched();
@@ -137,6 +142,7 @@ impl Parts {
           blocked = self.new.blocked;
           log = self.new.log;
         } }
+        ensures noted { rows_before self.new ≡ rows_in self.old }
         ensures records { length self.new.log.noted ≤ 64 }
         ensures log { self.new.log.room ≡ MAX_RECORDS }
     {
@@ -157,7 +163,8 @@ impl Parts {
         requires variables { finite.len self.old.world.shadow + allocs_of (end_calls (setting_of (managed_of self.old catalog.old)) (managed_of self.old catalog.old).state (Some moving.now)) ≤ MAX_VARIABLES }
         requires calls { records_of (end_calls (setting_of (managed_of self.old catalog.old)) (managed_of self.old catalog.old).state (Some moving.now)) ≤ 256 }
         requires records { length self.old.log.noted ≤ 64 }
-        ensures { IsCompleted self.old self.new catalog.old catalog.new moving.now }
+        ensures completed { IsCompleted self.old self.new catalog.old catalog.new moving.now }
+        ensures noted { rows_before self.new ≡ rows_before self.old }
     {
         self.settle_sites(catalog, moving);
         run_callbacks(
@@ -178,11 +185,12 @@ impl Parts {
         requires records { length self.old.log.noted ≤ 4000 }
         requires log { self.old.log.room ≡ MAX_RECORDS }
         ensures parts { self.new ≡ record self.old { tasks = all_in at_rest self.old.tasks; moving = None; log = self.new.log } }
+        ensures noted { rows_before self.new ≡ rows_before self.old }
         ensures log { self.new.log.room ≡ MAX_RECORDS }
     {
         records_are_few();
         self.tasks.set_all(-1, &mut self.log);
-        self.moving = None;
+        self.set_moving(None);
     }
 
     /// Leaves at the sites the entries of the patches that stay.
@@ -196,6 +204,7 @@ impl Parts {
         ensures entries { (site : ℕ) → entries_at self.new.sites.stacks site
             ≡ entries_of (setting_of (managed_of self.old catalog.now))
             (with_world (managed_of self.old catalog.now).state (settled (setting_of (managed_of self.old catalog.now)) self.old.world moving.now)) site }
+        ensures noted { rows_before self.new ≡ rows_before self.old }
         ensures records { length self.new.log.noted ≤ 2400 }
         ensures log { self.new.log.room ≡ MAX_RECORDS }
     {
@@ -222,6 +231,7 @@ impl Parts {
         ensures entries { (site : ℕ) → entries_at self.new.sites.stacks site
             ≡ entries_of (setting_of (managed_of self.old catalog.now))
             (with_world (managed_of self.old catalog.now).state (without_older true self.old.world moving.now.patch)) site }
+        ensures noted { rows_before self.new ≡ rows_before self.old }
         ensures records { length self.new.log.noted ≤ 2400 }
         ensures log { self.new.log.room ≡ MAX_RECORDS }
     {
@@ -240,9 +250,11 @@ impl Parts {
         requires records { length self.old.log.noted ≤ 3500 }
         requires log { self.old.log.room ≡ MAX_RECORDS }
         ensures parts { self.new ≡ record self.old { world = settled (setting_of (managed_of self.old catalog.now)) self.old.world moving.now; log = self.new.log } }
+        ensures noted { rows_before self.new ≡ rows_before self.old }
         ensures records { length self.new.log.noted ≤ 3800 }
         ensures log { self.new.log.room ≡ MAX_RECORDS }
     {
+        what_is_noted_is_of_the_world();
         if !moving.target {
             prove!(self.world.drop_records(moving.patch) <= self.log.spare());
             self.world.drop_states(moving.patch, &mut self.log);

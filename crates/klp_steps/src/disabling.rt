@@ -9,10 +9,11 @@ ghost use Rattle.klp_calls.specs.Calls.{records_of};
 ghost use Rattle.klp_steps.specs.Managed.{setting_of, managed_of};
 ghost use Rattle.klp_steps.specs.Invariant.{Invariant};
 ghost use Rattle.klp_steps.specs.Events.{PartsTake, PartsAccept};
+ghost use Rattle.klp_steps.specs.Rows.{rows_in, rows_before, IsNoted};
 
 use crate::forcing::target_state;
+use crate::laws::steps_keep;
 use crate::parts::Parts;
-use crate::step::steps_keep;
 use klp_calls::{allocs, run_callbacks};
 use klp_catalog::Catalog;
 use klp_machine::{Refusal, Reply};
@@ -29,7 +30,8 @@ impl Parts {
         value: bool,
     ) -> Result<Reply, Refusal>
         requires { Invariant self.old catalog.old }
-        ensures { PartsTake self.old self.new catalog.old catalog.new (SetEnabled patch value) result }
+        ensures taken { PartsTake self.old self.new catalog.old catalog.new (SetEnabled patch value) result }
+        ensures noted { IsNoted self.old self.new result }
     {
         match self.set_refusal(catalog, patch, value) {
             Some(refusal) => Err(refusal),
@@ -38,7 +40,7 @@ impl Parts {
     }
 
     /// Why the value isn't written.
-    fn set_refusal(&self, catalog: &Catalog, patch: PatchId, value: bool) -> Option<Refusal>
+    pub fn set_refusal(&self, catalog: &Catalog, patch: PatchId, value: bool) -> Option<Refusal>
         requires { Invariant self.now catalog.now }
         ensures refusal { result ≡ refusal (setting_of (managed_of self.now catalog.now)) (managed_of self.now catalog.now).state (SetEnabled patch value) }
         ensures records { records_of (disable_calls (setting_of (managed_of self.now catalog.now)) (managed_of self.now catalog.now).state patch) ≤ 256 }
@@ -88,14 +90,16 @@ impl Parts {
         requires kept { Invariant self.old catalog.old }
         requires free { refusal (setting_of (managed_of self.old catalog.old)) (managed_of self.old catalog.old).state (SetEnabled patch value) ≡ None }
         requires records { records_of (disable_calls (setting_of (managed_of self.old catalog.old)) (managed_of self.old catalog.old).state patch) ≤ 256 }
-        ensures { PartsAccept self.old self.new catalog.old catalog.new (SetEnabled patch value) result }
+        ensures accepted { PartsAccept self.old self.new catalog.old catalog.new (SetEnabled patch value) result }
+        ensures noted { rows_before self.new ≡ rows_in self.old }
     {
         steps_keep();
         if self.moves(patch) {
-            self.moving = Some(Move {
+            self.log.clear();
+            self.set_moving(Some(Move {
                 patch,
                 target: value,
-            });
+            }));
             return Reply::Reversed;
         }
         self.disable(catalog, patch, value)
@@ -107,7 +111,8 @@ impl Parts {
         requires free { refusal (setting_of (managed_of self.old catalog.old)) (managed_of self.old catalog.old).state (SetEnabled patch value) ≡ None }
         requires records { records_of (disable_calls (setting_of (managed_of self.old catalog.old)) (managed_of self.old catalog.old).state patch) ≤ 256 }
         requires rests { moves self.old.moving patch ≡ false }
-        ensures { PartsAccept self.old self.new catalog.old catalog.new (SetEnabled patch value) result }
+        ensures accepted { PartsAccept self.old self.new catalog.old catalog.new (SetEnabled patch value) result }
+        ensures noted { rows_before self.new ≡ rows_in self.old }
     {
         steps_keep();
         records_are_few();
@@ -121,10 +126,10 @@ impl Parts {
             &mut self.log,
         );
         self.tasks.set_all(target_state(true), &mut self.log);
-        self.moving = Some(Move {
+        self.set_moving(Some(Move {
             patch,
             target: false,
-        });
+        }));
         Reply::Started
     }
 }

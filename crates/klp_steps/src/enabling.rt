@@ -20,10 +20,11 @@ ghost use Rattle.klp_calls.specs.Calls.{records_of};
 ghost use Rattle.klp_steps.specs.Managed.{setting_of, managed_of};
 ghost use Rattle.klp_steps.specs.Invariant.{Invariant};
 ghost use Rattle.klp_steps.specs.Events.{PartsTake, PartsAccept};
+ghost use Rattle.klp_steps.specs.Rows.{rows_in, rows_before, IsNoted};
 
 use crate::forcing::target_state;
+use crate::laws::steps_keep;
 use crate::parts::Parts;
-use crate::step::steps_keep;
 use klp_calls::laws::those_that_run_note_no_more_than_those_that_may;
 use klp_calls::{allocs, run_pre_patch};
 use klp_catalog::{Catalog, CatalogFunction};
@@ -37,6 +38,7 @@ use klp_types::{
     MAX_FUNCTIONS, MAX_PATCHES, MAX_RECORDS, MAX_SITES, MAX_TASKS, MAX_VARIABLES, Move, ObjId,
     PatchId, Which,
 };
+use klp_world::laws::what_is_noted_is_of_the_world;
 
 /// Whether the function is for a loaded object and names no site.
 fn lacks_site(modules: &Modules, function: &CatalogFunction) -> bool
@@ -68,7 +70,8 @@ impl Parts {
     /// the objects before get post-unpatch, and the patch is gone again.
     pub fn enable(&mut self, catalog: &mut Catalog, patch: PatchId) -> Result<Reply, Refusal>
         requires { Invariant self.old catalog.old }
-        ensures { PartsTake self.old self.new catalog.old catalog.new (Enable patch) result }
+        ensures taken { PartsTake self.old self.new catalog.old catalog.new (Enable patch) result }
+        ensures noted { IsNoted self.old self.new result }
     {
         match self.enable_refusal(catalog, patch) {
             Some(refusal) => Err(refusal),
@@ -77,7 +80,7 @@ impl Parts {
     }
 
     /// Why the patch isn't enabled.
-    fn enable_refusal(&self, catalog: &Catalog, patch: PatchId) -> Option<Refusal>
+    pub fn enable_refusal(&self, catalog: &Catalog, patch: PatchId) -> Option<Refusal>
         requires { Invariant self.now catalog.now }
         ensures refusal { result ≡ refusal (setting_of (managed_of self.now catalog.now)) (managed_of self.now catalog.now).state (Enable patch) }
         ensures records { records_of (may_run (setting_of (managed_of self.now catalog.now)) (managed_of self.now catalog.now).state (Enable patch)) ≤ 512 }
@@ -136,7 +139,8 @@ impl Parts {
         requires kept { Invariant self.old catalog.old }
         requires free { refusal (setting_of (managed_of self.old catalog.old)) (managed_of self.old catalog.old).state (Enable patch) ≡ None }
         requires records { records_of (may_run (setting_of (managed_of self.old catalog.old)) (managed_of self.old catalog.old).state (Enable patch)) ≤ 512 }
-        ensures { PartsAccept self.old self.new catalog.old catalog.new (Enable patch) result }
+        ensures accepted { PartsAccept self.old self.new catalog.old catalog.new (Enable patch) result }
+        ensures noted { rows_before self.new ≡ rows_in self.old }
     {
         steps_keep();
         events_are_accepted_where_no_case_holds();
@@ -170,9 +174,11 @@ impl Parts {
         requires room { length self.old.world.installed < MAX_PATCHES }
         requires log { self.old.log.room ≡ MAX_RECORDS }
         ensures parts { self.new ≡ record self.old { world = with_patch self.old.world patch (state_ids catalog.now patch); log = self.new.log } }
+        ensures noted { rows_before self.new ≡ rows_in self.old }
         ensures records { length self.new.log.noted ≤ 17 }
         ensures log { self.new.log.room ≡ MAX_RECORDS }
     {
+        what_is_noted_is_of_the_world();
         self.log.clear();
         let ids = catalog.state_ids(patch);
         self.world.add_states(patch, &ids, &mut self.log);
@@ -182,8 +188,10 @@ impl Parts {
     fn take_out(&mut self, patch: PatchId)
         requires { length self.old.log.noted + 17 ≤ self.old.log.room }
         ensures parts { self.new ≡ record self.old { world = without_patch self.old.world patch; log = self.new.log } }
+        ensures noted { rows_before self.new ≡ rows_before self.old }
         ensures log { self.new.log.room ≡ self.old.log.room }
     {
+        what_is_noted_is_of_the_world();
         prove!(self.world.drop_records(patch) <= self.log.spare());
         self.world.drop_states(patch, &mut self.log);
     }
@@ -204,6 +212,7 @@ impl Parts {
           moving = move_to patch true;
           log = self.new.log;
         } }
+        ensures noted { rows_before self.new ≡ rows_before self.old }
         ensures log { self.new.log.room ≡ MAX_RECORDS }
     {
         records_are_few();
@@ -212,9 +221,9 @@ impl Parts {
         patch_sites(&mut self.sites, catalog, patch, None, &mut self.log);
         prove!(self.sites.sites() <= MAX_SITES);
         self.tasks.set_all(target_state(false), &mut self.log);
-        self.moving = Some(Move {
+        self.set_moving(Some(Move {
             patch,
             target: true,
-        });
+        }));
     }
 }

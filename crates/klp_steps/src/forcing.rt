@@ -1,5 +1,5 @@
 //! A transition is forced (livepatch, Consistency model: the `force` attribute).
-ghost use Rattle.std.specs.Prelude.{◌≡◌};
+ghost use Rattle.std.specs.Prelude.{◌≡◌, ◌+◌, ◌≤◌, length};
 ghost use Rattle.klp_machine.specs.declared.event.Event.TheVariants.{Force};
 ghost use Rattle.klp_machine.specs.Refusals.{refusal};
 ghost use Rattle.klp_machine.specs.Forcing.{pin_all, pinned_by};
@@ -8,13 +8,14 @@ ghost use Rattle.klp_types.specs.Pick.{moves};
 ghost use Rattle.klp_steps.specs.Managed.{setting_of, managed_of};
 ghost use Rattle.klp_steps.specs.Invariant.{Invariant};
 ghost use Rattle.klp_steps.specs.Events.{PartsTake};
+ghost use Rattle.klp_steps.specs.Rows.{rows_before, IsNoted};
 
+use crate::laws::steps_keep;
 use crate::parts::Parts;
-use crate::step::steps_keep;
 use klp_catalog::Catalog;
 use klp_machine::{Refusal, Reply};
 use klp_tasks::laws::records_are_few;
-use klp_types::{Move, PatchId};
+use klp_types::{MAX_PATCHES, Move, PatchId};
 
 /// The state of a task that is brought to this target.
 pub(crate) fn target_state(target: bool) -> i8
@@ -28,7 +29,8 @@ impl Parts {
     /// it moves out, and all other installed ones where it replaces them. It looks at all tasks.
     pub fn force(&mut self, catalog: &Catalog, patch: PatchId) -> Result<Reply, Refusal>
         requires { Invariant self.old catalog.now }
-        ensures { PartsTake self.old self.new catalog.now catalog.now (Force patch) result }
+        ensures taken { PartsTake self.old self.new catalog.now catalog.now (Force patch) result }
+        ensures noted { IsNoted self.old self.new result }
     {
         steps_keep();
         records_are_few();
@@ -46,7 +48,7 @@ impl Parts {
     }
 
     /// Why a patch isn't forced.
-    fn force_refusal(&self, catalog: &Catalog, patch: PatchId) -> Option<Refusal>
+    pub fn force_refusal(&self, catalog: &Catalog, patch: PatchId) -> Option<Refusal>
         ensures { result ≡ refusal (setting_of (managed_of self.now catalog.now)) (managed_of self.now catalog.now).state (Force patch) }
     {
         if patch.0 >= catalog.patches() {
@@ -72,12 +74,19 @@ impl Parts {
 
     /// Pins the patches that a forced transition leaves tasks inside of.
     fn pin(&mut self, catalog: &Catalog, moving: Move)
-        ensures { self.new ≡ record self.old { pinned = pin_all (pinned_by (setting_of (managed_of self.old catalog.now)) (managed_of self.old catalog.now).state moving) self.old.pinned } }
+        requires { length self.old.log.noted + MAX_PATCHES ≤ self.old.log.room }
+        ensures parts { self.new ≡ record self.old {
+          pinned = pin_all (pinned_by (setting_of (managed_of self.old catalog.now)) (managed_of self.old catalog.now).state moving) self.old.pinned;
+          log = self.new.log;
+        } }
+        ensures noted { rows_before self.new ≡ rows_before self.old }
+        ensures room { self.new.log.room ≡ self.old.log.room }
     {
         if !moving.target {
-            self.pinned.pin(moving.patch);
+            self.pinned.pin(moving.patch, &mut self.log);
         } else if catalog.replaces(moving.patch) == Some(true) {
-            self.pinned.pin_others(self.world.installed(), moving.patch);
+            self.pinned
+                .pin_others(self.world.installed(), moving.patch, &mut self.log);
         }
     }
 }

@@ -1,11 +1,26 @@
 //! What is proved of the states that the parts of a manager keep to. A function here does nothing: its
 //! contract is the law.
-ghost use Rattle.std.specs.Prelude.{◌≡◌, ℕ};
+ghost use Rattle.std.specs.Prelude.{◌≡◌, ℕ, true, List};
+ghost use Rattle.std.specs.List.{All};
+ghost use Rattle.klp_types.specs.declared.record.Record.{Record};
+ghost use Rattle.klp_types.specs.Records.{RecordList};
+ghost use Rattle.klp_types.specs.World.{World};
+ghost use Rattle.klp_machine.specs.Task.{Tasks};
+ghost use Rattle.klp_world.specs.Noted.{noting};
+ghost use Rattle.klp_world.specs.Undo as of_world;
+ghost use Rattle.klp_world.specs.Undo.{is_of_world};
+ghost use Rattle.klp_tasks.specs.Changes as of_tasks;
+ghost use Rattle.klp_steps.specs.StepLaws.{StepLaws};
+ghost use Rattle.klp_steps.specs.Alone.{AreTasksTaken, IsWorldTaken};
+ghost use Rattle.klp_steps.specs.Rows.{is_of_tasks, WorldGoesBack, TasksGoBack};
 ghost use Rattle.klp_types.specs.World.{previous_patch};
 ghost use Rattle.klp_machine.specs.State.{installed_patches};
 ghost use Rattle.klp_machine.specs.Stated.{IsStated};
 ghost use Rattle.klp_catalog.specs.States.{previous_state};
 ghost use Rattle.klp_steps.specs.Managed.{Managed, setting_of};
+
+use klp_catalog::laws::runs_add_up;
+use klp_machine::laws::{installed_patches_have_their_states, states_stay_allowed};
 
 /// The patch whose state a callback takes over is the one that the catalog tells: the newest of the
 /// patches installed before that names the state. It holds where each installed patch has the states
@@ -13,4 +28,32 @@ ghost use Rattle.klp_steps.specs.Managed.{Managed, setting_of};
 pub fn previous_states_agree()
     ensures { (managed : Managed) (patch id : ℕ) → IsStated (setting_of managed) managed.state
         → previous_patch managed.state.world patch id ≡ previous_state managed.catalog patch id (installed_patches managed.state) }
+{}
+
+/// What each step keeps.
+pub fn steps_keep()
+    ensures { StepLaws }
+{
+    states_stay_allowed();
+    installed_patches_have_their_states();
+    runs_add_up();
+}
+
+/// An event that nothing refuses, that runs no callback and changes one kind of rows alone, is taken by
+/// that change.
+#[tactic(auto, using(crate::proofs::StepLemmas::tasks_taken, crate::proofs::StepLemmas::world_taken))]
+pub fn changes_of_one_kind_are_taken()
+    ensures tasks { AreTasksTaken }
+    ensures world { IsWorldTaken }
+{}
+
+/// What is noted of a change, put back, gives the rows before, whatever is noted of other rows.
+#[tactic(auto, using(crate::proofs::RowLemmas::world_back, crate::proofs::RowLemmas::tasks_back))]
+pub fn what_is_noted_gives_the_rows_back()
+    ensures world { (before after : World) (log_before log_after : RecordList) (rows : List Record)
+        → All (λ row. is_of_world row ≡ true) rows → log_after ≡ noting log_before rows → of_world.undone after rows ≡ before
+        → WorldGoesBack before after log_before log_after }
+    ensures tasks { (before after : Tasks) (log_before log_after : RecordList) (rows : List Record)
+        → All (λ row. is_of_tasks row ≡ true) rows → log_after ≡ noting log_before rows → of_tasks.undone after rows ≡ before
+        → TasksGoBack before after log_before log_after }
 {}

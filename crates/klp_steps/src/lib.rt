@@ -9,12 +9,12 @@ mod inside;
 pub mod laws;
 mod module;
 mod module_sites;
+mod moving;
 mod parts;
 mod pins;
 mod replacing;
-mod shadow;
 mod step;
-mod tasks;
+mod undoing;
 
 pub use parts::Parts;
 pub use pins::Pins;

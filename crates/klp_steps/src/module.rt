@@ -13,10 +13,11 @@ ghost use Rattle.klp_calls.specs.Calls.{records_of};
 ghost use Rattle.klp_steps.specs.Managed.{setting_of, managed_of};
 ghost use Rattle.klp_steps.specs.Invariant.{Invariant};
 ghost use Rattle.klp_steps.specs.Events.{PartsTake, PartsAccept};
+ghost use Rattle.klp_steps.specs.Rows.{rows_in, rows_before, IsNoted};
 
+use crate::laws::steps_keep;
 use crate::module_sites::{patch_object, unpatch_object};
 use crate::parts::Parts;
-use crate::step::steps_keep;
 use arrayvec::ArrayVec;
 use klp_calls::{allocs_of_coming, allocs_of_going, run_coming, run_going};
 use klp_catalog::{Catalog, CatalogFunction};
@@ -69,7 +70,8 @@ impl Parts {
     /// before are cleaned up, and the module isn't loaded.
     pub fn coming(&mut self, catalog: &mut Catalog, object: ObjId) -> Result<Reply, Refusal>
         requires { Invariant self.old catalog.old }
-        ensures { PartsTake self.old self.new catalog.old catalog.new (Coming object) result }
+        ensures taken { PartsTake self.old self.new catalog.old catalog.new (Coming object) result }
+        ensures noted { IsNoted self.old self.new result }
     {
         match self.coming_refusal(catalog, object) {
             Some(refusal) => Err(refusal),
@@ -81,7 +83,8 @@ impl Parts {
     /// move, and post-unpatch, and takes its entries out of the module's sites.
     pub fn going(&mut self, catalog: &mut Catalog, object: ObjId) -> Result<Reply, Refusal>
         requires { Invariant self.old catalog.old }
-        ensures { PartsTake self.old self.new catalog.old catalog.new (Going object) result }
+        ensures taken { PartsTake self.old self.new catalog.old catalog.new (Going object) result }
+        ensures noted { IsNoted self.old self.new result }
     {
         match self.going_refusal(catalog, object) {
             Some(refusal) => Err(refusal),
@@ -90,7 +93,7 @@ impl Parts {
     }
 
     /// Why a module isn't loaded.
-    fn coming_refusal(&self, catalog: &Catalog, object: ObjId) -> Option<Refusal>
+    pub fn coming_refusal(&self, catalog: &Catalog, object: ObjId) -> Option<Refusal>
         requires { Invariant self.now catalog.now }
         ensures refusal { result ≡ refusal (setting_of (managed_of self.now catalog.now)) (managed_of self.now catalog.now).state (Coming object) }
         ensures records { records_of (may_run (setting_of (managed_of self.now catalog.now)) (managed_of self.now catalog.now).state (Coming object)) ≤ 1024 + allocs_of (may_run (setting_of (managed_of self.now catalog.now)) (managed_of self.now catalog.now).state (Coming object)) }
@@ -111,7 +114,7 @@ impl Parts {
     }
 
     /// Why a module isn't unloaded.
-    fn going_refusal(&self, catalog: &Catalog, object: ObjId) -> Option<Refusal>
+    pub fn going_refusal(&self, catalog: &Catalog, object: ObjId) -> Option<Refusal>
         requires { Invariant self.now catalog.now }
         ensures refusal { result ≡ refusal (setting_of (managed_of self.now catalog.now)) (managed_of self.now catalog.now).state (Going object) }
         ensures records { records_of (may_run (setting_of (managed_of self.now catalog.now)) (managed_of self.now catalog.now).state (Going object)) ≤ 512 + allocs_of (may_run (setting_of (managed_of self.now catalog.now)) (managed_of self.now catalog.now).state (Going object)) }
@@ -179,7 +182,8 @@ impl Parts {
         requires kept { Invariant self.old catalog.old }
         requires free { refusal (setting_of (managed_of self.old catalog.old)) (managed_of self.old catalog.old).state (Coming object) ≡ None }
         requires records { records_of (may_run (setting_of (managed_of self.old catalog.old)) (managed_of self.old catalog.old).state (Coming object)) ≤ 1024 + allocs_of (may_run (setting_of (managed_of self.old catalog.old)) (managed_of self.old catalog.old).state (Coming object)) }
-        ensures { PartsAccept self.old self.new catalog.old catalog.new (Coming object) result }
+        ensures accepted { PartsAccept self.old self.new catalog.old catalog.new (Coming object) result }
+        ensures noted { rows_before self.new ≡ rows_in self.old }
     {
         steps_keep();
         let installed = self.installed_patches(catalog);
@@ -195,6 +199,7 @@ impl Parts {
             Some((patch, status)) => Reply::PreFailed(patch, object, status),
             None => {
                 self.log.note(self.sites.load(object));
+                // the one row is noted by the sites
                 self.modules.set_loaded(object, true);
                 patch_object(&mut self.sites, catalog, &installed, object, &mut self.log);
                 Reply::Done
@@ -207,7 +212,8 @@ impl Parts {
         requires kept { Invariant self.old catalog.old }
         requires free { refusal (setting_of (managed_of self.old catalog.old)) (managed_of self.old catalog.old).state (Going object) ≡ None }
         requires records { records_of (may_run (setting_of (managed_of self.old catalog.old)) (managed_of self.old catalog.old).state (Going object)) ≤ 512 + allocs_of (may_run (setting_of (managed_of self.old catalog.old)) (managed_of self.old catalog.old).state (Going object)) }
-        ensures { PartsAccept self.old self.new catalog.old catalog.new (Going object) result }
+        ensures accepted { PartsAccept self.old self.new catalog.old catalog.new (Going object) result }
+        ensures noted { rows_before self.new ≡ rows_in self.old }
     {
         steps_keep();
         let installed = self.installed_patches(catalog);

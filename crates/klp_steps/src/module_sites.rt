@@ -11,6 +11,7 @@ ghost use Rattle.klp_catalog.specs.States.{is_cumulative};
 ghost use Rattle.klp_stack.specs.Stack.{entries_at};
 ghost use Rattle.klp_patch.specs.Changes.{hooked_count, most_entries};
 ghost use Rattle.klp_patch.specs.Covered.{is_covered};
+ghost use Rattle.klp_steps.specs.Rows.{SitesGoBack};
 
 use klp_catalog::Catalog;
 use klp_patch::{patch_sites, unpatch_sites};
@@ -58,6 +59,7 @@ pub(crate) fn patch_object(
         ≡ (if is_covered sites.old (Some object) site
         then entries_from (record { image = sites.old.image; patches = patches_of catalog.now }) site (reverse patches.now)
         else entries_at sites.old.stacks site) }
+    ensures noted { SitesGoBack sites.old sites.new log.old log.new }
     ensures room { log.new.room ≡ MAX_RECORDS }
 {
     the_newest_entry_is_on_top();
@@ -90,7 +92,8 @@ pub(crate) fn unpatch_object(
     ensures loaded { sites.new.loaded ≡ sites.old.loaded }
     ensures entries { (site : ℕ) → entries_at sites.new.stacks site
         ≡ (if is_covered sites.old (Some object) site then [] else entries_at sites.old.stacks site) }
-    ensures noted { length log.new.noted < MAX_RECORDS }
+    ensures noted { SitesGoBack sites.old sites.new log.old log.new }
+    ensures records { length log.new.noted < MAX_RECORDS }
     ensures room { log.new.room ≡ MAX_RECORDS }
 {
     entries_are_of_their_patches();

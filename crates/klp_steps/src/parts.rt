@@ -32,8 +32,8 @@ pub struct Parts {
     pub pinned: Pins,
     /// Where a transition puts the versions that hold sleepers back, while it is tried.
     pub blocked: VersionSet,
-    /// The rows of world and sites that an event changed, as they were. An event that may change such
-    /// rows empties it first; nothing else reads it.
+    /// The rows that an accepted event changed, as they were, in the order in which they were noted. An
+    /// event empties it before it changes anything.
     pub log: Records,
 }
 

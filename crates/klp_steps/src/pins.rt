@@ -1,7 +1,9 @@
-ghost use Rattle.std.specs.Prelude.{◌≡◌, false, true, not, ◌==◌, replicate, filter, slice_index_or, slice_set, IfOk};
+ghost use Rattle.std.specs.Prelude.{◌≡◌, ◌+◌, ◌<◌, ◌≤◌, false, true, not, ◌==◌, length, replicate, filter, slice_index_or, slice_set, IfOk};
+ghost use Rattle.klp_types.specs.Records.{spare_of};
 ghost use Rattle.klp_machine.specs.Forcing.{pin_all};
+ghost use Rattle.klp_steps.specs.Rows.{put_pinned, PinsGoBack};
 
-use klp_types::PatchId;
+use klp_types::{PatchId, Record, Records};
 use std::alloc::{AllocError, Global};
 use std::marker::Model;
 
@@ -40,23 +42,42 @@ impl Pins {
             .unwrap_or(false)
     }
 
-    /// Pins a patch, where there is one of this number.
-    pub fn pin(&mut self, patch: PatchId)
-        ensures { self.new ≡ slice_set self.old patch true }
+    /// Pins a patch, where there is one of this number, and notes it where it wasn't pinned.
+    pub fn pin(&mut self, patch: PatchId, log: &mut Records)
+        requires { 0 < spare_of log.old }
+        ensures flags { self.new ≡ slice_set self.old patch true }
+        ensures noted { PinsGoBack self.old self.new log.old log.new }
+        ensures records { length log.new.noted ≤ length log.old.noted + 1 }
+        ensures room { log.new.room ≡ log.old.room }
     {
-        let patch = usize::from(patch.0);
-        if patch < self.flags.len() {
-            self.flags[patch] = true;
+        let place = usize::from(patch.0);
+        if place < self.flags.len() && !self.flags[place] {
+            self.flags[place] = true;
+            log.note(Record::PinnedFlag { patch, was: false });
         }
     }
 
     /// Pins these patches but for this one.
-    pub fn pin_others(&mut self, patches: &[PatchId], patch: PatchId)
-        ensures { self.new ≡ pin_all (filter (λ p. not (p == patch)) patches.now) self.old }
+    pub fn pin_others(&mut self, patches: &[PatchId], patch: PatchId, log: &mut Records)
+        requires { length patches.now ≤ spare_of log.old }
+        ensures flags { self.new ≡ pin_all (filter (λ p. not (p == patch)) patches.now) self.old }
+        ensures noted { PinsGoBack self.old self.new log.old log.new }
+        ensures room { log.new.room ≡ log.old.room }
     {
         for &other in patches {
             if other != patch {
-                self.pin(other);
+                self.pin(other, log);
+            }
+        }
+    }
+
+    /// Puts back whether a patch was pinned. A row of another kind changes nothing.
+    pub fn put_back(&mut self, row: Record)
+        ensures { self.new ≡ put_pinned self.old row }
+    {
+        if let Record::PinnedFlag { patch, was } = row {
+            if let Some(flag) = self.flags.get_mut(usize::from(patch.0)) {
+                *flag = was;
             }
         }
     }

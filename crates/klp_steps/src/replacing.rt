@@ -13,12 +13,14 @@ ghost use Rattle.klp_stack.specs.Stack.{entries_at};
 ghost use Rattle.klp_patch.specs.Covered.{is_covered};
 ghost use Rattle.klp_patch.specs.Changes.{hooked_count};
 ghost use Rattle.klp_steps.specs.Complete.{AreOwn};
+ghost use Rattle.klp_steps.specs.Rows.{WorldGoesBack, SitesGoBack};
 
 use klp_catalog::Catalog;
 use klp_patch::unpatch_sites;
 use klp_sites::Sites;
 use klp_types::{MAX_FUNCTIONS, MAX_SITES, PatchId, Records};
 use klp_world::World;
+use klp_world::laws::what_is_noted_is_of_the_world;
 
 /// Of these patches those before this one.
 pub(crate) fn older_than(patch: PatchId, installed: &[PatchId]) -> &[PatchId]
@@ -48,6 +50,7 @@ pub(crate) fn unpatch_each(
     ensures loaded { sites.new.loaded ≡ sites.old.loaded }
     ensures entries { (site : ℕ) → entries_at sites.new.stacks site
         ≡ (if is_covered sites.old None site then filter (λ (e : Entry). not (is_one_of e.patch patches.now)) (entries_at sites.old.stacks site) else entries_at sites.old.stacks site) }
+    ensures noted { SitesGoBack sites.old sites.new log.old log.new }
     ensures records { length log.new.noted + hooked_count sites.new
         ≤ length log.old.noted + hooked_count sites.old + 64 * length patches.now + 256 * count_by (is_cumulative catalog.now) patches.now }
     ensures log { log.new.room ≡ MAX_RECORDS }
@@ -71,9 +74,11 @@ pub(crate) fn drop_older(world: &mut World, patch: PatchId, log: &mut Records)
     requires records { length log.old.noted ≤ 3500 }
     requires log { log.old.room ≡ MAX_RECORDS }
     ensures world { world.new ≡ without_older true world.old patch }
+    ensures noted { WorldGoesBack world.old world.new log.old log.new }
     ensures records { length log.new.noted ≤ 3800 }
     ensures log { log.new.room ≡ MAX_RECORDS }
 {
+    what_is_noted_is_of_the_world();
     for _dropped in 0..world.installed().len() {
         let Some(oldest) = oldest(world) else {
             return;

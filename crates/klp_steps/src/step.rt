@@ -4,21 +4,8 @@ ghost use Rattle.klp_types.specs.Entries.{is_empty};
 ghost use Rattle.klp_machine.specs.Allowed.{Allowed};
 ghost use Rattle.klp_machine.specs.Opening.{opening_state};
 ghost use Rattle.klp_machine.specs.Stated.{IsStated};
-ghost use Rattle.klp_steps.specs.StepLaws.{StepLaws};
 
-use klp_catalog::laws::runs_add_up;
-use klp_machine::laws::{
-    installed_patches_have_their_states, states_stay_allowed, the_opening_state_is_allowed,
-};
-
-/// What each step keeps.
-pub(crate) fn steps_keep()
-    ensures { StepLaws }
-{
-    states_stay_allowed();
-    installed_patches_have_their_states();
-    runs_add_up();
-}
+use klp_machine::laws::{installed_patches_have_their_states, the_opening_state_is_allowed};
 
 /// What the opening state has.
 pub(crate) fn opening_keeps()

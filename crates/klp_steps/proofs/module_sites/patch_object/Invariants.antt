@@ -3,6 +3,7 @@ use Rattle.std.specs.List.{count_by}
 use Rattle.klp_types.specs.declared.limits.TheConstants.{MAX_FUNCTIONS, MAX_RECORDS, MAX_SITES}
 use Rattle.klp_catalog.specs.States.{is_cumulative}
 use Rattle.klp_patch.specs.Changes.{hooked_count}
+use Rattle.klp_steps.specs.Rows.{SitesGoBack}
 use Rattle.klp_steps.proofs.ModuleLemmas.{HaveCome}
 use Rattle.klp_steps.proofs.module_sites.patch_object.Given as goal
 
@@ -11,5 +12,6 @@ invariant-loop-patch g l = record {
   come : HaveCome l.catalog (take l.patch-index l.patches) l.object l.initial.sites l.sites;
   noted : length l.log.noted + hooked_count l.initial.sites
       ≤ 2048 + hooked_count l.sites + MAX_FUNCTIONS * l.patch-index + MAX_SITES * count_by (is_cumulative l.catalog) (take l.patch-index l.patches);
+  back : SitesGoBack l.initial.sites l.sites l.initial.log l.log;
   room : l.log.room ≡ MAX_RECORDS;
 }

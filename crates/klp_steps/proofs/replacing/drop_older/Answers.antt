@@ -5,6 +5,7 @@ use Rattle.klp_types.specs.World.{World}
 use Rattle.klp_machine.specs.Completing.{from_patch}
 use borrow.Author.Tests.{eqb-true}
 use Rattle.klp_world.specs.Noted.{rows_of_drop}
+use Rattle.klp_steps.proofs.RowLemmas.{world_back}
 use Rattle.klp_steps.proofs.CompleteListLemmas.{own_first, older_dropped, one_fewer, all_dropped}
 use Rattle.klp_steps.proofs.replacing.drop_older.Goals as goal
 
@@ -35,5 +36,15 @@ loop-dropped-preserved c =
       fewer = omega (arith, fewer, installed, sum);
       few = c.loop-dropped.invariant.few;
       records = omega (arith, noted, both, few, value, so_far);
+      back = λ rows.
+          world_back c.loop-dropped.world c.drop_states.new.self c.loop-dropped.log c.drop_states.new.log _
+          (c.what_is_noted_is_of_the_world.ensures.drop c.loop-dropped.world c.in-Some.oldest) c.drop_states.ensures.changes.records c.drop_states.ensures.changes.undo rows
+          ∙ c.loop-dropped.invariant.back rows;
       room = ap (λ (l : RecordList). l.room) c.drop_states.ensures.changes.records ∙ c.loop-dropped.invariant.room;
     }
+
+pub returns-then-eq-clause-noted : goal.returns-then-eq-clause-noted
+returns-then-eq-clause-noted c = c.loop-dropped.invariant.back
+
+pub returns-clause-noted : goal.returns-clause-noted
+returns-clause-noted c = c.loop-dropped.invariant.back

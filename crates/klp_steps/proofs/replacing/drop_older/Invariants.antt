@@ -1,6 +1,7 @@
 use Rattle.std.proofs.Common.{◌≡◌, ◌+◌, ◌*◌, ◌≤◌, length}
 use Rattle.klp_machine.specs.Completing.{from_patch}
 use Rattle.klp_types.specs.declared.limits.TheConstants.{MAX_RECORDS}
+use Rattle.klp_steps.specs.Rows.{WorldGoesBack}
 use Rattle.klp_steps.proofs.replacing.drop_older.Given as goal
 
 -- older ones alone have left the list
@@ -11,5 +12,6 @@ invariant-loop-dropped l = record {
   fewer : length l.world.installed + l._dropped ≡ length l.fn.world.installed;
   few : length l.fn.world.installed ≤ 16;
   records : length l.log.noted ≤ 3500 + 17 * l._dropped;
+  back : WorldGoesBack l.fn.world l.world l.fn.log l.log;
   room : l.log.room ≡ MAX_RECORDS;
 }

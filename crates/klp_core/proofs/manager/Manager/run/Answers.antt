@@ -1,40 +1,45 @@
-use Rattle.std.proofs.Common.{◌≡◌, ℕ, ◌+◌, ◌∙◌, cond, drop, ap, arith}
-use Rattle.std.specs.Prelude.{is_ok, is_err}
-use Rattle.klp_core.proofs.EventLemmas.{next_event, turn_left, turn_answers}
+use Rattle.std.proofs.Common.{◌+◌, ◌∙◌, take, sym, subst, arith}
+use Rattle.klp_core.specs.Taking.{IsTaken, AreTaken}
+use Rattle.klp_core.proofs.EventLemmas.{next_event}
+use Rattle.klp_core.proofs.RunLemmas.{one_accepted, one_refused, recounted, leaves_no_trace}
 use Rattle.klp_core.proofs.manager.Manager.run.Goals as goal
 use Rattle.klp_core.proofs.manager.Manager.run.Goals.{in-Ok, in-Err}
 
 pub loop-event-preserved : goal.loop-event-preserved
 loop-event-preserved g c =
     let events = c.args.events.now in
+    let first = c.args.self.now in
     let now = c.loop-event.self in
     let new = c.apply.new.self in
     let event = c.event-item.result in
-    let rest = drop (c.loop-event.event-index + 1) events in
-    let split = next_event events c.loop-event.event-index event c.loop-event-test.true c.event-item.is in
-    let accepted = turn_answers is_ok now new event c.apply.result (drop c.loop-event.event-index events) rest c.apply.ensures.taken.left split c.apply.ensures.taken.answered in
-    let refused = turn_answers is_err now new event c.apply.result (drop c.loop-event.event-index events) rest c.apply.ensures.taken.left split c.apply.ensures.taken.answered in
-    let left = turn_left c.runs_add_up.ensures now new event (drop c.loop-event.event-index events) rest c.apply.ensures.taken.left split ∙ c.loop-event.invariant.2 in
-    let setting = c.apply.ensures.setting ∙ c.loop-event.invariant.5 in
+    let so_far = c.loop-event.invariant in
+    let done = take c.loop-event.event-index events in
+    let next = next_event events c.loop-event.event-index event c.loop-event-test.true c.event-item.is in
+    let setting = c.apply.ensures.setting ∙ so_far.setting in
+    let accepted = c.loop-event.accepted in
+    let refused = c.loop-event.refused in
     elim c.match-apply.branch [
-      | in-Ok w ↦
-          let yes : (◌≡◌ {A = ℕ} (cond (is_ok c.apply.result) 1 0) 1) = ap (λ r. cond (is_ok r) 1 0) w.in-Ok.is in
-          let no : (◌≡◌ {A = ℕ} (cond (is_err c.apply.result) 1 0) 0) = ap (λ r. cond (is_err r) 1 0) w.in-Ok.is in (
-            omega (arith, accepted, yes, w.accepted-is, c.loop-event.invariant.0),
-            omega (arith, refused, no, w.refused-is, c.loop-event.invariant.1),
-            left,
-            omega (arith, w.accepted-is, c.loop-event.invariant.3),
-            omega (arith, w.refused-is, c.loop-event.invariant.4),
-            setting,
-          )
-      | in-Err w ↦
-          let no : (◌≡◌ {A = ℕ} (cond (is_ok c.apply.result) 1 0) 0) = ap (λ r. cond (is_ok r) 1 0) w.in-Err.is in
-          let yes : (◌≡◌ {A = ℕ} (cond (is_err c.apply.result) 1 0) 1) = ap (λ r. cond (is_err r) 1 0) w.in-Err.is in (
-            omega (arith, accepted, no, w.accepted-is, c.loop-event.invariant.0),
-            omega (arith, refused, yes, w.refused-is, c.loop-event.invariant.1),
-            left,
-            omega (arith, w.accepted-is, c.loop-event.invariant.3),
-            omega (arith, w.refused-is, c.loop-event.invariant.4),
-            setting,
-          )
+      | in-Ok w ↦ record {
+        taken = recounted first new (take (c.loop-event.event-index + 1) events) (accepted + 1) _ refused _ w.accepted-is w.refused-is
+            (subst (λ es. AreTaken first new es (accepted + 1, refused)) (sym next)
+            (one_accepted c.runs_add_up.ensures first now new done event _ accepted refused so_far.taken so_far.setting (subst (IsTaken now new event) w.in-Ok.is c.apply.ensures.taken)));
+        accepted = omega (arith, w.accepted-is, so_far.accepted);
+        refused = omega (arith, w.refused-is, so_far.refused);
+        setting = setting;
+        stands = c.apply.ensures.stands;
+      }
+      | in-Err w ↦ record {
+        taken = recounted first new (take (c.loop-event.event-index + 1) events) accepted _ (refused + 1) _ w.accepted-is w.refused-is
+            (subst (λ es. AreTaken first new es (accepted, refused + 1)) (sym next)
+            (one_refused first now new done event _ accepted refused so_far.taken so_far.setting (subst (IsTaken now new event) w.in-Err.is c.apply.ensures.taken)));
+        accepted = omega (arith, w.accepted-is, so_far.accepted);
+        refused = omega (arith, w.refused-is, so_far.refused);
+        setting = setting;
+        stands = c.apply.ensures.stands;
+      }
     ]
+
+pub returns-clause-withdrawn : goal.returns-clause-withdrawn
+returns-clause-withdrawn g c =
+    leaves_no_trace c.gone_at_the_end.ensures c.only_shadow_events_outside.ensures c.args.self.now c.loop-event.self (take c.loop-event.event-index c.args.events.now) (c.loop-event.accepted, c.loop-event.refused)
+    c.loop-event.invariant.taken

@@ -1,15 +1,15 @@
-use Rattle.std.proofs.Common.{◌≡◌, ◌+◌, ◌≤◌, drop}
-use Rattle.std.specs.Prelude.{count_by, is_ok, is_err}
+use Rattle.std.proofs.Common.{◌≡◌, ◌≤◌, take}
 use Rattle.klp_steps.specs.Managed.{setting_of}
-use Rattle.klp_core.specs.Events.{after_events, answers_to}
+use Rattle.klp_core.specs.Journaled.{Stands}
+use Rattle.klp_core.specs.Taking.{AreTaken}
 use Rattle.klp_core.proofs.manager.Manager.run.Given as goal
 
--- what is counted so far and what is left to count are all, and the rest leads to the same state and the same counts
+-- the events so far were taken, and so many of them accepted and refused
 abbrev pub invariant-loop-event : goal.invariant-loop-event
-invariant-loop-event g l =
-    (l.accepted + count_by is_ok (answers_to l.self (drop l.event-index l.events)) ≡ count_by is_ok (answers_to l.initial.self l.events))
-    × (l.refused + count_by is_err (answers_to l.self (drop l.event-index l.events)) ≡ count_by is_err (answers_to l.initial.self l.events))
-    × (after_events l.self (drop l.event-index l.events) ≡ after_events l.initial.self l.events)
-    × (l.accepted ≤ l.event-index)
-    × (l.refused ≤ l.event-index)
-    × (setting_of l.self ≡ setting_of l.initial.self)
+invariant-loop-event g l = record {
+  taken : AreTaken l.initial.self l.self (take l.event-index l.events) (l.accepted, l.refused);
+  accepted : l.accepted ≤ l.event-index;
+  refused : l.refused ≤ l.event-index;
+  setting : setting_of l.self.managed ≡ setting_of l.initial.self.managed;
+  stands : Stands l.self;
+}

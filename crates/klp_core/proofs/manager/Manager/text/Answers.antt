@@ -7,15 +7,16 @@ use Rattle.klp_sites.specs.Table.{image_of}
 use Rattle.klp_steps.specs.Managed.{Managed, setting_of, managed_of}
 use Rattle.klp_core.proofs.ViewLemmas.{text_shown, hooked_at}
 use Rattle.klp_core.specs.View.{symbols_at}
+use Rattle.klp_core.specs.Journaled.{Journaled}
 use Rattle.klp_core.proofs.manager.Manager.text.Goals as goal
 
 pub returns-then-is_loaded : goal.returns-then-is_loaded
 returns-then-is_loaded g c =
     let parts = c.self.inside.parts in
     let own = managed_of parts c.self.inside.catalog in
-    let loaded = sym (ap (λ (m : ModuleTable). slice_index_or m.loaded c.args.object false) c.self.invariant.modules_are) ∙ sym c.is_loaded.ensures ∙ c.if-is_loaded.true in
+    let loaded = sym (ap (λ (m : ModuleTable). slice_index_or m.loaded c.args.object false) c.self.invariant.holds.modules_are) ∙ sym c.is_loaded.ensures ∙ c.if-is_loaded.true in
     ap Some (c.new.ensures ∙ ap (λ t. symbols_at t c.args.object) c.image.ensures.value)
     ∙ text_shown (image_of parts.sites) (setting_of own) own.state c.args.object refl
-    (λ site. hooked_at parts.sites.stacks site ∙ ap (λ es. not (is_empty es)) (c.self.invariant.entries site))
-    c.self.invariant.allowed.objects loaded
-    ∙ ap (λ (m : Managed). text_of (setting_of m) m.state c.args.object) c.self.view_is
+    (λ site. hooked_at parts.sites.stacks site ∙ ap (λ es. not (is_empty es)) (c.self.invariant.holds.entries site))
+    c.self.invariant.holds.allowed.objects loaded
+    ∙ ap (λ (m : Managed). text_of (setting_of m) m.state c.args.object) (ap (λ (j : Journaled). j.managed) c.self.view_is)

@@ -1,4 +1,4 @@
-use Rattle.std.proofs.Common.{rules, w32, to_z, of_z, ◌≡◌, ◌+◌, length, reverse, true, Some, refl, sym, ap, ◌∙◌, arith, length-append}
+use Rattle.std.proofs.Common.{rules, w32, to_z, of_z, ◌≡◌, ◌+◌, length, reverse, true, Some, refl, sym, ap, ◌∙◌, arith, length-append, [], ◌∷◌}
 use Rattle.std.specs.Prelude.{◌<◌, slice_set, option_map, if◌then◌else◌}
 use Rattle.std.specs.FinMap as finite
 use Rattle.std.specs.List.{find}
@@ -25,6 +25,11 @@ use Rattle.klp_stack.specs.Stack.{entries_at}
 use Rattle.klp_sites.specs.Table.{SiteTable}
 use Rattle.klp_patch.specs.Covered.{is_covered}
 use Rattle.klp_steps.specs.declared.parts.Parts.{Parts}
+use Rattle.klp_steps.specs.Rows.{Rows, rows_in, undone}
+use Rattle.klp_types.specs.declared.record.Record.{Record}
+use Rattle.klp_sites.specs.Changes.{noting}
+use Rattle.klp_sites.specs.Undo as of_sites
+use Rattle.klp_steps.proofs.RowLemmas.{callbacks_back, loaded_back}
 use Rattle.klp_steps.proofs.StepLemmas.{step_accepted, accepted_at_sites, setting_in, state_in}
 use Rattle.klp_steps.proofs.ModuleLemmas.{setting_with}
 use Rattle.klp_steps.proofs.ModuleSteps.{may_come, none_found, refused_by, told_as, coming_few, came}
@@ -62,8 +67,8 @@ patch_object-requires-clause-records g c =
     let one = ap (λ (l : RecordList). length l.noted) c.note.ensures ∙ length-append c.run_coming.new.log.noted _ in
     omega (arith, few, ran, variables, empty, one, c.in-None.ensures.ran.records, c.requires.records)
 
-pub returns-in-Some : goal.returns-in-Some
-returns-in-Some g c =
+pub returns-in-Some-clause-accepted : goal.returns-in-Some-clause-accepted
+returns-in-Some-clause-accepted g c =
     let before = c.args.self.now in
     let catalog = c.args.catalog.now in
     let now = c.run_coming.new.catalog in
@@ -87,8 +92,8 @@ returns-in-Some g c =
       room = c.run_coming.ensures.ran.room ∙ ap (λ (l : RecordList). l.room) c.clear.ensures ∙ c.requires.kept.room;
     })
 
-pub returns-in-None : goal.returns-in-None
-returns-in-None g c =
+pub returns-in-None-clause-accepted : goal.returns-in-None-clause-accepted
+returns-in-None-clause-accepted g c =
     let before = c.args.self.now in
     let catalog = c.args.catalog.now in
     let now = c.run_coming.new.catalog in
@@ -124,3 +129,20 @@ returns-in-None g c =
           ∙ ap (λ ps. if is_covered loaded (Some object) site then entries_from setting site (reverse ps) else entries_at before.sites.stacks site) again);
       room = c.patch_object.ensures.room;
     })
+
+pub returns-in-Some-clause-noted : goal.returns-in-Some-clause-noted
+returns-in-Some-clause-noted g c =
+    let rows = rows_in c.args.self.now in
+    callbacks_back c.args.catalog.now c.run_coming.new.catalog c.args.self.now.world c.run_coming.new.world c.clear.new.self c.run_coming.new.log _ c.run_coming.ensures.ran rows
+    ∙ ap (λ (l : RecordList). undone rows l.noted) c.clear.ensures
+
+pub returns-in-None-clause-noted : goal.returns-in-None-clause-noted
+returns-in-None-clause-noted g c =
+    let rows = rows_in c.args.self.now in
+    let ran : Rows = record rows { world = c.run_coming.new.world } in
+    c.patch_object.ensures.noted ran
+    ∙ loaded_back c.args.self.now.sites c.load.new.self c.args.object _ c.run_coming.new.log c.note.new.self
+    (c.note.ensures ∙ ap (λ (row : Record). noting c.run_coming.new.log (row ∷ [])) c.load.ensures.row)
+    (ap (of_sites.put_back c.load.new.self) (sym c.load.ensures.row) ∙ c.load.ensures.undo) ran
+    ∙ callbacks_back c.args.catalog.now c.run_coming.new.catalog c.args.self.now.world c.run_coming.new.world c.clear.new.self c.run_coming.new.log _ c.run_coming.ensures.ran rows
+    ∙ ap (λ (l : RecordList). undone rows l.noted) c.clear.ensures

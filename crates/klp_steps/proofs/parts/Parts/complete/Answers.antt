@@ -15,6 +15,8 @@ use Rattle.klp_stack.specs.Stack.{entries_at}
 use Rattle.klp_catalog.specs.Catalog.{Catalog, patches_of}
 use Rattle.klp_catalog.specs.Runs.{after_runs}
 use Rattle.klp_steps.specs.declared.parts.Parts.{Parts}
+use Rattle.klp_steps.specs.Rows.{rows_in}
+use Rattle.klp_steps.proofs.RowLemmas.{callbacks_back}
 use Rattle.klp_steps.proofs.StepLemmas.{setting_in, state_in, same_entries}
 use Rattle.klp_steps.proofs.RoomLemmas.{same_objects}
 use Rattle.klp_steps.proofs.CompleteListLemmas.{settled_numbers}
@@ -63,8 +65,8 @@ settle_list-requires-clause-records g c =
     let ran = c.run_callbacks.ensures.records in
     omega (arith, count, few, noted, short, more, ran)
 
-pub returns : goal.returns
-returns g c =
+pub returns-clause-completed : goal.returns-clause-completed
+returns-clause-completed g c =
     let before = c.args.self.now in
     let catalog = c.args.catalog.now in
     let now = c.run_callbacks.new.catalog in
@@ -102,3 +104,10 @@ returns g c =
           ∙ ap (λ (p : Parts). entries_of setting (state_in p now) site) (sym is);
       room = c.rest.ensures.log;
     }
+
+pub returns-clause-noted : goal.returns-clause-noted
+returns-clause-noted g c =
+    c.rest.ensures.noted ∙ c.settle_list.ensures.noted
+    ∙ callbacks_back c.args.catalog.now c.run_callbacks.new.catalog c.settle_sites.new.self.world c.run_callbacks.new.world c.settle_sites.new.self.log c.run_callbacks.new.log _
+    c.run_callbacks.ensures (rows_in c.settle_sites.new.self)
+    ∙ c.settle_sites.ensures.noted

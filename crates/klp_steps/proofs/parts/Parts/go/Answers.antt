@@ -1,4 +1,4 @@
-use Rattle.std.proofs.Common.{◌≡◌, ◌+◌, length, false, refl, sym, ap, ◌∙◌, arith}
+use Rattle.std.proofs.Common.{◌≡◌, ◌+◌, length, false, refl, sym, ap, ◌∙◌, arith, [], ◌∷◌}
 use Rattle.std.specs.Prelude.{◌<◌, slice_set}
 use Rattle.std.specs.FinMap as finite
 use borrow.Author.Tests.{ltb-false}
@@ -17,6 +17,11 @@ use Rattle.klp_calls.specs.Parts.{parts_in}
 use Rattle.klp_stack.specs.Stack.{entries_at}
 use Rattle.klp_sites.specs.Table.{SiteTable}
 use Rattle.klp_steps.specs.declared.parts.Parts.{Parts}
+use Rattle.klp_steps.specs.Rows.{Rows, rows_in, undone}
+use Rattle.klp_types.specs.declared.record.Record.{Record}
+use Rattle.klp_sites.specs.Changes.{noting}
+use Rattle.klp_sites.specs.Undo as of_sites
+use Rattle.klp_steps.proofs.RowLemmas.{callbacks_back, loaded_back}
 use Rattle.klp_steps.proofs.StepLemmas.{step_accepted, setting_in, state_in}
 use Rattle.klp_steps.proofs.ModuleSteps.{may_go, going_few, went}
 use Rattle.klp_steps.proofs.parts.Parts.go.Goals as goal
@@ -35,8 +40,8 @@ unpatch_object-requires-clause-records g c =
     let empty = ap (λ (l : RecordList). length l.noted) c.clear.ensures in
     omega (arith, few, ran, variables, empty, c.run_going.ensures.records, c.requires.records)
 
-pub returns : goal.returns
-returns g c =
+pub returns-clause-accepted : goal.returns-clause-accepted
+returns-clause-accepted g c =
     let before = c.args.self.now in
     let catalog = c.args.catalog.now in
     let now = c.run_going.new.catalog in
@@ -64,3 +69,14 @@ returns g c =
           (ap (λ (t : SiteTable). entries_at t.stacks site) table ∙ c.unpatch_object.ensures.entries site);
       room = ap (λ (l : RecordList). l.room) c.note.ensures ∙ c.unpatch_object.ensures.room;
     })
+
+pub returns-clause-noted : goal.returns-clause-noted
+returns-clause-noted g c =
+    let rows = rows_in c.args.self.now in
+    let ran : Rows = record rows { world = c.run_going.new.world } in
+    loaded_back c.unpatch_object.new.sites c.unload.new.self c.args.object _ c.unpatch_object.new.log c.note.new.self
+    (c.note.ensures ∙ ap (λ (row : Record). noting c.unpatch_object.new.log (row ∷ [])) c.unload.ensures.row)
+    (ap (of_sites.put_back c.unload.new.self) (sym c.unload.ensures.row) ∙ c.unload.ensures.undo) ran
+    ∙ c.unpatch_object.ensures.noted ran
+    ∙ callbacks_back c.args.catalog.now c.run_going.new.catalog c.args.self.now.world c.run_going.new.world c.clear.new.self c.run_going.new.log _ c.run_going.ensures rows
+    ∙ ap (λ (l : RecordList). undone rows l.noted) c.clear.ensures

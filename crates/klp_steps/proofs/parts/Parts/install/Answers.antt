@@ -22,6 +22,8 @@ use Rattle.klp_calls.specs.Calls.{HasRoomFor, records_of}
 use Rattle.klp_calls.specs.Loaded.{loaded_in}
 use Rattle.klp_patch.specs.Covered.{is_covered}
 use Rattle.klp_steps.specs.declared.parts.Parts.{Parts}
+use Rattle.klp_steps.specs.Rows.{rows_in}
+use Rattle.klp_steps.proofs.RowLemmas.{callbacks_back}
 use Rattle.klp_steps.proofs.StepLemmas.{setting_in, state_in}
 use Rattle.klp_steps.proofs.RoomLemmas.{same_objects, room_with}
 use Rattle.klp_steps.proofs.InstalledLemmas.{fewer, numbers_of, any-numbers}
@@ -108,8 +110,8 @@ same_objects_then : (parts put : Parts) (catalog : Catalog) (patch : ℕ) (world
 same_objects_then parts put catalog patch world log holds is =
     ap (λ (p : Parts). loaded_in catalog p.modules patch) is ∙ same_objects parts catalog patch holds
 
-pub returns-in-None : goal.returns-in-None
-returns-in-None g c =
+pub returns-in-None-clause-accepted : goal.returns-in-None-clause-accepted
+returns-in-None-clause-accepted g c =
     let parts = c.args.self.now in
     let put = c.put_last.new.self in
     let catalog = c.args.catalog.now in
@@ -141,8 +143,8 @@ returns-in-None g c =
     (ran.catalog ∙ ap (λ os. after_runs catalog (enable_calls patch os)) objects)
     world made (ran.installed ∙ ap numbers_of put_world ∙ numbers-with parts.world patch (state_ids catalog patch)) is entries c.start.ensures.log
 
-pub returns-in-Some : goal.returns-in-Some
-returns-in-Some g c =
+pub returns-in-Some-clause-accepted : goal.returns-in-Some-clause-accepted
+returns-in-Some-clause-accepted g c =
     let parts = c.args.self.now in
     let put = c.put_last.new.self in
     let catalog = c.args.catalog.now in
@@ -166,3 +168,17 @@ returns-in-Some g c =
     (ran.catalog ∙ ap (λ os. after_runs catalog (enable_calls patch os)) objects)
     world made (ran.installed ∙ ap numbers_of put_world ∙ numbers-with parts.world patch (state_ids catalog patch))
     (any-numbers patch parts.world.installed ∙ facts.apart) is (c.take_out.ensures.log ∙ ran.room ∙ c.put_last.ensures.log))
+
+pub returns-in-None-clause-noted : goal.returns-in-None-clause-noted
+returns-in-None-clause-noted g c =
+    c.start.ensures.noted
+    ∙ callbacks_back c.args.catalog.now c.run_pre_patch.new.catalog c.put_last.new.self.world c.run_pre_patch.new.world c.put_last.new.self.log c.run_pre_patch.new.log _ c.run_pre_patch.ensures.ran
+    (rows_in c.put_last.new.self)
+    ∙ c.put_last.ensures.noted
+
+pub returns-in-Some-clause-noted : goal.returns-in-Some-clause-noted
+returns-in-Some-clause-noted g c =
+    c.take_out.ensures.noted
+    ∙ callbacks_back c.args.catalog.now c.run_pre_patch.new.catalog c.put_last.new.self.world c.run_pre_patch.new.world c.put_last.new.self.log c.run_pre_patch.new.log _ c.run_pre_patch.ensures.ran
+    (rows_in c.put_last.new.self)
+    ∙ c.put_last.ensures.noted

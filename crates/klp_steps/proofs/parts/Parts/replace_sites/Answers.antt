@@ -13,6 +13,8 @@ use Rattle.klp_stack.specs.Stack.{entries_at}
 use Rattle.klp_sites.specs.Table.{is_stacked}
 use Rattle.klp_patch.specs.Changes.{without_nop, hooked_count}
 use Rattle.klp_patch.specs.Covered.{is_covered}
+use Rattle.klp_steps.specs.Rows.{rows_in}
+use Rattle.klp_steps.proofs.RowLemmas.{patch_back}
 use Rattle.klp_steps.proofs.StepLemmas.{setting_in, state_in}
 use Rattle.klp_steps.proofs.CompleteLemmas.{without_all}
 use Rattle.klp_steps.proofs.CompleteListLemmas.{before_numbers, before_fewer}
@@ -90,3 +92,8 @@ returns-clause-records g c =
     let both = length-append c.unpatch_each.new.log.noted c.drop_nops.ensures.notes.rows in
     let few = c.drop_nops.ensures.notes.few in
     omega (arith, noted, all, sites, rows, both, few)
+
+pub returns-clause-noted : goal.returns-clause-noted
+returns-clause-noted g c =
+    let rows = rows_in c.args.self.now in
+    patch_back c.unpatch_each.new.sites c.drop_nops.new.sites c.unpatch_each.new.log c.drop_nops.new.log _ _ _ c.drop_nops.ensures.notes rows ∙ c.unpatch_each.ensures.noted rows

@@ -10,6 +10,8 @@ use Rattle.klp_machine.specs.State.{installed_patches, with_world}
 use Rattle.klp_machine.specs.Entries.{is_site_loaded, entries_of}
 use Rattle.klp_stack.specs.Stack.{entries_at, entries_of_others}
 use Rattle.klp_patch.specs.Covered.{is_covered}
+use Rattle.klp_steps.specs.Rows.{rows_in}
+use Rattle.klp_steps.proofs.RowLemmas.{patch_back}
 use Rattle.klp_steps.proofs.StepLemmas.{setting_in, state_in}
 use Rattle.klp_steps.proofs.CompleteTaskLemmas.{own_in}
 use Rattle.klp_steps.proofs.EntryLemmas.{loaded_meant}
@@ -34,3 +36,7 @@ returns-then-not-moving-clause-entries g c = λ site.
     ∙ ap (entries_of_others move.patch) (c.requires.kept.entries site)
     ∙ sym (c.a_patch_leaves_the_entries_of_the_others.ensures setting state move.patch site c.requires.kept.allowed moves_it)
     ∙ ap (λ b. entries_of setting (with_world state (if b then without_older (replaces setting move.patch) parts.world move.patch else without_patch parts.world move.patch)) site) (sym out)
+
+pub returns-then-not-moving-clause-noted : goal.returns-then-not-moving-clause-noted
+returns-then-not-moving-clause-noted g c =
+    patch_back c.args.self.now.sites c.unpatch_sites.new.sites c.args.self.now.log c.unpatch_sites.new.log _ _ _ c.unpatch_sites.ensures.notes (rows_in c.args.self.now)

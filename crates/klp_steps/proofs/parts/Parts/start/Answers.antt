@@ -7,6 +7,8 @@ use Rattle.klp_text.specs.TextImage.{site_count}
 use Rattle.klp_catalog.specs.Catalog.{setting_function}
 use Rattle.klp_patch.specs.Covered.{functions_in}
 use Rattle.klp_patch.specs.Changes.{most_entries}
+use Rattle.klp_steps.specs.Rows.{rows_in}
+use Rattle.klp_steps.proofs.RowLemmas.{switched_back, patch_back}
 use Rattle.klp_steps.proofs.RoomLemmas.{few_noted, most_at}
 use Rattle.klp_steps.proofs.parts.Parts.start.Goals as goal
 
@@ -29,3 +31,11 @@ set_all-requires g c =
     let room = ap (λ (l : RecordList). l.room) c.patch_sites.ensures.notes.noted ∙ c.requires.log in
     let rows = c.records_are_few.ensures 0 tasks (all_in (at_target false) tasks) in
     omega (arith, rows, noted, most, room, c.requires.records, c.requires.tasks)
+
+pub returns-clause-noted : goal.returns-clause-noted
+returns-clause-noted g c =
+    let rows = rows_in c.args.self.now in
+    c.set_moving.ensures.noted
+    ∙ switched_back c.args.self.now.tasks c.set_all.new.self _ c.patch_sites.new.log c.set_all.new.log c.set_all.ensures.tasks c.set_all.ensures.records c.set_all.ensures.undo
+    (record rows { sites = c.patch_sites.new.sites })
+    ∙ patch_back c.args.self.now.sites c.patch_sites.new.sites c.args.self.now.log c.patch_sites.new.log _ _ _ c.patch_sites.ensures.notes rows

@@ -1,7 +1,10 @@
-use Rattle.std.proofs.Common.{ap, sym, ◌∙◌, map, option_map, List}
+use Rattle.std.proofs.Common.{ap, sym, ◌∙◌, map, option_map, List, refl}
 use Rattle.klp_types.specs.declared.version.Version.{Version}
 use Rattle.klp_patch.specs.Blocked.{blocked_at}
 use Rattle.klp_machine.specs.Blocked.{switched}
+use Rattle.klp_types.specs.Records.{RecordList}
+use Rattle.klp_steps.specs.Rows.{rows_in, undone}
+use Rattle.klp_steps.proofs.RowLemmas.{switched_back}
 use Rattle.klp_steps.proofs.StepLemmas.{setting_in, state_in}
 use Rattle.klp_steps.proofs.CompleteTaskLemmas.{own_in, functions_in_stacks}
 use Rattle.klp_steps.proofs.parts.Parts.switch_sleepers.Goals as goal
@@ -24,3 +27,9 @@ returns-clause-parts g c =
     let tasks = c.try_all.ensures.tasks (blocked_at 0 move stacks) c.block.ensures
     ∙ ap (λ (versions : List Version). map (option_map (switched versions move.target)) before.tasks) same in
     ap (λ tasks. record before { tasks = tasks; blocked = c.block.new.blocked; log = c.try_all.new.log }) tasks
+
+pub returns-clause-noted : goal.returns-clause-noted
+returns-clause-noted g c =
+    let rows = rows_in c.args.self.now in
+    switched_back c.args.self.now.tasks c.try_all.new.self c.try_all.new.self c.args.self.now.log c.try_all.new.log refl c.try_all.ensures.records c.try_all.ensures.undo rows
+    ∙ ap (λ (l : RecordList). undone rows l.noted) c.requires.log

@@ -1,4 +1,4 @@
-use Rattle.std.proofs.Common.{◌≡◌, arith}
+use Rattle.std.proofs.Common.{◌≡◌, ◌∙◌, arith}
 use Rattle.klp_machine.specs.declared.event.Event.TheVariants.{Poll}
 use Rattle.klp_machine.specs.declared.event.Reply.TheVariants.{Completed}
 use Rattle.klp_machine.specs.Blocked.{pending}
@@ -6,8 +6,8 @@ use Rattle.klp_steps.proofs.StepLemmas.{step_accepted, setting_in, state_in}
 use Rattle.klp_steps.proofs.CompletePollLemmas.{is_completed}
 use Rattle.klp_steps.proofs.parts.Parts.try_once_more.Goals as goal
 
-pub returns : goal.returns
-returns g c =
+pub returns-clause-accepted : goal.returns-clause-accepted
+returns-clause-accepted g c =
     let before = c.args.self.now in
     let catalog = c.args.catalog.now in
     let now = c.complete.new.catalog in
@@ -16,4 +16,7 @@ returns g c =
     let left = c.try_tasks-left.ensures.left in
     let none : pending (setting_in before catalog) (state_in before catalog) move ≡ 0 = omega (arith, few, left) in
     step_accepted c.steps_keep.ensures before c.complete.new.self catalog now Poll (Completed move.target) c.requires.kept c.requires.free
-    (is_completed before c.try_tasks-left.new.self c.complete.new.self catalog now move c.requires.kept c.in-Some.is c.try_tasks-left.ensures.parts none c.complete.ensures)
+    (is_completed before c.try_tasks-left.new.self c.complete.new.self catalog now move c.requires.kept c.in-Some.is c.try_tasks-left.ensures.parts none c.complete.ensures.completed)
+
+pub returns-clause-noted : goal.returns-clause-noted
+returns-clause-noted g c = c.complete.ensures.noted ∙ c.try_tasks-left.ensures.noted

@@ -1,0 +1,209 @@
+-- Groups that are appended and taken back.
+use Rattle.std.proofs.Common.{◌≡◌, ℕ, ◌≤◌, true, false, List, [], ◌∷◌, ◌++◌, length, take, Option, Some, None, refl, sym, ap, subst, ◌∙◌}
+use Rattle.std.specs.Prelude.{unwrap_or, Result, Ok, Err, IfOk}
+use Rattle.klp_types.specs.declared.limits.TheConstants.{MAX_RECORDS}
+use Rattle.klp_types.specs.declared.record.Record.{Record}
+use Rattle.klp_types.specs.FirstOf.{unless}
+use Rattle.klp_types.specs.Image.{Image}
+use Rattle.klp_types.specs.Records.{RecordList}
+use Rattle.klp_types.specs.Setting.{Setting}
+use Rattle.klp_machine.specs.declared.event.Event.{Event}
+use Rattle.klp_machine.specs.declared.event.Reply.{Reply}
+use Rattle.klp_machine.specs.declared.event.Refusal.{Refusal}
+use Rattle.klp_machine.specs.declared.event.Refusal.TheVariants.{JournalFull}
+use Rattle.klp_machine.specs.Allowed.{Allowed}
+use Rattle.klp_machine.specs.Entries.{entries_of}
+use Rattle.klp_machine.specs.Stated.{IsStated}
+use Rattle.klp_machine.specs.Legal.{IsLegal, state_after_history}
+use Rattle.klp_machine.specs.Run.{answer, answer_of}
+use Rattle.klp_machine.specs.State.{State}
+use Rattle.klp_modules.specs.Names.{ModuleTable, names_of}
+use Rattle.klp_text.specs.TextImage.{IsWithinLimits}
+use Rattle.klp_catalog.specs.Catalog.{Catalog}
+use Rattle.klp_journal.specs.Journal.{Group, has_room}
+use Rattle.klp_steps.specs.declared.parts.Parts.{Parts}
+use Rattle.klp_steps.specs.Events.{PartsTake, after_event}
+use Rattle.klp_steps.specs.Invariant.{Invariant}
+use Rattle.klp_steps.specs.Managed.{Managed, setting_of, managed_of}
+use Rattle.klp_steps.specs.Rows.{Rows, rows_in, rows_before, undone}
+use Rattle.klp_core.specs.Journaled.{Journaled, state_told, rows_before_all, journaled_of, AreKept, is_of_a_task, IsStepOf, AreSteps, IsSound, history_in, Stands}
+use Rattle.klp_types.specs.Callbacks.{Call}
+use Rattle.klp_core.specs.Events.{AreCounted}
+use Rattle.klp_core.specs.Rewinding.{IsRewound}
+use Rattle.klp_core.specs.Taking.{unless_full, answer_in, Appends, IsTaken}
+
+pub kept_in : (parts : Parts) (catalog : Catalog) → Invariant parts catalog → AreKept (setting_of (managed_of parts catalog)) (rows_in parts)
+kept_in parts catalog holds = record { image = refl; allowed = holds.allowed; stated = holds.stated; entries = holds.entries }
+
+-- a group is appended, or taken back
+
+pub before_more : (before after : Rows) (groups : List Group) (group : Group) → undone after group.rows ≡ before
+    → rows_before_all after (groups ++ group ∷ []) ≡ rows_before_all before groups
+before_more before after [] group undo = undo
+before_more before after (first ∷ newer) group undo = ap (λ r. undone r first.rows) (before_more before after newer group undo)
+
+pub step_appended : (setting : Setting) (before after : Rows) (groups : List Group) (group : Group) → undone after group.rows ≡ before → AreSteps setting before groups
+    → IsStepOf setting before after group → AreKept setting after → AreSteps setting after (groups ++ group ∷ [])
+step_appended setting before after [] group undo steps step kept = (subst (λ r. IsStepOf setting r after group) (sym undo) step, kept)
+step_appended setting before after (first ∷ newer) group undo steps step kept = (
+  subst (λ r. IsStepOf setting (undone r first.rows) r first) (sym (before_more before after newer group undo)) steps.0,
+  step_appended setting before after newer group undo steps.1 step kept,
+)
+
+pub step_taken_back : (setting : Setting) (after : Rows) (groups : List Group) (group : Group) → AreSteps setting after (groups ++ group ∷ [])
+    → AreSteps setting (undone after group.rows) groups
+step_taken_back setting after [] group steps = steps.0.kept
+step_taken_back setting after (first ∷ newer) group steps = (
+  subst (λ r. IsStepOf setting (undone r first.rows) r first) (before_more (undone after group.rows) after newer group refl) steps.0,
+  step_taken_back setting after newer group steps.1,
+)
+
+-- the groups are what happened since the base
+
+base_kept : (setting : Setting) (rows : Rows) (groups : List Group) → AreSteps setting rows groups → AreKept setting (rows_before_all rows groups)
+base_kept setting rows [] steps = steps
+base_kept setting rows (first ∷ newer) steps = steps.0.kept
+
+are_legal : (setting : Setting) (rows : Rows) (groups : List Group) → AreSteps setting rows groups
+    → IsLegal setting (state_told (rows_before_all rows groups)) (history_in groups)
+are_legal setting rows [] steps = tt
+are_legal setting rows (first ∷ newer) steps =
+    (steps.0.answered, subst (λ s. IsLegal setting s (history_in newer)) (sym steps.0.left) (are_legal setting rows newer steps.1))
+
+lead_on : (setting : Setting) (rows : Rows) (groups : List Group) → AreSteps setting rows groups
+    → state_told rows ≡ state_after_history setting (state_told (rows_before_all rows groups)) (history_in groups)
+lead_on setting rows [] steps = refl
+lead_on setting rows (first ∷ newer) steps =
+    lead_on setting rows newer steps.1 ∙ ap (λ s. state_after_history setting s (history_in newer)) (sym steps.0.left)
+
+pub sound_stands : (parts : Parts) (catalog : Catalog) (groups : List Group) → IsSound parts catalog groups → Stands (journaled_of parts catalog groups)
+sound_stands parts catalog groups sound =
+    let setting = setting_of (managed_of parts catalog) in
+    record {
+      allowed = (base_kept setting (rows_in parts) groups sound.steps).allowed;
+      legal = are_legal setting (rows_in parts) groups sound.steps;
+      state = lead_on setting (rows_in parts) groups sound.steps;
+    }
+
+-- an event was taken
+
+same_setting : (before after : Managed) (event : Event) → after ≡ after_event before event → setting_of after ≡ setting_of before
+same_setting before after event left = ap setting_of left
+
+is_step : (before after : Parts) (catalog now : Catalog) (event : Event) (reply : Reply) (rows : List Record) → Invariant before catalog → PartsTake before after catalog now event (Ok reply)
+    → length rows ≤ MAX_RECORDS → (is_of_a_task event ≡ true → length rows ≡ 1)
+    → IsStepOf (setting_of (managed_of before catalog)) (rows_in before) (rows_in after) (record { event = event; reply = reply; rows = rows })
+is_step before after catalog now event reply rows holds taken few one = record {
+  kept = kept_in before catalog holds;
+  answered = sym taken.takes.answered;
+  left = sym (ap (λ (m : Managed). m.state) taken.takes.left);
+  few = few;
+  one = one;
+}
+
+pub appended_sound : (before after : Parts) (catalog now : Catalog) (groups : List Group) (event : Event) (reply : Reply) → IsSound before catalog groups
+    → PartsTake before after catalog now event (Ok reply) → rows_before after ≡ rows_in before → length after.log.noted ≤ MAX_RECORDS
+    → (is_of_a_task event ≡ true → length after.log.noted ≡ 1)
+    → IsSound after now (groups ++ record { event = event; reply = reply; rows = after.log.noted } ∷ [])
+appended_sound before after catalog now groups event reply sound taken undo few one =
+    let same = same_setting (managed_of before catalog) (managed_of after now) event taken.takes.left in
+    record {
+      holds = taken.kept;
+      steps = subst (λ s. AreSteps s (rows_in after) (groups ++ record { event = event; reply = reply; rows = after.log.noted } ∷ [])) (sym same)
+          (step_appended (setting_of (managed_of before catalog)) (rows_in before) (rows_in after) groups _ undo sound.steps
+          (is_step before after catalog now event reply after.log.noted sound.holds taken few one)
+          (subst (λ s. AreKept s (rows_in after)) same (kept_in after now taken.kept)));
+    }
+
+pub appended : (before after : Parts) (catalog now : Catalog) (groups : List Group) (event : Event) (reply : Reply)
+    → PartsTake before after catalog now event (Ok reply) → rows_before after ≡ rows_in before → length after.log.noted ≤ MAX_RECORDS
+    → (is_of_a_task event ≡ true → length after.log.noted ≡ 1)
+    → Appends (journaled_of before catalog groups) (journaled_of after now (groups ++ record { event = event; reply = reply; rows = after.log.noted } ∷ [])) event reply
+appended before after catalog now groups event reply taken undo few one = record {
+  group = record { event = event; reply = reply; rows = after.log.noted };
+  noted = record { event_is = refl; reply_is = refl; few = few; one = one };
+  groups = refl;
+  left = taken.takes.left;
+  base = ap state_told (before_more (rows_in before) (rows_in after) groups (record { event = event; reply = reply; rows = after.log.noted }) undo);
+}
+
+-- a full journal refuses what nothing else does
+pub full_refuses : (refusal : Option Refusal) (outcome : Reply × State) → Err (unwrap_or refusal JournalFull) ≡ unless_full false (answer_of (unless refusal outcome))
+full_refuses None outcome = refl
+full_refuses (Some refusal) outcome = refl
+
+pub no_room : (setting : Setting) (state : State) (groups : List Group) (event : Event) (refusal : Option Refusal) (outcome : Reply × State) → has_room groups ≡ false
+    → answer setting state event ≡ answer_of (unless refusal outcome) → Err (unwrap_or refusal JournalFull) ≡ unless_full (has_room groups) (answer setting state event)
+no_room setting state groups event refusal outcome full is = full_refuses refusal outcome ∙ rw (full, is) refl
+
+-- the newest group is taken back
+
+kept_now : (setting : Setting) (rows : Rows) (groups : List Group) → AreSteps setting rows groups → AreKept setting rows
+kept_now setting rows [] steps = steps
+kept_now setting rows (first ∷ newer) steps = kept_now setting rows newer steps.1
+
+invariant_again : (before after : Parts) (catalog : Catalog) → Invariant before catalog → AreKept (setting_of (managed_of before catalog)) (rows_in after)
+    → after.modules ≡ record before.modules { loaded = after.sites.loaded } → after.log ≡ before.log → Invariant after catalog
+invariant_again before after catalog holds kept modules log =
+    let same : setting_of (managed_of after catalog) ≡ setting_of (managed_of before catalog) = ap (λ (i : Image). setting_of (record (managed_of before catalog) { image = i })) kept.image in
+    record {
+      allowed = subst (λ s. Allowed s (state_told (rows_in after))) (sym same) kept.allowed;
+      stated = subst (λ s. IsStated s (state_told (rows_in after))) (sym same) kept.stated;
+      limits = subst (λ (i : Image). IsWithinLimits i.objects) (sym kept.image) holds.limits;
+      modules_are = modules ∙ ap (λ (m : ModuleTable). record m { loaded = after.sites.loaded }) holds.modules_are
+          ∙ ap (λ (i : Image). record { names = names_of i.objects; loaded = after.sites.loaded }) (sym kept.image);
+      catalog_names = holds.catalog_names ∙ ap (λ (i : Image). names_of i.objects) (sym kept.image);
+      entries = λ site. kept.entries site ∙ ap (λ s. entries_of s (state_told (rows_in after)) site) (sym same);
+      room = ap (λ (l : RecordList). l.room) log ∙ holds.room;
+    }
+
+-- what is known of the parts once the newest group is taken back
+pub record IsTakenBack (before after : Parts) (catalog : Catalog) (older : List Group) : Type 0 where
+  pub sound : IsSound after catalog older
+  pub image : after.sites.image ≡ before.sites.image
+
+pub taken_back : (before after : Parts) (catalog : Catalog) (older : List Group) (newest : Group) → IsSound before catalog (older ++ newest ∷ [])
+    → rows_in after ≡ undone (rows_in before) newest.rows → after.modules ≡ record before.modules { loaded = after.sites.loaded } → after.log ≡ before.log
+    → IsTakenBack before after catalog older
+taken_back before after catalog older newest sound rows modules log =
+    let setting = setting_of (managed_of before catalog) in
+    let steps = subst (λ r. AreSteps setting r older) (sym rows) (step_taken_back setting (rows_in before) older newest sound.steps) in
+    let kept = kept_now setting (rows_in after) older steps in
+    let same : setting ≡ setting_of (managed_of after catalog) = sym (ap (λ (i : Image). setting_of (record (managed_of before catalog) { image = i })) kept.image) in
+    record {
+      sound = record { holds = invariant_again before after catalog sound.holds kept modules log; steps = subst (λ s. AreSteps s (rows_in after) older) same steps };
+      image = kept.image;
+    }
+
+pub rewound : (before after : Parts) (catalog : Catalog) (groups left : List Group) (mark : ℕ) → IsSound after catalog left → left ≡ take mark groups
+    → rows_before_all (rows_in after) left ≡ rows_before_all (rows_in before) groups → after.sites.image ≡ before.sites.image
+    → IsRewound (journaled_of before catalog groups) (journaled_of after catalog left) mark
+rewound before after catalog groups left mark sound is base image =
+    let own = managed_of before catalog in
+    record {
+      groups = is;
+      base = ap state_told base;
+      image = image;
+      catalog = refl;
+      state = (sound_stands after catalog left sound).state
+          ∙ ap (λ (i : Image). state_after_history (setting_of (record own { image = i })) (state_told (rows_before_all (rows_in after) left)) (history_in left)) image
+          ∙ ap (λ (r : Rows). state_after_history (setting_of own) (state_told r) (history_in left)) base
+          ∙ ap (λ gs. state_after_history (setting_of own) (state_told (rows_before_all (rows_in before) groups)) (history_in gs)) is;
+    }
+
+-- an event that the machine accepts is accepted where there is room
+pub with_room : (setting : Setting) (state : State) (groups : List Group) (event : Event) (reply : Reply) → has_room groups ≡ true → Ok reply ≡ answer setting state event
+    → Ok reply ≡ answer_in setting state groups event
+with_room setting state groups event reply room is = ap (unless_full true) is ∙ ap (λ b. unless_full b (answer setting state event)) (sym room)
+
+-- callbacks that ran are counted
+pub counted : (before after : Journaled) (event : Event) (result : Result Reply Refusal) (calls : List Call) → IsTaken before after event result
+    → AreCounted before.managed.catalog (after_event before.managed event).catalog calls
+    → IfOk result (λ reply. AreCounted before.managed.catalog after.managed.catalog calls)
+counted before after event (Ok reply) calls taken counts =
+    subst (λ (m : Managed). AreCounted before.managed.catalog m.catalog calls) (sym taken.accepted.left) counts
+counted before after event (Err refusal) calls taken counts = tt
+
+pub same_setting_taken : (before after : Journaled) (event : Event) (result : Result Reply Refusal) → IsTaken before after event result → setting_of after.managed ≡ setting_of before.managed
+same_setting_taken before after event (Ok reply) taken = same_setting before.managed after.managed event taken.accepted.left
+same_setting_taken before after event (Err refusal) taken = ap (λ (m : Journaled). setting_of m.managed) taken.refused

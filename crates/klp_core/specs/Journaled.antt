@@ -1,0 +1,86 @@
+-- What contracts see of a manager, and the accepted events that stand since its base.
+use Rattle.std.specs.Prelude.{◌≡◌, ℕ, ◌≤◌, Bool, true, false, List, [], ◌∷◌, length, map, Ok}
+use Rattle.klp_types.specs.declared.limits.TheConstants.{MAX_RECORDS}
+use Rattle.klp_types.specs.Setting.{Setting}
+use Rattle.klp_machine.specs.declared.event.Event.{Event}
+use Rattle.klp_machine.specs.Allowed.{Allowed}
+use Rattle.klp_machine.specs.Entries.{entries_of}
+use Rattle.klp_machine.specs.declared.event.Event.TheVariants.{NewTask, Fork, EndTask, EnterKernel, ExitToUser, Sleep, Wake}
+use Rattle.klp_machine.specs.Legal.{History, IsLegal, state_after_history}
+use Rattle.klp_machine.specs.Run.{answer, next}
+use Rattle.klp_machine.specs.State.{State}
+use Rattle.klp_machine.specs.Stated.{IsStated}
+use Rattle.klp_catalog.specs.Catalog.{Catalog}
+use Rattle.klp_journal.specs.Journal.{Group}
+use Rattle.klp_stack.specs.Stack.{entries_at}
+use Rattle.klp_steps.specs.declared.parts.Parts.{Parts}
+use Rattle.klp_steps.specs.Managed.{Managed, setting_of, managed_of}
+use Rattle.klp_steps.specs.Invariant.{Invariant}
+use Rattle.klp_steps.specs.Rows.{Rows, rows_in, undone}
+
+-- image, catalog and state of a manager; the state that it was booted or sealed in; and what was accepted since, oldest first
+pub record Journaled : Type 0 where
+  pub managed : Managed
+  pub base : State
+  pub groups : List Group
+
+-- the state that rows tell
+abbrev pub state_told : Rows → State
+state_told rows = record { loaded = rows.sites.loaded; world = rows.world; moving = rows.moving; pinned = rows.pinned; tasks = rows.tasks }
+
+-- the rows before all these groups: the newest, which stands last, is put back first
+abbrev pub rows_before_all : Rows → List Group → Rows
+rows_before_all rows [] = rows
+rows_before_all rows (group ∷ newer) = undone (rows_before_all rows newer) group.rows
+
+-- what the parts of a manager, its catalog and its journal stand for
+abbrev pub journaled_of : Parts → Catalog → List Group → Journaled
+journaled_of parts catalog groups = record { managed = managed_of parts catalog; base = state_told (rows_before_all (rows_in parts) groups); groups = groups }
+
+-- rows that a manager may have: their state is one that events can lead to, and the stack of each site is the one that it tells
+pub record AreKept (setting : Setting) (rows : Rows) : Type 0 where
+  pub image : rows.sites.image ≡ setting.image
+  pub allowed : Allowed setting (state_told rows)
+  pub stated : IsStated setting (state_told rows)
+  pub entries : (site : ℕ) → entries_at rows.sites.stacks site ≡ entries_of setting (state_told rows) site
+
+-- the event of a task
+abbrev pub is_of_a_task : Event → Bool
+is_of_a_task (NewTask task) = true
+is_of_a_task (Fork parent child) = true
+is_of_a_task (EndTask task) = true
+is_of_a_task (EnterKernel task) = true
+is_of_a_task (ExitToUser task) = true
+is_of_a_task (Sleep task frames) = true
+is_of_a_task (Wake task) = true
+is_of_a_task other = false
+
+-- a group stands for a step: the event was accepted with this reply, and led from the one rows to the other. It has few records,
+-- and that of a task event has one
+pub record IsStepOf (setting : Setting) (before after : Rows) (group : Group) : Type 0 where
+  pub kept : AreKept setting before
+  pub answered : answer setting (state_told before) group.event ≡ Ok group.reply
+  pub left : next setting (state_told before) group.event ≡ state_told after
+  pub few : length group.rows ≤ MAX_RECORDS
+  pub one : is_of_a_task group.event ≡ true → length group.rows ≡ 1
+
+-- each group stands for a step from the rows that putting it and all newer ones back gives
+abbrev pub AreSteps : Setting → Rows → List Group → Type 0
+AreSteps setting rows [] = AreKept setting rows
+AreSteps setting rows (group ∷ newer) =
+    IsStepOf setting (rows_before_all rows (group ∷ newer)) (rows_before_all rows newer) group × AreSteps setting rows newer
+
+-- what a manager keeps
+pub record IsSound (parts : Parts) (catalog : Catalog) (groups : List Group) : Type 0 where
+  pub holds : Invariant parts catalog
+  pub steps : AreSteps (setting_of (managed_of parts catalog)) (rows_in parts) groups
+
+-- the events with their replies
+abbrev pub history_in : List Group → History
+history_in groups = map (λ (g : Group). (g.event, g.reply)) groups
+
+-- the groups are what happened since the base: each event was accepted in its turn with this reply, and all of them led to the state
+pub record Stands (manager : Journaled) : Type 0 where
+  pub allowed : Allowed (setting_of manager.managed) manager.base
+  pub legal : IsLegal (setting_of manager.managed) manager.base (history_in manager.groups)
+  pub state : manager.managed.state ≡ state_after_history (setting_of manager.managed) manager.base (history_in manager.groups)

@@ -1,0 +1,14 @@
+-- What taking events back leaves.
+use Rattle.std.specs.Prelude.{◌≡◌, ℕ, take}
+use Rattle.klp_machine.specs.Legal.{state_after_history}
+use Rattle.klp_steps.specs.Managed.{setting_of}
+use Rattle.klp_core.specs.Journaled.{Journaled, history_in}
+
+-- the first so many events stand, and the state is the one that they lead to from the base. Image and catalog stay, and with the
+-- catalog the counts of callbacks: none has run
+pub record IsRewound (before after : Journaled) (mark : ℕ) : Type 0 where
+  pub groups : after.groups ≡ take mark before.groups
+  pub base : after.base ≡ before.base
+  pub image : after.managed.image ≡ before.managed.image
+  pub catalog : after.managed.catalog ≡ before.managed.catalog
+  pub state : after.managed.state ≡ state_after_history (setting_of before.managed) before.base (history_in (take mark before.groups))

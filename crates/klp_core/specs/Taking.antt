@@ -1,0 +1,78 @@
+-- What events answer where the journal has room for them or not, and what they leave.
+use Rattle.std.specs.Prelude.{◌≡◌, ℕ, ◌≤◌, Bool, true, false, List, [], ◌∷◌, ◌++◌, length, map, count_by, is_ok, is_err, Result, Ok, Err, IfOk, OnErr}
+use Rattle.klp_types.specs.declared.limits.TheConstants.{MAX_RECORDS}
+use Rattle.klp_types.specs.Setting.{Setting}
+use Rattle.klp_machine.specs.declared.event.Event.{Event}
+use Rattle.klp_machine.specs.declared.event.Reply.{Reply}
+use Rattle.klp_machine.specs.declared.event.Refusal.{Refusal}
+use Rattle.klp_machine.specs.declared.event.Refusal.TheVariants.{JournalFull}
+use Rattle.klp_machine.specs.Run.{answer, next}
+use Rattle.klp_machine.specs.State.{State}
+use Rattle.klp_journal.specs.Journal.{Group, has_room}
+use Rattle.klp_steps.specs.Managed.{setting_of}
+use Rattle.klp_steps.specs.Events.{after_event}
+use Rattle.klp_core.specs.Events.{after_events}
+use Rattle.klp_core.specs.Journaled.{Journaled, is_of_a_task}
+
+-- an event that nothing refuses finds the journal full
+abbrev pub unless_full : Bool → Result Reply Refusal → Result Reply Refusal
+unless_full room (Err refusal) = Err refusal
+unless_full true (Ok reply) = Ok reply
+unless_full false (Ok reply) = Err JournalFull
+
+-- the answer to an event: the machine's refusal comes first, then the journal's
+abbrev pub answer_in : Setting → State → List Group → Event → Result Reply Refusal
+answer_in setting state groups event = unless_full (has_room groups) (answer setting state event)
+
+-- a group that an event leaves: few records, and one of a task event
+pub record IsNotedAs (group : Group) (event : Event) (reply : Reply) : Type 0 where
+  pub event_is : group.event ≡ event
+  pub reply_is : group.reply ≡ reply
+  pub few : length group.rows ≤ MAX_RECORDS
+  pub one : is_of_a_task event ≡ true → length group.rows ≡ 1
+
+-- an accepted event is appended to the journal as one group, and leaves what the machine says; the base stays
+pub record Appends (before after : Journaled) (event : Event) (reply : Reply) : Type 0 where
+  pub group : Group
+  pub noted : IsNotedAs group event reply
+  pub groups : after.groups ≡ before.groups ++ group ∷ []
+  pub left : after.managed ≡ after_event before.managed event
+  pub base : after.base ≡ before.base
+
+-- an event was taken: this is its answer, and this is what it left. A refusal leaves everything
+pub record IsTaken (before after : Journaled) (event : Event) (result : Result Reply Refusal) : Type 0 where
+  pub answered : result ≡ answer_in (setting_of before.managed) before.managed.state before.groups event
+  pub accepted : IfOk result (λ reply. Appends before after event reply)
+  pub refused : OnErr result (after ≡ before)
+
+-- what became of an event: the group that it left, or why it was refused
+abbrev pub Outcome : Type 0
+Outcome = Result Group Refusal
+
+abbrev pub groups_left : List Outcome → List Group
+groups_left [] = []
+groups_left (Ok group ∷ outcomes) = group ∷ groups_left outcomes
+groups_left (Err refusal ∷ outcomes) = groups_left outcomes
+
+abbrev pub IsOutcome : Setting → State → List Group → Event → Outcome → Type 0
+IsOutcome setting state groups event (Ok group) = (answer_in setting state groups event ≡ Ok group.reply) × IsNotedAs group event group.reply
+IsOutcome setting state groups event (Err refusal) = answer_in setting state groups event ≡ Err refusal
+
+-- each event in its turn, where the journal has these groups before the first
+abbrev pub AreOutcomes : Setting → State → List Group → List Event → List Outcome → Type 0
+AreOutcomes setting state groups [] [] = Unit {0}
+AreOutcomes setting state groups (event ∷ events) (Ok group ∷ outcomes) =
+    IsOutcome setting state groups event (Ok group) × AreOutcomes setting (next setting state group.event) (groups ++ group ∷ []) events outcomes
+AreOutcomes setting state groups (event ∷ events) (Err refusal ∷ outcomes) =
+    IsOutcome setting state groups event (Err refusal) × AreOutcomes setting state groups events outcomes
+AreOutcomes setting state groups events outcomes = ⊥
+
+-- events were taken in order: the accepted ones are appended in order, and lead to the state; so many were accepted, and so many refused
+pub record AreTaken (before after : Journaled) (events : List Event) (counts : ℕ × ℕ) : Type 0 where
+  pub outcomes : List Outcome
+  pub each : AreOutcomes (setting_of before.managed) before.managed.state before.groups events outcomes
+  pub groups : after.groups ≡ before.groups ++ groups_left outcomes
+  pub left : after.managed ≡ after_events before.managed (map (λ (g : Group). g.event) (groups_left outcomes))
+  pub base : after.base ≡ before.base
+  pub accepts : counts.0 ≡ count_by is_ok outcomes
+  pub refuses : counts.1 ≡ count_by is_err outcomes

@@ -1,0 +1,26 @@
+-- What a patch that is gone again leaves behind.
+use Rattle.std.specs.Prelude.{◌≡◌, ℕ, false, List, drop, length, map}
+use Rattle.klp_types.specs.declared.shadow.ShadowKey.{ShadowKey}
+use Rattle.klp_types.specs.World.{variable}
+use Rattle.klp_machine.specs.declared.event.Event.{Event}
+use Rattle.klp_machine.specs.ShadowStep.{shadow_changes}
+use Rattle.klp_machine.specs.State.{is_installed}
+use Rattle.klp_round_trip.specs.Company.{company_keys, IsFairCompany}
+use Rattle.klp_round_trip.specs.Footprint.{SameFootprint}
+use Rattle.klp_journal.specs.Journal.{Group}
+use Rattle.klp_steps.specs.Managed.{setting_of}
+use Rattle.klp_core.specs.Journaled.{Journaled}
+
+-- the events that were appended, in order
+abbrev pub appended : Journaled → Journaled → List Event
+appended before after = map (λ (g : Group). g.event) (drop (length before.groups) after.groups)
+
+-- for each patch: where the events that were appended are a fair company of it, then the footprint over its variables is as before
+-- whenever it isn't installed, and all other shadow variables are those that the shadow events among them make
+pub record LeavesNoTrace (before after : Journaled) : Type 0 where
+  pub footprint : (patch : ℕ) → IsFairCompany (setting_of before.managed) patch before.managed.state (appended before after)
+      → is_installed after.managed.state patch ≡ false
+      → SameFootprint (setting_of before.managed) (company_keys (setting_of before.managed) before.managed.state patch) after.managed.state before.managed.state
+  pub outside : (patch : ℕ) → IsFairCompany (setting_of before.managed) patch before.managed.state (appended before after)
+      → (key : ShadowKey) → company_keys (setting_of before.managed) before.managed.state patch key ≡ false
+      → variable after.managed.state.world key ≡ variable (shadow_changes before.managed.state.world (appended before after)) key

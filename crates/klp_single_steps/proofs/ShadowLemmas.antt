@@ -1,0 +1,56 @@
+-- Shadow events, where nothing refuses them.
+use Rattle.std.proofs.Common.{◌≡◌, ℕ, Bool, true, false, List, [], map, Option, Some, None, Ok, is_some, refl, sym, ap, ◌∙◌}
+use Rattle.std.specs.Prelude.{◌∷◌}
+use Rattle.klp_types.specs.declared.record.Record.{Record}
+use Rattle.klp_types.specs.declared.shadow.ShadowKey.{ShadowKey}
+use Rattle.klp_types.specs.FirstOf.{first_of}
+use Rattle.klp_types.specs.Records.{RecordList}
+use Rattle.klp_types.specs.Script.{allocated}
+use Rattle.klp_types.specs.World.{Installed, World, with_variable}
+use Rattle.klp_machine.specs.declared.event.Event.{Event}
+use Rattle.klp_machine.specs.declared.event.Refusal.TheVariants.{Exists, Full}
+use Rattle.klp_machine.specs.declared.event.Reply.{Reply}
+use Rattle.klp_machine.specs.EventCalls.{calls}
+use Rattle.klp_machine.specs.Refusals.{refusal}
+use Rattle.klp_machine.specs.State.{with_world}
+use Rattle.klp_machine.specs.Step.{accepted}
+use Rattle.klp_catalog.specs.Catalog.{Catalog}
+use Rattle.klp_world.specs.Changes.{Changes}
+use Rattle.klp_steps.specs.declared.parts.Parts.{Parts}
+use Rattle.klp_steps.specs.Alone.{IsWorldTaken}
+use Rattle.klp_steps.specs.Events.{PartsTake}
+use Rattle.klp_steps.specs.Invariant.{Invariant}
+use Rattle.klp_steps.specs.Managed.{setting_of, managed_of}
+use Rattle.klp_steps.specs.StepLaws.{StepLaws}
+use Rattle.klp_single_steps.proofs.NotedLemmas.{emptied}
+
+-- what refuses nothing finds no variable
+pub not_there : (there full : Bool) → None ≡ first_of ((there, Exists) ∷ (full, Full) ∷ []) → there ≡ false
+not_there true full free = let no : ⊥ = cc in absurd no
+not_there false full free = refl
+
+-- a variable that isn't there is added
+pub added : (world : World) (key : ShadowKey) (value : ℕ) (found : Option ℕ) → is_some found ≡ false → allocated world key value found ≡ with_variable world key value
+added world key value None apart = refl
+added world key value (Some there) apart = let no : ⊥ = cc in absurd no
+
+-- the same patches are installed
+pub patches_stay : (world : World) (key : ShadowKey) (value : ℕ) (found : Option ℕ)
+    → map (λ (i : Installed). i.patch) (allocated world key value found).installed ≡ map (λ (i : Installed). i.patch) world.installed
+patches_stay world key value None = refl
+patches_stay world key value (Some there) = refl
+
+-- an event that nothing refuses, and that adds a variable where it isn't there, is taken
+pub alloc_taken : IsWorldTaken → StepLaws → (before : Parts) (catalog : Catalog) (world : World) (empty log : RecordList) (rows : List Record) (key : ShadowKey) (value : ℕ) (found : Option ℕ)
+    (event : Event) (reply : Reply) → Invariant before catalog
+    → None ≡ refusal (setting_of (managed_of before catalog)) (managed_of before catalog).state event
+    → calls (setting_of (managed_of before catalog)) (managed_of before catalog).state event ≡ []
+    → accepted (setting_of (managed_of before catalog)) (managed_of before catalog).state event
+    ≡ (reply, with_world (managed_of before catalog).state (allocated before.world key value found))
+    → empty ≡ emptied before.log → Changes before.world world empty log (allocated before.world key value found) rows
+    → PartsTake before (record before { world = world; log = log }) catalog catalog event (Ok reply)
+alloc_taken law steps before catalog world empty log rows key value found event reply holds free quiet is cleared changes =
+    law steps before catalog world log event reply holds (sym free) quiet
+    (is ∙ ap (λ (w : World). (reply, with_world (managed_of before catalog).state w)) (sym changes.world))
+    (ap (λ (w : World). map (λ (i : Installed). i.patch) w.installed) changes.world ∙ patches_stay before.world key value found)
+    (ap (λ (l : RecordList). l.room) changes.records ∙ ap (λ (l : RecordList). l.room) cleared ∙ holds.room)

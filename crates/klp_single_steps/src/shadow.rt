@@ -1,0 +1,135 @@
+//! The events that change shadow variables (shadow-vars, Implementation details).
+//!
+//! An event that is accepted empties the log, and notes there each variable that it changes, as it was.
+//! One that is refused changes nothing. A function of its own tells why an event is refused, or `None` where
+//! nothing refuses it; the removals have none, since nothing refuses them.
+ghost use Rattle.std.specs.Prelude.{◌≡◌, ◌<◌, ℕ, None, IfNone};
+ghost use Rattle.std.specs.FinMap as finite;
+ghost use Rattle.klp_types.specs.declared.limits.TheConstants.{MAX_VARIABLES};
+ghost use Rattle.klp_types.specs.World.{variable};
+ghost use Rattle.klp_machine.specs.Refusals.{is_full, refusal};
+ghost use Rattle.klp_machine.specs.declared.event.Event.TheVariants.{ShadowAlloc, ShadowGetOrAlloc, ShadowFree, ShadowFreeAll};
+ghost use Rattle.klp_catalog.specs.Catalog.{Catalog as AnyCatalog};
+ghost use Rattle.klp_steps.specs.Managed.{setting_of, managed_of};
+ghost use Rattle.klp_steps.specs.Invariant.{Invariant};
+ghost use Rattle.klp_steps.specs.Events.{PartsTake};
+ghost use Rattle.klp_steps.specs.Rows.{IsNoted};
+
+use klp_catalog::Catalog;
+use klp_machine::{Refusal, Reply};
+use klp_steps::Parts;
+use klp_steps::laws::{
+    changes_of_one_kind_are_taken, steps_keep, what_is_noted_gives_the_rows_back,
+};
+use klp_types::{MAX_VARIABLES, ShadowKey, ShadowValue};
+use klp_world::laws::{freed_and_left_are_all, what_is_noted_is_of_the_world};
+
+/// A variable that isn't there is added.
+pub fn shadow_alloc(
+    parts: &mut Parts,
+    catalog: &Catalog,
+    key: ShadowKey,
+    value: ShadowValue,
+) -> Result<Reply, Refusal>
+    requires { Invariant parts.old catalog.now }
+    ensures taken { PartsTake parts.old parts.new catalog.now catalog.now (ShadowAlloc key value) result }
+    ensures noted { IsNoted parts.old parts.new result }
+{
+    steps_keep();
+    changes_of_one_kind_are_taken();
+    what_is_noted_gives_the_rows_back();
+    what_is_noted_is_of_the_world();
+    if let Some(refusal) = shadow_alloc_refusal(parts, key) {
+        return Err(refusal);
+    }
+    parts.log.clear();
+    parts.world.alloc(key, value, &mut parts.log);
+    Ok(Reply::Done)
+}
+
+/// Why a variable isn't added, whatever its value.
+pub fn shadow_alloc_refusal(parts: &Parts, key: ShadowKey) -> Option<Refusal>
+    ensures refusal { (catalog : AnyCatalog) (value : ℕ) → result ≡ refusal (setting_of (managed_of parts.now catalog)) (managed_of parts.now catalog).state (ShadowAlloc key value) }
+    ensures room { IfNone result (finite.len parts.now.world.shadow < MAX_VARIABLES) }
+{
+    if parts.world.get(key).is_some() {
+        Some(Refusal::Exists)
+    } else if is_full(parts) {
+        Some(Refusal::Full)
+    } else {
+        None
+    }
+}
+
+/// The value of a variable, which is added where it isn't there.
+pub fn shadow_get_or_alloc(
+    parts: &mut Parts,
+    catalog: &Catalog,
+    key: ShadowKey,
+    value: ShadowValue,
+) -> Result<Reply, Refusal>
+    requires { Invariant parts.old catalog.now }
+    ensures taken { PartsTake parts.old parts.new catalog.now catalog.now (ShadowGetOrAlloc key value) result }
+    ensures noted { IsNoted parts.old parts.new result }
+{
+    steps_keep();
+    changes_of_one_kind_are_taken();
+    what_is_noted_gives_the_rows_back();
+    what_is_noted_is_of_the_world();
+    if let Some(refusal) = shadow_get_or_alloc_refusal(parts, key) {
+        return Err(refusal);
+    }
+    parts.log.clear();
+    let there = parts.world.get_or_alloc(key, value, &mut parts.log);
+    Ok(Reply::Value(there))
+}
+
+/// Why a variable that isn't there isn't added, whatever its value.
+pub fn shadow_get_or_alloc_refusal(parts: &Parts, key: ShadowKey) -> Option<Refusal>
+    ensures refusal { (catalog : AnyCatalog) (value : ℕ) → result ≡ refusal (setting_of (managed_of parts.now catalog)) (managed_of parts.now catalog).state (ShadowGetOrAlloc key value) }
+    ensures room { IfNone result (variable parts.now.world key ≡ None → finite.len parts.now.world.shadow < MAX_VARIABLES) }
+{
+    if parts.world.get(key).is_none() && is_full(parts) {
+        Some(Refusal::Full)
+    } else {
+        None
+    }
+}
+
+/// A variable is removed, where it is there.
+pub fn shadow_free(parts: &mut Parts, catalog: &Catalog, key: ShadowKey) -> Result<Reply, Refusal>
+    requires { Invariant parts.old catalog.now }
+    ensures taken { PartsTake parts.old parts.new catalog.now catalog.now (ShadowFree key) result }
+    ensures noted { IsNoted parts.old parts.new result }
+{
+    steps_keep();
+    changes_of_one_kind_are_taken();
+    what_is_noted_gives_the_rows_back();
+    what_is_noted_is_of_the_world();
+    parts.log.clear();
+    let was_there = parts.world.free(key, &mut parts.log);
+    Ok(Reply::Freed(u16::from(was_there)))
+}
+
+/// All variables of the id are removed. It walks over all variables.
+pub fn shadow_free_all(parts: &mut Parts, catalog: &Catalog, id: u64) -> Result<Reply, Refusal>
+    requires { Invariant parts.old catalog.now }
+    ensures taken { PartsTake parts.old parts.new catalog.now catalog.now (ShadowFreeAll id) result }
+    ensures noted { IsNoted parts.old parts.new result }
+{
+    steps_keep();
+    changes_of_one_kind_are_taken();
+    what_is_noted_gives_the_rows_back();
+    what_is_noted_is_of_the_world();
+    freed_and_left_are_all();
+    parts.log.clear();
+    let freed = parts.world.free_all(id, &mut parts.log);
+    Ok(Reply::Freed(freed))
+}
+
+/// Whether no shadow variable can be added.
+fn is_full(parts: &Parts) -> bool
+    ensures { result ≡ is_full parts.now.world }
+{
+    usize::from(parts.world.count()) >= MAX_VARIABLES
+}

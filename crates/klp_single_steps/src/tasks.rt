@@ -1,0 +1,343 @@
+//! The events of tasks (livepatch, Consistency model). Each costs the same whatever is installed.
+//!
+//! An event that is accepted changes one task's row, and the log holds that row alone afterwards, as it
+//! was. One that is refused changes nothing. A function of its own tells why an event is refused, or `None`
+//! where nothing refuses it.
+ghost use Rattle.std.specs.Prelude.{◌≡◌, ◌<◌, not, true, false, ℕ, List, [], ◌∷◌, length, is_some, option_map, IfOk, IfNone};
+ghost use Rattle.std.specs.List.{list_any};
+ghost use Rattle.klp_types.specs.declared.limits.TheConstants.{MAX_RECORDS, MAX_TASKS};
+ghost use Rattle.klp_types.specs.declared.task.Task.{Task as AnyTask};
+ghost use Rattle.klp_types.specs.FirstOf.{first_of};
+ghost use Rattle.klp_machine.specs.declared.event.Event.TheVariants.{NewTask, Fork, EndTask, EnterKernel, ExitToUser, Sleep, Wake};
+ghost use Rattle.klp_machine.specs.declared.event.Refusal.TheVariants.{NoTask, WrongMode};
+ghost use Rattle.klp_machine.specs.Task.{task_at, is_in};
+ghost use Rattle.klp_machine.specs.TaskStep.{state_wanted, frames_of};
+ghost use Rattle.klp_machine.specs.Frames.{is_bad};
+ghost use Rattle.klp_machine.specs.Refusals.{refusal};
+ghost use Rattle.klp_catalog.specs.Catalog.{Catalog as AnyCatalog};
+ghost use Rattle.klp_steps.specs.Managed.{setting_of, managed_of};
+ghost use Rattle.klp_steps.specs.Invariant.{Invariant};
+ghost use Rattle.klp_steps.specs.Events.{PartsTake, PartsTakeAlone};
+ghost use Rattle.klp_steps.specs.Rows.{IsNoted};
+
+use klp_catalog::Catalog;
+use klp_machine::{Refusal, Reply};
+use klp_steps::Parts;
+use klp_steps::laws::{
+    changes_of_one_kind_are_taken, steps_keep, what_is_noted_gives_the_rows_back,
+};
+use klp_tasks::laws::rows_change_as_the_step_says;
+use klp_types::{Frames, MAX_TASKS, Mode, Move, Record, TaskId, Version};
+
+/// A task begins, in user space.
+pub fn new_task(parts: &mut Parts, task: TaskId) -> Result<Reply, Refusal>
+    requires room { parts.old.log.room ≡ MAX_RECORDS }
+    ensures taken { PartsTakeAlone parts.old parts.new (NewTask task) result }
+    ensures noted { IsNoted parts.old parts.new result }
+    ensures one { IfOk result (λ reply. length parts.new.log.noted ≡ 1) }
+{
+    steps_keep();
+    changes_of_one_kind_are_taken();
+    what_is_noted_gives_the_rows_back();
+    if let Some(refusal) = new_task_refusal(parts, task) {
+        return Err(refusal);
+    }
+    let row = parts.tasks.add(task, state_wanted(parts.moving));
+    note_alone(parts, row);
+    Ok(Reply::Done)
+}
+
+/// Why a task doesn't begin.
+pub fn new_task_refusal(parts: &Parts, task: TaskId) -> Option<Refusal>
+    ensures refusal { (catalog : AnyCatalog) → result ≡ refusal (setting_of (managed_of parts.now catalog)) (managed_of parts.now catalog).state (NewTask task) }
+    ensures number { IfNone result (task < MAX_TASKS) }
+    ensures free { IfNone result (is_some (task_at parts.now.tasks task) ≡ false) }
+{
+    if usize::from(task.0) >= MAX_TASKS {
+        Some(Refusal::NoTask)
+    } else if is_there(parts, task) {
+        Some(Refusal::TaskThere)
+    } else {
+        None
+    }
+}
+
+/// A task in the kernel, the first one, makes another.
+pub fn fork(parts: &mut Parts, parent: TaskId, child: TaskId) -> Result<Reply, Refusal>
+    requires room { parts.old.log.room ≡ MAX_RECORDS }
+    ensures taken { PartsTakeAlone parts.old parts.new (Fork parent child) result }
+    ensures noted { IsNoted parts.old parts.new result }
+    ensures one { IfOk result (λ reply. length parts.new.log.noted ≡ 1) }
+{
+    steps_keep();
+    changes_of_one_kind_are_taken();
+    what_is_noted_gives_the_rows_back();
+    if let Some(refusal) = fork_refusal(parts, parent, child) {
+        return Err(refusal);
+    }
+    let row = parts.tasks.fork(parent, child);
+    note_alone(parts, row);
+    Ok(Reply::Done)
+}
+
+/// Why a task doesn't make another.
+pub fn fork_refusal(parts: &Parts, parent: TaskId, child: TaskId) -> Option<Refusal>
+    ensures refusal { (catalog : AnyCatalog) → result ≡ refusal (setting_of (managed_of parts.now catalog)) (managed_of parts.now catalog).state (Fork parent child) }
+    ensures there { IfNone result (is_some (task_at parts.now.tasks parent) ≡ true) }
+    ensures number { IfNone result (child < MAX_TASKS) }
+    ensures free { IfNone result (is_some (task_at parts.now.tasks child) ≡ false) }
+{
+    if !is_there(parts, parent) || usize::from(child.0) >= MAX_TASKS {
+        Some(Refusal::NoTask)
+    } else if is_there(parts, child) {
+        Some(Refusal::TaskThere)
+    } else if !is_in(parts, parent, Mode::Kernel) {
+        Some(Refusal::WrongMode)
+    } else {
+        None
+    }
+}
+
+/// A task that isn't asleep ends.
+pub fn end_task(parts: &mut Parts, task: TaskId) -> Result<Reply, Refusal>
+    requires room { parts.old.log.room ≡ MAX_RECORDS }
+    ensures taken { PartsTakeAlone parts.old parts.new (EndTask task) result }
+    ensures noted { IsNoted parts.old parts.new result }
+    ensures one { IfOk result (λ reply. length parts.new.log.noted ≡ 1) }
+{
+    steps_keep();
+    changes_of_one_kind_are_taken();
+    what_is_noted_gives_the_rows_back();
+    if let Some(refusal) = end_task_refusal(parts, task) {
+        return Err(refusal);
+    }
+    let row = parts.tasks.end(task);
+    note_alone(parts, row);
+    Ok(Reply::Done)
+}
+
+/// Why a task doesn't end.
+pub fn end_task_refusal(parts: &Parts, task: TaskId) -> Option<Refusal>
+    ensures refusal { (catalog : AnyCatalog) → result ≡ refusal (setting_of (managed_of parts.now catalog)) (managed_of parts.now catalog).state (EndTask task) }
+    ensures there { IfNone result (is_some (task_at parts.now.tasks task) ≡ true) }
+{
+    if !is_there(parts, task) {
+        Some(Refusal::NoTask)
+    } else if is_in(parts, task, Mode::Asleep) {
+        Some(Refusal::WrongMode)
+    } else {
+        None
+    }
+}
+
+/// A task enters the kernel.
+pub fn enter_kernel(parts: &mut Parts, task: TaskId) -> Result<Reply, Refusal>
+    requires room { parts.old.log.room ≡ MAX_RECORDS }
+    ensures taken { PartsTakeAlone parts.old parts.new (EnterKernel task) result }
+    ensures noted { IsNoted parts.old parts.new result }
+    ensures one { IfOk result (λ reply. length parts.new.log.noted ≡ 1) }
+{
+    steps_keep();
+    changes_of_one_kind_are_taken();
+    what_is_noted_gives_the_rows_back();
+    rows_change_as_the_step_says();
+    if let Some(refusal) = enter_kernel_refusal(parts, task) {
+        return Err(refusal);
+    }
+    let row = parts.tasks.enter(task);
+    note_alone(parts, row);
+    Ok(Reply::Done)
+}
+
+/// Why a task doesn't enter the kernel.
+pub fn enter_kernel_refusal(parts: &Parts, task: TaskId) -> Option<Refusal>
+    ensures refusal { (catalog : AnyCatalog) → result ≡ refusal (setting_of (managed_of parts.now catalog)) (managed_of parts.now catalog).state (EnterKernel task) }
+    ensures there { IfNone result (is_some (task_at parts.now.tasks task) ≡ true) }
+{
+    refusal_unless_in(parts, task, Mode::User)
+}
+
+/// A task goes back to user space. It is brought to the target of whatever moves.
+pub fn exit_to_user(parts: &mut Parts, task: TaskId) -> Result<Reply, Refusal>
+    requires room { parts.old.log.room ≡ MAX_RECORDS }
+    ensures taken { PartsTakeAlone parts.old parts.new (ExitToUser task) result }
+    ensures noted { IsNoted parts.old parts.new result }
+    ensures one { IfOk result (λ reply. length parts.new.log.noted ≡ 1) }
+{
+    steps_keep();
+    changes_of_one_kind_are_taken();
+    what_is_noted_gives_the_rows_back();
+    rows_change_as_the_step_says();
+    if let Some(refusal) = exit_to_user_refusal(parts, task) {
+        return Err(refusal);
+    }
+    let row = parts.tasks.leave(task, parts.moving);
+    note_alone(parts, row);
+    Ok(Reply::Done)
+}
+
+/// Why a task doesn't go back to user space.
+pub fn exit_to_user_refusal(parts: &Parts, task: TaskId) -> Option<Refusal>
+    ensures refusal { (catalog : AnyCatalog) → result ≡ refusal (setting_of (managed_of parts.now catalog)) (managed_of parts.now catalog).state (ExitToUser task) }
+    ensures there { IfNone result (is_some (task_at parts.now.tasks task) ≡ true) }
+{
+    refusal_unless_in(parts, task, Mode::Kernel)
+}
+
+/// A task falls asleep inside of these functions. It looks at each of them.
+pub fn sleep(
+    parts: &mut Parts,
+    catalog: &Catalog,
+    task: TaskId,
+    frames: Frames,
+) -> Result<Reply, Refusal>
+    requires { Invariant parts.old catalog.now }
+    ensures taken { PartsTake parts.old parts.new catalog.now catalog.now (Sleep task frames) result }
+    ensures noted { IsNoted parts.old parts.new result }
+    ensures one { IfOk result (λ reply. length parts.new.log.noted ≡ 1) }
+{
+    steps_keep();
+    changes_of_one_kind_are_taken();
+    what_is_noted_gives_the_rows_back();
+    rows_change_as_the_step_says();
+    if let Some(refusal) = sleep_refusal(parts, catalog, task, &frames) {
+        return Err(refusal);
+    }
+    let row = parts.tasks.sleep(task, frames);
+    note_alone(parts, row);
+    Ok(Reply::Done)
+}
+
+/// Why a task doesn't fall asleep inside of these functions. It looks at each of them.
+pub fn sleep_refusal(
+    parts: &Parts,
+    catalog: &Catalog,
+    task: TaskId,
+    frames: &Frames,
+) -> Option<Refusal>
+    requires { Invariant parts.now catalog.now }
+    ensures refusal { result ≡ refusal (setting_of (managed_of parts.now catalog.now)) (managed_of parts.now catalog.now).state (Sleep task frames.now) }
+    ensures there { IfNone result (is_some (task_at parts.now.tasks task) ≡ true) }
+{
+    if !is_there(parts, task) {
+        Some(Refusal::NoTask)
+    } else if !is_in(parts, task, Mode::Kernel) {
+        Some(Refusal::WrongMode)
+    } else if has_bad(parts, catalog, frames) {
+        Some(Refusal::BadFrame)
+    } else {
+        None
+    }
+}
+
+/// A task wakes up in the kernel.
+pub fn wake(parts: &mut Parts, task: TaskId) -> Result<Reply, Refusal>
+    requires room { parts.old.log.room ≡ MAX_RECORDS }
+    ensures taken { PartsTakeAlone parts.old parts.new (Wake task) result }
+    ensures noted { IsNoted parts.old parts.new result }
+    ensures one { IfOk result (λ reply. length parts.new.log.noted ≡ 1) }
+{
+    steps_keep();
+    changes_of_one_kind_are_taken();
+    what_is_noted_gives_the_rows_back();
+    rows_change_as_the_step_says();
+    if let Some(refusal) = wake_refusal(parts, task) {
+        return Err(refusal);
+    }
+    let frames = frames_of(parts, task);
+    let row = parts.tasks.wake(task);
+    note_alone(parts, row);
+    Ok(Reply::Woken(frames))
+}
+
+/// Why a task doesn't wake up.
+pub fn wake_refusal(parts: &Parts, task: TaskId) -> Option<Refusal>
+    ensures refusal { (catalog : AnyCatalog) → result ≡ refusal (setting_of (managed_of parts.now catalog)) (managed_of parts.now catalog).state (Wake task) }
+    ensures there { IfNone result (is_some (task_at parts.now.tasks task) ≡ true) }
+{
+    refusal_unless_in(parts, task, Mode::Asleep)
+}
+
+/// Why a task isn't there in this mode.
+fn refusal_unless_in(parts: &Parts, task: TaskId, mode: Mode) -> Option<Refusal>
+    ensures refusal { result ≡ first_of ((not (is_some (task_at parts.now.tasks task)), NoTask) ∷ (not (is_in mode (task_at parts.now.tasks task)), WrongMode) ∷ []) }
+    ensures there { IfNone result (is_some (task_at parts.now.tasks task) ≡ true) }
+{
+    if !is_there(parts, task) {
+        Some(Refusal::NoTask)
+    } else if !is_in(parts, task, mode) {
+        Some(Refusal::WrongMode)
+    } else {
+        None
+    }
+}
+
+/// The log holds the row alone.
+fn note_alone(parts: &mut Parts, row: Record)
+    requires { parts.old.log.room ≡ MAX_RECORDS }
+    ensures { parts.new ≡ record parts.old { log = record parts.old.log { noted = row ∷ [] } } }
+{
+    parts.log.clear();
+    parts.log.note(row);
+}
+
+/// The state of a task that is brought to whatever moves.
+fn state_wanted(moving: Option<Move>) -> i8
+    ensures { result ≡ state_wanted moving }
+{
+    match moving {
+        None => -1,
+        Some(moving) => i8::from(moving.target),
+    }
+}
+
+/// Whether there is a task of this number.
+fn is_there(parts: &Parts, task: TaskId) -> bool
+    ensures { result ≡ is_some (task_at parts.now.tasks task) }
+{
+    parts.tasks.get(task).is_some()
+}
+
+/// Whether a task is there and in this mode.
+fn is_in(parts: &Parts, task: TaskId, mode: Mode) -> bool
+    ensures { result ≡ is_in mode (task_at parts.now.tasks task) }
+{
+    match parts.tasks.get(task) {
+        Some(row) => row.mode == mode,
+        None => false,
+    }
+}
+
+/// What a task is inside of.
+fn frames_of(parts: &Parts, task: TaskId) -> Frames
+    ensures { result ≡ frames_of (task_at parts.now.tasks task) }
+{
+    match parts.tasks.get(task) {
+        Some(row) => row.frames,
+        None => Frames::new(),
+    }
+}
+
+/// Whether image or catalog don't have a version.
+fn is_bad(parts: &Parts, catalog: &Catalog, version: Version) -> bool
+    requires { Invariant parts.now catalog.now }
+    ensures { result ≡ is_bad (setting_of (managed_of parts.now catalog.now)) version }
+{
+    match version {
+        Version::Original(site) => usize::from(site.0) >= parts.sites.sites(),
+        Version::New(patch, function) => { usize::from(function) >= catalog.functions(patch).len() }
+    }
+}
+
+/// Whether they don't have one of these.
+fn has_bad(parts: &Parts, catalog: &Catalog, frames: &Frames) -> bool
+    requires { Invariant parts.now catalog.now }
+    ensures { result ≡ list_any (is_bad (setting_of (managed_of parts.now catalog.now))) frames.now }
+{
+    for place in 0..frames.len() {
+        if is_bad(parts, catalog, frames.at(place).unwrap()) {
+            return true;
+        }
+    }
+    false
+}

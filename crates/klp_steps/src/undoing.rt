@@ -1,0 +1,39 @@
+//! What an event noted is put back.
+ghost use Rattle.std.specs.Prelude.{◌≡◌, length};
+ghost use Rattle.klp_steps.specs.Rows.{rows_in, put_back, undone};
+
+use crate::moving::moving_before;
+use crate::parts::Parts;
+use klp_types::Record;
+
+impl Parts {
+    /// Gives each row what its record tells, the newest record, which stands last, first. It costs as
+    /// much as there are records. No callback runs.
+    pub fn undo(&mut self, rows: &[Record])
+        requires modules { self.old.modules.loaded ≡ self.old.sites.loaded }
+        requires objects { length self.old.sites.loaded ≡ length self.old.sites.image.objects }
+        ensures rows { rows_in self.new ≡ undone (rows_in self.old) rows.now }
+        ensures modules { self.new.modules ≡ record self.old.modules { loaded = self.new.sites.loaded } }
+        ensures log { self.new.log ≡ self.old.log }
+    {
+        for place in (0..rows.len()).rev() {
+            self.put_back(&rows[place]);
+        }
+    }
+
+    /// Gives one row what its record tells.
+    fn put_back(&mut self, row: &Record)
+        requires modules { self.old.modules.loaded ≡ self.old.sites.loaded }
+        requires objects { length self.old.sites.loaded ≡ length self.old.sites.image.objects }
+        ensures rows { rows_in self.new ≡ put_back (rows_in self.old) row.now }
+        ensures modules { self.new.modules ≡ record self.old.modules { loaded = self.new.sites.loaded } }
+        ensures log { self.new.log ≡ self.old.log }
+    {
+        self.world.put_back(*row);
+        self.sites.put_back(*row);
+        self.modules.put_back(*row);
+        self.tasks.put_back(*row);
+        self.pinned.put_back(*row);
+        self.moving = moving_before(self.moving, *row);
+    }
+}
