@@ -21,7 +21,8 @@ use Rattle.klp_core.specs.declared.fault.BootFault.{BootFault}
 use Rattle.klp_core.specs.declared.fault.BootFault.TheVariants as boot
 use Rattle.klp_core.specs.Boot.{symbol_counts, name_counts, IsMatch}
 use Rattle.klp_machine.specs.Opening.{opening_state}
-use Rattle.klp_steps.specs.Managed.{Managed, setting_of}
+use Rattle.klp_core.specs.Journaled.{Journaled}
+use Rattle.klp_steps.specs.Managed.{setting_of}
 use Rattle.std.specs.Result.{IsErrAnd, IfErr}
 use Rattle.klp_program.specs.declared.fault.Fault.{Fault}
 use Rattle.klp_program.specs.declared.fault.Fault.TheVariants as faults
@@ -32,24 +33,30 @@ pub scripts_made : (scripts : List Script) → scripts_told (map never_ran scrip
 scripts_made [] = refl
 scripts_made (script ∷ scripts) = ap (λ (l : List Script). script ∷ l) (scripts_made scripts)
 
-pub booted_over : (plan after : Plan) (handler : ℕ) (objects : List Object) (callbacks : List Told) (image : TextImage) (modules : ModuleTable) (catalog : Catalog) (manager : Managed)
+pub booted_over : (plan after : Plan) (handler : ℕ) (objects : List Object) (callbacks : List Told) (image : TextImage) (modules : ModuleTable) (catalog : Catalog) (manager : Journaled)
     → after ≡ record plan { objects = [] } → objects ≡ plan.objects → handler ≡ after.handler
     → callbacks ≡ map never_ran (scripts_of plan.patches)
     → image ≡ text.opening handler objects → modules ≡ names.opening image.image.objects
     → catalog.names ≡ modules.names → map without_scripts catalog.patches ≡ map without_scripts after.patches
     → scripts_of catalog.patches ≡ scripts_told callbacks → HasCounts catalog.patches catalog.runs → catalog.runs ≡ counts_told callbacks
-    → manager ≡ record { image = image.image; catalog = catalog; state = opening_state (record { image = image.image; patches = patches_of catalog }) }
+    → manager ≡ record {
+      managed = record { image = image.image; catalog = catalog; state = opening_state (record { image = image.image; patches = patches_of catalog }) };
+      base = opening_state (record { image = image.image; patches = patches_of catalog });
+      groups = [];
+    }
     → IsBootedOver plan manager
 booted_over plan after handler objects callbacks image modules catalog manager rest taken handled given made numbered named patched scripted shaped counted booted =
     let over : image.image ≡ image_of plan = rw (made, handled, taken, rest) refl in
     record {
-      image = ap (λ (m : Managed). m.image) booted ∙ over;
-      names = ap (λ (m : Managed). m.catalog.names) booted ∙ named ∙ ap (λ (m : ModuleTable). m.names) numbered ∙ ap (λ (i : Image). names.names_of i.objects) over;
-      patches = ap (λ (m : Managed). map without_scripts m.catalog.patches) booted ∙ patched ∙ ap (λ (p : Plan). map without_scripts p.patches) rest;
-      scripts = ap (λ (m : Managed). scripts_of m.catalog.patches) booted ∙ scripted ∙ ap scripts_told given ∙ scripts_made (scripts_of plan.patches);
-      shape = subst (λ (m : Managed). HasCounts m.catalog.patches m.catalog.runs) (sym booted) shaped;
-      counts = ap (λ (m : Managed). m.catalog.runs) booted ∙ counted ∙ ap counts_told given;
-      state = subst (λ (m : Managed). m.state ≡ opening_state (setting_of m)) (sym booted) refl;
+      image = ap (λ (m : Journaled). m.managed.image) booted ∙ over;
+      names = ap (λ (m : Journaled). m.managed.catalog.names) booted ∙ named ∙ ap (λ (m : ModuleTable). m.names) numbered ∙ ap (λ (i : Image). names.names_of i.objects) over;
+      patches = ap (λ (m : Journaled). map without_scripts m.managed.catalog.patches) booted ∙ patched ∙ ap (λ (p : Plan). map without_scripts p.patches) rest;
+      scripts = ap (λ (m : Journaled). scripts_of m.managed.catalog.patches) booted ∙ scripted ∙ ap scripts_told given ∙ scripts_made (scripts_of plan.patches);
+      shape = subst (λ (m : Journaled). HasCounts m.managed.catalog.patches m.managed.catalog.runs) (sym booted) shaped;
+      counts = ap (λ (m : Journaled). m.managed.catalog.runs) booted ∙ counted ∙ ap counts_told given;
+      state = subst (λ (m : Journaled). m.managed.state ≡ opening_state (setting_of m.managed)) (sym booted) refl;
+      base = subst (λ (m : Journaled). m.base ≡ m.managed.state) (sym booted) refl;
+      groups = ap (λ (m : Journaled). m.groups) booted;
     }
 
 named_handler : (plan after : Plan) (handler : ℕ) → after ≡ record plan { objects = [] } → handler ≡ after.handler → handler ≡ plan.handler

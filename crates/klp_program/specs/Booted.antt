@@ -1,5 +1,5 @@
 -- Which manager a plan boots.
-use Rattle.std.specs.Prelude.{◌≡◌, ◌⊎◌, length, map, Some, None}
+use Rattle.std.specs.Prelude.{◌≡◌, ◌⊎◌, [], length, map, Some, None}
 use Rattle.klp_types.specs.Image as types
 use Rattle.klp_text.specs.declared.fault.ImageFault.TheVariants as image
 use Rattle.klp_text.specs.Faults.{image_fault}
@@ -12,7 +12,8 @@ use Rattle.klp_catalog.specs.Assembled.{without_scripts, counts_told, IsAssemble
 use Rattle.klp_catalog.specs.Runs.{HasCounts}
 use Rattle.klp_core.specs.declared.fault.BootFault.TheVariants as boot
 use Rattle.klp_machine.specs.Opening.{opening_state}
-use Rattle.klp_steps.specs.Managed.{Managed, setting_of}
+use Rattle.klp_core.specs.Journaled.{Journaled}
+use Rattle.klp_steps.specs.Managed.{setting_of}
 use Rattle.klp_program.specs.declared.fault.Fault.{Fault}
 use Rattle.klp_program.specs.declared.fault.Fault.TheVariants.{NoMemory, Image, Assemble, Boot}
 
@@ -25,15 +26,18 @@ abbrev pub image_of : Plan → types.Image
 image_of plan = record { handler = plan.handler; objects = plan.objects }
 
 -- the manager is that of a plan: over the image of its objects, with its patches over the names of that
--- image and its scripts in the order of the text; there is a count for each callback, none ran, and the state is the opening one
-pub record IsBootedOver (plan : Plan) (manager : Managed) : Type 0 where
-  pub image : manager.image ≡ image_of plan
-  pub names : manager.catalog.names ≡ names_of plan.objects
-  pub patches : map without_scripts manager.catalog.patches ≡ map without_scripts plan.patches
-  pub scripts : scripts_of manager.catalog.patches ≡ scripts_of plan.patches
-  pub shape : HasCounts manager.catalog.patches manager.catalog.runs
-  pub counts : manager.catalog.runs ≡ counts_told (map never_ran (scripts_of plan.patches))
-  pub state : manager.state ≡ opening_state (setting_of manager)
+-- image and its scripts in the order of the text; there is a count for each callback, none ran, and the state is the opening one.
+-- No event stands, and what events will be taken back to is this state
+pub record IsBootedOver (plan : Plan) (manager : Journaled) : Type 0 where
+  pub image : manager.managed.image ≡ image_of plan
+  pub names : manager.managed.catalog.names ≡ names_of plan.objects
+  pub patches : map without_scripts manager.managed.catalog.patches ≡ map without_scripts plan.patches
+  pub scripts : scripts_of manager.managed.catalog.patches ≡ scripts_of plan.patches
+  pub shape : HasCounts manager.managed.catalog.patches manager.managed.catalog.runs
+  pub counts : manager.managed.catalog.runs ≡ counts_told (map never_ran (scripts_of plan.patches))
+  pub state : manager.managed.state ≡ opening_state (setting_of manager.managed)
+  pub base : manager.base ≡ manager.managed.state
+  pub groups : manager.groups ≡ []
 
 -- why a plan isn't booted: a fault of the image; else one of the catalog, which has the names of that image and a
 -- callback for each script; want of memory may stand in place of the others

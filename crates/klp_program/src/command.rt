@@ -3,7 +3,7 @@
 use crate::word::{first_word, is_end, one, text, three, two};
 use klp_line::{number64, spelling_of};
 use klp_machine::Event;
-use klp_types::{MAX_FRAMES, ShadowKey};
+use klp_types::{MAX_FRAMES, ShadowKey, ShadowValue};
 
 /// Where the files of the patches stand.
 const PATCHES: &[u8] = b"/sys/kernel/livepatch";
@@ -30,6 +30,10 @@ pub(crate) enum Command<'a> {
     BadValue,
     /// What a task does, by its number.
     Task(u64, TaskCommand<'a>),
+    /// To take all standing events back but for the first so many.
+    Rewind(u32),
+    /// To keep nothing that events can be taken back by.
+    Seal,
     /// A look, which changes nothing.
     Look(Look<'a>),
 }
@@ -73,6 +77,8 @@ pub(crate) enum Look<'a> {
     Pick(u64, &'a [u8]),
     /// How often the callbacks of a patch for an object ran.
     Runs(&'a [u8], &'a [u8]),
+    /// How many accepted events stand.
+    Mark,
 }
 
 /// A line without its line feed.
@@ -103,6 +109,15 @@ fn key(obj: &[u8], id: &[u8]) -> Option<ShadowKey> {
         obj: number64(obj)?,
         id: number64(id)?,
     })
+}
+
+/// A number of standing events.
+fn mark(word: &[u8]) -> Option<u32> {
+    u32::try_from(number64(word)?).ok()
+}
+
+fn shadow_value(word: &[u8]) -> Option<ShadowValue> {
+    number64(word)
 }
 
 /// A word that spells a symbol.
@@ -215,12 +230,12 @@ fn shadow<'a>(verb: &str, words: &[u8]) -> Option<Command<'a>> {
     match verb {
         "alloc" => {
             let (obj, id, value) = three(words)?;
-            let event = Event::ShadowAlloc(key(obj, id)?, number64(value)?);
+            let event = Event::ShadowAlloc(key(obj, id)?, shadow_value(value)?);
             Some(Command::Event(event))
         }
         "getalloc" => {
             let (obj, id, value) = three(words)?;
-            let event = Event::ShadowGetOrAlloc(key(obj, id)?, number64(value)?);
+            let event = Event::ShadowGetOrAlloc(key(obj, id)?, shadow_value(value)?);
             Some(Command::Event(event))
         }
         "free" => {
@@ -271,6 +286,8 @@ fn command_of<'a>(first: &str, words: &'a [u8]) -> Option<Command<'a>> {
             let (verb, rest) = first_word(words)?;
             shadow(text(verb)?, rest)
         }
+        "rewind" => Some(Command::Rewind(mark(one(words)?)?)),
+        "seal" if is_end(words) => Some(Command::Seal),
         _ => Some(Command::Look(look_of(first, words)?)),
     }
 }
@@ -290,6 +307,7 @@ fn look_of<'a>(first: &str, words: &'a [u8]) -> Option<Look<'a>> {
             let (patch, object) = two(words)?;
             Some(Look::Runs(name(patch)?, name(object)?))
         }
+        "mark" if is_end(words) => Some(Look::Mark),
         _ => None,
     }
 }

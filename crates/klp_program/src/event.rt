@@ -1,9 +1,20 @@
-//! The event that a line asks for.
+//! The event that a line asks for, or what else it asks to be done with the manager.
 
 use crate::command::{Command, TaskCommand};
 use crate::names;
 use klp_core::Manager;
 use klp_machine::{Event, Refusal};
+
+/// What is to be done with the manager.
+#[derive(Clone, Copy)]
+pub(crate) enum Change {
+    /// To take an event.
+    Apply(Event),
+    /// To take all standing events back but for the first so many.
+    Rewind(u32),
+    /// To keep nothing that events can be taken back by.
+    Seal,
+}
 
 fn of_task(manager: &Manager, task: u64, command: &TaskCommand<'_>) -> Result<Event, Refusal> {
     let task = names::task(task)?;
@@ -31,6 +42,26 @@ pub(crate) fn event_of(manager: &Manager, command: &Command<'_>) -> Result<Optio
         }
         Command::Force(patch, true) => Event::Force(names::patch(manager, patch)?),
         Command::Task(task, ref command) => of_task(manager, task, command)?,
-        Command::Force(_, false) | Command::BadValue | Command::Look(_) => return Ok(None),
+        Command::Force(_, false)
+        | Command::BadValue
+        | Command::Look(_)
+        | Command::Rewind(_)
+        | Command::Seal => return Ok(None),
     }))
+}
+
+/// What a line asks to be done with the manager; `None` where it asks for nothing that changes it. A
+/// name that isn't known refuses it.
+pub(crate) fn change_of(
+    manager: &Manager,
+    command: &Command<'_>,
+) -> Result<Option<Change>, Refusal> {
+    match *command {
+        Command::Rewind(mark) => Ok(Some(Change::Rewind(mark))),
+        Command::Seal => Ok(Some(Change::Seal)),
+        _ => match event_of(manager, command)? {
+            Some(event) => Ok(Some(Change::Apply(event))),
+            None => Ok(None),
+        },
+    }
 }

@@ -152,6 +152,11 @@ fn variable<W: Write>(manager: &Manager, key: ShadowKey, output: &mut W) -> Resu
     })?)
 }
 
+/// How many accepted events stand.
+fn mark<W: Write>(manager: &Manager, output: &mut W) -> Result<(), Unseen> {
+    Ok(wrote(writeln!(output, "{}", manager.mark()))?)
+}
+
 /// Writes what a line asks to see.
 pub(crate) fn look<W: Write>(
     alloc: Global,
@@ -183,5 +188,6 @@ pub(crate) fn look<W: Write>(
             let patch = names::patch(manager, name)?;
             runs(manager, patch, names::object(manager, object)?, output)
         }
+        Look::Mark => mark(manager, output),
     }
 }

@@ -5,7 +5,7 @@ ghost use Rattle.klp_steps.specs.Managed.{setting_of};
 use crate::arguments::told;
 use crate::booted::boot;
 use crate::command::{Command, Line, read};
-use crate::event::event_of;
+use crate::event::{Change, change_of};
 use crate::fault::Fault;
 use crate::kind::{Kind, callback_of};
 use crate::look::{Unseen, look};
@@ -13,12 +13,20 @@ use crate::write::wrote;
 use crate::{names, write};
 use klp_callback::Boxed;
 use klp_catalog::Catalog;
-use klp_core::Manager;
-use klp_machine::{Event, Refusal, Reply};
+use klp_core::{BadMark, Manager};
+use klp_machine::{Refusal, Reply};
 use std::alloc::Global;
 use std::io::{BufRead, Write};
 
-// Answers a line that asks for no event.
+// What the manager answered to what was done with it.
+#[derive(Clone, Copy)]
+enum Answer {
+    Applied(Result<Reply, Refusal>),
+    Rewound(Result<(), BadMark>),
+    Sealed,
+}
+
+// Answers a line that asks for nothing that changes the manager.
 fn answer_other<W: Write>(
     alloc: Global,
     manager: &Manager,
@@ -29,26 +37,26 @@ fn answer_other<W: Write>(
         Command::Look(asked) => look(alloc, manager, asked, output),
         Command::Force(name, _) => {
             names::installed(manager, names::patch(manager, name)?)?;
-            Ok(wrote(writeln!(output, "ok"))?)
+            Ok(write::done(output)?)
         }
         _ => Ok(wrote(writeln!(output, "error 22 BadValue"))?),
     }
 }
 
-// Answers a line that asks for no event, or whose names aren't known; else tells the event.
-fn answer_or_event<W: Write>(
+// Answers a line that changes nothing, or whose names aren't known; else tells what it asks to be done.
+fn answer_or_change<W: Write>(
     alloc: Global,
     manager: &Manager,
     line: &Line<'_>,
     output: &mut W,
-) -> Result<Option<Event>, Unseen> {
+) -> Result<Option<Change>, Unseen> {
     match line {
         Line::Command(command) => {
-            let event = event_of(manager, command)?;
-            if event.is_none() {
+            let change = change_of(manager, command)?;
+            if change.is_none() {
                 answer_other(alloc, manager, command, output)?;
             }
-            Ok(event)
+            Ok(change)
         }
         Line::Bad => {
             wrote(writeln!(output, "error 22 BadLine"))?;
@@ -64,9 +72,9 @@ fn asked<W: Write>(
     manager: &Manager,
     line: &Line<'_>,
     output: &mut W,
-) -> Result<Option<Event>, Fault> {
-    match answer_or_event(alloc, manager, line, output) {
-        Ok(event) => Ok(event),
+) -> Result<Option<Change>, Fault> {
+    match answer_or_change(alloc, manager, line, output) {
+        Ok(change) => Ok(change),
         Err(Unseen::Refused(refusal)) => {
             write::refusal(refusal, output)?;
             Ok(None)
@@ -75,15 +83,12 @@ fn asked<W: Write>(
     }
 }
 
-// What an event answered.
-fn write_answer<W: Write>(
-    manager: &Manager,
-    answer: &Result<Reply, Refusal>,
-    output: &mut W,
-) -> Result<(), Fault> {
+fn write_answer<W: Write>(manager: &Manager, answer: &Answer, output: &mut W) -> Result<(), Fault> {
     match answer {
-        Ok(reply) => write::reply(manager, reply, output),
-        Err(refusal) => write::refusal(*refusal, output),
+        Answer::Applied(Ok(reply)) => write::reply(manager, reply, output),
+        Answer::Applied(Err(refusal)) => write::refusal(*refusal, output),
+        Answer::Rewound(Err(fault)) => write::bad_mark(*fault, output),
+        Answer::Rewound(Ok(())) | Answer::Sealed => write::done(output),
     }
 }
 
@@ -96,16 +101,16 @@ fn read_line<R: BufRead>(input: &mut R, line: &mut Vec<u8>) -> Result<usize, Fau
     }
 }
 
-// Writes what the last event answered, and then answers lines until one asks for an event, which is
-// told. `None` at the end of the input.
-fn next_event<R: BufRead, W: Write>(
+// Writes what the manager answered last, and then answers lines until one asks for something to be
+// done with the manager, which is told. `None` at the end of the input.
+fn next_change<R: BufRead, W: Write>(
     alloc: Global,
     manager: &Manager,
-    answer: &Option<Result<Reply, Refusal>>,
+    answer: &Option<Answer>,
     input: &mut R,
     line: &mut Vec<u8>,
     out: &mut W,
-) -> Result<Option<Event>, Fault> {
+) -> Result<Option<Change>, Fault> {
     if let Some(answer) = answer {
         write_answer(manager, answer, out)?;
         wrote(out.flush())?;
@@ -115,9 +120,9 @@ fn next_event<R: BufRead, W: Write>(
             break;
         }
         let line = read(line.strip_suffix(b"\n").unwrap_or(line));
-        let event = asked(alloc, manager, &line, out)?;
-        if event.is_some() {
-            return Ok(event);
+        let change = asked(alloc, manager, &line, out)?;
+        if change.is_some() {
+            return Ok(change);
         }
         wrote(out.flush())?;
     }
@@ -131,13 +136,18 @@ fn serve_lines<R: BufRead, W: Write>(
     input: &mut R,
     out: &mut W,
 ) -> Result<(), Fault>
-    requires { manager.old.state ≡ opening_state (setting_of manager.old) }
+    requires { manager.old.managed.state ≡ opening_state (setting_of manager.old.managed) }
 {
     let mut line = Vec::new(alloc);
     let mut answer = None;
     for _ in 0..u64::MAX {
-        match next_event(alloc, manager, &answer, input, &mut line, out)? {
-            Some(event) => answer = Some(manager.apply(event)),
+        match next_change(alloc, manager, &answer, input, &mut line, out)? {
+            Some(Change::Apply(event)) => answer = Some(Answer::Applied(manager.apply(event))),
+            Some(Change::Rewind(mark)) => answer = Some(Answer::Rewound(manager.rewind(mark))),
+            Some(Change::Seal) => {
+                manager.seal();
+                answer = Some(Answer::Sealed);
+            }
             None => break,
         }
     }

@@ -1,7 +1,7 @@
 //! What is written of a manager.
 
 use crate::fault::Fault;
-use klp_core::Manager;
+use klp_core::{BadMark, Manager};
 use klp_machine::{Refusal, Reply};
 use klp_types::{Entry, Frames, ObjId, PatchId, Site, Target, Version};
 use std::io::{self, Write};
@@ -36,6 +36,16 @@ pub(crate) fn wrote(written: io::Result<()>) -> Result<(), Fault> {
 
 pub(crate) fn refusal<W: Write>(refusal: Refusal, output: &mut W) -> Result<(), Fault> {
     wrote(writeln!(output, "error {} {refusal}", number(refusal)))
+}
+
+/// That there are not so many standing events.
+pub(crate) fn bad_mark<W: Write>(fault: BadMark, output: &mut W) -> Result<(), Fault> {
+    wrote(writeln!(output, "error 22 {fault}"))
+}
+
+/// What was done and has no more to tell.
+pub(crate) fn done<W: Write>(output: &mut W) -> Result<(), Fault> {
+    wrote(writeln!(output, "ok"))
 }
 
 /// The name of a patch of the catalog.
