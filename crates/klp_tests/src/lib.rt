@@ -8,6 +8,8 @@ mod callback;
 #[cfg(test)]
 mod catalog;
 #[cfg(test)]
+mod journal;
+#[cfg(test)]
 mod manager;
 #[cfg(test)]
 mod modules;

@@ -15,20 +15,59 @@ use klp_modules::Modules;
 use klp_plan::Plan;
 use klp_program::Fault;
 use klp_text::Image;
-use klp_types::{MAX_PATCHES, PatchId};
+use klp_types::{MAX_PATCHES, ObjId, PatchId, ShadowKey, Site, Which};
 use klp_world::Script;
 use std::alloc::Global;
 
-/// What a manager shows once events were taken.
+/// The five bytes of an entry site that isn't hooked.
+const NOP: &[u8] = &[0x0f, 0x1f, 0x44, 0x00, 0x00];
+
+/// What is done with a manager.
+#[derive(Clone, Copy)]
+pub enum Step<'a> {
+    /// It takes these events.
+    Events(&'a [Event]),
+    Seal,
+    Rewind(u32),
+}
+
+/// What a manager tells once a step is done.
+#[derive(Clone, Copy, Debug, PartialEq, Eq)]
+pub struct Told {
+    /// How many events were accepted and refused; none where it took no events.
+    pub counts: (u64, u64),
+    /// How many events stand.
+    pub mark: u32,
+    /// How many records are free.
+    pub free: u32,
+}
+
+/// What a manager shows once all steps are done.
 #[derive(Drop)]
 pub struct Shown {
-    /// The two counts of `run`.
-    pub counts: (u64, u64),
+    /// What it told after each step.
+    pub steps: Vec<Told>,
     pub installed: ArrayVec<PatchId, MAX_PATCHES>,
     /// The value of the state 3 of the patches 0, 1 and 2, and that of the state 4 of patch 1.
     pub states: [Option<u64>; 4],
+    /// The shadow variables 9 and 10 of the parent object 1.
+    pub variables: [Option<u64>; 2],
+    /// How often the callbacks of patch 0 for `vmlinux` ran: pre-patch, post-patch, pre-unpatch and
+    /// post-unpatch.
+    pub runs: [Option<u64>; 4],
+    /// Whether each of the first 64 functions of `vmlinux` that are there has nothing on its stack and
+    /// a NOP at its entry site.
+    pub is_bare: bool,
     /// Whether the catalog tells of its patches what `catalog::told` looks for.
     pub told: [bool; 6],
+}
+
+impl Shown {
+    /// How many events were accepted and refused in the first step.
+    pub fn counts(&self) -> Option<(u64, u64)> {
+        let first = self.steps.first()?;
+        Some(first.counts)
+    }
 }
 
 /// Boots a manager over a plan with these callbacks, as many as they may be.
@@ -53,9 +92,36 @@ fn script_at(plan: &Plan, number: usize) -> Script {
     }
 }
 
-fn looks(manager: &Manager, counts: (u64, u64)) -> Shown {
+/// Whether a function of `vmlinux`, if it is there, has nothing on its stack and a NOP at its entry site.
+fn is_bare_at(manager: &Manager, site: u16) -> bool {
+    let Some(text) = manager.text(ObjId(0)) else {
+        return false;
+    };
+    let is_nop = match text.get(site) {
+        Some((_, _, body)) => body.starts_with(NOP),
+        None => true,
+    };
+    is_nop && manager.stack(Site(site)).is_empty()
+}
+
+/// Whether that holds of the first 64.
+fn is_bare(manager: &Manager) -> bool {
+    for site in 0..64 {
+        if !is_bare_at(manager, site) {
+            return false;
+        }
+    }
+    true
+}
+
+/// How often the callback of this kind ran, of patch 0 for `vmlinux`.
+fn runs(manager: &Manager, which: Which) -> Option<u64> {
+    manager.callback_runs(PatchId(0), ObjId(0), which)
+}
+
+fn looks(manager: &Manager, steps: Vec<Told>) -> Shown {
     Shown {
-        counts,
+        steps,
         installed: manager.installed(),
         states: [
             manager.state_of(PatchId(0), 3),
@@ -63,15 +129,45 @@ fn looks(manager: &Manager, counts: (u64, u64)) -> Shown {
             manager.state_of(PatchId(2), 3),
             manager.state_of(PatchId(1), 4),
         ],
+        variables: [
+            manager.shadow_get(ShadowKey { obj: 1, id: 9 }),
+            manager.shadow_get(ShadowKey { obj: 1, id: 10 }),
+        ],
+        runs: [
+            runs(manager, Which::Pre),
+            runs(manager, Which::Post),
+            runs(manager, Which::PreUn),
+            runs(manager, Which::PostUn),
+        ],
+        is_bare: is_bare(manager),
         told: catalog::told(manager.catalog()),
     }
 }
 
-/// What a manager shows after these events.
-fn after(booted: Result<Manager, Fault>, events: &[Event]) -> Result<Shown, Fault> {
+/// What a manager shows after these steps. There is room to tell of each.
+fn after(
+    booted: Result<Manager, Fault>,
+    steps: &[Step<'_>],
+    mut told: Vec<Told>,
+) -> Result<Shown, Fault> {
     let mut manager = booted?;
-    let counts = manager.run(events);
-    Ok(looks(&manager, counts))
+    for step in steps {
+        let counts = match *step {
+            Step::Events(events) => manager.run(events),
+            Step::Seal => {
+                manager.seal();
+                (0, 0)
+            }
+            Step::Rewind(mark) => {
+                let _ = manager.rewind(mark);
+                (0, 0)
+            }
+        };
+        let mark = manager.mark();
+        let free = manager.records_free();
+        let _ = told.push(Told { counts, mark, free });
+    }
+    Ok(looks(&manager, told))
 }
 
 /// What a manager over a catalog's text shows after these events, where the catalog is made with so
@@ -82,12 +178,23 @@ pub fn outcome(
     callbacks: usize,
     events: &[Event],
 ) -> Result<Shown, Fault> {
+    outcome_of(alloc, text, callbacks, &[Step::Events(events)])
+}
+
+/// The same after these steps.
+pub fn outcome_of(
+    alloc: Global,
+    text: &str,
+    callbacks: usize,
+    steps: &[Step<'_>],
+) -> Result<Shown, Fault> {
     let plan = Catalog::read(alloc, text.as_bytes())?;
+    let told = Vec::with_capacity(alloc, steps.len())?;
     let mut boxes = Vec::new(alloc);
     for number in 0..callbacks {
         if let Ok(callback) = Box::new(alloc, Scripted::new(script_at(&plan, number))) {
             let _ = boxes.push(Boxed::new(callback));
         }
     }
-    after(booted(alloc, plan, boxes), events)
+    after(booted(alloc, plan, boxes), steps, told)
 }
