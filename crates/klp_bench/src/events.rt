@@ -24,6 +24,9 @@ const PAIRS: u64 = 16;
 /// How many tasks enter the kernel and leave it.
 const TASKS: u8 = 8;
 
+/// How often one task enters the kernel and leaves it.
+const TURNS: u64 = 2_047;
+
 /// A kernel of as many functions as there may be, of eight bytes each, and as many patches as there
 /// may be, each with as many functions as it may have: four of them cover the kernel.
 pub(crate) fn catalog(alloc: Global) -> Result<String, AllocError> {
@@ -111,6 +114,17 @@ pub(crate) fn entered(alloc: Global) -> Result<Vec<Event>, AllocError> {
     Ok(events)
 }
 
+/// A task begins, and enters the kernel and leaves it in turn: one event less than the journal takes.
+pub(crate) fn turns(alloc: Global) -> Result<Vec<Event>, AllocError> {
+    let mut events = Vec::new(alloc);
+    events.push(Event::NewTask(TaskId(0)))?;
+    for _ in 0..TURNS {
+        events.push(Event::EnterKernel(TaskId(0)))?;
+        events.push(Event::ExitToUser(TaskId(0)))?;
+    }
+    Ok(events)
+}
+
 /// A patch is enabled, disabled and gone again.
 pub(crate) fn cycle(alloc: Global) -> Result<Vec<Event>, AllocError> {
     let mut events = Vec::new(alloc);
@@ -118,6 +132,22 @@ pub(crate) fn cycle(alloc: Global) -> Result<Vec<Event>, AllocError> {
         events.push(Event::Enable(PatchId(0)))?;
         events.push(Event::Poll)?;
         events.push(Event::SetEnabled(PatchId(0), false))?;
+        events.push(Event::Poll)?;
+    }
+    Ok(events)
+}
+
+/// As many tasks as there may be fall asleep, and beside them the first patch comes and goes, and shadow
+/// variables do.
+pub(crate) fn mixed(alloc: Global) -> Result<Vec<Event>, AllocError> {
+    let mut events = asleep(alloc, Version::Original(Site(FUNCTIONS)))?;
+    for obj in 0..PAIRS {
+        let key = ShadowKey { obj, id: 1 };
+        events.push(Event::Enable(PatchId(0)))?;
+        events.push(Event::ShadowAlloc(key, obj))?;
+        events.push(Event::Poll)?;
+        events.push(Event::SetEnabled(PatchId(0), false))?;
+        events.push(Event::ShadowFree(key))?;
         events.push(Event::Poll)?;
     }
     Ok(events)

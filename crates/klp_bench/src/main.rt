@@ -37,15 +37,22 @@ fn booted(alloc: Global, text: &str) -> Result<Manager, Fault> {
     Ok(boot(alloc, plan, Vec::new(alloc))?)
 }
 
-// One round of a scene, over a manager of its own, slice after slice of each list. It is left in one
-// place while it holds the manager: each further way out would be proved with all that is known of it.
+// One round of a scene, over a manager of its own, slice after slice of each list. In each slice the list's
+// events are taken, and those of some lists are then taken back, which alone is measured; the journal has
+// room for one slice. The round is left in one place while it holds the manager: each further way out would
+// be proved with all that is known of it.
 fn round<R: Clock>(rt: &R, alloc: Global, text: &str, scene: &mut Scene) -> Result<(), Fault> {
     let mut manager = booted(alloc, text)?;
     let mut ended = Ok(());
     for list in &mut scene.lists {
         for _ in 0..list.slices {
-            let start = Instant::now(rt);
+            manager.seal();
+            let mut start = Instant::now(rt);
             let counts = manager.run(&list.events);
+            if list.is_taken_back {
+                start = Instant::now(rt);
+                let _ = manager.rewind(0);
+            }
             ended = list.add(counts, start, Instant::now(rt));
             if ended.is_err() {
                 break;

@@ -2,7 +2,8 @@
 
 use crate::Fault;
 use crate::events::{
-    FEW, MANY, added, asleep, begun, cycle, enabled, entered, pairs, polls, refused, started,
+    FEW, MANY, added, asleep, begun, cycle, enabled, entered, mixed, pairs, polls, refused,
+    started, turns,
 };
 use klp_machine::Event;
 use klp_types::{Site, Version};
@@ -13,6 +14,9 @@ use std::{fmt, io};
 /// How often a list is taken that leaves everything as it was.
 const SLICES: u64 = 64;
 
+/// How often a list is taken back.
+const SLICES_TAKEN_BACK: u64 = 4;
+
 /// A list of events, and what taking it came to.
 #[derive(Debug, Drop)]
 pub(crate) struct Measured {
@@ -20,6 +24,8 @@ pub(crate) struct Measured {
     pub(crate) events: Vec<Event>,
     /// How often a round takes it.
     pub(crate) slices: u64,
+    /// Whether the events are taken back in each slice, and only that is measured.
+    pub(crate) is_taken_back: bool,
     accepted: u64,
     refused: u64,
     taken: u64,
@@ -32,11 +38,19 @@ impl Measured {
             name,
             events,
             slices,
+            is_taken_back: false,
             accepted: 0,
             refused: 0,
             taken: 0,
             best: u128::MAX,
         }
+    }
+
+    /// A list that is taken back in each slice.
+    fn taken_back(name: &'static str, events: Vec<Event>) -> Self {
+        let mut list = Self::new(name, SLICES_TAKEN_BACK, events);
+        list.is_taken_back = true;
+        list
     }
 
     /// Counts what a slice came to, between these two moments.
@@ -125,6 +139,14 @@ fn not_held(alloc: Global) -> Result<Scene, AllocError> {
     Ok(Scene { lists })
 }
 
+fn taken_back(alloc: Global) -> Result<Scene, AllocError> {
+    let mut lists = Vec::new(alloc);
+    lists.push(Measured::taken_back("task events taken back", turns(alloc)?))?;
+    lists.push(Measured::taken_back("enable, poll, disable, poll taken back", cycle(alloc)?))?;
+    lists.push(Measured::taken_back("sleepers, a patch and variables taken back", mixed(alloc)?))?;
+    Ok(Scene { lists })
+}
+
 /// What is measured, each with a manager of its own.
 pub(crate) fn scenes(alloc: Global) -> Result<Vec<Scene>, AllocError> {
     let mut scenes = Vec::new(alloc);
@@ -132,5 +154,6 @@ pub(crate) fn scenes(alloc: Global) -> Result<Vec<Scene>, AllocError> {
     scenes.push(cycles(alloc)?)?;
     scenes.push(held(alloc)?)?;
     scenes.push(not_held(alloc)?)?;
+    scenes.push(taken_back(alloc)?)?;
     Ok(scenes)
 }
