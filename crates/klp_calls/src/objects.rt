@@ -42,7 +42,7 @@ pub fn allocs(catalog: &Catalog, modules: &Modules, patch: PatchId, which: Which
     ensures records { records_of (calls_of patch which (loaded_in catalog.now modules.now patch)) ≤ 256 }
 {
     let mut sum = 0;
-    for place in 0..catalog.targets(patch) {
+    for place in 0..catalog.target_len(patch) {
         sum += usize::from(allocs_where_loaded(catalog, modules, patch, which, place));
     }
     sum
@@ -103,7 +103,7 @@ pub fn run_callbacks(
     requires room { HasRoomFor world.old log.old (calls_of patch which (loaded_in catalog.old modules.now patch)) }
     ensures { HaveRun catalog.old catalog.new world.old world.new log.old log.new (calls_of patch which (loaded_in catalog.old modules.now patch)) }
 {
-    let end = catalog.targets(patch);
+    let end = catalog.target_len(patch);
     run_first(catalog, modules, patch, which, end, world, log);
 }
 
@@ -144,7 +144,7 @@ fn pre_patch(
         (pre_calls patch (loaded_in catalog.old modules.now patch)) }
 {
     runs_add_up();
-    for place in 0..catalog.targets(patch) {
+    for place in 0..catalog.target_len(patch) {
         if let Some(status) = run_pre(catalog, modules, patch, place, world, log) {
             return Some((place, status));
         }

@@ -182,7 +182,7 @@ impl Catalog {
 
     /// How many objects a patch changes, at most [`MAX_TARGETS`](klp_types::MAX_TARGETS). A patch that
     /// isn't there changes none.
-    pub fn targets(&self, patch: PatchId) -> u8
+    pub fn target_len(&self, patch: PatchId) -> u8
         ensures count { result ≡ length (objects_at self.now patch) }
         ensures limit { result ≤ MAX_TARGETS }
     {
@@ -283,6 +283,17 @@ impl Catalog {
     {
         let function = self.functions(patch).get(usize::from(number))?;
         Some((function.site(), function.new_name(), function.address()))
+    }
+
+    /// The symbol that a new function of a patch stands in for, by the function's place over the
+    /// patch's objects from 0: its object, its name and its position among the symbols of that
+    /// name, from 1, where 0 asks that the name is unique in the object (livepatch, Metadata).
+    pub fn function_name(&self, patch: PatchId, number: u16) -> Option<(ObjId, &str, u32)>
+        ensures { option_map {U = ℕ × List ℕ × ℕ} (λ f. (f.0, f.1.now, f.2)) result
+            ≡ option_map (λ (f : FunctionValue). (f.object, f.symbol, f.sympos)) (slice_get (catalog_functions self.now patch) number) }
+    {
+        let function = self.functions(patch).get(usize::from(number))?;
+        Some((function.object(), function.symbol(), function.sympos()))
     }
 }
 

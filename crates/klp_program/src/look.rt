@@ -106,7 +106,7 @@ fn patches<W: Write>(manager: &Manager, output: &mut W) -> Result<(), Unseen> {
 fn files<W: Write>(manager: &Manager, patch: PatchId, output: &mut W) -> Result<(), Unseen> {
     names::installed(manager, patch)?;
     wrote(writeln!(output, "enabled\nforce\ntransition"))?;
-    for place in 0..manager.catalog().targets(patch) {
+    for place in 0..manager.catalog().target_len(patch) {
         if let Some(object) = manager.catalog().target(patch, place) {
             wrote(writeln!(output, "{}", object_name(manager, object)))?;
         }

@@ -13,7 +13,7 @@ pub loop-place-preserved : goal.loop-place-preserved
 loop-place-preserved g c =
     let objects = objects_at c.args.catalog.now c.args.patch in
     let loaded = is_loaded_in c.args.modules.now in
-    let next = next_left loaded c.args.patch c.args.which objects c.loop-place.place (omega (arith, c.loop-place-test.true, c.targets-place-end.ensures.count)) in
+    let next = next_left loaded c.args.patch c.args.which objects c.loop-place.place (omega (arith, c.loop-place-test.true, c.target_len-place-end.ensures.count)) in
     let sum = ap allocs_of next ∙ allocs-append (loaded_call c.args.catalog.now c.args.modules.now c.args.patch c.args.which c.loop-place.place)
     (left_from loaded c.args.patch c.args.which (c.loop-place.place + 1) objects)
     in

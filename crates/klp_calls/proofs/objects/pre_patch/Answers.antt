@@ -25,7 +25,7 @@ run_pre-requires g c =
     let left = pre_calls c.args.patch (loaded_from loaded c.loop-place.place (drop c.loop-place.place objects)) in
     let all = pre_calls c.args.patch (loaded_from loaded 0 objects) in
     let same = objects_so_far first now c.args.world.now c.loop-place.world c.args.log.now c.loop-place.log left all c.args.patch c.loop-place.invariant.ran in
-    let here = turn now first c.args.modules.now c.args.patch c.loop-place.place same (omega (arith, c.loop-place-test.true, c.targets-place-end.ensures.count)) in
+    let here = turn now first c.args.modules.now c.args.patch c.loop-place.place same (omega (arith, c.loop-place-test.true, c.target_len-place-end.ensures.count)) in
     let next = next_pre now first c.args.modules.now c.args.patch c.loop-place.place here in
     room_for_next first now c.args.world.now c.loop-place.world c.args.log.now c.loop-place.log left all
     (loaded_call now c.args.modules.now c.args.patch Pre c.loop-place.place) next.0 c.requires c.loop-place.invariant.ran next.1
@@ -39,7 +39,7 @@ returns-in-Some-clause-refused g c =
     let left = pre_calls c.args.patch (loaded_from loaded c.loop-place.place (drop c.loop-place.place objects)) in
     let all = pre_calls c.args.patch (loaded_from loaded 0 objects) in
     let same = objects_so_far first now c.args.world.now c.loop-place.world c.args.log.now c.loop-place.log left all c.args.patch c.loop-place.invariant.ran in
-    let here = turn now first c.args.modules.now c.args.patch c.loop-place.place same (omega (arith, c.loop-place-test.true, c.targets-place-end.ensures.count)) in
+    let here = turn now first c.args.modules.now c.args.patch c.loop-place.place same (omega (arith, c.loop-place-test.true, c.target_len-place-end.ensures.count)) in
     let refusal = refusal-is (loaded_status now c.args.modules.now c.args.patch Pre c.loop-place.place) c.in-Some.status c.in-Some.ensures.status in
     let last = turn-stops loaded c.args.patch objects c.loop-place.place here.object here.there (ap is_success (sym here.status) ∙ refusal.0) in
     let stored : to_z w32 (of_z w32 c.in-Some.status) ≡ c.in-Some.status = search rules in
@@ -55,7 +55,7 @@ returns-in-Some-clause-ran g c =
     let all = pre_calls c.args.patch (loaded_from loaded 0 objects) in
     let call = loaded_call now c.args.modules.now c.args.patch Pre c.loop-place.place in
     let same = objects_so_far first now c.args.world.now c.loop-place.world c.args.log.now c.loop-place.log left all c.args.patch c.loop-place.invariant.ran in
-    let here = turn now first c.args.modules.now c.args.patch c.loop-place.place same (omega (arith, c.loop-place-test.true, c.targets-place-end.ensures.count)) in
+    let here = turn now first c.args.modules.now c.args.patch c.loop-place.place same (omega (arith, c.loop-place-test.true, c.target_len-place-end.ensures.count)) in
     let refusal = refusal-is (loaded_status now c.args.modules.now c.args.patch Pre c.loop-place.place) c.in-Some.status c.in-Some.ensures.status in
     let last = turn-stops loaded c.args.patch objects c.loop-place.place here.object here.there (ap is_success (sym here.status) ∙ refusal.0) in
     let far = goes_on c.runs_add_up.ensures first now c.run_pre.new.catalog c.args.world.now c.loop-place.world c.run_pre.new.world c.args.log.now c.loop-place.log c.run_pre.new.log left all call []
@@ -74,7 +74,7 @@ loop-place-preserved g c =
     let all = pre_calls c.args.patch (loaded_from loaded 0 objects) in
     let call = loaded_call now c.args.modules.now c.args.patch Pre c.loop-place.place in
     let same = objects_so_far first now c.args.world.now c.loop-place.world c.args.log.now c.loop-place.log left all c.args.patch c.loop-place.invariant.ran in
-    let here = turn now first c.args.modules.now c.args.patch c.loop-place.place same (omega (arith, c.loop-place-test.true, c.targets-place-end.ensures.count)) in
+    let here = turn now first c.args.modules.now c.args.patch c.loop-place.place same (omega (arith, c.loop-place-test.true, c.target_len-place-end.ensures.count)) in
     let on = turn-goes_on loaded c.args.patch objects c.loop-place.place here.object here.there
     (ap is_success (sym here.status) ∙ no_refusal-is (loaded_status now c.args.modules.now c.args.patch Pre c.loop-place.place) c.in_default.ensures.status)
     in
@@ -93,4 +93,4 @@ returns-clause-ran g c =
     let all = pre_calls c.args.patch (loaded_from loaded 0 objects) in
     let past = c.loop-place-test.false in
     all_ran first c.loop-place.catalog c.args.world.now c.loop-place.world c.args.log.now c.loop-place.log left all c.loop-place.invariant.ran
-    (ap (pre_calls c.args.patch) (from-end loaded objects c.loop-place.place (omega (arith, past, c.targets-place-end.ensures.count))))
+    (ap (pre_calls c.args.patch) (from-end loaded objects c.loop-place.place (omega (arith, past, c.target_len-place-end.ensures.count))))

@@ -5,8 +5,8 @@ use Rattle.klp_catalog.specs.Assembled.{scripts_told, counts_told}
 use Rattle.klp_catalog.specs.Stored.{targets_at, target_in}
 use Rattle.klp_catalog.proofs.RunLemmas.{objects_are}
 use Rattle.klp_catalog.proofs.CatalogLemmas.{few_targets}
-use Rattle.klp_catalog.proofs.catalog.Catalog.targets.Goals as goal
-use Rattle.klp_catalog.proofs.catalog.Catalog.targets.Given as given
+use Rattle.klp_catalog.proofs.catalog.Catalog.target_len.Goals as goal
+use Rattle.klp_catalog.proofs.catalog.Catalog.target_len.Given as given
 
 same : (g : given.Over) (c : goal.After-targets_of g) → c.targets_of.result.now ≡ targets_at (slice_get c.self.inside.patches.items c.args.patch)
 same g c = c.targets_of.ensures ∙ ap (λ stored. targets_at (slice_get stored c.args.patch)) c.deref.ensures.value
