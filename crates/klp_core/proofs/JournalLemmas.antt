@@ -1,6 +1,8 @@
 -- Groups that are appended and taken back.
 use Rattle.std.proofs.Common.{◌≡◌, ℕ, ◌≤◌, true, false, List, [], ◌∷◌, ◌++◌, length, take, Option, Some, None, refl, sym, ap, subst, ◌∙◌}
 use Rattle.std.specs.Prelude.{unwrap_or, Result, Ok, Err, IfOk}
+use Rattle.std.proofs.lemmas.List.Elements.{All-cons, All-nil}
+use Rattle.std.specs.List.{All}
 use Rattle.klp_types.specs.declared.limits.TheConstants.{MAX_RECORDS}
 use Rattle.klp_types.specs.declared.record.Record.{Record}
 use Rattle.klp_types.specs.FirstOf.{unless}
@@ -26,7 +28,7 @@ use Rattle.klp_steps.specs.Events.{PartsTake, after_event}
 use Rattle.klp_steps.specs.Invariant.{Invariant}
 use Rattle.klp_steps.specs.Managed.{Managed, setting_of, managed_of}
 use Rattle.klp_steps.specs.Rows.{Rows, rows_in, rows_before, undone}
-use Rattle.klp_core.specs.Journaled.{Journaled, state_told, rows_before_all, journaled_of, AreKept, is_of_a_task, IsStepOf, AreSteps, IsSound, history_in, Stands}
+use Rattle.klp_core.specs.Journaled.{Journaled, state_told, rows_before_all, journaled_of, AreKept, is_of_a_task, IsSmall, IsStepOf, AreSteps, IsSound, history_in, Stands}
 use Rattle.klp_types.specs.Callbacks.{Call}
 use Rattle.klp_core.specs.Events.{AreCounted}
 use Rattle.klp_core.specs.Rewinding.{IsRewound}
@@ -76,6 +78,10 @@ lead_on setting rows [] steps = refl
 lead_on setting rows (first ∷ newer) steps =
     lead_on setting rows newer steps.1 ∙ ap (λ s. state_after_history setting s (history_in newer)) (sym steps.0.left)
 
+are_small : (setting : Setting) (rows : Rows) (groups : List Group) → AreSteps setting rows groups → All IsSmall groups
+are_small setting rows [] steps = All-nil IsSmall
+are_small setting rows (first ∷ newer) steps = All-cons IsSmall first newer steps.0.small (are_small setting rows newer steps.1)
+
 pub sound_stands : (parts : Parts) (catalog : Catalog) (groups : List Group) → IsSound parts catalog groups → Stands (journaled_of parts catalog groups)
 sound_stands parts catalog groups sound =
     let setting = setting_of (managed_of parts catalog) in
@@ -83,6 +89,7 @@ sound_stands parts catalog groups sound =
       allowed = (base_kept setting (rows_in parts) groups sound.steps).allowed;
       legal = are_legal setting (rows_in parts) groups sound.steps;
       state = lead_on setting (rows_in parts) groups sound.steps;
+      small = are_small setting (rows_in parts) groups sound.steps;
     }
 
 -- an event was taken
@@ -97,8 +104,7 @@ is_step before after catalog now event reply rows holds taken few one = record {
   kept = kept_in before catalog holds;
   answered = sym taken.takes.answered;
   left = sym (ap (λ (m : Managed). m.state) taken.takes.left);
-  few = few;
-  one = one;
+  small = record { few = few; one = one };
 }
 
 pub appended_sound : (before after : Parts) (catalog now : Catalog) (groups : List Group) (event : Event) (reply : Reply) → IsSound before catalog groups
@@ -121,7 +127,7 @@ pub appended : (before after : Parts) (catalog now : Catalog) (groups : List Gro
     → Appends (journaled_of before catalog groups) (journaled_of after now (groups ++ record { event = event; reply = reply; rows = after.log.noted } ∷ [])) event reply
 appended before after catalog now groups event reply taken undo few one = record {
   group = record { event = event; reply = reply; rows = after.log.noted };
-  noted = record { event_is = refl; reply_is = refl; few = few; one = one };
+  noted = record { event_is = refl; reply_is = refl; small = record { few = few; one = one } };
   groups = refl;
   left = taken.takes.left;
   base = ap state_told (before_more (rows_in before) (rows_in after) groups (record { event = event; reply = reply; rows = after.log.noted }) undo);

@@ -1,5 +1,6 @@
 -- What contracts see of a manager, and the accepted events that stand since its base.
 use Rattle.std.specs.Prelude.{◌≡◌, ℕ, ◌≤◌, Bool, true, false, List, [], ◌∷◌, length, map, Ok}
+use Rattle.std.specs.List.{All}
 use Rattle.klp_types.specs.declared.limits.TheConstants.{MAX_RECORDS}
 use Rattle.klp_types.specs.Setting.{Setting}
 use Rattle.klp_machine.specs.declared.event.Event.{Event}
@@ -55,14 +56,17 @@ is_of_a_task (Sleep task frames) = true
 is_of_a_task (Wake task) = true
 is_of_a_task other = false
 
--- a group stands for a step: the event was accepted with this reply, and led from the one rows to the other. It has few records,
--- and that of a task event has one
+-- a group has few records, and that of a task event has one
+pub record IsSmall (group : Group) : Type 0 where
+  pub few : length group.rows ≤ MAX_RECORDS
+  pub one : is_of_a_task group.event ≡ true → length group.rows ≡ 1
+
+-- a group stands for a step: the event was accepted with this reply, and led from the one rows to the other
 pub record IsStepOf (setting : Setting) (before after : Rows) (group : Group) : Type 0 where
   pub kept : AreKept setting before
   pub answered : answer setting (state_told before) group.event ≡ Ok group.reply
   pub left : next setting (state_told before) group.event ≡ state_told after
-  pub few : length group.rows ≤ MAX_RECORDS
-  pub one : is_of_a_task group.event ≡ true → length group.rows ≡ 1
+  pub small : IsSmall group
 
 -- each group stands for a step from the rows that putting it and all newer ones back gives
 abbrev pub AreSteps : Setting → Rows → List Group → Type 0
@@ -79,8 +83,10 @@ pub record IsSound (parts : Parts) (catalog : Catalog) (groups : List Group) : T
 abbrev pub history_in : List Group → History
 history_in groups = map (λ (g : Group). (g.event, g.reply)) groups
 
--- the groups are what happened since the base: each event was accepted in its turn with this reply, and all of them led to the state
+-- the groups are what happened since the base: each event was accepted in its turn with this reply, and all of them led to the state.
+-- Each group is small
 pub record Stands (manager : Journaled) : Type 0 where
   pub allowed : Allowed (setting_of manager.managed) manager.base
   pub legal : IsLegal (setting_of manager.managed) manager.base (history_in manager.groups)
   pub state : manager.managed.state ≡ state_after_history (setting_of manager.managed) manager.base (history_in manager.groups)
+  pub small : All IsSmall manager.groups

@@ -1,6 +1,5 @@
 -- What events answer where the journal has room for them or not, and what they leave.
-use Rattle.std.specs.Prelude.{◌≡◌, ℕ, ◌≤◌, Bool, true, false, List, [], ◌∷◌, ◌++◌, length, map, count_by, is_ok, is_err, Result, Ok, Err, IfOk, OnErr}
-use Rattle.klp_types.specs.declared.limits.TheConstants.{MAX_RECORDS}
+use Rattle.std.specs.Prelude.{◌≡◌, ℕ, Bool, true, false, List, [], ◌∷◌, ◌++◌, map, count_by, is_ok, is_err, Result, Ok, Err, IfOk, OnErr}
 use Rattle.klp_types.specs.Setting.{Setting}
 use Rattle.klp_machine.specs.declared.event.Event.{Event}
 use Rattle.klp_machine.specs.declared.event.Reply.{Reply}
@@ -12,7 +11,7 @@ use Rattle.klp_journal.specs.Journal.{Group, has_room}
 use Rattle.klp_steps.specs.Managed.{setting_of}
 use Rattle.klp_steps.specs.Events.{after_event}
 use Rattle.klp_core.specs.Events.{after_events}
-use Rattle.klp_core.specs.Journaled.{Journaled, is_of_a_task}
+use Rattle.klp_core.specs.Journaled.{Journaled, IsSmall}
 
 -- an event that nothing refuses finds the journal full
 abbrev pub unless_full : Bool → Result Reply Refusal → Result Reply Refusal
@@ -24,12 +23,11 @@ unless_full false (Ok reply) = Err JournalFull
 abbrev pub answer_in : Setting → State → List Group → Event → Result Reply Refusal
 answer_in setting state groups event = unless_full (has_room groups) (answer setting state event)
 
--- a group that an event leaves: few records, and one of a task event
+-- a small group that an event leaves
 pub record IsNotedAs (group : Group) (event : Event) (reply : Reply) : Type 0 where
   pub event_is : group.event ≡ event
   pub reply_is : group.reply ≡ reply
-  pub few : length group.rows ≤ MAX_RECORDS
-  pub one : is_of_a_task event ≡ true → length group.rows ≡ 1
+  pub small : IsSmall group
 
 -- an accepted event is appended to the journal as one group, and leaves what the machine says; the base stays
 pub record Appends (before after : Journaled) (event : Event) (reply : Reply) : Type 0 where

@@ -1,9 +1,10 @@
 ghost use Rattle.std.specs.Prelude.{◌≡◌, ◌<◌, ◌≤◌, true, false, [], IfOk, IfErr, OnErr, slice_set, replicate, length};
 ghost use Rattle.klp_machine.specs.Opening.{opening_state};
+ghost use Rattle.klp_types.specs.declared.limits.TheConstants.{MAX_GROUPS, MAX_JOURNAL_RECORDS};
 ghost use Rattle.klp_machine.specs.Step.{callbacks_of};
 ghost use Rattle.klp_text.specs.TextImage.{opening};
 ghost use Rattle.klp_catalog.specs.Catalog.{patches_of};
-ghost use Rattle.klp_journal.specs.Journal.{records_free};
+ghost use Rattle.klp_journal.specs.Journal.{records_free, records_in};
 ghost use Rattle.klp_steps.specs.Managed.{setting_of};
 ghost use Rattle.klp_core.specs.Boot.{IsMatch, AreNamed, IsFaultOf};
 ghost use Rattle.klp_core.specs.Events.{AreCounted};
@@ -141,6 +142,7 @@ impl Manager {
     /// back. The cost is constant.
     pub fn mark(&self) -> u32
         ensures mark { result ≡ length self.now.groups }
+        ensures limit { result ≤ MAX_GROUPS }
         ensures stands { Stands self.now }
     {
         self.journal.mark()
@@ -175,7 +177,8 @@ impl Manager {
     /// How many more records the journal has room for, at a constant cost. An event that changes rows
     /// needs as many as one event may note.
     pub fn records_free(&self) -> u32
-        ensures { result ≡ records_free self.now.groups }
+        ensures value { result ≡ records_free self.now.groups }
+        ensures limit { records_in self.now.groups ≤ MAX_JOURNAL_RECORDS }
     {
         self.journal.records_free()
     }
