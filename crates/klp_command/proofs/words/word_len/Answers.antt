@@ -1,0 +1,11 @@
+use Rattle.std.proofs.Common.{◌∙◌, rules, tests}
+use Rattle.std.proofs.lemmas.Iterator.{YieldsList-from_slice}
+use Rattle.std.proofs.lemmas.Iterator.Search.{position_from_yields_List}
+use Rattle.klp_command.specs.Words.{is_space}
+use Rattle.klp_command.proofs.LineLemmas.{or_len}
+use Rattle.klp_command.proofs.words.word_len.Goals as goal
+
+pub returns : goal.returns
+returns c =
+    let found = position_from_yields_List is_space _ _ c.position.result c.position.ensures.ran (YieldsList-from_slice c.args.bytes.now cc) (λ x b q k. search (rules, tests)) in
+    c.unwrap_or.ensures ∙ or_len is_space c.args.bytes.now c.position.result found

@@ -1,0 +1,274 @@
+-- The lines of the console, each as the list of its words.
+use Rattle.std.specs.Prelude.{ℕ, ◌==◌, ◌&&◌, not, Bool, true, false, nat_eq, if◌then◌else◌, List, [], ◌∷◌, drop, codes, bytes_eq, Option, Some, None, ok_or, Result, Ok, Err}
+use Rattle.std.specs.List.{starts_with, before_first, after_first}
+use Rattle.klp_machine.specs.declared.event.Event.TheVariants as event
+use Rattle.klp_line.specs.Words.{spelling_of}
+use Rattle.klp_line.specs.Gives.{◌>>=◌}
+use Rattle.klp_command.specs.declared.fault.LineFault.{LineFault}
+use Rattle.klp_command.specs.declared.fault.LineFault.TheVariants.{BadLine, BadValue}
+use Rattle.klp_command.specs.declared.limits.TheConstants.{MAX_NUMBER, MAX_MARK}
+use Rattle.klp_command.specs.declared.asked.Asked.{Asked}
+use Rattle.klp_command.specs.declared.asked.Asked.TheVariants.{Take, ForceNothing, Rewind, Seal, See}
+use Rattle.klp_command.specs.declared.asked.Look.TheVariants as look
+use Rattle.klp_command.specs.declared.line.Keyword.{Keyword}
+use Rattle.klp_command.specs.declared.line.Keyword.TheVariants as keyword
+use Rattle.klp_command.specs.Words.{words_of, is_name, number_of, number_to}
+use Rattle.klp_command.specs.Known.{Known, patch_of, object_of, task_of, site_of, versions_of, are_frames}
+
+-- load PATCH
+abbrev pub load_line : Known → List (List ℕ) → Result Asked LineFault
+load_line known (patch ∷ []) = if is_name patch then (patch_of known patch >>= λ p. Ok (Take (event.Enable p))) else Err BadLine
+load_line known words = Err BadLine
+
+-- insmod OBJECT
+abbrev pub insmod_line : Known → List (List ℕ) → Result Asked LineFault
+insmod_line known (object ∷ []) = if is_name object then (object_of known object >>= λ o. Ok (Take (event.Coming o))) else Err BadLine
+insmod_line known words = Err BadLine
+
+-- rmmod OBJECT
+abbrev pub rmmod_line : Known → List (List ℕ) → Result Asked LineFault
+rmmod_line known (object ∷ []) = if is_name object then (object_of known object >>= λ o. Ok (Take (event.Going o))) else Err BadLine
+rmmod_line known words = Err BadLine
+
+-- nothing stands behind the first word
+abbrev pub alone : Asked → List (List ℕ) → Result Asked LineFault
+alone asked [] = Ok asked
+alone asked words = Err BadLine
+
+-- 0 or 1
+abbrev pub switch : List ℕ → Result Bool LineFault
+switch value = if bytes_eq value (codes "0") then Ok false else if bytes_eq value (codes "1") then Ok true else Err BadValue
+
+-- the value is looked at before the patch
+abbrev pub enabled_line : Known → List ℕ → List ℕ → Result Asked LineFault
+enabled_line known value patch = switch value >>= λ v. patch_of known patch >>= λ p. Ok (Take (event.SetEnabled p v))
+
+abbrev pub forced : Bool → ℕ → Asked
+forced true patch = Take (event.Force patch)
+forced false patch = ForceNothing patch
+
+abbrev pub force_line : Known → List ℕ → List ℕ → Result Asked LineFault
+force_line known value patch = switch value >>= λ v. patch_of known patch >>= λ p. Ok (forced v p)
+
+abbrev pub echo_to : Known → List ℕ → List ℕ → List ℕ → Result Asked LineFault
+echo_to known value patch file =
+    if not (is_name patch) then Err BadLine
+    else if bytes_eq file (codes "enabled") then enabled_line known value patch
+    else if bytes_eq file (codes "force") then force_line known value patch
+    else Err BadLine
+
+-- PATCH/FILE
+abbrev pub echo_file : Known → List ℕ → List ℕ → Result Asked LineFault
+echo_file known value file = echo_to known value (before_first (λ b. b == 47) file) (after_first (λ b. b == 47) file)
+
+-- echo V > /sys/kernel/livepatch/PATCH/FILE
+abbrev pub echo_line : Known → List (List ℕ) → Result Asked LineFault
+echo_line known (value ∷ arrow ∷ file ∷ []) =
+    if not (bytes_eq arrow (codes ">")) then Err BadLine
+    else if starts_with nat_eq file (codes "/sys/kernel/livepatch/") then echo_file known value (drop 22 file)
+    else Err BadLine
+echo_line known words = Err BadLine
+
+abbrev pub task_look : List ℕ → List ℕ → Result Asked LineFault
+task_look number file =
+    if not (bytes_eq file (codes "patch_state")) then Err BadLine
+    else (number_to MAX_NUMBER number >>= λ n. task_of n >>= λ t. Ok (See (look.PatchState t)))
+
+-- T/patch_state
+abbrev pub proc_look : List ℕ → Result Asked LineFault
+proc_look file = task_look (before_first (λ b. b == 47) file) (after_first (λ b. b == 47) file)
+
+abbrev pub patch_file_look : Known → List ℕ → List ℕ → Result Asked LineFault
+patch_file_look known patch file =
+    if not (is_name patch) then Err BadLine
+    else if bytes_eq file (codes "enabled") then (patch_of known patch >>= λ p. Ok (See (look.Enabled p)))
+    else if bytes_eq file (codes "transition") then (patch_of known patch >>= λ p. Ok (See (look.Transition p)))
+    else Err BadLine
+
+-- PATCH/FILE
+abbrev pub patch_look : Known → List ℕ → Result Asked LineFault
+patch_look known file = patch_file_look known (before_first (λ b. b == 47) file) (after_first (λ b. b == 47) file)
+
+abbrev pub cat_file : Known → List ℕ → Result Asked LineFault
+cat_file known file =
+    if starts_with nat_eq file (codes "/proc/") then proc_look (drop 6 file)
+    else if starts_with nat_eq file (codes "/sys/kernel/livepatch/") then patch_look known (drop 22 file)
+    else Err BadLine
+
+-- cat /proc/T/patch_state, cat /sys/kernel/livepatch/PATCH/FILE
+abbrev pub cat_line : Known → List (List ℕ) → Result Asked LineFault
+cat_line known (file ∷ []) = cat_file known file
+cat_line known words = Err BadLine
+
+abbrev pub object_look : Known → List ℕ → List ℕ → Result Asked LineFault
+object_look known patch object =
+    if is_name patch && is_name object
+    then (patch_of known patch >>= λ p. object_of known object >>= λ o. Ok (See (look.Object p o)))
+    else Err BadLine
+
+-- PATCH, or PATCH/OBJECT
+abbrev pub directory_look : Known → List ℕ → Result Asked LineFault
+directory_look known directory =
+    if is_name directory then (patch_of known directory >>= λ p. Ok (See (look.Patch p)))
+    else object_look known (before_first (λ b. b == 47) directory) (after_first (λ b. b == 47) directory)
+
+abbrev pub list_look : Known → List ℕ → Result Asked LineFault
+list_look known directory =
+    if bytes_eq directory (codes "/sys/kernel/livepatch") then Ok (See look.Patches)
+    else if starts_with nat_eq directory (codes "/sys/kernel/livepatch/") then directory_look known (drop 22 directory)
+    else Err BadLine
+
+-- ls /sys/kernel/livepatch, and below it
+abbrev pub list_line : Known → List (List ℕ) → Result Asked LineFault
+list_line known (directory ∷ []) = list_look known directory
+list_line known words = Err BadLine
+
+-- task sleep T FRAME..
+abbrev pub sleep_line : Known → ℕ → List (List ℕ) → Result Asked LineFault
+sleep_line known number words =
+    if are_frames words then (task_of number >>= λ t. versions_of known words >>= λ vs. Ok (Take (event.Sleep t vs))) else Err BadLine
+
+-- task fork T T
+abbrev pub fork_line : ℕ → List (List ℕ) → Result Asked LineFault
+fork_line number (child ∷ []) = number_to MAX_NUMBER child >>= λ c. task_of number >>= λ t. task_of c >>= λ n. Ok (Take (event.Fork t n))
+fork_line number words = Err BadLine
+
+abbrev pub plain_event : List ℕ → ℕ → Result Asked LineFault
+plain_event verb number =
+    if bytes_eq verb (codes "new") then (task_of number >>= λ t. Ok (Take (event.NewTask t)))
+    else if bytes_eq verb (codes "end") then (task_of number >>= λ t. Ok (Take (event.EndTask t)))
+    else if bytes_eq verb (codes "enter") then (task_of number >>= λ t. Ok (Take (event.EnterKernel t)))
+    else if bytes_eq verb (codes "exit") then (task_of number >>= λ t. Ok (Take (event.ExitToUser t)))
+    else if bytes_eq verb (codes "wake") then (task_of number >>= λ t. Ok (Take (event.Wake t)))
+    else Err BadLine
+
+-- task new T, and so on
+abbrev pub plain_line : List ℕ → ℕ → List (List ℕ) → Result Asked LineFault
+plain_line verb number [] = plain_event verb number
+plain_line verb number words = Err BadLine
+
+abbrev pub verb_line : Known → List ℕ → List (List ℕ) → ℕ → Result Asked LineFault
+verb_line known verb words number =
+    if bytes_eq verb (codes "sleep") then sleep_line known number words
+    else if bytes_eq verb (codes "fork") then fork_line number words
+    else plain_line verb number words
+
+-- a verb, a task and what the verb needs
+abbrev pub task_line : Known → List (List ℕ) → Result Asked LineFault
+task_line known (verb ∷ task ∷ words) = number_to MAX_NUMBER task >>= verb_line known verb words
+task_line known words = Err BadLine
+
+-- shadow alloc OBJ ID V
+abbrev pub alloc_line : List (List ℕ) → Result Asked LineFault
+alloc_line (obj ∷ id ∷ value ∷ []) =
+    number_of obj >>= λ o. number_of id >>= λ i. number_of value >>= λ v. Ok (Take (event.ShadowAlloc (record { obj = o; id = i }) v))
+alloc_line words = Err BadLine
+
+-- shadow getalloc OBJ ID V
+abbrev pub get_or_alloc_line : List (List ℕ) → Result Asked LineFault
+get_or_alloc_line (obj ∷ id ∷ value ∷ []) =
+    number_of obj >>= λ o. number_of id >>= λ i. number_of value >>= λ v. Ok (Take (event.ShadowGetOrAlloc (record { obj = o; id = i }) v))
+get_or_alloc_line words = Err BadLine
+
+-- shadow free OBJ ID
+abbrev pub free_line : List (List ℕ) → Result Asked LineFault
+free_line (obj ∷ id ∷ []) = number_of obj >>= λ o. number_of id >>= λ i. Ok (Take (event.ShadowFree (record { obj = o; id = i })))
+free_line words = Err BadLine
+
+-- shadow freeall ID
+abbrev pub free_all_line : List (List ℕ) → Result Asked LineFault
+free_all_line (id ∷ []) = number_of id >>= λ i. Ok (Take (event.ShadowFreeAll i))
+free_all_line words = Err BadLine
+
+-- shadow get OBJ ID
+abbrev pub get_line : List (List ℕ) → Result Asked LineFault
+get_line (obj ∷ id ∷ []) = number_of obj >>= λ o. number_of id >>= λ i. Ok (See (look.Variable (record { obj = o; id = i })))
+get_line words = Err BadLine
+
+abbrev pub shadow_line : List (List ℕ) → Result Asked LineFault
+shadow_line [] = Err BadLine
+shadow_line (verb ∷ words) =
+    if bytes_eq verb (codes "alloc") then alloc_line words
+    else if bytes_eq verb (codes "getalloc") then get_or_alloc_line words
+    else if bytes_eq verb (codes "free") then free_line words
+    else if bytes_eq verb (codes "freeall") then free_all_line words
+    else if bytes_eq verb (codes "get") then get_line words
+    else Err BadLine
+
+-- text OBJECT
+abbrev pub text_line : Known → List (List ℕ) → Result Asked LineFault
+text_line known (object ∷ []) = if is_name object then (object_of known object >>= λ o. Ok (See (look.Text o))) else Err BadLine
+text_line known words = Err BadLine
+
+-- stack SYM
+abbrev pub stack_line : Known → List (List ℕ) → Result Asked LineFault
+stack_line known (symbol ∷ []) = ok_or (spelling_of symbol) BadLine >>= λ s. site_of known s >>= λ site. Ok (See (look.Stack site))
+stack_line known words = Err BadLine
+
+-- pick T SYM
+abbrev pub pick_line : Known → List (List ℕ) → Result Asked LineFault
+pick_line known (task ∷ symbol ∷ []) =
+    number_to MAX_NUMBER task >>= λ n. ok_or (spelling_of symbol) BadLine
+    >>= λ s. task_of n >>= λ t. site_of known s >>= λ site. Ok (See (look.Pick t site))
+pick_line known words = Err BadLine
+
+-- runs PATCH OBJECT
+abbrev pub runs_line : Known → List (List ℕ) → Result Asked LineFault
+runs_line known (patch ∷ object ∷ []) =
+    if is_name patch && is_name object
+    then (patch_of known patch >>= λ p. object_of known object >>= λ o. Ok (See (look.Runs p o)))
+    else Err BadLine
+runs_line known words = Err BadLine
+
+-- rewind K
+abbrev pub rewind_line : List (List ℕ) → Result Asked LineFault
+rewind_line (mark ∷ []) = number_to MAX_MARK mark >>= λ k. Ok (Rewind k)
+rewind_line words = Err BadLine
+
+-- the word that a line begins with
+abbrev pub keyword_of : List ℕ → Option Keyword
+keyword_of word =
+    if bytes_eq word (codes "task") then Some keyword.Task
+    else if bytes_eq word (codes "poll") then Some keyword.Poll
+    else if bytes_eq word (codes "shadow") then Some keyword.Shadow
+    else if bytes_eq word (codes "cat") then Some keyword.Cat
+    else if bytes_eq word (codes "echo") then Some keyword.Echo
+    else if bytes_eq word (codes "load") then Some keyword.Load
+    else if bytes_eq word (codes "insmod") then Some keyword.Insmod
+    else if bytes_eq word (codes "rmmod") then Some keyword.Rmmod
+    else if bytes_eq word (codes "ls") then Some keyword.List
+    else if bytes_eq word (codes "text") then Some keyword.Text
+    else if bytes_eq word (codes "stack") then Some keyword.Stack
+    else if bytes_eq word (codes "pick") then Some keyword.Pick
+    else if bytes_eq word (codes "runs") then Some keyword.Runs
+    else if bytes_eq word (codes "mark") then Some keyword.Mark
+    else if bytes_eq word (codes "rewind") then Some keyword.Rewind
+    else if bytes_eq word (codes "seal") then Some keyword.Seal
+    else None
+
+abbrev pub line_of : Known → Option Keyword → List (List ℕ) → Result Asked LineFault
+line_of known (Some keyword.Load) words = load_line known words
+line_of known (Some keyword.Insmod) words = insmod_line known words
+line_of known (Some keyword.Rmmod) words = rmmod_line known words
+line_of known (Some keyword.Poll) words = alone (Take event.Poll) words
+line_of known (Some keyword.Echo) words = echo_line known words
+line_of known (Some keyword.Cat) words = cat_line known words
+line_of known (Some keyword.List) words = list_line known words
+line_of known (Some keyword.Task) words = task_line known words
+line_of known (Some keyword.Shadow) words = shadow_line words
+line_of known (Some keyword.Text) words = text_line known words
+line_of known (Some keyword.Stack) words = stack_line known words
+line_of known (Some keyword.Pick) words = pick_line known words
+line_of known (Some keyword.Runs) words = runs_line known words
+line_of known (Some keyword.Mark) words = alone (See look.Mark) words
+line_of known (Some keyword.Rewind) words = rewind_line words
+line_of known (Some keyword.Seal) words = alone Seal words
+line_of known None words = Err BadLine
+
+abbrev pub asked_of_words : Known → List (List ℕ) → Option (Result Asked LineFault)
+asked_of_words known [] = None
+asked_of_words known (first ∷ words) = Some (line_of known (keyword_of first) words)
+
+-- what a line asks for, or why it asks for nothing; a line without words has no answer
+abbrev pub asked_of : Known → List ℕ → Option (Result Asked LineFault)
+asked_of known line = asked_of_words known (words_of line)

@@ -1,0 +1,34 @@
+-- The words of a console line, and what a word is by itself.
+use Rattle.std.specs.Prelude.{ℕ, ◌^◌, ◌==◌, ◌&&◌, not, Bool, nat_lt, nat_le, if◌then◌else◌, List, length, filter, ok_or, Result, Ok, Err}
+use Rattle.std.specs.List.{list_all, slice_split}
+use Rattle.klp_line.specs.Words.{decimal_of}
+use Rattle.klp_line.specs.Lines.{is_some_word}
+use Rattle.klp_line.specs.Gives.{◌>>=◌}
+use Rattle.klp_command.specs.declared.fault.LineFault.{LineFault}
+use Rattle.klp_command.specs.declared.fault.LineFault.TheVariants.{BadLine}
+
+abbrev pub is_space : ℕ → Bool
+is_space b = b == 32
+
+-- what stands between spaces; a tab is a byte as any other
+abbrev pub words_of : List ℕ → List (List ℕ)
+words_of line = filter is_some_word (slice_split is_space line)
+
+-- any byte but `/` and `:`
+abbrev pub is_name_byte : ℕ → Bool
+is_name_byte b = not (b == 47) && not (b == 58)
+
+-- a word that may name a patch or an object
+abbrev pub is_name : List ℕ → Bool
+is_name word = nat_lt 0 (length word) && list_all is_name_byte word
+
+-- decimal digits, of a number of 64 bits
+abbrev pub number_of : List ℕ → Result ℕ LineFault
+number_of word = ok_or (decimal_of (2 ^ 64) word) BadLine
+
+abbrev pub at_most : ℕ → ℕ → Result ℕ LineFault
+at_most most number = if nat_le number most then Ok number else Err BadLine
+
+-- the same, of a number up to this one
+abbrev pub number_to : ℕ → List ℕ → Result ℕ LineFault
+number_to most word = number_of word >>= at_most most

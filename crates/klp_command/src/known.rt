@@ -1,0 +1,106 @@
+//! What the names of a line mean.
+
+ghost use Rattle.std.specs.Prelude.{◌≡◌};
+ghost use Rattle.klp_command.specs.Known.{patch_of, object_of, task_of, site_of, new_function_of, version_of, symbol_found};
+
+use crate::fault::LineFault;
+use crate::limits::MAX_NUMBER;
+use crate::words::{cut, is_name, number_to, text};
+use klp_catalog::Catalog;
+use klp_line::{Spelling, spelling_of};
+use klp_machine::Refusal;
+use klp_modules::Modules;
+use klp_types::{MAX_TASKS, ObjId, PatchId, Site, TaskId, Version};
+use std::marker::Model;
+
+/// The names that a line may use: those of a catalog's patches, and of the objects and symbols of a
+/// kernel.
+#[derive(Drop)]
+pub(crate) struct Known<'a> {
+    pub(crate) catalog: &'a Catalog,
+    pub(crate) modules: &'a Modules,
+}
+
+impl<'a> Model for Known<'a> {
+    ghost use Rattle.klp_command.specs.Known.{Known, known_of};
+
+    ghost Value = { Known };
+
+    ghost view = { λ k. known_of k.catalog.now k.modules.now };
+}
+
+impl<'a> Known<'a> {
+    pub(crate) fn patch(&self, word: &[u8]) -> Result<PatchId, LineFault>
+        ensures { result ≡ patch_of self.now word.now }
+    {
+        match text(word) {
+            Some(name) => self
+                .catalog
+                .patch(name)
+                .ok_or(LineFault::Refused(Refusal::NoPatch)),
+            None => Err(LineFault::Refused(Refusal::NoPatch)),
+        }
+    }
+
+    pub(crate) fn object(&self, word: &[u8]) -> Result<ObjId, LineFault>
+        ensures { result ≡ object_of self.now word.now }
+    {
+        match text(word) {
+            Some(name) => self
+                .modules
+                .object(name)
+                .ok_or(LineFault::Refused(Refusal::NoModule)),
+            None => Err(LineFault::Refused(Refusal::NoModule)),
+        }
+    }
+
+    /// The symbol that is spelled so, its object loaded or not.
+    pub(crate) fn site(&self, spelling: &Spelling<'_>) -> Result<Site, LineFault>
+        ensures { result ≡ site_of self.now spelling.now }
+    {
+        let object = self
+            .modules
+            .object(spelling.object)
+            .ok_or(LineFault::Refused(Refusal::NoModule))?;
+        match self
+            .modules
+            .resolve(object, spelling.symbol, spelling.sympos)
+        {
+            Ok(site) => Ok(site),
+            Err(_) => Err(LineFault::Refused(Refusal::NoSymbol)),
+        }
+    }
+
+    /// The new function that `PATCH:INDEX` spells, whether the patch has it or not.
+    fn new_function(&self, word: &[u8]) -> Result<Version, LineFault>
+        ensures { result ≡ new_function_of self.now word.now }
+    {
+        let (patch, index) = cut(word, b':');
+        if !is_name(patch) {
+            return Err(LineFault::BadLine);
+        }
+        let index = number_to(MAX_NUMBER, index)? as u16;
+        Ok(Version::New(self.patch(patch)?, index))
+    }
+
+    /// The function that a frame spells: an original one, or a new one.
+    pub(crate) fn version(&self, word: &[u8]) -> Result<Version, LineFault>
+        ensures { result ≡ version_of self.now word.now }
+    {
+        match spelling_of(word) {
+            Some(spelling) => Ok(Version::Original(self.site(&spelling)?)),
+            None => self.new_function(word),
+        }
+    }
+}
+
+/// The task of a number, whether it is there or not.
+pub(crate) fn task(number: u64) -> Result<TaskId, LineFault>
+    ensures { result ≡ task_of number }
+{
+    if number < MAX_TASKS as u64 {
+        Ok(TaskId(number as u8))
+    } else {
+        Err(LineFault::Refused(Refusal::NoTask))
+    }
+}

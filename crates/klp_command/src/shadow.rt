@@ -1,0 +1,86 @@
+//! The lines of the shadow variables.
+
+ghost use Rattle.std.specs.Prelude.{◌≡◌};
+ghost use Rattle.klp_command.specs.Lines.{alloc_line, get_or_alloc_line, free_line, free_all_line, get_line, shadow_line};
+
+use crate::asked::{Asked, Look};
+use crate::fault::LineFault;
+use crate::words::{Words, number};
+use klp_machine::Event;
+use klp_types::ShadowKey;
+
+fn alloc_line(words: &mut Words<'_>) -> Result<Asked, LineFault>
+    ensures { result ≡ alloc_line words.old }
+{
+    let obj = words.word()?;
+    let id = words.word()?;
+    let value = words.word()?;
+    words.end()?;
+    let obj = number(obj)?;
+    let id = number(id)?;
+    let value = number(value)?;
+    Ok(Asked::Take(Event::ShadowAlloc(ShadowKey { obj, id }, value)))
+}
+
+fn get_or_alloc_line(words: &mut Words<'_>) -> Result<Asked, LineFault>
+    ensures { result ≡ get_or_alloc_line words.old }
+{
+    let obj = words.word()?;
+    let id = words.word()?;
+    let value = words.word()?;
+    words.end()?;
+    let obj = number(obj)?;
+    let id = number(id)?;
+    let value = number(value)?;
+    Ok(Asked::Take(Event::ShadowGetOrAlloc(ShadowKey { obj, id }, value)))
+}
+
+fn free_line(words: &mut Words<'_>) -> Result<Asked, LineFault>
+    ensures { result ≡ free_line words.old }
+{
+    let obj = words.word()?;
+    let id = words.word()?;
+    words.end()?;
+    let obj = number(obj)?;
+    let id = number(id)?;
+    Ok(Asked::Take(Event::ShadowFree(ShadowKey { obj, id })))
+}
+
+fn free_all_line(words: &mut Words<'_>) -> Result<Asked, LineFault>
+    ensures { result ≡ free_all_line words.old }
+{
+    let id = words.word()?;
+    words.end()?;
+    Ok(Asked::Take(Event::ShadowFreeAll(number(id)?)))
+}
+
+fn get_line(words: &mut Words<'_>) -> Result<Asked, LineFault>
+    ensures { result ≡ get_line words.old }
+{
+    let obj = words.word()?;
+    let id = words.word()?;
+    words.end()?;
+    let obj = number(obj)?;
+    let id = number(id)?;
+    Ok(Asked::See(Look::Variable(ShadowKey { obj, id })))
+}
+
+/// The words behind `shadow`: a verb, and numbers.
+pub(crate) fn shadow_line(words: &mut Words<'_>) -> Result<Asked, LineFault>
+    ensures { result ≡ shadow_line words.old }
+{
+    let verb = words.word()?;
+    if verb == b"alloc".as_slice() {
+        alloc_line(words)
+    } else if verb == b"getalloc".as_slice() {
+        get_or_alloc_line(words)
+    } else if verb == b"free".as_slice() {
+        free_line(words)
+    } else if verb == b"freeall".as_slice() {
+        free_all_line(words)
+    } else if verb == b"get".as_slice() {
+        get_line(words)
+    } else {
+        Err(LineFault::BadLine)
+    }
+}

@@ -1,0 +1,119 @@
+//! The lines of what tasks do.
+
+ghost use Rattle.std.specs.Prelude.{◌≡◌, ◌≤◌, length};
+ghost use Rattle.klp_command.specs.Words.{words_of};
+ghost use Rattle.klp_command.specs.Known.{is_frame, are_frames, versions_of};
+ghost use Rattle.klp_command.specs.Lines.{sleep_line, fork_line, plain_event, plain_line, task_line};
+
+use crate::asked::Asked;
+use crate::fault::LineFault;
+use crate::known::{Known, task};
+use crate::limits::MAX_NUMBER;
+use crate::words::{Words, cut, is_name, number_to};
+use klp_line::spelling_of;
+use klp_machine::Event;
+use klp_types::{Frames, MAX_FRAMES};
+
+/// Whether a word spells a function that a task may be inside of, known or not.
+fn is_frame(word: &[u8]) -> bool
+    ensures { result ≡ is_frame word.now }
+{
+    if spelling_of(word).is_some() {
+        return true;
+    }
+    let (patch, index) = cut(word, b':');
+    is_name(patch) && number_to(MAX_NUMBER, index).is_ok()
+}
+
+/// Whether each word spells a function, and there are no more than a task can be inside of.
+fn are_frames(text: &[u8]) -> bool
+    ensures { result ≡ are_frames (words_of text.now) }
+{
+    let mut words = Words::new(text);
+    let mut count = 0;
+    while let Some(word) = words.next() {
+        if count == MAX_FRAMES || !is_frame(word) {
+            return false;
+        }
+        count += 1;
+    }
+    true
+}
+
+/// The functions that the words spell.
+fn frames(text: &[u8], known: &Known<'_>) -> Result<Frames, LineFault>
+    requires { length (words_of text.now) ≤ MAX_FRAMES }
+    ensures { result ≡ versions_of known.now (words_of text.now) }
+{
+    let mut words = Words::new(text);
+    let mut frames = Frames::new();
+    while let Some(word) = words.next() {
+        let _ = frames.push(known.version(word)?);
+    }
+    Ok(frames)
+}
+
+/// The words behind the task that falls asleep: the functions that it is inside of, innermost last.
+fn sleep_line(number: u64, words: &mut Words<'_>, known: &Known<'_>) -> Result<Asked, LineFault>
+    ensures { result ≡ sleep_line known.now number words.old }
+{
+    let text = words.rest();
+    if !are_frames(text) {
+        return Err(LineFault::BadLine);
+    }
+    let task = task(number)?;
+    Ok(Asked::Take(Event::Sleep(task, frames(text, known)?)))
+}
+
+/// The word behind the task that forks: the one that it makes.
+fn fork_line(number: u64, words: &mut Words<'_>) -> Result<Asked, LineFault>
+    ensures { result ≡ fork_line number words.old }
+{
+    let child = words.word()?;
+    words.end()?;
+    let child = number_to(MAX_NUMBER, child)?;
+    let parent = task(number)?;
+    Ok(Asked::Take(Event::Fork(parent, task(child)?)))
+}
+
+/// What a task does that needs no more words.
+fn plain_event(verb: &[u8], number: u64) -> Result<Asked, LineFault>
+    ensures { result ≡ plain_event verb.now number }
+{
+    if verb == b"new".as_slice() {
+        Ok(Asked::Take(Event::NewTask(task(number)?)))
+    } else if verb == b"end".as_slice() {
+        Ok(Asked::Take(Event::EndTask(task(number)?)))
+    } else if verb == b"enter".as_slice() {
+        Ok(Asked::Take(Event::EnterKernel(task(number)?)))
+    } else if verb == b"exit".as_slice() {
+        Ok(Asked::Take(Event::ExitToUser(task(number)?)))
+    } else if verb == b"wake".as_slice() {
+        Ok(Asked::Take(Event::Wake(task(number)?)))
+    } else {
+        Err(LineFault::BadLine)
+    }
+}
+
+fn plain_line(verb: &[u8], number: u64, words: &mut Words<'_>) -> Result<Asked, LineFault>
+    ensures { result ≡ plain_line verb.now number words.old }
+{
+    words.end()?;
+    plain_event(verb, number)
+}
+
+/// The words behind `task`: a verb, a task and what the verb needs.
+pub(crate) fn task_line(words: &mut Words<'_>, known: &Known<'_>) -> Result<Asked, LineFault>
+    ensures { result ≡ task_line known.now words.old }
+{
+    let verb = words.word()?;
+    let word = words.word()?;
+    let number = number_to(MAX_NUMBER, word)?;
+    if verb == b"sleep".as_slice() {
+        sleep_line(number, words, known)
+    } else if verb == b"fork".as_slice() {
+        fork_line(number, words)
+    } else {
+        plain_line(verb, number, words)
+    }
+}

@@ -1,0 +1,178 @@
+//! The words of a line, and what a word is by itself.
+
+ghost use Rattle.std.specs.Prelude.{◌≡◌, ℕ, ◌≤◌, ◌==◌, not, true, false, position, List, ◌∷◌, [], length, drop, nat_eq, IfOk, MatchOption, MatchResult};
+ghost use Rattle.std.specs.List.{position_or_len, list_all, starts_with, before_first, after_first};
+ghost use Rattle.std.specs.Str.{is_utf8};
+ghost use Rattle.klp_command.specs.Words.{is_space, words_of, is_name_byte, is_name, number_of, number_to};
+
+use crate::fault::LineFault;
+use klp_line::number64;
+use std::marker::Model;
+use std::str;
+
+/// The words of a line that are still to be read. Spaces alone separate them.
+#[derive(Drop)]
+pub(crate) struct Words<'a> {
+    rest: &'a [u8],
+}
+
+impl<'a> Model for Words<'a> {
+    ghost use Rattle.std.specs.Prelude.{ℕ, List};
+    ghost use Rattle.klp_command.specs.Words.{words_of};
+
+    ghost Value = { List (List ℕ) };
+
+    ghost view = { λ w. words_of w.rest.now };
+}
+
+impl<'a> Words<'a> {
+    /// All words of the line, which may have any bytes.
+    pub(crate) fn new(line: &'a [u8]) -> Words<'a>
+        ensures { result ≡ words_of line.now }
+    {
+        Words { rest: line }
+    }
+
+    /// The bytes that the words which are left stand in.
+    pub(crate) fn rest(&self) -> &'a [u8]
+        ensures { words_of result.now ≡ self.now }
+    {
+        self.rest
+    }
+
+    /// The next word, which is never empty.
+    pub(crate) fn next(&mut self) -> Option<&'a [u8]>
+        ensures { MatchOption result (self.old ≡ []) (λ word. self.old ≡ word.now ∷ self.new) }
+    {
+        let (_, rest) = self.rest.split_at(space_len(self.rest));
+        let (word, rest) = rest.split_at(word_len(rest));
+        self.rest = rest;
+        if word.is_empty() {
+            return None;
+        }
+        Some(word)
+    }
+
+    /// The next word of a line that has too few words without it.
+    pub(crate) fn word(&mut self) -> Result<&'a [u8], LineFault>
+        ensures { MatchResult result (λ word. self.old ≡ word.now ∷ self.new)
+            (λ fault. (fault ≡ LineFault.BadLine) × (self.old ≡ [])) }
+    {
+        self.next().ok_or(LineFault::BadLine)
+    }
+
+    /// The end of a line that has too many words with one more.
+    pub(crate) fn end(&mut self) -> Result<(), LineFault>
+        ensures { MatchResult result (λ _. self.old ≡ [])
+            (λ fault. (fault ≡ LineFault.BadLine) × (word : List ℕ) × (words : List (List ℕ)) × (self.old ≡ word ∷ words)) }
+    {
+        match self.next() {
+            None => Ok(()),
+            Some(_) => Err(LineFault::BadLine),
+        }
+    }
+}
+
+/// How many spaces the bytes begin with.
+fn space_len(bytes: &[u8]) -> usize
+    ensures { result ≡ position_or_len (λ b. not (is_space b)) bytes.now }
+{
+    bytes
+        .iter()
+        .position(|b| !is_space(*b))
+        .unwrap_or(bytes.len())
+}
+
+/// How long the word is that the bytes begin with.
+fn word_len(bytes: &[u8]) -> usize
+    ensures { result ≡ position_or_len is_space bytes.now }
+{
+    bytes
+        .iter()
+        .position(|b| is_space(*b))
+        .unwrap_or(bytes.len())
+}
+
+fn is_space(byte: u8) -> bool
+    ensures { result ≡ is_space byte }
+{
+    byte == b' '
+}
+
+fn position_of(bytes: &[u8], at: u8) -> Option<usize>
+    ensures { result ≡ position (λ b. b == at) bytes.now }
+{
+    bytes.iter().position(|b| *b == at)
+}
+
+/// What stands before the first byte `at`, and what stands behind it.
+pub(crate) fn cut(text: &[u8], at: u8) -> (&[u8], &[u8])
+    ensures before { result.0.now ≡ before_first (λ b. b == at) text.now }
+    ensures after { result.1.now ≡ after_first (λ b. b == at) text.now }
+{
+    match position_of(text, at) {
+        Some(end) => (&text[..end], &text[end + 1..]),
+        None => (text, &[]),
+    }
+}
+
+fn is_name_byte(byte: u8) -> bool
+    ensures { result ≡ is_name_byte byte }
+{
+    byte != b'/' && byte != b':'
+}
+
+fn has_only_name_bytes(word: &[u8]) -> bool
+    ensures { result ≡ list_all is_name_byte word.now }
+{
+    word.iter().all(|b| is_name_byte(*b))
+}
+
+/// Whether the word may name a patch or an object.
+#[tactic(auto, using(crate::proofs::WordLemmas::length_test))]
+pub(crate) fn is_name(word: &[u8]) -> bool
+    ensures { result ≡ is_name word.now }
+{
+    if word.is_empty() {
+        return false;
+    }
+    has_only_name_bytes(word)
+}
+
+/// What stands behind these bytes, if the word begins with them.
+pub(crate) fn behind<'a>(word: &'a [u8], prefix: &[u8]) -> Option<&'a [u8]>
+    ensures { MatchOption result (starts_with nat_eq word.now prefix.now ≡ false)
+        (λ rest. (starts_with nat_eq word.now prefix.now ≡ true) × (rest.now ≡ drop (length prefix.now) word.now)) }
+{
+    word.strip_prefix(prefix)
+}
+
+/// The word as text, if it is any.
+pub(crate) fn text(word: &[u8]) -> Option<&str>
+    ensures { MatchOption result (is_utf8 word.now ≡ false) (λ text. (text.now ≡ word.now) × (is_utf8 word.now ≡ true)) }
+{
+    match str::from_utf8(word) {
+        Ok(text) => Some(text),
+        Err(_) => None,
+    }
+}
+
+/// A decimal number of 64 bits.
+pub(crate) fn number(word: &[u8]) -> Result<u64, LineFault>
+    ensures { result ≡ number_of word.now }
+{
+    number64(word).ok_or(LineFault::BadLine)
+}
+
+/// A decimal number up to this one.
+pub(crate) fn number_to(most: u64, word: &[u8]) -> Result<u64, LineFault>
+    ensures number { result ≡ number_to most word.now }
+    ensures limit { IfOk result (λ number. number ≤ most) }
+{
+    let number = number(word)?;
+    if number <= most {
+        Ok(number)
+    } else {
+        Err(LineFault::BadLine)
+    }
+}
