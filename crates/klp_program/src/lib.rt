@@ -4,16 +4,12 @@
 
 mod arguments;
 mod booted;
-mod command;
-mod event;
 mod fault;
 mod kind;
 mod look;
-mod names;
 mod sample;
 mod serve;
 mod wanted;
-mod word;
 mod write;
 
 pub use arguments::{refused, told, words};

@@ -1,12 +1,12 @@
 //! What a line asks to see.
 
-use crate::command::Look;
 use crate::fault::Fault;
+use crate::write;
 use crate::write::{object_name, patch_name, wrote};
-use crate::{names, write};
+use klp_command::Look;
 use klp_core::Manager;
 use klp_machine::Refusal;
-use klp_types::{ObjId, PatchId, ShadowKey, Which};
+use klp_types::{ObjId, PatchId, ShadowKey, Site, TaskId, Which};
 use std::alloc::Global;
 use std::io::Write;
 
@@ -26,6 +26,22 @@ impl From<Refusal> for Unseen {
 impl From<Fault> for Unseen {
     fn from(fault: Fault) -> Unseen {
         Unseen::Fault(fault)
+    }
+}
+
+/// That a patch is installed.
+pub(crate) fn installed(manager: &Manager, patch: PatchId) -> Result<(), Refusal> {
+    match manager.enabled(patch) {
+        Some(_) => Ok(()),
+        None => Err(Refusal::NotFound),
+    }
+}
+
+/// That a patch changes an object.
+fn target(manager: &Manager, patch: PatchId, object: ObjId) -> Result<(), Refusal> {
+    match manager.catalog().place(patch, object) {
+        Some(_) => Ok(()),
+        None => Err(Refusal::NotFound),
     }
 }
 
@@ -53,7 +69,7 @@ fn runs<W: Write>(
     object: ObjId,
     output: &mut W,
 ) -> Result<(), Unseen> {
-    names::target(manager, patch, object)?;
+    target(manager, patch, object)?;
     wrote(write!(output, "runs"))?;
     for which in [Which::Pre, Which::Post, Which::PreUn, Which::PostUn] {
         wrote(match manager.callback_runs(patch, object, which) {
@@ -65,8 +81,8 @@ fn runs<W: Write>(
 }
 
 /// The entries of a symbol's function stack, newest first.
-fn stack<W: Write>(manager: &Manager, spelled: &[u8], output: &mut W) -> Result<(), Unseen> {
-    let entries = manager.stack(names::site(manager, spelled)?);
+fn stack<W: Write>(manager: &Manager, site: Site, output: &mut W) -> Result<(), Unseen> {
+    let entries = manager.stack(site);
     if entries.is_empty() {
         return Ok(wrote(writeln!(output, "empty"))?);
     }
@@ -79,12 +95,10 @@ fn stack<W: Write>(manager: &Manager, spelled: &[u8], output: &mut W) -> Result<
 /// What a task runs at a symbol.
 fn pick<W: Write>(
     manager: &Manager,
-    task: u64,
-    spelled: &[u8],
+    task: TaskId,
+    site: Site,
     output: &mut W,
 ) -> Result<(), Unseen> {
-    let task = names::task(task)?;
-    let site = names::site(manager, spelled)?;
     if manager.patch_state(task).is_none() {
         return Err(Unseen::Refused(Refusal::NoTask));
     }
@@ -104,7 +118,7 @@ fn patches<W: Write>(manager: &Manager, output: &mut W) -> Result<(), Unseen> {
 
 /// The files of a patch, and a directory for each object that it changes.
 fn files<W: Write>(manager: &Manager, patch: PatchId, output: &mut W) -> Result<(), Unseen> {
-    names::installed(manager, patch)?;
+    installed(manager, patch)?;
     wrote(writeln!(output, "enabled\nforce\ntransition"))?;
     for place in 0..manager.catalog().target_len(patch) {
         if let Some(object) = manager.catalog().target(patch, place) {
@@ -121,8 +135,8 @@ fn functions<W: Write>(
     object: ObjId,
     output: &mut W,
 ) -> Result<(), Unseen> {
-    names::installed(manager, patch)?;
-    names::target(manager, patch, object)?;
+    installed(manager, patch)?;
+    target(manager, patch, object)?;
     for function in manager.catalog().functions(patch) {
         if function.object() == object {
             // the only symbol of its name is the first
@@ -139,8 +153,7 @@ fn flag<W: Write>(flag: Option<bool>, output: &mut W) -> Result<(), Unseen> {
     Ok(wrote(writeln!(output, "{}", u8::from(flag)))?)
 }
 
-fn patch_state<W: Write>(manager: &Manager, task: u64, output: &mut W) -> Result<(), Unseen> {
-    let task = names::task(task)?;
+fn patch_state<W: Write>(manager: &Manager, task: TaskId, output: &mut W) -> Result<(), Unseen> {
     let state = manager.patch_state(task).ok_or(Refusal::NoTask)?;
     Ok(wrote(writeln!(output, "{state}"))?)
 }
@@ -161,33 +174,21 @@ fn mark<W: Write>(manager: &Manager, output: &mut W) -> Result<(), Unseen> {
 pub(crate) fn look<W: Write>(
     alloc: Global,
     manager: &Manager,
-    look: &Look<'_>,
+    look: &Look,
     output: &mut W,
 ) -> Result<(), Unseen> {
     match *look {
-        Look::Enabled(name) => {
-            let patch = names::patch(manager, name)?;
-            flag(manager.enabled(patch), output)
-        }
-        Look::Transition(name) => {
-            let patch = names::patch(manager, name)?;
-            flag(manager.transition(patch), output)
-        }
+        Look::Enabled(patch) => flag(manager.enabled(patch), output),
+        Look::Transition(patch) => flag(manager.transition(patch), output),
         Look::PatchState(task) => patch_state(manager, task, output),
         Look::Patches => patches(manager, output),
-        Look::Patch(name) => files(manager, names::patch(manager, name)?, output),
-        Look::Object(name, object) => {
-            let patch = names::patch(manager, name)?;
-            functions(manager, patch, names::object(manager, object)?, output)
-        }
+        Look::Patch(patch) => files(manager, patch, output),
+        Look::Object(patch, object) => functions(manager, patch, object, output),
         Look::Variable(key) => variable(manager, key, output),
-        Look::Text(object) => text(alloc, manager, names::object(manager, object)?, output),
-        Look::Stack(spelled) => stack(manager, spelled, output),
-        Look::Pick(task, spelled) => pick(manager, task, spelled, output),
-        Look::Runs(name, object) => {
-            let patch = names::patch(manager, name)?;
-            runs(manager, patch, names::object(manager, object)?, output)
-        }
+        Look::Text(object) => text(alloc, manager, object, output),
+        Look::Stack(site) => stack(manager, site, output),
+        Look::Pick(task, site) => pick(manager, task, site, output),
+        Look::Runs(patch, object) => runs(manager, patch, object, output),
         Look::Mark => mark(manager, output),
     }
 }

@@ -4,19 +4,29 @@ ghost use Rattle.klp_steps.specs.Managed.{setting_of};
 
 use crate::arguments::told;
 use crate::booted::boot;
-use crate::command::{Command, Line, read};
-use crate::event::{Change, change_of};
 use crate::fault::Fault;
 use crate::kind::{Kind, callback_of};
-use crate::look::{Unseen, look};
+use crate::look::{Unseen, installed, look};
+use crate::write;
 use crate::write::wrote;
-use crate::{names, write};
 use klp_callback::Boxed;
 use klp_catalog::Catalog;
+use klp_command::{Asked, LineFault, asked_of};
 use klp_core::{BadMark, Manager};
-use klp_machine::{Refusal, Reply};
+use klp_machine::{Event, Refusal, Reply};
 use std::alloc::Global;
 use std::io::{BufRead, Write};
+
+// What is to be done with the manager.
+#[derive(Clone, Copy)]
+enum Change {
+    // To take an event.
+    Apply(Event),
+    // To take all standing events back but for the first so many.
+    Rewind(u32),
+    // To keep nothing that events can be taken back by.
+    Seal,
+}
 
 // What the manager answered to what was done with it.
 #[derive(Clone, Copy)]
@@ -26,43 +36,37 @@ enum Answer {
     Sealed,
 }
 
-// Answers a line that asks for nothing that changes the manager.
-fn answer_other<W: Write>(
-    alloc: Global,
-    manager: &Manager,
-    command: &Command<'_>,
-    output: &mut W,
-) -> Result<(), Unseen> {
-    match command {
-        Command::Look(asked) => look(alloc, manager, asked, output),
-        Command::Force(name, _) => {
-            names::installed(manager, names::patch(manager, name)?)?;
-            Ok(write::done(output)?)
-        }
-        _ => Ok(wrote(writeln!(output, "error 22 BadValue"))?),
-    }
-}
-
-// Answers a line that changes nothing, or whose names aren't known; else tells what it asks to be done.
+// Answers a line that changes nothing; else tells what it asks to be done. A line that is refused
+// before the manager is asked is told as such.
 fn answer_or_change<W: Write>(
     alloc: Global,
     manager: &Manager,
-    line: &Line<'_>,
+    line: &[u8],
     output: &mut W,
 ) -> Result<Option<Change>, Unseen> {
-    match line {
-        Line::Command(command) => {
-            let change = change_of(manager, command)?;
-            if change.is_none() {
-                answer_other(alloc, manager, command, output)?;
-            }
-            Ok(change)
+    match asked_of(line, manager.catalog(), manager.modules()) {
+        None => Ok(None),
+        Some(Ok(Asked::Take(event))) => Ok(Some(Change::Apply(event))),
+        Some(Ok(Asked::Rewind(mark))) => Ok(Some(Change::Rewind(mark))),
+        Some(Ok(Asked::Seal)) => Ok(Some(Change::Seal)),
+        Some(Ok(Asked::ForceNothing(patch))) => {
+            installed(manager, patch)?;
+            write::done(output)?;
+            Ok(None)
         }
-        Line::Bad => {
+        Some(Ok(Asked::See(asked))) => {
+            look(alloc, manager, &asked, output)?;
+            Ok(None)
+        }
+        Some(Err(LineFault::BadLine)) => {
             wrote(writeln!(output, "error 22 BadLine"))?;
             Ok(None)
         }
-        Line::Empty => Ok(None),
+        Some(Err(LineFault::BadValue)) => {
+            wrote(writeln!(output, "error 22 BadValue"))?;
+            Ok(None)
+        }
+        Some(Err(LineFault::Refused(refusal))) => Err(Unseen::Refused(refusal)),
     }
 }
 
@@ -70,7 +74,7 @@ fn answer_or_change<W: Write>(
 fn asked<W: Write>(
     alloc: Global,
     manager: &Manager,
-    line: &Line<'_>,
+    line: &[u8],
     output: &mut W,
 ) -> Result<Option<Change>, Fault> {
     match answer_or_change(alloc, manager, line, output) {
@@ -119,8 +123,8 @@ fn next_change<R: BufRead, W: Write>(
         if read_line(input, line)? == 0 {
             break;
         }
-        let line = read(line.strip_suffix(b"\n").unwrap_or(line));
-        let change = asked(alloc, manager, &line, out)?;
+        let line = line.strip_suffix(b"\n").unwrap_or(line);
+        let change = asked(alloc, manager, line, out)?;
         if change.is_some() {
             return Ok(change);
         }
