@@ -14,7 +14,7 @@ use Rattle.klp_plan.specs.Draft.{patch_names_of}
 use Rattle.klp_catalog.specs.Catalog.{Catalog}
 use Rattle.klp_command.specs.declared.fault.LineFault.{LineFault}
 use Rattle.klp_command.specs.declared.fault.LineFault.TheVariants.{BadLine, Refused}
-use Rattle.klp_command.specs.declared.limits.TheConstants.{MAX_NUMBER}
+use Rattle.klp_command.specs.declared.limits.TheConstants.{MAX_INDEX}
 use Rattle.klp_command.specs.Words.{is_name, number_to}
 
 -- the names that a line may use: those of the patches, and those of the objects and their symbols
@@ -25,7 +25,7 @@ pub record Known : Type 0 where
 abbrev pub known_of : Catalog → ModuleTable → Known
 known_of catalog modules = record { patches = patch_names_of catalog.patches; objects = modules.names }
 
--- the patch of a name; bytes that are no text are the name of nothing
+-- the patch of a name; bytes that are no UTF-8 name nothing
 abbrev pub patch_of : Known → List ℕ → Result ℕ LineFault
 patch_of known word = if is_utf8 word then ok_or (position (bytes_eq word) known.patches) (Refused NoPatch) else Err (Refused NoPatch)
 
@@ -49,7 +49,7 @@ site_of known spelling =
 
 abbrev pub new_function_at : Known → List ℕ → List ℕ → Result Version LineFault
 new_function_at known patch index =
-    if is_name patch then (number_to MAX_NUMBER index >>= λ i. patch_of known patch >>= λ p. Ok (New p i)) else Err BadLine
+    if is_name patch then (number_to MAX_INDEX index >>= λ i. patch_of known patch >>= λ p. Ok (New p i)) else Err BadLine
 
 -- `PATCH:INDEX`: a new function of a patch, whether the patch has it or not
 abbrev pub new_function_of : Known → List ℕ → Result Version LineFault
@@ -72,7 +72,7 @@ versions_of known (word ∷ words) = version_of known word >>= λ v. versions_of
 abbrev pub is_frame : List ℕ → Bool
 is_frame word =
     is_some (spelling_of word)
-    || (is_name (before_first (λ b. b == 58) word) && is_ok (number_to MAX_NUMBER (after_first (λ b. b == 58) word)))
+    || (is_name (before_first (λ b. b == 58) word) && is_ok (number_to MAX_INDEX (after_first (λ b. b == 58) word)))
 
 -- as many frames as a task has at most
 abbrev pub are_frames : List (List ℕ) → Bool

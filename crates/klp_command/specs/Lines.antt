@@ -6,7 +6,7 @@ use Rattle.klp_line.specs.Words.{spelling_of}
 use Rattle.klp_line.specs.Gives.{◌>>=◌}
 use Rattle.klp_command.specs.declared.fault.LineFault.{LineFault}
 use Rattle.klp_command.specs.declared.fault.LineFault.TheVariants.{BadLine, BadValue}
-use Rattle.klp_command.specs.declared.limits.TheConstants.{MAX_NUMBER, MAX_MARK}
+use Rattle.klp_command.specs.declared.limits.TheConstants.{MAX_TASK_NUMBER, MAX_MARK}
 use Rattle.klp_command.specs.declared.asked.Asked.{Asked}
 use Rattle.klp_command.specs.declared.asked.Asked.TheVariants.{Take, ForceNothing, Rewind, Seal, See}
 use Rattle.klp_command.specs.declared.asked.Look.TheVariants as look
@@ -30,7 +30,7 @@ abbrev pub rmmod_line : Known → List (List ℕ) → Result Asked LineFault
 rmmod_line known (object ∷ []) = if is_name object then (object_of known object >>= λ o. Ok (Take (event.Going o))) else Err BadLine
 rmmod_line known words = Err BadLine
 
--- nothing stands behind the first word
+-- nothing stands after the first word
 abbrev pub alone : Asked → List (List ℕ) → Result Asked LineFault
 alone asked [] = Ok asked
 alone asked words = Err BadLine
@@ -72,7 +72,7 @@ echo_line known words = Err BadLine
 abbrev pub task_look : List ℕ → List ℕ → Result Asked LineFault
 task_look number file =
     if not (bytes_eq file (codes "patch_state")) then Err BadLine
-    else (number_to MAX_NUMBER number >>= λ n. task_of n >>= λ t. Ok (See (look.PatchState t)))
+    else (number_to MAX_TASK_NUMBER number >>= λ n. task_of n >>= λ t. Ok (See (look.PatchState t)))
 
 -- T/patch_state
 abbrev pub proc_look : List ℕ → Result Asked LineFault
@@ -130,7 +130,7 @@ sleep_line known number words =
 
 -- task fork T T
 abbrev pub fork_line : ℕ → List (List ℕ) → Result Asked LineFault
-fork_line number (child ∷ []) = number_to MAX_NUMBER child >>= λ c. task_of number >>= λ t. task_of c >>= λ n. Ok (Take (event.Fork t n))
+fork_line number (child ∷ []) = number_to MAX_TASK_NUMBER child >>= λ c. task_of number >>= λ t. task_of c >>= λ n. Ok (Take (event.Fork t n))
 fork_line number words = Err BadLine
 
 abbrev pub plain_event : List ℕ → ℕ → Result Asked LineFault
@@ -155,7 +155,7 @@ verb_line known verb words number =
 
 -- a verb, a task and what the verb needs
 abbrev pub task_line : Known → List (List ℕ) → Result Asked LineFault
-task_line known (verb ∷ task ∷ words) = number_to MAX_NUMBER task >>= verb_line known verb words
+task_line known (verb ∷ task ∷ words) = number_to MAX_TASK_NUMBER task >>= verb_line known verb words
 task_line known words = Err BadLine
 
 -- shadow alloc OBJ ID V
@@ -208,7 +208,7 @@ stack_line known words = Err BadLine
 -- pick T SYM
 abbrev pub pick_line : Known → List (List ℕ) → Result Asked LineFault
 pick_line known (task ∷ symbol ∷ []) =
-    number_to MAX_NUMBER task >>= λ n. ok_or (spelling_of symbol) BadLine
+    number_to MAX_TASK_NUMBER task >>= λ n. ok_or (spelling_of symbol) BadLine
     >>= λ s. task_of n >>= λ t. site_of known s >>= λ site. Ok (See (look.Pick t site))
 pick_line known words = Err BadLine
 

@@ -10,9 +10,9 @@ pub enum Asked {
     Take(Event),
     /// To write 0 to the `force` file of a patch, which does nothing.
     ForceNothing(PatchId),
-    /// To take all standing events back but for the first so many.
+    /// To undo all accepted events but the first so many.
     Rewind(u32),
-    /// To keep nothing that events can be taken back by.
+    /// To discard the journal, so that nothing can be undone any more.
     Seal,
     /// To see something; nothing changes.
     See(Look),

@@ -2,13 +2,13 @@
 
 use klp_machine::Refusal;
 
-/// Why a line asks for nothing. In a line that has more than one fault, `BadLine` is told before
+/// Why a line asks for nothing. In a line that has more than one fault, `BadLine` is reported before
 /// `BadValue`, and that before the first name from the left that isn't known.
 #[derive(Clone, Copy, Debug, PartialEq, Eq)]
 pub enum LineFault {
-    /// The line is spelled as none is.
+    /// The line matches no form.
     BadLine,
-    /// Another value than 0 and 1 is written to a file of a patch.
+    /// A value other than `0` or `1` is written to the `enabled` or `force` file of a patch.
     BadValue,
     /// A name isn't known: `NoPatch`, `NoModule`, `NoSymbol`, or `NoTask` for a number that no task
     /// has.

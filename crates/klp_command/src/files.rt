@@ -6,8 +6,8 @@ ghost use Rattle.klp_command.specs.Lines.{switch, enabled_line, force_line, echo
 use crate::asked::{Asked, Look};
 use crate::fault::LineFault;
 use crate::known::{Known, task};
-use crate::limits::MAX_NUMBER;
-use crate::words::{Words, behind, cut, is_name, number_to};
+use crate::limits::MAX_TASK_NUMBER;
+use crate::words::{Words, after_prefix, cut, is_name, number_to};
 use klp_machine::Event;
 
 /// Where the directories of the patches stand (livepatch, Sysfs).
@@ -17,7 +17,7 @@ const PATCHES: &[u8] = b"/sys/kernel/livepatch";
 const BELOW_PATCHES: &[u8] = b"/sys/kernel/livepatch/";
 
 /// What the files of a task begin with.
-const TASKS: &[u8] = b"/proc/";
+const PROC: &[u8] = b"/proc/";
 
 /// The value that is written to a file.
 fn switch(value: &[u8]) -> Result<bool, LineFault>
@@ -68,7 +68,7 @@ fn echo_file(value: &[u8], file: &[u8], known: &Known<'_>) -> Result<Asked, Line
     }
 }
 
-/// The words behind `echo`: a value, an arrow and a file.
+/// The words after `echo`: a value, an arrow and a file.
 pub(crate) fn echo_line(words: &mut Words<'_>, known: &Known<'_>) -> Result<Asked, LineFault>
     ensures { result ≡ echo_line known.now words.old }
 {
@@ -79,7 +79,7 @@ pub(crate) fn echo_line(words: &mut Words<'_>, known: &Known<'_>) -> Result<Aske
     if arrow != b">".as_slice() {
         return Err(LineFault::BadLine);
     }
-    match behind(file, BELOW_PATCHES) {
+    match after_prefix(file, BELOW_PATCHES) {
         Some(file) => echo_file(value, file, known),
         None => Err(LineFault::BadLine),
     }
@@ -93,7 +93,7 @@ fn proc_look(file: &[u8]) -> Result<Asked, LineFault>
     if file != b"patch_state".as_slice() {
         return Err(LineFault::BadLine);
     }
-    let number = number_to(MAX_NUMBER, number)?;
+    let number = number_to(MAX_TASK_NUMBER, number)?;
     Ok(Asked::See(Look::PatchState(task(number)?)))
 }
 
@@ -117,16 +117,16 @@ fn patch_look(file: &[u8], known: &Known<'_>) -> Result<Asked, LineFault>
 fn cat_file(file: &[u8], known: &Known<'_>) -> Result<Asked, LineFault>
     ensures { result ≡ cat_file known.now file.now }
 {
-    if let Some(file) = behind(file, TASKS) {
+    if let Some(file) = after_prefix(file, PROC) {
         return proc_look(file);
     }
-    match behind(file, BELOW_PATCHES) {
+    match after_prefix(file, BELOW_PATCHES) {
         Some(file) => patch_look(file, known),
         None => Err(LineFault::BadLine),
     }
 }
 
-/// The word behind `cat`.
+/// The word after `cat`.
 pub(crate) fn cat_line(words: &mut Words<'_>, known: &Known<'_>) -> Result<Asked, LineFault>
     ensures { result ≡ cat_line known.now words.old }
 {
@@ -156,13 +156,13 @@ fn list_look(directory: &[u8], known: &Known<'_>) -> Result<Asked, LineFault>
     if directory == PATCHES {
         return Ok(Asked::See(Look::Patches));
     }
-    match behind(directory, BELOW_PATCHES) {
+    match after_prefix(directory, BELOW_PATCHES) {
         Some(directory) => directory_look(directory, known),
         None => Err(LineFault::BadLine),
     }
 }
 
-/// The word behind `ls`.
+/// The word after `ls`.
 pub(crate) fn list_line(words: &mut Words<'_>, known: &Known<'_>) -> Result<Asked, LineFault>
     ensures { result ≡ list_line known.now words.old }
 {

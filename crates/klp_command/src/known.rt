@@ -4,7 +4,7 @@ ghost use Rattle.std.specs.Prelude.{◌≡◌};
 ghost use Rattle.klp_command.specs.Known.{patch_of, object_of, task_of, site_of, new_function_of, version_of, symbol_found};
 
 use crate::fault::LineFault;
-use crate::limits::MAX_NUMBER;
+use crate::limits::MAX_INDEX;
 use crate::words::{cut, is_name, number_to, text};
 use klp_catalog::Catalog;
 use klp_line::{Spelling, spelling_of};
@@ -54,7 +54,7 @@ impl<'a> Known<'a> {
         }
     }
 
-    /// The symbol that is spelled so, its object loaded or not.
+    /// The symbol of a spelling, its object loaded or not.
     pub(crate) fn site(&self, spelling: &Spelling<'_>) -> Result<Site, LineFault>
         ensures { result ≡ site_of self.now spelling.now }
     {
@@ -79,7 +79,7 @@ impl<'a> Known<'a> {
         if !is_name(patch) {
             return Err(LineFault::BadLine);
         }
-        let index = number_to(MAX_NUMBER, index)? as u16;
+        let index = number_to(MAX_INDEX, index)? as u16;
         Ok(Version::New(self.patch(patch)?, index))
     }
 

@@ -3,14 +3,15 @@
 //! [`asked_of`] reads one line: its words, the names and numbers in them, and what they ask to be
 //! done with a manager. It does nothing itself, and takes no memory.
 //!
-//! A line that is spelled wrong is told first, then a value that a file doesn't take, then names
-//! that aren't known, from left to right. What else refuses a line, the manager says.
+//! A line that matches no form is reported first, then a value that a file doesn't take, then the first
+//! name from the left that isn't known. All other refusals are the manager's.
 #![tactic(auto)]
 
 mod asked;
 mod fault;
 mod files;
 mod known;
+pub mod laws;
 mod limits;
 mod line;
 mod shadow;
@@ -19,5 +20,5 @@ mod words;
 
 pub use asked::{Asked, Look};
 pub use fault::LineFault;
-pub use limits::{MAX_MARK, MAX_NUMBER};
+pub use limits::{MAX_INDEX, MAX_MARK, MAX_TASK_NUMBER};
 pub use line::asked_of;

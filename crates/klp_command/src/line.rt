@@ -8,7 +8,7 @@ use crate::asked::{Asked, Look};
 use crate::fault::LineFault;
 use crate::files::{cat_line, echo_line, list_line};
 use crate::known::{Known, task};
-use crate::limits::{MAX_MARK, MAX_NUMBER};
+use crate::limits::{MAX_MARK, MAX_TASK_NUMBER};
 use crate::shadow::shadow_line;
 use crate::tasks::task_line;
 use crate::words::{Words, is_name, number_to};
@@ -111,7 +111,7 @@ fn rmmod_line(words: &mut Words<'_>, known: &Known<'_>) -> Result<Asked, LineFau
     Ok(Asked::Take(Event::Going(known.object(object)?)))
 }
 
-/// What a line asks for that has one word.
+/// What a line of one word asks for.
 fn alone(asked: Asked, words: &mut Words<'_>) -> Result<Asked, LineFault>
     ensures { result ≡ alone asked words.old }
 {
@@ -145,7 +145,7 @@ fn pick_line(words: &mut Words<'_>, known: &Known<'_>) -> Result<Asked, LineFaul
     let number = words.word()?;
     let symbol = words.word()?;
     words.end()?;
-    let number = number_to(MAX_NUMBER, number)?;
+    let number = number_to(MAX_TASK_NUMBER, number)?;
     let spelling = spelling_of(symbol).ok_or(LineFault::BadLine)?;
     let task = task(number)?;
     Ok(Asked::See(Look::Pick(task, known.site(&spelling)?)))

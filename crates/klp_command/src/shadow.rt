@@ -65,7 +65,7 @@ fn get_line(words: &mut Words<'_>) -> Result<Asked, LineFault>
     Ok(Asked::See(Look::Variable(ShadowKey { obj, id })))
 }
 
-/// The words behind `shadow`: a verb, and numbers.
+/// The words after `shadow`: a verb, and numbers.
 pub(crate) fn shadow_line(words: &mut Words<'_>) -> Result<Asked, LineFault>
     ensures { result ≡ shadow_line words.old }
 {

@@ -8,7 +8,7 @@ ghost use Rattle.klp_command.specs.Lines.{sleep_line, fork_line, plain_event, pl
 use crate::asked::Asked;
 use crate::fault::LineFault;
 use crate::known::{Known, task};
-use crate::limits::MAX_NUMBER;
+use crate::limits::{MAX_INDEX, MAX_TASK_NUMBER};
 use crate::words::{Words, cut, is_name, number_to};
 use klp_line::spelling_of;
 use klp_machine::Event;
@@ -22,7 +22,7 @@ fn is_frame(word: &[u8]) -> bool
         return true;
     }
     let (patch, index) = cut(word, b':');
-    is_name(patch) && number_to(MAX_NUMBER, index).is_ok()
+    is_name(patch) && number_to(MAX_INDEX, index).is_ok()
 }
 
 /// Whether each word spells a function, and there are no more than a task can be inside of.
@@ -53,7 +53,7 @@ fn frames(text: &[u8], known: &Known<'_>) -> Result<Frames, LineFault>
     Ok(frames)
 }
 
-/// The words behind the task that falls asleep: the functions that it is inside of, innermost last.
+/// The words after the task that falls asleep: the functions that it is inside of, innermost last.
 fn sleep_line(number: u64, words: &mut Words<'_>, known: &Known<'_>) -> Result<Asked, LineFault>
     ensures { result ≡ sleep_line known.now number words.old }
 {
@@ -65,18 +65,18 @@ fn sleep_line(number: u64, words: &mut Words<'_>, known: &Known<'_>) -> Result<A
     Ok(Asked::Take(Event::Sleep(task, frames(text, known)?)))
 }
 
-/// The word behind the task that forks: the one that it makes.
+/// The word after the task that forks: the one that it makes.
 fn fork_line(number: u64, words: &mut Words<'_>) -> Result<Asked, LineFault>
     ensures { result ≡ fork_line number words.old }
 {
     let child = words.word()?;
     words.end()?;
-    let child = number_to(MAX_NUMBER, child)?;
+    let child = number_to(MAX_TASK_NUMBER, child)?;
     let parent = task(number)?;
     Ok(Asked::Take(Event::Fork(parent, task(child)?)))
 }
 
-/// What a task does that needs no more words.
+/// What a task does, where the verb needs no more words.
 fn plain_event(verb: &[u8], number: u64) -> Result<Asked, LineFault>
     ensures { result ≡ plain_event verb.now number }
 {
@@ -102,13 +102,13 @@ fn plain_line(verb: &[u8], number: u64, words: &mut Words<'_>) -> Result<Asked, 
     plain_event(verb, number)
 }
 
-/// The words behind `task`: a verb, a task and what the verb needs.
+/// The words after `task`: a verb, a task and what the verb needs.
 pub(crate) fn task_line(words: &mut Words<'_>, known: &Known<'_>) -> Result<Asked, LineFault>
     ensures { result ≡ task_line known.now words.old }
 {
     let verb = words.word()?;
     let word = words.word()?;
-    let number = number_to(MAX_NUMBER, word)?;
+    let number = number_to(MAX_TASK_NUMBER, word)?;
     if verb == b"sleep".as_slice() {
         sleep_line(number, words, known)
     } else if verb == b"fork".as_slice() {

@@ -33,7 +33,7 @@ impl<'a> Words<'a> {
         Words { rest: line }
     }
 
-    /// The bytes that the words which are left stand in.
+    /// The bytes that are still to be read.
     pub(crate) fn rest(&self) -> &'a [u8]
         ensures { words_of result.now ≡ self.now }
     {
@@ -53,7 +53,7 @@ impl<'a> Words<'a> {
         Some(word)
     }
 
-    /// The next word of a line that has too few words without it.
+    /// The next word, or `BadLine` where there is none.
     pub(crate) fn word(&mut self) -> Result<&'a [u8], LineFault>
         ensures { MatchResult result (λ word. self.old ≡ word.now ∷ self.new)
             (λ fault. (fault ≡ LineFault.BadLine) × (self.old ≡ [])) }
@@ -61,7 +61,7 @@ impl<'a> Words<'a> {
         self.next().ok_or(LineFault::BadLine)
     }
 
-    /// The end of a line that has too many words with one more.
+    /// `BadLine` where a word is left.
     pub(crate) fn end(&mut self) -> Result<(), LineFault>
         ensures { MatchResult result (λ _. self.old ≡ [])
             (λ fault. (fault ≡ LineFault.BadLine) × (word : List ℕ) × (words : List (List ℕ)) × (self.old ≡ word ∷ words)) }
@@ -105,7 +105,7 @@ fn position_of(bytes: &[u8], at: u8) -> Option<usize>
     bytes.iter().position(|b| *b == at)
 }
 
-/// What stands before the first byte `at`, and what stands behind it.
+/// What stands before the first byte `at`, and what stands after it.
 pub(crate) fn cut(text: &[u8], at: u8) -> (&[u8], &[u8])
     ensures before { result.0.now ≡ before_first (λ b. b == at) text.now }
     ensures after { result.1.now ≡ after_first (λ b. b == at) text.now }
@@ -139,15 +139,15 @@ pub(crate) fn is_name(word: &[u8]) -> bool
     has_only_name_bytes(word)
 }
 
-/// What stands behind these bytes, if the word begins with them.
-pub(crate) fn behind<'a>(word: &'a [u8], prefix: &[u8]) -> Option<&'a [u8]>
+/// The rest of the word after this prefix, if it has the prefix.
+pub(crate) fn after_prefix<'a>(word: &'a [u8], prefix: &[u8]) -> Option<&'a [u8]>
     ensures { MatchOption result (starts_with nat_eq word.now prefix.now ≡ false)
         (λ rest. (starts_with nat_eq word.now prefix.now ≡ true) × (rest.now ≡ drop (length prefix.now) word.now)) }
 {
     word.strip_prefix(prefix)
 }
 
-/// The word as text, if it is any.
+/// The word as UTF-8.
 pub(crate) fn text(word: &[u8]) -> Option<&str>
     ensures { MatchOption result (is_utf8 word.now ≡ false) (λ text. (text.now ≡ word.now) × (is_utf8 word.now ≡ true)) }
 {
@@ -164,7 +164,7 @@ pub(crate) fn number(word: &[u8]) -> Result<u64, LineFault>
     number64(word).ok_or(LineFault::BadLine)
 }
 
-/// A decimal number up to this one.
+/// A decimal number up to `most`.
 pub(crate) fn number_to(most: u64, word: &[u8]) -> Result<u64, LineFault>
     ensures number { result ≡ number_to most word.now }
     ensures limit { IfOk result (λ number. number ≤ most) }
