@@ -36,48 +36,54 @@ enum Answer {
     Sealed,
 }
 
-// Answers a line that changes nothing; else tells what it asks to be done. A line that is refused
-// before the manager is asked is told as such.
+// Does what is asked where that changes nothing; else tells the change.
 fn answer_or_change<W: Write>(
     alloc: Global,
     manager: &Manager,
-    line: &[u8],
+    asked: &Asked,
     output: &mut W,
 ) -> Result<Option<Change>, Unseen> {
-    match asked_of(line, manager.catalog(), manager.modules()) {
-        None => Ok(None),
-        Some(Ok(Asked::Take(event))) => Ok(Some(Change::Apply(event))),
-        Some(Ok(Asked::Rewind(mark))) => Ok(Some(Change::Rewind(mark))),
-        Some(Ok(Asked::Seal)) => Ok(Some(Change::Seal)),
-        Some(Ok(Asked::ForceNothing(patch))) => {
+    match *asked {
+        Asked::Take(event) => Ok(Some(Change::Apply(event))),
+        Asked::Rewind(mark) => Ok(Some(Change::Rewind(mark))),
+        Asked::Seal => Ok(Some(Change::Seal)),
+        Asked::ForceNothing(patch) => {
             installed(manager, patch)?;
             write::done(output)?;
             Ok(None)
         }
-        Some(Ok(Asked::See(asked))) => {
-            look(alloc, manager, &asked, output)?;
+        Asked::See(ref seen) => {
+            look(alloc, manager, seen, output)?;
             Ok(None)
         }
-        Some(Err(LineFault::BadLine)) => {
-            wrote(writeln!(output, "error 22 BadLine"))?;
-            Ok(None)
-        }
-        Some(Err(LineFault::BadValue)) => {
-            wrote(writeln!(output, "error 22 BadValue"))?;
-            Ok(None)
-        }
-        Some(Err(LineFault::Refused(refusal))) => Err(Unseen::Refused(refusal)),
     }
 }
 
-// The same, with a refusal written.
+// Why a line asks for nothing.
+fn write_fault<W: Write>(fault: &LineFault, output: &mut W) -> Result<(), Fault> {
+    match *fault {
+        LineFault::BadLine => wrote(writeln!(output, "error 22 BadLine")),
+        LineFault::BadValue => wrote(writeln!(output, "error 22 BadValue")),
+        LineFault::Refused(refusal) => write::refusal(refusal, output),
+    }
+}
+
+// Answers a line that changes nothing, with its refusal where it has one; else tells the change.
 fn asked<W: Write>(
     alloc: Global,
     manager: &Manager,
     line: &[u8],
     output: &mut W,
 ) -> Result<Option<Change>, Fault> {
-    match answer_or_change(alloc, manager, line, output) {
+    let asked = match asked_of(line, manager.catalog(), manager.modules()) {
+        None => return Ok(None),
+        Some(Ok(asked)) => asked,
+        Some(Err(fault)) => {
+            write_fault(&fault, output)?;
+            return Ok(None);
+        }
+    };
+    match answer_or_change(alloc, manager, &asked, output) {
         Ok(change) => Ok(change),
         Err(Unseen::Refused(refusal)) => {
             write::refusal(refusal, output)?;
