@@ -1,0 +1,2 @@
+pub mod SaysLemmas
+pub mod WriteLemmas

@@ -1,0 +1,8 @@
+-- What is gathered before it is written.
+use Rattle.std.specs.Prelude.{ℕ, Bool, List}
+
+pub record Gathered : Type 0 where
+  -- what was said and isn't written yet
+  pub bytes : List ℕ
+  -- whether the sink has failed
+  pub has_failed : Bool

@@ -1,0 +1,4 @@
+pub mod Written
+pub mod Gathered
+pub mod Says
+pub mod Texts

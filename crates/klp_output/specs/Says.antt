@@ -1,0 +1,35 @@
+-- What it is to say a text: it is gathered behind what was, and from the front some of it is written.
+use Rattle.std.specs.Prelude.{◌≡◌, ℕ, ◌+◌, true, false, List, ◌++◌, ◌⊎◌}
+use Rattle.std.specs.Io.KnownBytes.{Appends}
+use Rattle.klp_output.specs.Written.{Written}
+use Rattle.klp_output.specs.Gathered.{Gathered}
+
+-- nothing went wrong
+abbrev pub IsWell : Written → Written → Type 0
+IsWell before after = (after.failures ≡ before.failures) × (after.stalls ≡ before.stalls)
+
+-- the sink is to blame: one write failed, or one took nothing
+abbrev pub IsToBlame : Written → Written → Type 0
+IsToBlame before after =
+    ((after.failures ≡ before.failures + 1) × (after.stalls ≡ before.stalls)) ⊎ ((after.failures ≡ before.failures) × (after.stalls ≡ before.stalls + 1))
+
+-- The sink took the front `gone` of what there was to write, and `rest` was left.
+pub record Moves (before after : Written) (bytes gone rest : List ℕ) : Type 0 where
+  pub cut : bytes ≡ gone ++ rest
+  pub taken : Appends before.taken after.taken gone
+
+-- What is left is gathered, unless the sink is to blame for what is missing.
+abbrev pub Leaves : Gathered → Written → Written → List ℕ → Type 0
+Leaves gathered before after rest = ((gathered.has_failed ≡ false) × (gathered.bytes ≡ rest) × IsWell before after) ⊎ ((gathered.has_failed ≡ true) × IsToBlame before after)
+
+-- The text is said: its bytes are behind those that were gathered. The front of them all was written, and the rest is gathered.
+pub record Spoken (before after : Gathered × Written) (text : List ℕ) : Type 0 where
+  pub gone : List ℕ
+  pub rest : List ℕ
+  pub moves : Moves before.1 after.1 (before.0.bytes ++ text) gone rest
+  pub leaves : Leaves after.0 before.1 after.1 rest
+
+-- After a failure nothing is said: nothing changes.
+pub record Says (before after : Gathered × Written) (text : List ℕ) : Type 0 where
+  pub silent : before.0.has_failed ≡ true → after ≡ before
+  pub spoken : before.0.has_failed ≡ false → Spoken before after text

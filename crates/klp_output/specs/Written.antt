@@ -1,0 +1,10 @@
+-- What was written to a sink.
+use Rattle.std.specs.Prelude.{ℕ, List, Option}
+
+pub record Written : Type 0 where
+  -- the bytes that it took, where they are known
+  pub taken : Option (List ℕ)
+  -- how many writes failed
+  pub failures : ℕ
+  -- how many writes of some bytes took none
+  pub stalls : ℕ

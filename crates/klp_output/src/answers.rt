@@ -1,0 +1,116 @@
+//! What is said: gathered first, and written where the room is full.
+ghost use Rattle.std.specs.Prelude.{◌≡◌, ℕ, ◌+◌, ◌≤◌, ◌⊎◌, Bool, false, [], ◌++◌, length, OnOk, OnErr, IsTrue, List};
+ghost use Rattle.std.specs.Fmt.{decimal, signed_decimal};
+ghost use Rattle.std.specs.Io.KnownBytes.{Appends};
+ghost use Rattle.hex.specs.Hex.{encode_lower};
+ghost use Rattle.klp_output.specs.Gathered.{Gathered};
+ghost use Rattle.klp_output.specs.Says.{IsWell, IsToBlame, Moves, Says};
+ghost use Rattle.klp_output.specs.Texts.{address_text};
+
+use crate::sink::{Failed, Sink};
+use arrayvec::ArrayVec;
+use std::marker::Model;
+
+/// How many bytes are gathered at most.
+pub const ROOM: usize = 4096;
+
+/// What was said and isn't written yet. What is said goes to the same sink each time.
+#[derive(Drop)]
+pub struct Answers {
+    bytes: ArrayVec<u8, ROOM>,
+    /// Whether the sink has failed.
+    has_failed: bool,
+}
+
+impl Model for Answers {
+    ghost use Rattle.klp_output.specs.Gathered.{Gathered};
+
+    ghost Value = { Gathered };
+
+    ghost view = { λ a. record { bytes = a.bytes.items; has_failed = a.has_failed } };
+}
+
+/// Writes all bytes, in as many writes as it takes.
+fn write_all<W: Sink>(writer: &mut W, bytes: &[u8]) -> Result<(), Failed>
+    ensures ok { OnOk result (Appends (W.written writer.old).taken (W.written writer.new).taken bytes.now × IsWell (W.written writer.old) (W.written writer.new)) }
+    ensures err { OnErr result ((gone rest : List ℕ) × Moves (W.written writer.old) (W.written writer.new) bytes.now gone rest × IsToBlame (W.written writer.old) (W.written writer.new)) }
+{
+    let mut done = 0;
+    while done < bytes.len() {
+        match writer.write(&bytes[done..]) {
+            Err(_) => return Err(Failed),
+            Ok(count) => {
+                if count == 0 {
+                    return Err(Failed);
+                }
+                done += count;
+            }
+        }
+    }
+    Ok(())
+}
+
+impl Answers {
+    /// Nothing is said yet.
+    pub fn new() -> Answers
+        ensures { result ≡ record { bytes = []; has_failed = false } }
+    {
+        Answers {
+            bytes: ArrayVec::new(),
+            has_failed: false,
+        }
+    }
+
+    /// Whether the sink has failed. From then on nothing is said.
+    pub fn has_failed(&self) -> bool
+        ensures { result ≡ self.now.has_failed }
+    {
+        self.has_failed
+    }
+
+    /// Writes what was gathered.
+    pub fn flush<W: Sink>(&mut self, writer: &mut W)
+        ensures says { Says (self.old, W.written writer.old) (self.new, W.written writer.new) [] }
+        ensures empty { self.new.has_failed ≡ false → self.new.bytes ≡ [] }
+    {
+        if self.has_failed {
+            return;
+        }
+        match write_all(writer, self.bytes.as_slice()) {
+            Ok(()) => self.bytes.clear(),
+            Err(Failed) => self.has_failed = true,
+        }
+    }
+
+    /// Writes what was gathered, where there is no room behind it.
+    fn make_room<W: Sink>(&mut self, writer: &mut W, len: usize)
+        ensures says { Says (self.old, W.written writer.old) (self.new, W.written writer.new) [] }
+        ensures room { (length self.new.bytes + len ≤ ROOM) ⊎ (self.new.has_failed ≡ false → self.new.bytes ≡ []) }
+    {
+        if self.bytes.remaining_capacity() < len {
+            self.flush(writer);
+        }
+    }
+
+    /// Says a text for which there is room, or before which nothing is gathered: a longer one is
+    /// written at once.
+    fn take<W: Sink>(&mut self, writer: &mut W, text: &[u8])
+        requires { (length self.old.bytes + length text.now ≤ ROOM) ⊎ (self.old.has_failed ≡ false → self.old.bytes ≡ []) }
+        ensures { Says (self.old, W.written writer.old) (self.new, W.written writer.new) text.now }
+    {
+        if self.has_failed {
+            return;
+        }
+        if self.bytes.try_extend_from_slice(text).is_err() {
+            self.has_failed = write_all(writer, text).is_err();
+        }
+    }
+
+    /// Says a text.
+    pub fn say<W: Sink>(&mut self, writer: &mut W, text: &[u8])
+        ensures { Says (self.old, W.written writer.old) (self.new, W.written writer.new) text.now }
+    {
+        self.make_room(writer, text.len());
+        self.take(writer, text);
+    }
+}
