@@ -1,2 +1,3 @@
 pub mod SaysLemmas
 pub mod WriteLemmas
+pub mod TextLemmas

@@ -1,6 +1,6 @@
 -- Saying one text after another.
-use Rattle.std.proofs.Common.{◌≡◌, ℕ, ◌+◌, Bool, true, false, true≢false, List, ◌++◌, inl, inr, refl, sym, ap, ◌∙◌, subst, append_assoc}
-use Rattle.std.proofs.KnownBytes.{Appends-trans}
+use Rattle.std.proofs.Common.{◌≡◌, ℕ, ◌+◌, Bool, true, false, true≢false, List, [], ◌++◌, inl, inr, refl, sym, ap, ◌∙◌, subst, append_assoc, append-nil}
+use Rattle.std.proofs.KnownBytes.{Appends-nil, Appends-trans}
 use Rattle.klp_output.specs.Gathered.{Gathered}
 use Rattle.klp_output.specs.Written.{Written}
 use Rattle.klp_output.specs.Says.{IsWell, Moves, Leaves, Spoken, Says}
@@ -19,23 +19,26 @@ moves_on a b c old next more gone more_gone rest first second = record {
 leaves_on : (a b c : Written) (gathered : Gathered) (rest : List ℕ) → IsWell a b → Leaves gathered b c rest → Leaves gathered a c rest
 leaves_on a b c gathered rest well left = elim left [
   | inl calm ↦ inl (calm.0, calm.1, (calm.2.0 ∙ well.0, calm.2.1 ∙ well.1))
-  | inr blamed ↦ inr (blamed.0, elim blamed.1 [
-    | inl failed ↦ inl (failed.0 ∙ ap (λ n. n + 1) well.0, failed.1 ∙ well.1)
-    | inr stalled ↦ inr (stalled.0 ∙ well.0, stalled.1 ∙ ap (λ n. n + 1) well.1)
-  ])
+  | inr blamed ↦ inr (
+    blamed.0,
+    elim blamed.1 [
+      | inl failed ↦ inl (failed.0 ∙ ap (λ n. n + 1) well.0, failed.1 ∙ well.1)
+      | inr stalled ↦ inr (stalled.0 ∙ well.0, stalled.1 ∙ ap (λ n. n + 1) well.1)
+    ],
+  )
 ]
 
 -- the second text is said
 spoken_on : (a b c : Gathered × Written) (t u : List ℕ) → Spoken a b t → b.0.has_failed ≡ false → Spoken b c u → Spoken a c (t ++ u)
 spoken_on a b c t u first still second = elim first.leaves [
   | inl calm ↦
-    let moves = moves_on a.1 b.1 c.1 (a.0.bytes ++ t) b.0.bytes u first.gone second.gone second.rest (subst (Moves a.1 b.1 (a.0.bytes ++ t) first.gone) (sym calm.1) first.moves) second.moves in
-    record {
-      gone = first.gone ++ second.gone;
-      rest = second.rest;
-      moves = subst (λ bytes. Moves a.1 c.1 bytes (first.gone ++ second.gone) second.rest) (append_assoc a.0.bytes t u) moves;
-      leaves = leaves_on a.1 b.1 c.1 c.0 second.rest calm.2 second.leaves;
-    }
+      let moves = moves_on a.1 b.1 c.1 (a.0.bytes ++ t) b.0.bytes u first.gone second.gone second.rest (subst (Moves a.1 b.1 (a.0.bytes ++ t) first.gone) (sym calm.1) first.moves) second.moves in
+      record {
+        gone = first.gone ++ second.gone;
+        rest = second.rest;
+        moves = subst (λ bytes. Moves a.1 c.1 bytes (first.gone ++ second.gone) second.rest) (append_assoc a.0.bytes t u) moves;
+        leaves = leaves_on a.1 b.1 c.1 c.0 second.rest calm.2 second.leaves;
+      }
   | inr blamed ↦ absurd (not_both _ blamed.0 still)
 ]
 
@@ -44,14 +47,14 @@ failed_on : (a b : Gathered × Written) (t u : List ℕ) → Spoken a b t → b.
 failed_on a b t u first failed = elim first.leaves [
   | inl calm ↦ absurd (not_both _ failed calm.0)
   | inr blamed ↦ record {
-      gone = first.gone;
-      rest = first.rest ++ u;
-      moves = record {
-        cut = sym (append_assoc a.0.bytes t u) ∙ ap (λ bytes. bytes ++ u) first.moves.cut ∙ append_assoc first.gone first.rest u;
-        taken = first.moves.taken;
-      };
-      leaves = inr blamed;
-    }
+    gone = first.gone;
+    rest = first.rest ++ u;
+    moves = record {
+      cut = sym (append_assoc a.0.bytes t u) ∙ ap (λ bytes. bytes ++ u) first.moves.cut ∙ append_assoc first.gone first.rest u;
+      taken = first.moves.taken;
+    };
+    leaves = inr blamed;
+  }
 ]
 
 -- a failure, or none
@@ -64,6 +67,22 @@ pub says-append : (a b c : Gathered × Written) (t u : List ℕ) → Says a b t 
 says-append a b c t u first second = record {
   silent = λ failed. let same = first.silent failed in second.silent (ap (λ (s : Gathered × Written). s.0.has_failed) same ∙ failed) ∙ same;
   spoken = λ yet. bool_cases b.0.has_failed
-    (λ failed. subst (λ s. Spoken a s (t ++ u)) (sym (second.silent failed)) (failed_on a b t u (first.spoken yet) failed))
-    (λ still. spoken_on a b c t u (first.spoken yet) still (second.spoken still));
+      (λ failed. subst (λ s. Spoken a s (t ++ u)) (sym (second.silent failed)) (failed_on a b t u (first.spoken yet) failed))
+      (λ still. spoken_on a b c t u (first.spoken yet) still (second.spoken still));
 }
+
+-- where nothing happens the empty text is said
+pub says_nothing : (a : Gathered × Written) → Says a a []
+says_nothing a = record {
+  silent = λ failed. refl;
+  spoken = λ still. record {
+    gone = [];
+    rest = a.0.bytes;
+    moves = record { cut = append-nil a.0.bytes; taken = Appends-nil a.1.taken };
+    leaves = inl (still, refl, (refl, refl));
+  };
+}
+
+-- the same text
+pub says_same : (a b : Gathered × Written) (t u : List ℕ) → t ≡ u → Says a b t → Says a b u
+says_same a b t u same said = subst (Says a b) same said

@@ -13,5 +13,5 @@ rest_of i bytes = ap (λ n. take n (drop i bytes)) (sym (length-drop i bytes)) �
 pub more_taken : (old now new : Option (List ℕ)) (bytes : List ℕ) (i n : ℕ) → Appends old now (take i bytes) → Appends now new (take n (take (length bytes - i) (drop i bytes))) → Appends old new (take (i + n) bytes)
 more_taken old now new bytes i n before more =
     subst (Appends old new)
-      (ap (λ rest. take i bytes ++ take n rest) (rest_of i bytes) ∙ sym (take-add i n bytes))
-      (Appends-trans old now new (take i bytes) (take n (take (length bytes - i) (drop i bytes))) before more)
+    (ap (λ rest. take i bytes ++ take n rest) (rest_of i bytes) ∙ sym (take-add i n bytes))
+    (Appends-trans old now new (take i bytes) (take n (take (length bytes - i) (drop i bytes))) before more)

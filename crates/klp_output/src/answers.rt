@@ -9,10 +9,14 @@ ghost use Rattle.klp_output.specs.Texts.{address_text};
 
 use crate::sink::{Failed, Sink};
 use arrayvec::ArrayVec;
+use itoa::Buffer;
 use std::marker::Model;
 
 /// How many bytes are gathered at most.
 pub const ROOM: usize = 4096;
+
+/// How many bytes are turned into digits at a time.
+const PIECE: usize = 32;
 
 /// What was said and isn't written yet. What is said goes to the same sink each time.
 #[derive(Drop)]
@@ -48,6 +52,17 @@ fn write_all<W: Sink>(writer: &mut W, bytes: &[u8]) -> Result<(), Failed>
         }
     }
     Ok(())
+}
+
+/// The digits of a piece, in room for those of the longest.
+fn in_hex<'a>(piece: &[u8], digits: &'a mut [u8; 2 * PIECE]) -> &'a [u8]
+    requires { length piece.now ≤ PIECE }
+    ensures { result.now ≡ encode_lower piece.now }
+{
+    let digits = &mut digits[..2 * piece.len()];
+    // the room is as long as the digits
+    let _ = hex::encode_to_slice(piece, digits);
+    digits
 }
 
 impl Answers {
@@ -112,5 +127,39 @@ impl Answers {
     {
         self.make_room(writer, text.len());
         self.take(writer, text);
+    }
+
+    /// Says a number in decimal digits.
+    pub fn number<W: Sink>(&mut self, writer: &mut W, number: u64)
+        ensures { Says (self.old, W.written writer.old) (self.new, W.written writer.new) (decimal number) }
+    {
+        self.say(writer, Buffer::new().format(number).as_bytes());
+    }
+
+    /// Says a number in decimal digits, behind a minus where it is below zero.
+    pub fn signed<W: Sink>(&mut self, writer: &mut W, number: i64)
+        ensures { Says (self.old, W.written writer.old) (self.new, W.written writer.new) (signed_decimal number) }
+    {
+        self.say(writer, Buffer::new().format(number).as_bytes());
+    }
+
+    /// Says bytes as pairs of lower-case hexadecimal digits.
+    pub fn hex<W: Sink>(&mut self, writer: &mut W, bytes: &[u8])
+        ensures { Says (self.old, W.written writer.old) (self.new, W.written writer.new) (encode_lower bytes.now) }
+    {
+        let mut digits = [0; 2 * PIECE];
+        let mut done = 0;
+        while done < bytes.len() {
+            let piece = &bytes[done..(done + PIECE).min(bytes.len())];
+            self.say(writer, in_hex(piece, &mut digits));
+            done += piece.len();
+        }
+    }
+
+    /// Says an address as 16 lower-case hexadecimal digits.
+    pub fn address<W: Sink>(&mut self, writer: &mut W, address: u64)
+        ensures { Says (self.old, W.written writer.old) (self.new, W.written writer.new) (address_text address) }
+    {
+        self.hex(writer, &address.to_be_bytes());
     }
 }

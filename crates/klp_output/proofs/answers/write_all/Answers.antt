@@ -4,22 +4,27 @@ use Rattle.klp_output.proofs.WriteLemmas.{rest_of, more_taken}
 use Rattle.klp_output.proofs.answers.write_all.Goals as goal
 
 pub returns-in-Err-clause-err : goal.returns-in-Err-clause-err
-returns-in-Err-clause-err g c = (take c.loop-done.done c.args.bytes.now, drop c.loop-done.done c.args.bytes.now,
-      record {
-        cut = sym (take-append-drop c.loop-done.done c.args.bytes.now);
-        taken = Appends-kept _ _ _ (take c.loop-done.done c.args.bytes.now) c.loop-done.invariant.taken c.in-Err.ensures.err.0;
-      },
-      inl (c.in-Err.ensures.err.1 ∙ ap (λ n. n + 1) c.loop-done.invariant.well.0, c.in-Err.ensures.err.2 ∙ c.loop-done.invariant.well.1))
+returns-in-Err-clause-err g c = (
+  take c.loop-done.done c.args.bytes.now,
+  drop c.loop-done.done c.args.bytes.now,
+  record {
+    cut = sym (take-append-drop c.loop-done.done c.args.bytes.now);
+    taken = Appends-kept _ _ _ (take c.loop-done.done c.args.bytes.now) c.loop-done.invariant.taken c.in-Err.ensures.err.0;
+  },
+  inl (c.in-Err.ensures.err.1 ∙ ap (λ n. n + 1) c.loop-done.invariant.well.0, c.in-Err.ensures.err.2 ∙ c.loop-done.invariant.well.1),
+)
 
 pub returns-then-count-eq0-clause-err : goal.returns-then-count-eq0-clause-err
 returns-then-count-eq0-clause-err g c =
-    let len = ap length (rest_of c.loop-done.done c.args.bytes.now) ∙ length-drop c.loop-done.done c.args.bytes.now in
-    (take (c.loop-done.done + c.in-Ok.count) c.args.bytes.now, drop (c.loop-done.done + c.in-Ok.count) c.args.bytes.now,
+    let len = ap length (rest_of c.loop-done.done c.args.bytes.now) ∙ length-drop c.loop-done.done c.args.bytes.now in (
+      take (c.loop-done.done + c.in-Ok.count) c.args.bytes.now,
+      drop (c.loop-done.done + c.in-Ok.count) c.args.bytes.now,
       record {
         cut = sym (take-append-drop (c.loop-done.done + c.in-Ok.count) c.args.bytes.now);
         taken = more_taken _ _ _ c.args.bytes.now c.loop-done.done c.in-Ok.count c.loop-done.invariant.taken c.in-Ok.ensures.ok.0;
       },
-      inr (c.in-Ok.ensures.ok.1 ∙ c.loop-done.invariant.well.0, c.in-Ok.ensures.stall c.if-count-eq0.true (omega (arith, len)) ∙ ap (λ n. n + 1) c.loop-done.invariant.well.1))
+      inr (c.in-Ok.ensures.ok.1 ∙ c.loop-done.invariant.well.0, c.in-Ok.ensures.stall c.if-count-eq0.true (omega (arith, len)) ∙ ap (λ n. n + 1) c.loop-done.invariant.well.1),
+    )
 
 pub loop-done-preserved : goal.loop-done-preserved
 loop-done-preserved g c =

@@ -7,7 +7,7 @@ abbrev pub invariant-loop-done : goal.invariant-loop-done
 invariant-loop-done g l = record {
   within : l.done ≤ length l.bytes;
   taken : Appends (g.W.Sink.written l.initial.writer).taken (g.W.Sink.written l.writer).taken (take l.done l.bytes);
-  well : IsWell (g.W.Sink.written l.initial.writer) (g.W.Sink.written l.writer)
+  well : IsWell (g.W.Sink.written l.initial.writer) (g.W.Sink.written l.writer);
 }
 
 abbrev pub decreases-loop-done : goal.decreases-loop-done
