@@ -1,9 +1,8 @@
 //! What is said: gathered first, and written where the room is full.
-ghost use Rattle.std.specs.Prelude.{◌≡◌, ℕ, ◌+◌, ◌≤◌, ◌⊎◌, Bool, false, [], ◌++◌, length, OnOk, OnErr, IsTrue, List};
+ghost use Rattle.std.specs.Prelude.{◌≡◌, ℕ, ◌+◌, ◌≤◌, ◌⊎◌, false, List, [], length, OnOk, OnErr};
 ghost use Rattle.std.specs.Fmt.{decimal, signed_decimal};
 ghost use Rattle.std.specs.Io.KnownBytes.{Appends};
 ghost use Rattle.hex.specs.Hex.{encode_lower};
-ghost use Rattle.klp_output.specs.Gathered.{Gathered};
 ghost use Rattle.klp_output.specs.Says.{IsWell, IsToBlame, Moves, Says};
 ghost use Rattle.klp_output.specs.Texts.{address_text};
 
@@ -113,10 +112,7 @@ impl Answers {
         requires { (length self.old.bytes + length text.now ≤ ROOM) ⊎ (self.old.has_failed ≡ false → self.old.bytes ≡ []) }
         ensures { Says (self.old, W.written writer.old) (self.new, W.written writer.new) text.now }
     {
-        if self.has_failed {
-            return;
-        }
-        if self.bytes.try_extend_from_slice(text).is_err() {
+        if !self.has_failed && self.bytes.try_extend_from_slice(text).is_err() {
             self.has_failed = write_all(writer, text).is_err();
         }
     }
@@ -137,10 +133,10 @@ impl Answers {
     }
 
     /// Says a number in decimal digits, behind a minus where it is below zero.
-    pub fn signed<W: Sink>(&mut self, writer: &mut W, number: i64)
-        ensures { Says (self.old, W.written writer.old) (self.new, W.written writer.new) (signed_decimal number) }
+    pub fn signed<W: Sink>(&mut self, writer: &mut W, value: i64)
+        ensures { Says (self.old, W.written writer.old) (self.new, W.written writer.new) (signed_decimal value) }
     {
-        self.say(writer, Buffer::new().format(number).as_bytes());
+        self.say(writer, Buffer::new().format(value).as_bytes());
     }
 
     /// Says bytes as pairs of lower-case hexadecimal digits.

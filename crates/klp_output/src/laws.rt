@@ -1,5 +1,5 @@
 //! What is proved of saying itself. The function here does nothing: its contract is the law.
-ghost use Rattle.std.specs.Prelude.{ℕ, [], ◌++◌, List};
+ghost use Rattle.std.specs.Prelude.{ℕ, List, [], ◌++◌};
 ghost use Rattle.klp_output.specs.Gathered.{Gathered};
 ghost use Rattle.klp_output.specs.Written.{Written};
 ghost use Rattle.klp_output.specs.Says.{Says};
