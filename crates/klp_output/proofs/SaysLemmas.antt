@@ -3,7 +3,7 @@ use Rattle.std.proofs.Common.{◌≡◌, ℕ, ◌+◌, Bool, true, false, true�
 use Rattle.std.proofs.KnownBytes.{Appends-nil, Appends-trans}
 use Rattle.klp_output.specs.Gathered.{Gathered}
 use Rattle.klp_output.specs.Written.{Written}
-use Rattle.klp_output.specs.Says.{IsWell, Moves, Leaves, Spoken, Says}
+use Rattle.klp_output.specs.Says.{IsWell, Moves, Leaves, Spoken, Speaks, Says}
 
 not_both : (b : Bool) → b ≡ true → b ≡ false → ⊥
 not_both b is isnt = true≢false (sym is ∙ isnt)
@@ -63,24 +63,31 @@ bool_cases true then other = then refl
 bool_cases false then other = other refl
 
 -- two texts, one after the other
+speaks_on : (a b c : Gathered × Written) (t u : List ℕ) → Speaks a b t → Speaks b c u → Speaks a c (t ++ u)
+unfolding Speaks
+speaks_on a b c t u first second = (
+  λ failed. let same = first.0 failed in second.0 (ap (λ (s : Gathered × Written). s.0.has_failed) same ∙ failed) ∙ same,
+  λ yet. bool_cases b.0.has_failed
+      (λ failed. subst (λ s. Spoken a s (t ++ u)) (sym (second.0 failed)) (failed_on a b t u (first.1 yet) failed))
+      (λ still. spoken_on a b c t u (first.1 yet) still (second.1 still)),
+)
+
 pub says-append : (a b c : Gathered × Written) (t u : List ℕ) → Says a b t → Says b c u → Says a c (t ++ u)
-says-append a b c t u first second = record {
-  silent = λ failed. let same = first.silent failed in second.silent (ap (λ (s : Gathered × Written). s.0.has_failed) same ∙ failed) ∙ same;
-  spoken = λ yet. bool_cases b.0.has_failed
-      (λ failed. subst (λ s. Spoken a s (t ++ u)) (sym (second.silent failed)) (failed_on a b t u (first.spoken yet) failed))
-      (λ still. spoken_on a b c t u (first.spoken yet) still (second.spoken still));
-}
+says-append a b c t u first second = record { speaks = speaks_on a b c t u first.speaks second.speaks }
 
 -- where nothing happens the empty text is said
 pub says_nothing : (a : Gathered × Written) → Says a a []
+unfolding Speaks
 says_nothing a = record {
-  silent = λ failed. refl;
-  spoken = λ still. record {
-    gone = [];
-    rest = a.0.bytes;
-    moves = record { cut = append-nil a.0.bytes; taken = Appends-nil a.1.taken };
-    leaves = inl (still, refl, (refl, refl));
-  };
+  speaks = (
+    λ failed. refl,
+    λ still. record {
+      gone = [];
+      rest = a.0.bytes;
+      moves = record { cut = append-nil a.0.bytes; taken = Appends-nil a.1.taken };
+      leaves = inl (still, refl, (refl, refl));
+    },
+  );
 }
 
 -- the same text

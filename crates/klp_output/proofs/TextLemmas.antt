@@ -4,6 +4,9 @@ use Rattle.std.proofs.lemmas.List.{length-take-le}
 use Rattle.std.proofs.Math.Seq.{take-add}
 use Rattle.std.specs.Prelude.{slice_index, ◌/◌, ◌%◌}
 use Rattle.hex.specs.Hex.{encode_with, encode_lower, lower_digits}
+use Rattle.hex.proofs.HexLemmas.{length-encode_with}
+use Rattle.std.specs.Int.{w64, to_be_bytes}
+use Rattle.klp_output.specs.Texts.{address_text}
 
 encode_with-append : (t xs ys : List ℕ) → encode_with t (xs ++ ys) ≡ encode_with t xs ++ encode_with t ys
 unfolding encode_with
@@ -27,3 +30,7 @@ digits_on bytes digits i n fits are =
     ∙ sym (encode_with-append lower_digits (take i bytes) (take n (drop i bytes)))
     ∙ ap encode_lower (sym (take-add i n bytes))
     ∙ ap (λ k. encode_lower (take (i + k) bytes)) (sym (length_piece bytes i n fits))
+
+-- an address has 16 digits
+pub length-address_text : (n : ℕ) → length (address_text n) ≡ 16
+length-address_text n = length-encode_with lower_digits (to_be_bytes w64 n)

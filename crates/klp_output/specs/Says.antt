@@ -30,6 +30,9 @@ pub record Spoken (before after : Gathered × Written) (text : List ℕ) : Type 
   pub leaves : Leaves after.0 before.1 after.1 rest
 
 -- After a failure nothing is said: nothing changes.
+unfoldable pub Speaks : Gathered × Written → Gathered × Written → List ℕ → Type 0
+Speaks before after text = (before.0.has_failed ≡ true → after ≡ before) × (before.0.has_failed ≡ false → Spoken before after text)
+
+-- What saying a text is, as one fact: between `before` and `after` it was said, or nothing was since the sink had failed.
 pub record Says (before after : Gathered × Written) (text : List ℕ) : Type 0 where
-  pub silent : before.0.has_failed ≡ true → after ≡ before
-  pub spoken : before.0.has_failed ≡ false → Spoken before after text
+  pub speaks : Speaks before after text

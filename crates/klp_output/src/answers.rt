@@ -83,6 +83,7 @@ impl Answers {
     }
 
     /// Writes what was gathered.
+    #[tactic(auto, unfolding(crate::specs::Says::Speaks))]
     pub fn flush<W: Sink>(&mut self, writer: &mut W)
         ensures says { Says (self.old, W.written writer.old) (self.new, W.written writer.new) [] }
         ensures empty { self.new.has_failed ≡ false → self.new.bytes ≡ [] }
@@ -97,6 +98,7 @@ impl Answers {
     }
 
     /// Writes what was gathered, where there is no room behind it.
+    #[tactic(auto, unfolding(crate::specs::Says::Speaks))]
     fn make_room<W: Sink>(&mut self, writer: &mut W, len: usize)
         ensures says { Says (self.old, W.written writer.old) (self.new, W.written writer.new) [] }
         ensures room { (length self.new.bytes + len ≤ ROOM) ⊎ (self.new.has_failed ≡ false → self.new.bytes ≡ []) }
@@ -108,6 +110,7 @@ impl Answers {
 
     /// Says a text for which there is room, or before which nothing is gathered: a longer one is
     /// written at once.
+    #[tactic(auto, unfolding(crate::specs::Says::Speaks))]
     fn take<W: Sink>(&mut self, writer: &mut W, text: &[u8])
         requires { (length self.old.bytes + length text.now ≤ ROOM) ⊎ (self.old.has_failed ≡ false → self.old.bytes ≡ []) }
         ensures { Says (self.old, W.written writer.old) (self.new, W.written writer.new) text.now }

@@ -10,5 +10,5 @@ mod laws;
 mod sink;
 
 pub use answers::{Answers, ROOM};
-pub use laws::what_is_said_adds_up;
+pub use laws::{addresses_have_16_digits, what_is_said_adds_up};
 pub use sink::{Failed, Sink};
