@@ -82,7 +82,7 @@ impl Answers {
         self.has_failed
     }
 
-    /// Writes what was gathered.
+    /// Writes all that was gathered.
     #[tactic(auto, unfolding(crate::specs::Says::Speaks))]
     pub fn flush<W: Sink>(&mut self, writer: &mut W)
         ensures says { Says (self.old, W.written writer.old) (self.new, W.written writer.new) [] }
@@ -120,7 +120,8 @@ impl Answers {
         }
     }
 
-    /// Says a text.
+    /// Says a text: it is gathered, and what was gathered is written first where there is no room for
+    /// both. A text that is longer than the room is written at once.
     pub fn say<W: Sink>(&mut self, writer: &mut W, text: &[u8])
         ensures { Says (self.old, W.written writer.old) (self.new, W.written writer.new) text.now }
     {
