@@ -1,0 +1,4 @@
+pub mod Supply
+pub mod Due
+pub mod Fed
+pub mod Held

@@ -1,0 +1,31 @@
+-- What a source has: the bytes that are still to be read, and what went wrong.
+use Rattle.std.specs.Prelude.{◌≡◌, ℕ, ◌+◌, ◌<◌, ◌≤◌, Bool, true, List, Option, length, take}
+use Rattle.std.specs.Io.KnownBytes.{Consumes, Keeps, IsAtEnd}
+
+pub record Supply : Type 0 where
+  -- the bytes that are still to be read, where they are known
+  pub left : Option (List ℕ)
+  -- whether a read into some room gave no byte
+  pub has_ended : Bool
+  -- how many reads failed
+  pub failures : ℕ
+  -- how many reads were made
+  pub reads : ℕ
+
+-- A read gave the first n bytes of what is now in the room that it was given.
+pub record Gives (before after : Supply) (room : List ℕ) (n : ℕ) : Type 0 where
+  pub fits : n ≤ length room
+  pub left : Consumes before.left after.left (take n room)
+  -- it ends only where no byte is left
+  pub ends : n ≡ 0 → 0 < length room → (after.has_ended ≡ true) × IsAtEnd after.left
+  pub goes_on : 0 < n → after.has_ended ≡ before.has_ended
+  pub had_no_room : length room ≡ 0 → after.has_ended ≡ before.has_ended
+  pub failures : after.failures ≡ before.failures
+  pub reads : after.reads ≡ before.reads + 1
+
+-- A read failed. It took nothing.
+pub record Fails (before after : Supply) : Type 0 where
+  pub left : Keeps before.left after.left
+  pub has_ended : after.has_ended ≡ before.has_ended
+  pub failures : after.failures ≡ before.failures + 1
+  pub reads : after.reads ≡ before.reads + 1

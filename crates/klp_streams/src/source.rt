@@ -1,0 +1,17 @@
+//! What lines are read from.
+ghost use Rattle.std.specs.Prelude.{IfOk, OnErr};
+ghost use Rattle.klp_streams.specs.Supply.{Supply, Gives, Fails};
+
+use klp_output::Failed;
+
+/// What gives bytes, perhaps fewer than there is room for.
+pub trait Source {
+    /// What is still to be read, where that is known, and what went wrong.
+    ghost supply: { Self → Supply };
+
+    /// Reads some bytes to the front of `buf`, and answers how many. None into some room is the end,
+    /// and an `Err` a failure, which takes nothing.
+    fn read(&mut self, buf: &mut [u8]) -> Result<usize, Failed>
+        ensures ok { IfOk result (λ n. Gives (supply self.old) (supply self.new) buf.new n) }
+        ensures err { OnErr result (Fails (supply self.old) (supply self.new)) };
+}
