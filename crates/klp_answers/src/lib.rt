@@ -6,6 +6,8 @@
 
 mod names;
 mod refusals;
+mod replies;
 
 pub use names::{object_name, patch_name, say_new_function};
 pub use refusals::{say_bad_mark, say_fault, say_refusal};
+pub use replies::{say_answer, say_done};
