@@ -183,10 +183,12 @@ fn say_reply<W: Sink>(
     }
 }
 
-/// Says what was answered to an event: what it did, or why it was refused. A function that a task was
-/// inside of stands as `.klp.sym.OBJECT.SYMBOL,POSITION`, spelled as a livepatch relocation
-/// (module-elf-format) with the position from 1, or as `PATCH:INDEX`, by its place over the patch's
-/// objects from 0. It takes time that is linear in what it says.
+/// Says what was answered to an event: what it did, in the word of its [`Reply`] and the names and numbers
+/// that this has, or why it was refused.
+///
+/// A function that a task was inside of is spelled as a livepatch symbol, with the position from 1
+/// (livepatch module ELF format, livepatch symbols), or as `PATCH:INDEX`, by its place over the patch's
+/// objects from 0. It takes time that is linear in what it says, and no look-up.
 pub fn say_answer<W: Sink>(
     answers: &mut Answers,
     writer: &mut W,
