@@ -1,0 +1,11 @@
+//! A name.
+ghost use Rattle.klp_output.specs.Says.{Says};
+
+use klp_output::{Answers, Sink};
+
+/// Says a name.
+pub(crate) fn say_name<W: Sink>(answers: &mut Answers, writer: &mut W, name: &str)
+    ensures { Says (answers.old, W.written writer.old) (answers.new, W.written writer.new) (name.now) }
+{
+    answers.say(writer, name.as_bytes());
+}
