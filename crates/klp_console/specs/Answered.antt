@@ -1,0 +1,79 @@
+-- What one line of the console is answered, and what becomes of the manager.
+use Rattle.std.specs.Prelude.{◌≡◌, ℕ, ◌<◌, ◌≤◌, Bool, true, false, List, [], length, ◌⊎◌, is_err, Option, Some, None, Result, Ok, Err}
+use Rattle.klp_machine.specs.declared.event.Event.{Event}
+use Rattle.klp_machine.specs.declared.event.Reply.{Reply}
+use Rattle.klp_machine.specs.declared.event.Refusal.{Refusal}
+use Rattle.klp_modules.specs.Names.{names_of}
+use Rattle.klp_plan.specs.Draft.{patch_names_of}
+use Rattle.klp_catalog.specs.Catalog.{Catalog}
+use Rattle.klp_command.specs.declared.asked.Asked.{Asked}
+use Rattle.klp_command.specs.declared.asked.Asked.TheVariants.{Take, ForceNothing, Rewind, Seal, See}
+use Rattle.klp_command.specs.declared.fault.LineFault.{LineFault}
+use Rattle.klp_command.specs.Known.{Known}
+use Rattle.klp_command.specs.Lines.{asked_of}
+use Rattle.klp_answers.specs.Refusals.{fault_text, bad_mark_text}
+use Rattle.klp_answers.specs.Replies.{done_text, answer_text}
+use Rattle.klp_looks.specs.Looks.{look_text, seen_text, force_nothing}
+use Rattle.klp_core.specs.Journaled.{Journaled}
+use Rattle.klp_core.specs.Taking.{IsTaken}
+use Rattle.klp_core.specs.Rewinding.{IsRewound}
+
+-- the text, and whether it says why the line wasn't done
+pub record Answer : Type 0 where
+  pub text : List ℕ
+  pub is_refused : Bool
+
+-- a line without words has no answer
+abbrev pub nothing : Answer
+nothing = record { text = []; is_refused = false }
+
+abbrev pub done : Answer
+done = record { text = done_text; is_refused = false }
+
+abbrev pub refused_with : List ℕ → Answer
+refused_with text = record { text = text; is_refused = true }
+
+-- what was to be seen, or why it isn't shown
+abbrev pub seen : Result (List ℕ) Refusal → Answer
+seen look = record { text = seen_text look; is_refused = is_err look }
+
+-- what an event was answered
+abbrev pub replied : Catalog → Result Reply Refusal → Answer
+replied catalog reply = record { text = answer_text catalog reply; is_refused = is_err reply }
+
+-- the names that a line may use
+abbrev pub known_in : Journaled → Known
+known_in manager = record { patches = patch_names_of manager.managed.catalog.patches; objects = names_of manager.managed.image.objects }
+
+-- the state is the base now, and nothing can be undone any more
+abbrev pub sealed : Journaled → Journaled
+sealed manager = record { managed = manager.managed; base = manager.managed.state; groups = [] }
+
+-- the manager takes the event, and the answer is its reply or its refusal
+pub record IsTakenAs (before after : Journaled) (event : Event) (answer : Answer) : Type 0 where
+  pub reply : Result Reply Refusal
+  pub taken : IsTaken before after event reply
+  pub told : answer ≡ replied after.managed.catalog reply
+
+-- the events behind the mark are undone, where there are so many
+abbrev pub IsRewoundAs : Journaled → Journaled → ℕ → Answer → Type 0
+IsRewoundAs before after mark answer =
+    ((mark ≤ length before.groups) × IsRewound before after mark × (answer ≡ done)) ⊎ ((length before.groups < mark) × (after ≡ before) × (answer ≡ refused_with bad_mark_text))
+
+-- what is asked for is done
+abbrev pub IsDone : Journaled → Journaled → Asked → Answer → Type 0
+IsDone before after (Take event) answer = IsTakenAs before after event answer
+IsDone before after (ForceNothing patch) answer = (after ≡ before) × (answer ≡ seen (force_nothing before patch))
+IsDone before after (Rewind mark) answer = IsRewoundAs before after mark answer
+IsDone before after Seal answer = (after ≡ sealed before) × (answer ≡ done)
+IsDone before after (See look) answer = (after ≡ before) × (answer ≡ seen (look_text before look))
+
+-- a line without words and a line that asks for nothing change nothing
+abbrev pub IsDoneIf : Journaled → Journaled → Option (Result Asked LineFault) → Answer → Type 0
+IsDoneIf before after None answer = (after ≡ before) × (answer ≡ nothing)
+IsDoneIf before after (Some (Err fault)) answer = (after ≡ before) × (answer ≡ refused_with (fault_text fault))
+IsDoneIf before after (Some (Ok asked)) answer = IsDone before after asked answer
+
+-- a line is answered: this is its answer, and this is what it leaves of the manager
+pub record IsAnswered (before after : Journaled) (line : List ℕ) (answer : Answer) : Type 0 where
+  pub done : IsDoneIf before after (asked_of (known_in before) line) answer

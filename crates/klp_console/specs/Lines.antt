@@ -1,0 +1,35 @@
+-- The lines of what a console reads, and what they are answered.
+use Rattle.std.specs.Prelude.{◌≡◌, ℕ, Bool, nat_le, List, [], ◌∷◌, ◌++◌, length}
+use Rattle.std.specs.List.{list_all}
+use Rattle.klp_core.specs.Journaled.{Journaled}
+use Rattle.klp_lines.specs.declared.line.TheConstants.{MAX_LINE}
+use Rattle.klp_lines.specs.Lines.{lines_and_rest}
+use Rattle.klp_console.specs.Answered.{Answer, IsAnswered}
+
+-- the last line needs no line feed; where nothing stands behind the last line feed, there is no further line
+abbrev pub whole : List (List ℕ) → List (List ℕ)
+whole [] = []
+whole ([] ∷ []) = []
+whole (line ∷ lines) = line ∷ whole lines
+
+-- the lines of a text, empty ones too
+abbrev pub lines_of : List ℕ → List (List ℕ)
+lines_of bytes = whole (lines_and_rest bytes)
+
+abbrev pub is_short : List ℕ → Bool
+is_short line = nat_le (length line) MAX_LINE
+
+-- no line is too long
+abbrev pub are_short : List (List ℕ) → Bool
+are_short lines = list_all is_short lines
+
+-- lines are answered in order, each by the manager that the one before it left
+abbrev pub AreAnswered : Journaled → Journaled → List (List ℕ) → List Answer → Type 0
+AreAnswered before after [] [] = after ≡ before
+AreAnswered before after (line ∷ lines) (answer ∷ answers) = (next : Journaled) × IsAnswered before next line answer × AreAnswered next after lines answers
+AreAnswered before after lines answers = ⊥
+
+-- all answers, one behind the other
+abbrev pub texts_of : List Answer → List ℕ
+texts_of [] = []
+texts_of (answer ∷ answers) = answer.text ++ texts_of answers

@@ -1,0 +1,41 @@
+-- A console while it serves: what its lines did so far, and what was said to them.
+use Rattle.std.specs.Prelude.{◌≡◌, ℕ, ◌+◌, ◌<◌, Bool, true, false, List, [], ◌∷◌, ◌++◌, length, count_by, Result, Ok, Err}
+use Rattle.klp_core.specs.Journaled.{Journaled}
+use Rattle.klp_output.specs.Gathered.{Gathered}
+use Rattle.klp_output.specs.Written.{Written}
+use Rattle.klp_output.specs.Says.{Says}
+use Rattle.klp_lines.specs.declared.line.TheConstants.{MAX_LINE}
+use Rattle.klp_console.specs.declared.served.Served.{Served}
+use Rattle.klp_console.specs.declared.served.ServeFault.{ServeFault}
+use Rattle.klp_console.specs.declared.served.ServeFault.TheVariants.{Read, Write, LineTooLong}
+use Rattle.klp_console.specs.Answered.{Answer}
+use Rattle.klp_console.specs.Lines.{AreAnswered, are_short, texts_of}
+
+-- the manager, how many lines were served, and what was gathered and written
+pub record Moment : Type 0 where
+  pub manager : Journaled
+  pub served : Served
+  pub said : Gathered × Written
+
+-- an answer of this kind was said, of which the caller knows whether it was a refusal
+abbrev pub IsSaid : (Answer → Type 0) → Gathered × Written → Gathered × Written → Bool → Type 0
+IsSaid is_answer before after refused = (text : List ℕ) × is_answer (record { text = text; is_refused = refused }) × Says before after text
+
+-- lines were answered in order, all answers were said, and the lines were counted
+pub record Serves (before after : Moment) (lines : List (List ℕ)) : Type 0 where
+  pub answers : List Answer
+  pub answered : AreAnswered before.manager after.manager lines answers
+  pub said : Says before.said after.said (texts_of answers)
+  pub counted : after.served.lines ≡ before.served.lines + length lines
+  pub refused : after.served.refused ≡ before.served.refused + count_by (λ (a : Answer). a.is_refused) answers
+  pub short : are_short lines ≡ true
+
+-- what became of a piece, cut into lines and a rest that belongs to the next line: all lines were served, or those up to one that is too long, or
+-- those up to one whose answer couldn't be written
+abbrev pub Hears : Moment → Moment → List (List ℕ) → List ℕ → Result Unit ServeFault → Type 0
+Hears before after pieces rest (Ok unit) = (lines : List (List ℕ)) × (pieces ≡ lines ++ rest ∷ []) × Serves before after lines × (after.said.0.has_failed ≡ false)
+Hears before after pieces rest (Err LineTooLong) =
+    (lines : List (List ℕ)) × (long : List ℕ) × (more : List (List ℕ)) × (pieces ≡ lines ++ long ∷ more) × (MAX_LINE < length long) × Serves before after lines × (after.said.0.has_failed ≡ false)
+Hears before after pieces rest (Err Write) =
+    (lines : List (List ℕ)) × (next : List ℕ) × (more : List (List ℕ)) × (pieces ≡ lines ++ next ∷ more) × Serves before after lines × (after.said.0.has_failed ≡ true)
+Hears before after pieces rest (Err Read) = ⊥

@@ -1,0 +1,123 @@
+//! One line is done and answered.
+ghost use Rattle.std.specs.Prelude.{◌≡◌, ◌+◌, ◌<◌, ◌≤◌, ◌^◌, false, [], ◌∷◌, length};
+ghost use Rattle.klp_lines.specs.declared.line.TheConstants.{MAX_LINE};
+ghost use Rattle.klp_command.specs.Lines.{asked_of};
+ghost use Rattle.klp_console.specs.Answered.{IsTakenAs, IsRewoundAs, IsDone, IsDoneIf, known_in};
+ghost use Rattle.klp_console.specs.Said.{IsSaid, Serves};
+
+use crate::served::Served;
+use klp_answers::{say_answer, say_bad_mark, say_done, say_fault};
+use klp_command::{Asked, LineFault, asked_of};
+use klp_core::Manager;
+use klp_looks::{say_force_nothing, say_look};
+use klp_machine::Event;
+use klp_output::{Answers, Sink, what_is_said_adds_up};
+
+/// The manager takes an event. Answers whether it was refused.
+fn apply<W: Sink>(
+    manager: &mut Manager,
+    event: Event,
+    answers: &mut Answers,
+    writer: &mut W,
+) -> bool
+    requires { answers.old.has_failed ≡ false }
+    ensures { IsSaid (IsTakenAs manager.old manager.new event) (answers.old, W.written writer.old) (answers.new, W.written writer.new) result }
+{
+    let reply = manager.apply(event);
+    let catalog = manager.catalog();
+    say_answer(answers, writer, catalog, manager.modules(), &reply);
+    reply.is_err()
+}
+
+/// The events behind the mark are undone. Answers whether there are fewer.
+fn rewind<W: Sink>(manager: &mut Manager, mark: u32, answers: &mut Answers, writer: &mut W) -> bool
+    requires { answers.old.has_failed ≡ false }
+    ensures { IsSaid (IsRewoundAs manager.old manager.new mark) (answers.old, W.written writer.old) (answers.new, W.written writer.new) result }
+{
+    match manager.rewind(mark) {
+        Ok(()) => {
+            say_done(answers, writer);
+            false
+        }
+        Err(_) => {
+            say_bad_mark(answers, writer);
+            true
+        }
+    }
+}
+
+/// Does what is asked. Answers whether it was refused.
+fn done<W: Sink>(
+    manager: &mut Manager,
+    asked: &Asked,
+    answers: &mut Answers,
+    writer: &mut W,
+) -> bool
+    requires { answers.old.has_failed ≡ false }
+    ensures { IsSaid (IsDone manager.old manager.new asked.now) (answers.old, W.written writer.old) (answers.new, W.written writer.new) result }
+{
+    match *asked {
+        Asked::Take(event) => apply(manager, event, answers, writer),
+        Asked::Rewind(mark) => rewind(manager, mark, answers, writer),
+        Asked::ForceNothing(patch) => say_force_nothing(answers, writer, manager, patch).is_err(),
+        Asked::See(ref look) => say_look(answers, writer, manager, look).is_err(),
+        Asked::Seal => {
+            manager.seal();
+            say_done(answers, writer);
+            false
+        }
+    }
+}
+
+/// The same of what a line asks for: one without words is passed over, and one that asks for nothing is
+/// refused.
+fn done_if<W: Sink>(
+    manager: &mut Manager,
+    asked: &Option<Result<Asked, LineFault>>,
+    answers: &mut Answers,
+    writer: &mut W,
+) -> bool
+    requires { answers.old.has_failed ≡ false }
+    ensures { IsSaid (IsDoneIf manager.old manager.new asked.now) (answers.old, W.written writer.old) (answers.new, W.written writer.new) result }
+{
+    what_is_said_adds_up();
+    match asked {
+        None => false,
+        Some(Ok(asked)) => done(manager, asked, answers, writer),
+        Some(Err(fault)) => {
+            say_fault(answers, writer, fault);
+            true
+        }
+    }
+}
+
+/// What a line asks for.
+fn asked_by(manager: &Manager, line: &[u8]) -> Option<Result<Asked, LineFault>>
+    ensures { result ≡ asked_of (known_in manager.now) line.now }
+{
+    asked_of(line, manager.catalog(), manager.modules())
+}
+
+/// Answers a line, and counts it.
+pub(crate) fn answer_line<W: Sink>(
+    manager: &mut Manager,
+    line: &[u8],
+    served: &mut Served,
+    answers: &mut Answers,
+    writer: &mut W,
+)
+    requires still { answers.old.has_failed ≡ false }
+    requires room { served.old.lines + 1 < 2 ^ 64 }
+    requires few { served.old.refused ≤ served.old.lines }
+    requires short { length line.now ≤ MAX_LINE }
+    ensures serves { Serves (record { manager = manager.old; served = served.old; said = (answers.old, W.written writer.old) })
+        (record { manager = manager.new; served = served.new; said = (answers.new, W.written writer.new) }) (line.now ∷ []) }
+    ensures few { served.new.refused ≤ served.new.lines }
+{
+    let asked = asked_by(manager, line);
+    let is_refused = done_if(manager, &asked, answers, writer);
+    served.lines += 1;
+    if is_refused {
+        served.refused += 1;
+    }
+}

@@ -1,0 +1,114 @@
+//! A whole input is served.
+ghost use Rattle.std.specs.Prelude.{◌≡◌, ◌+◌, ◌<◌, ◌≤◌, ◌^◌, true, false, [], ◌∷◌, ◌++◌, length, IfOk, IfErr};
+ghost use Rattle.klp_lines.specs.Lines.{lines_and_rest};
+ghost use Rattle.klp_console.specs.declared.served.ServeFault.TheVariants.{Write};
+ghost use Rattle.klp_console.specs.Lines.{whole};
+ghost use Rattle.klp_console.specs.Said.{Hears, Serves};
+ghost use Rattle.klp_console.specs.Served.{ComesTo};
+
+use crate::answer::answer_line;
+use crate::hear::hear_lines;
+use crate::limits::{MAX_READS, READ_ROOM};
+use crate::served::{ServeFault, Served};
+use klp_core::Manager;
+use klp_lines::{Line, lines_add_up};
+use klp_output::{Answers, Failed, Sink, what_is_said_adds_up};
+use klp_streams::Source;
+
+/// Hears a piece, and writes all that its lines are answered.
+fn hear<W: Sink>(
+    manager: &mut Manager,
+    line: &mut Line,
+    piece: &[u8],
+    served: &mut Served,
+    answers: &mut Answers,
+    writer: &mut W,
+) -> Result<(), ServeFault>
+    requires still { answers.old.has_failed ≡ false }
+    requires room { served.old.lines + length piece.now < 2 ^ 64 }
+    requires few { served.old.refused ≤ served.old.lines }
+    ensures hears { Hears (record { manager = manager.old; served = served.old; said = (answers.old, W.written writer.old) })
+        (record { manager = manager.new; served = served.new; said = (answers.new, W.written writer.new) }) (lines_and_rest (line.old ++ piece.now)) line.new result }
+    ensures few { IfOk result (λ _. served.new.refused ≤ served.new.lines) }
+    ensures room { IfOk result (λ _. served.new.lines ≤ served.old.lines + length piece.now) }
+    ensures written { answers.new.has_failed ≡ false → answers.new.bytes ≡ [] }
+{
+    what_is_said_adds_up();
+    let heard = hear_lines(manager, line, piece, served, answers, writer);
+    answers.flush(writer);
+    if answers.has_failed() {
+        return Err(ServeFault::Write);
+    }
+    heard
+}
+
+/// Answers the last line where no line feed ends it, and writes the answer.
+fn end<W: Sink>(
+    manager: &mut Manager,
+    line: &Line,
+    served: &mut Served,
+    answers: &mut Answers,
+    writer: &mut W,
+) -> Result<(), ServeFault>
+    requires still { answers.old.has_failed ≡ false }
+    requires room { served.old.lines + 1 < 2 ^ 64 }
+    requires few { served.old.refused ≤ served.old.lines }
+    requires written { answers.old.bytes ≡ [] }
+    ensures serves { Serves (record { manager = manager.old; served = served.old; said = (answers.old, W.written writer.old) })
+        (record { manager = manager.new; served = served.new; said = (answers.new, W.written writer.new) }) (whole (line.now ∷ [])) }
+    ensures written { IfOk result (λ _. (answers.new.has_failed ≡ false) × (answers.new.bytes ≡ [])) }
+    ensures failed { IfErr result (λ fault. (fault ≡ Write) × (answers.new.has_failed ≡ true)) }
+{
+    what_is_said_adds_up();
+    let last = line.bytes();
+    if last.is_empty() {
+        return Ok(());
+    }
+    answer_line(manager, last, served, answers, writer);
+    answers.flush(writer);
+    if answers.has_failed() {
+        return Err(ServeFault::Write);
+    }
+    Ok(())
+}
+
+/// Serves lines from `reader` until it ends, and writes their answers to `writer`.
+///
+/// A line ends with a line feed, or with the input, and has at most [`MAX_LINE`](klp_lines::MAX_LINE) bytes.
+/// Each answer is written before the next read, so that who types sees it at once.
+/// A line costs as much as its words and what it asks for. No memory is taken.
+pub fn serve<R: Source, W: Sink>(
+    reader: &mut R,
+    writer: &mut W,
+    manager: &mut Manager,
+) -> Result<Served, ServeFault>
+    ensures { ComesTo (record { supply = R.supply reader.old; written = W.written writer.old; manager = manager.old })
+        (record { supply = R.supply reader.new; written = W.written writer.new; manager = manager.new }) result }
+{
+    what_is_said_adds_up();
+    lines_add_up();
+    let mut line = Line::new();
+    let mut served = Served {
+        lines: 0,
+        refused: 0,
+    };
+    let mut answers = Answers::new();
+    let mut room = [0; READ_ROOM];
+    for _read in 0..MAX_READS {
+        let count = match reader.read(&mut room) {
+            Ok(count) => count,
+            Err(Failed) => return Err(ServeFault::Read),
+        };
+        if count == 0 {
+            return match end(manager, &line, &mut served, &mut answers, writer) {
+                Ok(()) => Ok(served),
+                Err(fault) => Err(fault),
+            };
+        }
+        let piece = &room[..count];
+        if let Err(fault) = hear(manager, &mut line, piece, &mut served, &mut answers, writer) {
+            return Err(fault);
+        }
+    }
+    Err(ServeFault::Read)
+}

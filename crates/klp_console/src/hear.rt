@@ -1,0 +1,48 @@
+//! Pieces of the input are cut into lines, and the lines are answered.
+ghost use Rattle.std.specs.Prelude.{◌≡◌, ◌+◌, ◌<◌, ◌≤◌, ◌^◌, false, [], ◌∷◌, ◌++◌, length, IfOk};
+ghost use Rattle.klp_lines.specs.Lines.{lines_and_rest};
+ghost use Rattle.klp_console.specs.Said.{Hears, Serves};
+
+use crate::answer::answer_line;
+use crate::served::{ServeFault, Served};
+use klp_core::Manager;
+use klp_lines::{Line, TooLong};
+use klp_output::{Answers, Sink, what_is_said_adds_up};
+
+/// Hears a piece, and answers each line that it ends. After a failure of the sink no further line is done.
+pub(crate) fn hear_lines<W: Sink>(
+    manager: &mut Manager,
+    line: &mut Line,
+    piece: &[u8],
+    served: &mut Served,
+    answers: &mut Answers,
+    writer: &mut W,
+) -> Result<(), ServeFault>
+    requires still { answers.old.has_failed ≡ false }
+    requires room { served.old.lines + length piece.now < 2 ^ 64 }
+    requires few { served.old.refused ≤ served.old.lines }
+    ensures hears { Hears (record { manager = manager.old; served = served.old; said = (answers.old, W.written writer.old) })
+        (record { manager = manager.new; served = served.new; said = (answers.new, W.written writer.new) }) (lines_and_rest (line.old ++ piece.now)) line.new result }
+    ensures few { IfOk result (λ _. served.new.refused ≤ served.new.lines) }
+    ensures room { IfOk result (λ _. served.new.lines ≤ served.old.lines + length piece.now) }
+{
+    what_is_said_adds_up();
+    let mut rest = piece;
+    while !rest.is_empty() {
+        match line.hear(rest) {
+            Err(TooLong) => return Err(ServeFault::LineTooLong),
+            Ok(None) => return Ok(()),
+            Ok(Some(after)) => {
+                answer_line(manager, line.bytes(), served, answers, writer);
+                line.clear();
+                rest = after;
+            }
+        }
+        if answers.has_failed() {
+            return Err(ServeFault::Write);
+        }
+    }
+    // nothing is left of the piece, and the line has no line feed
+    let _rest = line.bytes();
+    Ok(())
+}

@@ -1,0 +1,26 @@
+//! What serving comes to.
+
+use thiserror::Error;
+
+/// How many lines were served.
+#[derive(Clone, Copy, Debug, Default, PartialEq, Eq)]
+pub struct Served {
+    /// All lines, empty ones too.
+    pub lines: u64,
+    /// The lines that were answered with an error.
+    pub refused: u64,
+}
+
+/// Why serving ended before the input did. The lines before are done.
+#[derive(Clone, Copy, Debug, PartialEq, Eq, Error)]
+pub enum ServeFault {
+    /// A read failed, or [`MAX_READS`](crate::MAX_READS) reads were made.
+    #[error("Read")]
+    Read,
+    /// A write failed, or took nothing.
+    #[error("Write")]
+    Write,
+    /// A line is longer than [`MAX_LINE`](klp_lines::MAX_LINE) bytes.
+    #[error("LineTooLong")]
+    LineTooLong,
+}
