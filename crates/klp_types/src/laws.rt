@@ -17,10 +17,11 @@ ghost use Rattle.klp_types.specs.Script.{Script, alloc_count, is_key, value_take
 ghost use Rattle.klp_types.specs.Callbacks.{Call, after_calls};
 
 use crate::limits::{
-    ENTRY_SITE_END, ENTRY_SITE_LEN, ENTRY_SITE_OFFSET, MAX_ADDRESS_DIGITS, MAX_BODY, MAX_EDITS,
-    MAX_FRAMES, MAX_FUNCTIONS, MAX_GROUPS, MAX_JOURNAL_RECORDS, MAX_LINE, MAX_NAME, MAX_OBJECTS,
-    MAX_PATCHES, MAX_RECORDS, MAX_SITES, MAX_STATES, MAX_SYMBOL_NAME, MAX_TARGETS, MAX_TASKS,
-    MAX_VARIABLES,
+    ANSWER_ROOM, ENTRY_SITE_END, ENTRY_SITE_LEN, ENTRY_SITE_OFFSET, MAX_ADDRESS_DIGITS, MAX_BODY,
+    MAX_CONSOLE_LINE, MAX_EDITS, MAX_FRAMES, MAX_FUNCTIONS, MAX_GROUPS, MAX_INDEX,
+    MAX_JOURNAL_RECORDS, MAX_LINE, MAX_MARK, MAX_NAME, MAX_OBJECTS, MAX_PATCHES, MAX_READS,
+    MAX_RECORDS, MAX_SITES, MAX_STATES, MAX_SYMBOL_NAME, MAX_TARGETS, MAX_TASK_NUMBER, MAX_TASKS,
+    MAX_VARIABLES, READ_ROOM,
 };
 
 /// In the text of an object each function reads as it was built, but for its entry site.
@@ -171,4 +172,11 @@ pub fn limits_are_these()
     ensures name { MAX_NAME ≡ 55 }
     ensures symbol_name { MAX_SYMBOL_NAME ≡ 127 }
     ensures address { MAX_ADDRESS_DIGITS ≡ 16 }
+    ensures console_line { MAX_CONSOLE_LINE ≡ 256 }
+    ensures task_number { MAX_TASK_NUMBER ≡ 65535 }
+    ensures index { MAX_INDEX ≡ 65535 }
+    ensures mark { MAX_MARK ≡ 4294967295 }
+    ensures reads { MAX_READS ≡ 1000000 }
+    ensures read_room { READ_ROOM ≡ 4096 }
+    ensures answer_room { ANSWER_ROOM ≡ 4096 }
 {}

@@ -64,3 +64,25 @@ pub const MAX_SYMBOL_NAME: usize = 127;
 
 /// How many hexadecimal digits an address may have, zeros in front among them.
 pub const MAX_ADDRESS_DIGITS: usize = 16;
+
+/// How many bytes a line of the console may have, without its line feed.
+pub const MAX_CONSOLE_LINE: usize = 256;
+
+/// The greatest number of a task that a line of the console may have. There are fewer tasks: up to this
+/// number a task that can't be there is `NoTask`, and above it the line is a `BadLine`.
+pub const MAX_TASK_NUMBER: u64 = 65_535;
+
+/// The greatest number of a new function of a patch that a line of the console may have.
+pub const MAX_INDEX: u64 = 65_535;
+
+/// The greatest mark, a number of accepted events, that a line of the console may have.
+pub const MAX_MARK: u64 = 4_294_967_295;
+
+/// How many reads the console makes of one input at most.
+pub const MAX_READS: u32 = 1_000_000;
+
+/// How many bytes the console reads at a time at most.
+pub const READ_ROOM: usize = 4096;
+
+/// How many bytes of answers the console gathers at most before it writes them.
+pub const ANSWER_ROOM: usize = 4096;
