@@ -1,19 +1,22 @@
-//! Measures what an event costs. It is run by hand, with the number of rounds as its word; the gate
-//! runs one round, for which it writes what was accepted and refused and no time.
+//! Measures what an event costs, and what the program costs as a whole. It is run by hand in the folder
+//! of its data, with the number of rounds as its word; the gate runs one round, for which it writes what
+//! was accepted, refused and answered, and no time.
 #![tactic(auto)]
 
 mod events;
 mod measured;
+mod whole;
 
 use crate::events::catalog;
 use crate::measured::{Scene, scenes};
+use crate::whole::wholes;
 use klp_catalog::Catalog;
 use klp_core::Manager;
 use klp_program::boot;
 use std::alloc::{AllocError, Global};
-use std::rt::{Clock, Env};
+use std::rt::{Clock, Env, Files};
 use std::time::Instant;
-use std::{env, io};
+use std::{env, fs, io};
 use thiserror::Error;
 
 #[derive(Debug, Drop, Error)]
@@ -24,9 +27,16 @@ pub(crate) enum Fault {
     Boot(#[from] klp_program::Fault),
     #[error("Script")]
     Script,
+    #[error("Console")]
+    Console,
     #[error("Io")]
     Io(#[from] io::Error),
 }
+
+/// The catalog over which the console is measured, and what it serves.
+const SMALL: &str = "k.catalog";
+
+const SCRIPT: &str = "console.script";
 
 // A manager over a text that has no callbacks.
 fn booted(alloc: Global, text: &str) -> Result<Manager, Fault> {
@@ -65,16 +75,12 @@ fn round<R: Clock>(rt: &R, alloc: Global, text: &str, scene: &mut Scene) -> Resu
     ended
 }
 
-fn main(rt: HostRuntime) -> Result<(), Fault> {
-    let alloc = rt.alloc();
-    let rounds = match env::args(&rt)?.nth(1) {
-        Some(word) => word.as_str().parse::<u32>().unwrap_or(1),
-        None => 1,
-    };
+// What lists of events cost.
+fn measure_events<R: Clock + Print>(rt: &R, alloc: Global, rounds: u32) -> Result<(), Fault> {
     let text = catalog(alloc)?;
     for mut scene in scenes(alloc)? {
         for _ in 0..rounds {
-            round(&rt, alloc, text.as_str(), &mut scene)?;
+            round(rt, alloc, text.as_str(), &mut scene)?;
         }
         for list in &scene.lists {
             println!(rt; "{list}")?;
@@ -84,4 +90,34 @@ fn main(rt: HostRuntime) -> Result<(), Fault> {
         }
     }
     Ok(())
+}
+
+// What the program costs as a whole.
+fn measure_program<R: Clock + Files + Print + AllocGlobal>(
+    rt: &R,
+    alloc: Global,
+    rounds: u32,
+) -> Result<(), Fault> {
+    let large = catalog(alloc)?;
+    let small = fs::read(rt, SMALL)?;
+    let script = fs::read(rt, SCRIPT)?;
+    for mut whole in wholes(alloc, large.as_bytes(), &small, &script)? {
+        for _ in 0..rounds {
+            whole.round(rt, alloc)?;
+        }
+        println!(rt; "{whole}")?;
+        if rounds > 1 {
+            println!(rt; "{} ns, the best of {rounds} rounds", whole.best())?;
+        }
+    }
+    Ok(())
+}
+
+fn main(rt: HostRuntime) -> Result<(), Fault> {
+    let rounds = match env::args(&rt)?.nth(1) {
+        Some(word) => word.as_str().parse::<u32>().unwrap_or(1),
+        None => 1,
+    };
+    measure_events(&rt, rt.alloc(), rounds)?;
+    measure_program(&rt, rt.alloc(), rounds)
 }

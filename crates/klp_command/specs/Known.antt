@@ -2,7 +2,7 @@
 use Rattle.std.specs.Prelude.{ℕ, ◌==◌, ◌&&◌, ◌||◌, Bool, nat_lt, nat_le, if◌then◌else◌, List, [], ◌∷◌, length, position, bytes_eq, Option, Some, None, is_some, ok_or, Result, Ok, Err, is_ok}
 use Rattle.std.specs.List.{list_all, before_first, after_first}
 use Rattle.std.specs.Str.{is_utf8}
-use Rattle.klp_types.specs.declared.limits.TheConstants.{MAX_TASKS, MAX_FRAMES}
+use Rattle.klp_types.specs.declared.limits.TheConstants.{MAX_TASKS, MAX_FRAMES, MAX_INDEX}
 use Rattle.klp_types.specs.declared.version.Version.{Version}
 use Rattle.klp_types.specs.declared.version.Version.TheVariants.{Original, New}
 use Rattle.klp_machine.specs.declared.event.Refusal.TheVariants.{NoPatch, NoModule, NoSymbol, NoTask}
@@ -14,7 +14,6 @@ use Rattle.klp_plan.specs.Draft.{patch_names_of}
 use Rattle.klp_catalog.specs.Catalog.{Catalog}
 use Rattle.klp_command.specs.declared.fault.LineFault.{LineFault}
 use Rattle.klp_command.specs.declared.fault.LineFault.TheVariants.{BadLine, Refused}
-use Rattle.klp_command.specs.declared.limits.TheConstants.{MAX_INDEX}
 use Rattle.klp_command.specs.Words.{is_name, number_to}
 
 -- the names that a line may use: those of the patches, and those of the objects and their symbols

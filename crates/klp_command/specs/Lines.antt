@@ -6,7 +6,7 @@ use Rattle.klp_line.specs.Words.{spelling_of}
 use Rattle.klp_line.specs.Gives.{◌>>=◌}
 use Rattle.klp_command.specs.declared.fault.LineFault.{LineFault}
 use Rattle.klp_command.specs.declared.fault.LineFault.TheVariants.{BadLine, BadValue}
-use Rattle.klp_command.specs.declared.limits.TheConstants.{MAX_TASK_NUMBER, MAX_MARK}
+use Rattle.klp_types.specs.declared.limits.TheConstants.{MAX_TASK_NUMBER, MAX_MARK}
 use Rattle.klp_command.specs.declared.asked.Asked.{Asked}
 use Rattle.klp_command.specs.declared.asked.Asked.TheVariants.{Take, ForceNothing, Rewind, Seal, See}
 use Rattle.klp_command.specs.declared.asked.Look.TheVariants as look

@@ -6,9 +6,9 @@ ghost use Rattle.klp_command.specs.Lines.{switch, enabled_line, force_line, echo
 use crate::asked::{Asked, Look};
 use crate::fault::LineFault;
 use crate::known::{Known, task};
-use crate::limits::MAX_TASK_NUMBER;
 use crate::words::{Words, after_prefix, cut, is_name, number_to};
 use klp_machine::Event;
+use klp_types::MAX_TASK_NUMBER;
 
 /// Where the directories of the patches stand (livepatch, Sysfs).
 const PATCHES: &[u8] = b"/sys/kernel/livepatch";

@@ -4,13 +4,12 @@ ghost use Rattle.std.specs.Prelude.{◌≡◌};
 ghost use Rattle.klp_command.specs.Known.{patch_of, object_of, task_of, site_of, new_function_of, version_of, symbol_found};
 
 use crate::fault::LineFault;
-use crate::limits::MAX_INDEX;
 use crate::words::{cut, is_name, number_to, text};
 use klp_catalog::Catalog;
 use klp_line::{Spelling, spelling_of};
 use klp_machine::Refusal;
 use klp_modules::Modules;
-use klp_types::{MAX_TASKS, ObjId, PatchId, Site, TaskId, Version};
+use klp_types::{MAX_INDEX, MAX_TASKS, ObjId, PatchId, Site, TaskId, Version};
 use std::marker::Model;
 
 /// The names that a line may use: those of a catalog's patches, and of the objects and symbols of a

@@ -11,8 +11,6 @@ mod asked;
 mod fault;
 mod files;
 mod known;
-pub mod laws;
-mod limits;
 mod line;
 mod shadow;
 mod tasks;
@@ -20,5 +18,4 @@ mod words;
 
 pub use asked::{Asked, Look};
 pub use fault::LineFault;
-pub use limits::{MAX_INDEX, MAX_MARK, MAX_TASK_NUMBER};
 pub use line::asked_of;

@@ -8,7 +8,6 @@ use crate::asked::{Asked, Look};
 use crate::fault::LineFault;
 use crate::files::{cat_line, echo_line, list_line};
 use crate::known::{Known, task};
-use crate::limits::{MAX_MARK, MAX_TASK_NUMBER};
 use crate::shadow::shadow_line;
 use crate::tasks::task_line;
 use crate::words::{Words, is_name, number_to};
@@ -16,6 +15,7 @@ use klp_catalog::Catalog;
 use klp_line::spelling_of;
 use klp_machine::Event;
 use klp_modules::Modules;
+use klp_types::{MAX_MARK, MAX_TASK_NUMBER};
 
 /// The word that a line begins with.
 #[derive(Clone, Copy, Debug, PartialEq, Eq)]

@@ -2,7 +2,7 @@
 use Rattle.std.specs.Prelude.{◌≡◌, ℕ, Bool, nat_le, List, [], ◌∷◌, ◌++◌, length}
 use Rattle.std.specs.List.{list_all}
 use Rattle.klp_core.specs.Journaled.{Journaled}
-use Rattle.klp_lines.specs.declared.line.TheConstants.{MAX_LINE}
+use Rattle.klp_types.specs.declared.limits.TheConstants.{MAX_CONSOLE_LINE}
 use Rattle.klp_lines.specs.Lines.{lines_and_rest}
 use Rattle.klp_console.specs.Answered.{Answer, IsAnswered}
 
@@ -17,7 +17,7 @@ abbrev pub lines_of : List ℕ → List (List ℕ)
 lines_of bytes = whole (lines_and_rest bytes)
 
 abbrev pub is_short : List ℕ → Bool
-is_short line = nat_le (length line) MAX_LINE
+is_short line = nat_le (length line) MAX_CONSOLE_LINE
 
 -- no line is too long
 abbrev pub are_short : List (List ℕ) → Bool

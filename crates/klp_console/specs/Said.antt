@@ -1,10 +1,11 @@
 -- A console while it serves: what its lines did so far, and what was said to them.
-use Rattle.std.specs.Prelude.{◌≡◌, ℕ, ◌+◌, ◌<◌, Bool, true, false, List, [], ◌∷◌, ◌++◌, length, count_by, Result, Ok, Err}
+use Rattle.std.specs.Prelude.{◌≡◌, ℕ, ◌+◌, ◌<◌, ◌≤◌, Bool, true, false, List, [], ◌∷◌, ◌++◌, length, count_by, Result, Ok, Err}
+use Rattle.std.specs.Io.KnownBytes.{Appends}
 use Rattle.klp_core.specs.Journaled.{Journaled}
 use Rattle.klp_output.specs.Gathered.{Gathered}
 use Rattle.klp_output.specs.Written.{Written}
-use Rattle.klp_output.specs.Says.{Says}
-use Rattle.klp_lines.specs.declared.line.TheConstants.{MAX_LINE}
+use Rattle.klp_output.specs.Says.{IsToBlame, Says}
+use Rattle.klp_types.specs.declared.limits.TheConstants.{MAX_CONSOLE_LINE, ANSWER_ROOM}
 use Rattle.klp_console.specs.declared.served.Served.{Served}
 use Rattle.klp_console.specs.declared.served.ServeFault.{ServeFault}
 use Rattle.klp_console.specs.declared.served.ServeFault.TheVariants.{Read, Write, LineTooLong}
@@ -30,12 +31,27 @@ pub record Serves (before after : Moment) (lines : List (List ℕ)) : Type 0 whe
   pub refused : after.served.refused ≡ before.served.refused + count_by (λ (a : Answer). a.is_refused) answers
   pub short : are_short lines ≡ true
 
+-- The sink is to blame for what is missing of these answers: it took the front `gone`. Of those before the last no more is missing than is gathered at
+-- most, so no line but the last was done once a write had failed for want of room.
+pub record Stops (before after : Written) (answers : List Answer) : Type 0 where
+  pub early : List Answer
+  pub last : Answer
+  pub told : answers ≡ early ++ last ∷ []
+  pub gone : List ℕ
+  pub rest : List ℕ
+  pub cut : texts_of answers ≡ gone ++ rest
+  pub written : Appends before.taken after.taken gone
+  pub missing : 0 < length rest
+  pub few : length (texts_of early) ≤ length gone + ANSWER_ROOM
+  pub blame : IsToBlame before after
+
 -- what became of a piece, cut into lines and a rest that belongs to the next line: all lines were served, or those up to one that is too long, or
 -- those up to one whose answer couldn't be written
 abbrev pub Hears : Moment → Moment → List (List ℕ) → List ℕ → Result Unit ServeFault → Type 0
 Hears before after pieces rest (Ok unit) = (lines : List (List ℕ)) × (pieces ≡ lines ++ rest ∷ []) × Serves before after lines × (after.said.0.has_failed ≡ false)
 Hears before after pieces rest (Err LineTooLong) =
-    (lines : List (List ℕ)) × (long : List ℕ) × (more : List (List ℕ)) × (pieces ≡ lines ++ long ∷ more) × (MAX_LINE < length long) × Serves before after lines × (after.said.0.has_failed ≡ false)
+    (lines : List (List ℕ)) × (long : List ℕ) × (more : List (List ℕ)) × (pieces ≡ lines ++ long ∷ more) × (MAX_CONSOLE_LINE < length long) × Serves before after lines × (after.said.0.has_failed ≡ false)
 Hears before after pieces rest (Err Write) =
-    (lines : List (List ℕ)) × (next : List ℕ) × (more : List (List ℕ)) × (pieces ≡ lines ++ next ∷ more) × Serves before after lines × (after.said.0.has_failed ≡ true)
+    (lines : List (List ℕ)) × (next : List ℕ) × (more : List (List ℕ)) × (pieces ≡ lines ++ next ∷ more) × (serves : Serves before after lines)
+    × Stops before.said.1 after.said.1 serves.answers × (after.said.0.has_failed ≡ true)
 Hears before after pieces rest (Err Read) = ⊥

@@ -1,18 +1,18 @@
 -- What serving a console comes to.
-use Rattle.std.specs.Prelude.{◌≡◌, ℕ, ◌+◌, ◌<◌, true, List, [], ◌∷◌, ◌++◌, length, count_by, ◌⊎◌, Result, Ok, Err}
-use Rattle.std.specs.Io.KnownBytes.{Appends, Consumes}
+use Rattle.std.specs.Prelude.{◌≡◌, ℕ, ◌+◌, ◌<◌, ◌≤◌, true, List, [], ◌∷◌, ◌++◌, length, count_by, ◌⊎◌, Result, Ok, Err}
+use Rattle.std.specs.Io.KnownBytes.{Appends, Consumes, IsAtEnd}
 use Rattle.klp_core.specs.Journaled.{Journaled}
 use Rattle.klp_output.specs.Written.{Written}
-use Rattle.klp_output.specs.Says.{IsWell, IsToBlame}
+use Rattle.klp_output.specs.Says.{IsWell}
 use Rattle.klp_streams.specs.Supply.{Supply}
-use Rattle.klp_lines.specs.declared.line.TheConstants.{MAX_LINE}
+use Rattle.klp_types.specs.declared.limits.TheConstants.{MAX_CONSOLE_LINE, MAX_READS}
 use Rattle.klp_lines.specs.Lines.{lines_and_rest}
-use Rattle.klp_console.specs.declared.limits.TheConstants.{MAX_READS}
 use Rattle.klp_console.specs.declared.served.Served.{Served}
 use Rattle.klp_console.specs.declared.served.ServeFault.{ServeFault}
 use Rattle.klp_console.specs.declared.served.ServeFault.TheVariants.{Read, Write, LineTooLong}
 use Rattle.klp_console.specs.Answered.{Answer}
-use Rattle.klp_console.specs.Lines.{AreAnswered, are_short, lines_of, texts_of}
+use Rattle.klp_console.specs.Lines.{AreAnswered, is_short, are_short, lines_of, texts_of}
+use Rattle.klp_console.specs.Said.{Stops}
 
 -- what is still to be read, what was written, and the manager
 pub record Console : Type 0 where
@@ -20,9 +20,10 @@ pub record Console : Type 0 where
   pub written : Written
   pub manager : Journaled
 
--- these bytes were read, and these lines of theirs were answered
+-- these bytes were read, in no more reads than may be made, and these lines of theirs were answered
 pub record Reads (before after : Console) (bytes : List ℕ) (lines : List (List ℕ)) (answers : List Answer) : Type 0 where
   pub read : Consumes before.supply.left after.supply.left bytes
+  pub few_reads : after.supply.reads ≤ before.supply.reads + MAX_READS
   pub answered : AreAnswered before.manager after.manager lines answers
   pub short : are_short lines ≡ true
 
@@ -31,26 +32,30 @@ pub record Writes (before after : Console) (answers : List Answer) : Type 0 wher
   pub written : Appends before.written.taken after.written.taken (texts_of answers)
   pub well : IsWell before.written after.written
 
--- the source ended, and all its lines are answered; neither side failed
+-- the source told its end, no byte of it is left, and all its lines are answered; neither side failed
 pub record IsServed (before after : Console) (served : Served) : Type 0 where
   pub bytes : List ℕ
   pub answers : List Answer
   pub reads : Reads before after bytes (lines_of bytes) answers
   pub writes : Writes before after answers
+  pub asked : before.supply.reads < after.supply.reads
   pub ended : after.supply.has_ended ≡ true
+  pub at_end : IsAtEnd after.supply.left
   pub no_failure : after.supply.failures ≡ before.supply.failures
   pub lines : served.lines ≡ length (lines_of bytes)
   pub refused : served.refused ≡ count_by (λ (a : Answer). a.is_refused) answers
 
--- a read failed, or too many reads were made; all lines that have a line feed are answered
+-- a read failed, or as many were made as may be and none was the end; all lines that have a line feed are answered, and the next may still be a line
 pub record HasReadFailed (before after : Console) : Type 0 where
   pub bytes : List ℕ
   pub lines : List (List ℕ)
   pub rest : List ℕ
   pub answers : List Answer
   pub cut : lines_and_rest bytes ≡ lines ++ rest ∷ []
+  pub short : is_short rest ≡ true
   pub reads : Reads before after bytes lines answers
   pub writes : Writes before after answers
+  pub goes_on : after.supply.has_ended ≡ before.supply.has_ended
   pub blame : (after.supply.failures ≡ before.supply.failures + 1)
       ⊎ ((after.supply.failures ≡ before.supply.failures) × (after.supply.reads ≡ before.supply.reads + MAX_READS))
 
@@ -62,28 +67,26 @@ pub record HasLongLine (before after : Console) : Type 0 where
   pub more : List (List ℕ)
   pub answers : List Answer
   pub cut : lines_and_rest bytes ≡ lines ++ long ∷ more
-  pub too_long : MAX_LINE < length long
+  pub too_long : MAX_CONSOLE_LINE < length long
   pub reads : Reads before after bytes lines answers
   pub writes : Writes before after answers
   pub no_failure : after.supply.failures ≡ before.supply.failures
 
--- a line that a line feed ends comes next, or the source has ended
+-- each of the lines has a line feed, or the source has ended and they are all
 abbrev pub AreFirst : Console → List (List ℕ) → List ℕ → Type 0
 AreFirst after lines bytes =
     ((next : List ℕ) × (more : List (List ℕ)) × (lines_and_rest bytes ≡ lines ++ next ∷ more)) ⊎ ((lines ≡ lines_of bytes) × (after.supply.has_ended ≡ true))
 
--- a write failed or took nothing. The lines up to the one whose answer it was are done, and a front of their answers was written
+-- a write failed or took nothing. The lines up to the one whose answer it was are done, and a front of their answers was written. No read failed: so all
+-- that is to be said is written before a read is made, which may fail, and none is made once a write has failed
 pub record HasWriteFailed (before after : Console) : Type 0 where
   pub bytes : List ℕ
   pub lines : List (List ℕ)
   pub answers : List Answer
-  pub gone : List ℕ
-  pub rest : List ℕ
   pub first : AreFirst after lines bytes
   pub reads : Reads before after bytes lines answers
-  pub cut : texts_of answers ≡ gone ++ rest
-  pub written : Appends before.written.taken after.written.taken gone
-  pub blame : IsToBlame before.written after.written
+  pub stops : Stops before.written after.written answers
+  pub no_failure : after.supply.failures ≡ before.supply.failures
 
 -- what serving comes to
 abbrev pub ComesTo : Console → Console → Result Served ServeFault → Type 0

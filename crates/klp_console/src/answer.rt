@@ -1,6 +1,6 @@
 //! One line is done and answered.
 ghost use Rattle.std.specs.Prelude.{◌≡◌, ◌+◌, ◌<◌, ◌≤◌, ◌^◌, false, [], ◌∷◌, length};
-ghost use Rattle.klp_lines.specs.declared.line.TheConstants.{MAX_LINE};
+ghost use Rattle.klp_types.specs.declared.limits.TheConstants.{MAX_CONSOLE_LINE};
 ghost use Rattle.klp_command.specs.Lines.{asked_of};
 ghost use Rattle.klp_console.specs.Answered.{IsTakenAs, IsRewoundAs, IsDone, IsDoneIf, known_in};
 ghost use Rattle.klp_console.specs.Said.{IsSaid, Serves};
@@ -109,7 +109,7 @@ pub(crate) fn answer_line<W: Sink>(
     requires still { answers.old.has_failed ≡ false }
     requires room { served.old.lines + 1 < 2 ^ 64 }
     requires few { served.old.refused ≤ served.old.lines }
-    requires short { length line.now ≤ MAX_LINE }
+    requires short { length line.now ≤ MAX_CONSOLE_LINE }
     ensures serves { Serves (record { manager = manager.old; served = served.old; said = (answers.old, W.written writer.old) })
         (record { manager = manager.new; served = served.new; said = (answers.new, W.written writer.new) }) (line.now ∷ []) }
     ensures few { served.new.refused ≤ served.new.lines }

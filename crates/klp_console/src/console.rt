@@ -1,5 +1,6 @@
 //! A whole input is served.
 ghost use Rattle.std.specs.Prelude.{◌≡◌, ◌+◌, ◌<◌, ◌≤◌, ◌^◌, true, false, [], ◌∷◌, ◌++◌, length, IfOk, IfErr};
+ghost use Rattle.klp_types.specs.declared.limits.TheConstants.{MAX_CONSOLE_LINE};
 ghost use Rattle.klp_lines.specs.Lines.{lines_and_rest};
 ghost use Rattle.klp_console.specs.declared.served.ServeFault.TheVariants.{Write};
 ghost use Rattle.klp_console.specs.Lines.{whole};
@@ -8,12 +9,12 @@ ghost use Rattle.klp_console.specs.Served.{ComesTo};
 
 use crate::answer::answer_line;
 use crate::hear::hear_lines;
-use crate::limits::{MAX_READS, READ_ROOM};
 use crate::served::{ServeFault, Served};
 use klp_core::Manager;
 use klp_lines::{Line, lines_add_up};
 use klp_output::{Answers, Failed, Sink, what_is_said_adds_up};
 use klp_streams::Source;
+use klp_types::{MAX_READS, READ_ROOM};
 
 /// Hears a piece, and writes all that its lines are answered.
 fn hear<W: Sink>(
@@ -27,8 +28,10 @@ fn hear<W: Sink>(
     requires still { answers.old.has_failed ≡ false }
     requires room { served.old.lines + length piece.now < 2 ^ 64 }
     requires few { served.old.refused ≤ served.old.lines }
+    requires none { answers.old.bytes ≡ [] }
     ensures hears { Hears (record { manager = manager.old; served = served.old; said = (answers.old, W.written writer.old) })
         (record { manager = manager.new; served = served.new; said = (answers.new, W.written writer.new) }) (lines_and_rest (line.old ++ piece.now)) line.new result }
+    ensures short { IfOk result (λ _. length line.new ≤ MAX_CONSOLE_LINE) }
     ensures few { IfOk result (λ _. served.new.refused ≤ served.new.lines) }
     ensures room { IfOk result (λ _. served.new.lines ≤ served.old.lines + length piece.now) }
     ensures written { answers.new.has_failed ≡ false → answers.new.bytes ≡ [] }
@@ -53,7 +56,7 @@ fn end<W: Sink>(
     requires still { answers.old.has_failed ≡ false }
     requires room { served.old.lines + 1 < 2 ^ 64 }
     requires few { served.old.refused ≤ served.old.lines }
-    requires written { answers.old.bytes ≡ [] }
+    requires none { answers.old.bytes ≡ [] }
     ensures serves { Serves (record { manager = manager.old; served = served.old; said = (answers.old, W.written writer.old) })
         (record { manager = manager.new; served = served.new; said = (answers.new, W.written writer.new) }) (whole (line.now ∷ [])) }
     ensures written { IfOk result (λ _. (answers.new.has_failed ≡ false) × (answers.new.bytes ≡ [])) }
@@ -74,7 +77,7 @@ fn end<W: Sink>(
 
 /// Serves lines from `reader` until it ends, and writes their answers to `writer`.
 ///
-/// A line ends with a line feed, or with the input, and has at most [`MAX_LINE`](klp_lines::MAX_LINE) bytes.
+/// A line ends with a line feed, or with the input, and has at most [`MAX_CONSOLE_LINE`](klp_types::MAX_CONSOLE_LINE) bytes.
 /// Each answer is written before the next read, so that who types sees it at once.
 /// A line costs as much as its words and what it asks for. No memory is taken.
 pub fn serve<R: Source, W: Sink>(

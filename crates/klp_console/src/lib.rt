@@ -7,9 +7,7 @@
 mod answer;
 mod console;
 mod hear;
-mod limits;
 mod served;
 
 pub use console::serve;
-pub use limits::{MAX_READS, READ_ROOM};
 pub use served::{ServeFault, Served};

@@ -14,13 +14,13 @@ pub struct Served {
 /// Why serving ended before the input did. The lines before are done.
 #[derive(Clone, Copy, Debug, PartialEq, Eq, Error)]
 pub enum ServeFault {
-    /// A read failed, or [`MAX_READS`](crate::MAX_READS) reads were made.
+    /// A read failed, or [`MAX_READS`](klp_types::MAX_READS) reads were made.
     #[error("Read")]
     Read,
     /// A write failed, or took nothing.
     #[error("Write")]
     Write,
-    /// A line is longer than [`MAX_LINE`](klp_lines::MAX_LINE) bytes.
+    /// A line is longer than [`MAX_CONSOLE_LINE`](klp_types::MAX_CONSOLE_LINE) bytes.
     #[error("LineTooLong")]
     LineTooLong,
 }

@@ -1,10 +1,13 @@
-//! Serves each example: its script over its catalog has to print its output, and nothing else; and a
-//! catalog that is refused has to be refused with the line that stands before it.
+//! Serves each example: its script over its catalog has to print its output, and nothing else, however
+//! few bytes a read gives and a write takes; and a catalog that is refused has to be refused with the
+//! line that stands before it.
 #![tactic(auto)]
 
+mod few;
+
+use crate::few::Few;
 use klp_program::console;
 use std::alloc::Global;
-use std::io::BufReader;
 use std::process::ExitCode;
 use std::rt::Files;
 use std::{fs, io};
@@ -27,33 +30,73 @@ struct Outcome {
     err: Vec<u8>,
 }
 
-// A run of the script over the catalog.
-fn served(alloc: Global, catalog: &[u8], script: &[u8]) -> io::Result<Outcome> {
-    let mut input = BufReader::new(alloc, script)?;
-    let mut out = Vec::new(alloc);
-    let mut err = Vec::new(alloc);
-    let status = console(alloc, catalog, &mut input, &mut out, &mut err);
-    Ok(Outcome { status, out, err })
+// How an input and an output are cut.
+#[derive(Clone, Copy)]
+struct Cut {
+    name: &'static str,
+    // How many bytes a read gives at most, and a write takes.
+    read: usize,
+    written: usize,
 }
 
-// Whether the script over the catalog prints what it is to print.
-fn holds<R: Files + AllocGlobal>(rt: &R, script: &str, catalog: &str) -> io::Result<bool> {
+/// All at once, read byte by byte, and written byte by byte.
+const CUTS: [Cut; 3] = [
+    Cut {
+        name: "whole",
+        read: usize::MAX,
+        written: usize::MAX,
+    },
+    Cut {
+        name: "read byte by byte",
+        read: 1,
+        written: usize::MAX,
+    },
+    Cut {
+        name: "written byte by byte",
+        read: usize::MAX,
+        written: 1,
+    },
+];
+
+// A run of the script over the catalog.
+fn served(alloc: Global, catalog: &[u8], script: &[u8], cut: Cut) -> Outcome {
+    let mut input = Few::new(script, cut.read);
+    let mut out = Few::new(Vec::new(alloc), cut.written);
+    let mut err = Vec::new(alloc);
+    let status = console(alloc, catalog, &mut input, &mut out, &mut err);
+    Outcome {
+        status,
+        out: out.into_inner(),
+        err,
+    }
+}
+
+// Whether the script over the catalog prints what it is to print, however it is cut. Each cut with
+// which it doesn't is told.
+fn holds<R: Files + Print + AllocGlobal>(rt: &R, name: &str, catalog: &str) -> io::Result<bool> {
     let alloc = rt.alloc();
-    let catalog = fs::read(rt, format!(in alloc; "{catalog}.catalog")?.as_str())?;
-    let output = fs::read(rt, format!(in alloc; "{script}.output")?.as_str())?;
-    let script = fs::read(rt, format!(in alloc; "{script}.script")?.as_str())?;
-    let ran = served(alloc, &catalog, &script)?;
-    Ok(ran.status == 0 && ran.out == output && ran.err.is_empty())
+    let text = fs::read(rt, format!(in alloc; "{catalog}.catalog")?.as_str())?;
+    let output = fs::read(rt, format!(in alloc; "{name}.output")?.as_str())?;
+    let script = fs::read(rt, format!(in alloc; "{name}.script")?.as_str())?;
+    let mut all = true;
+    for cut in CUTS {
+        let ran = served(alloc, &text, &script, cut);
+        if ran.status != 0 || ran.out != output || !ran.err.is_empty() {
+            all = false;
+            println!(rt; "{name} over {catalog}, {}: differs", cut.name)?;
+        }
+    }
+    Ok(all)
 }
 
 // Whether the catalog is refused with this line, before anything is answered.
 fn is_refused(alloc: Global, catalog: &str, fault: &str) -> io::Result<bool> {
-    let ran = served(alloc, catalog.as_bytes(), b"text vmlinux\n")?;
+    let ran = served(alloc, catalog.as_bytes(), b"text vmlinux\n", CUTS[0]);
     let told = format!(in alloc; "{fault}\n")?;
     Ok(ran.status == 1 && ran.out.is_empty() && ran.err.as_slice() == told.as_bytes())
 }
 
-// How many of the examples hold and how many don't, each of which is told.
+// How many of the examples hold and how many don't.
 fn run_scripts<R: Files + Print + AllocGlobal>(rt: &R) -> io::Result<(u64, u64)> {
     let mut held: u64 = 0;
     let mut differing: u64 = 0;
@@ -63,13 +106,12 @@ fn run_scripts<R: Files + Print + AllocGlobal>(rt: &R) -> io::Result<(u64, u64)>
             held = held.saturating_add(1);
         } else {
             differing = differing.saturating_add(1);
-            println!(rt; "{script} over {catalog}: differs")?;
         }
     }
     Ok((held, differing))
 }
 
-// The same of the catalogs that are refused.
+// The same of the catalogs that are refused. Each that isn't is told.
 fn run_refused<R: Files + Print + AllocGlobal>(rt: &R) -> io::Result<(u64, u64)> {
     let mut held: u64 = 0;
     let mut differing: u64 = 0;

@@ -8,4 +8,4 @@ mod laws;
 mod line;
 
 pub use laws::lines_add_up;
-pub use line::{Line, MAX_LINE, TooLong};
+pub use line::{Line, TooLong};

@@ -3,20 +3,18 @@ ghost use Rattle.std.specs.Prelude.{◌≡◌, ℕ, ◌<◌, ◌≤◌, position
 ghost use Rattle.klp_lines.specs.Lines.{is_line_feed, lines_and_rest};
 
 use arrayvec::ArrayVec;
+use klp_types::MAX_CONSOLE_LINE;
 use std::marker::Model;
 
-/// The longest line in bytes, its line feed aside.
-pub const MAX_LINE: usize = 256;
-
-/// That a line is longer than [`MAX_LINE`].
+/// That a line is longer than [`MAX_CONSOLE_LINE`].
 #[derive(Debug, Clone, Copy, PartialEq, Eq)]
 pub struct TooLong;
 
 /// The bytes of one line, as far as they were heard: contracts see them as a list. A line feed ends the
-/// line and is no byte of it. It holds room for [`MAX_LINE`] bytes in itself, and takes no memory.
+/// line and is no byte of it. It holds room for [`MAX_CONSOLE_LINE`] bytes in itself, and takes no memory.
 #[derive(Drop)]
 pub struct Line {
-    bytes: ArrayVec<u8, MAX_LINE>,
+    bytes: ArrayVec<u8, MAX_CONSOLE_LINE>,
 }
 
 impl Model for Line {
@@ -64,7 +62,7 @@ impl Line {
     /// The bytes of the line, none of which is a line feed.
     pub fn bytes(&self) -> &[u8]
         ensures bytes { result.now ≡ self.now }
-        ensures limit { length result.now ≤ MAX_LINE }
+        ensures limit { length result.now ≤ MAX_CONSOLE_LINE }
         ensures one_line { lines_and_rest result.now ≡ result.now ∷ [] }
     {
         self.bytes.as_slice()
@@ -81,7 +79,7 @@ impl Line {
     ///
     /// `Ok(Some(rest))`: the line is finished, and `rest` is what comes after its line feed. `Ok(None)`:
     /// the piece has no line feed, and all of it belongs to the line. `Err`: the line is longer than
-    /// [`MAX_LINE`], whether it has ended or not, and stays as it was before the piece.
+    /// [`MAX_CONSOLE_LINE`], whether it has ended or not, and stays as it was before the piece.
     ///
     /// Looks at the piece up to its first line feed, and copies that much in one go.
     pub fn hear<'a>(&mut self, piece: &'a [u8]) -> Result<Option<&'a [u8]>, TooLong>
@@ -93,9 +91,9 @@ impl Line {
         ensures heard { IfOk result (λ heard. IfNone heard (self.new ≡ self.old ++ piece.now)) }
 
         // so it is an error exactly where the first line is too long, be it finished or not
-        ensures limit { OnOk result (length self.new ≤ MAX_LINE) }
+        ensures limit { OnOk result (length self.new ≤ MAX_CONSOLE_LINE) }
         ensures too_long { OnErr result ((long : List ℕ) × (more : List (List ℕ))
-            × (lines_and_rest (self.old ++ piece.now) ≡ long ∷ more) × (MAX_LINE < length long)) }
+            × (lines_and_rest (self.old ++ piece.now) ≡ long ∷ more) × (MAX_CONSOLE_LINE < length long)) }
         ensures unchanged { OnErr result (self.new ≡ self.old) }
     {
         let (front, rest) = cut(piece);

@@ -1,8 +1,9 @@
 -- Saying one text after another.
-use Rattle.std.proofs.Common.{◌≡◌, ℕ, ◌+◌, Bool, true, false, true≢false, List, [], ◌++◌, inl, inr, refl, sym, ap, ◌∙◌, subst, append_assoc, append-nil}
+use Rattle.std.proofs.Common.{◌≡◌, ℕ, ◌+◌, ◌<◌, ◌≤◌, Bool, true, false, true≢false, List, [], ◌++◌, length, inl, inr, refl, sym, ap, ◌∙◌, subst, append_assoc, append-nil, arith, length-append}
 use Rattle.std.proofs.KnownBytes.{Appends-nil, Appends-trans}
 use Rattle.klp_output.specs.Gathered.{Gathered}
 use Rattle.klp_output.specs.Written.{Written}
+use Rattle.klp_types.specs.declared.limits.TheConstants.{ANSWER_ROOM}
 use Rattle.klp_output.specs.Says.{IsWell, Moves, Leaves, Spoken, Speaks, Says}
 
 not_both : (b : Bool) → b ≡ true → b ≡ false → ⊥
@@ -15,18 +16,27 @@ moves_on a b c old next more gone more_gone rest first second = record {
   taken = Appends-trans a.taken b.taken c.taken gone more_gone first.taken second.taken;
 }
 
--- nobody was to blame before
-leaves_on : (a b c : Written) (gathered : Gathered) (rest : List ℕ) → IsWell a b → Leaves gathered b c rest → Leaves gathered a c rest
-leaves_on a b c gathered rest well left = elim left [
-  | inl calm ↦ inl (calm.0, calm.1, (calm.2.0 ∙ well.0, calm.2.1 ∙ well.1))
+-- nobody was to blame before, and what was gathered before fits
+leaves_on : (a b c : Gathered × Written) (rest : List ℕ) → IsWell a.1 b.1 → (length a.0.bytes ≤ ANSWER_ROOM → length b.0.bytes ≤ ANSWER_ROOM) → Leaves b c rest → Leaves a c rest
+leaves_on a b c rest well fits left = elim left [
+  | inl calm ↦ inl (calm.0, calm.1, (calm.2.0 ∙ well.0, calm.2.1 ∙ well.1), λ fit. calm.3 (fits fit))
   | inr blamed ↦ inr (
     blamed.0,
     elim blamed.1 [
       | inl failed ↦ inl (failed.0 ∙ ap (λ n. n + 1) well.0, failed.1 ∙ well.1)
       | inr stalled ↦ inr (stalled.0 ∙ well.0, stalled.1 ∙ ap (λ n. n + 1) well.1)
     ],
+    blamed.2,
   )
 ]
+
+-- what fits is what is gathered
+fits_gathered : (gathered rest : List ℕ) → gathered ≡ rest → length rest ≤ ANSWER_ROOM → length gathered ≤ ANSWER_ROOM
+fits_gathered gathered rest same fits = subst (λ bytes. length bytes ≤ ANSWER_ROOM) (sym same) fits
+
+-- what is missing stays missing, whatever comes behind it
+still_missing : (rest more : List ℕ) → 0 < length rest → 0 < length (rest ++ more)
+still_missing rest more missing = omega (arith, length-append rest more)
 
 -- the second text is said
 spoken_on : (a b c : Gathered × Written) (t u : List ℕ) → Spoken a b t → b.0.has_failed ≡ false → Spoken b c u → Spoken a c (t ++ u)
@@ -37,7 +47,7 @@ spoken_on a b c t u first still second = elim first.leaves [
         gone = first.gone ++ second.gone;
         rest = second.rest;
         moves = subst (λ bytes. Moves a.1 c.1 bytes (first.gone ++ second.gone) second.rest) (append_assoc a.0.bytes t u) moves;
-        leaves = leaves_on a.1 b.1 c.1 c.0 second.rest calm.2 second.leaves;
+        leaves = leaves_on a b c second.rest calm.2 (λ fit. fits_gathered b.0.bytes first.rest calm.1 (calm.3 fit)) second.leaves;
       }
   | inr blamed ↦ absurd (not_both _ blamed.0 still)
 ]
@@ -53,7 +63,7 @@ failed_on a b t u first failed = elim first.leaves [
       cut = sym (append_assoc a.0.bytes t u) ∙ ap (λ bytes. bytes ++ u) first.moves.cut ∙ append_assoc first.gone first.rest u;
       taken = first.moves.taken;
     };
-    leaves = inr blamed;
+    leaves = inr (blamed.0, blamed.1, still_missing first.rest u blamed.2);
   }
 ]
 
@@ -85,7 +95,7 @@ says_nothing a = record {
       gone = [];
       rest = a.0.bytes;
       moves = record { cut = append-nil a.0.bytes; taken = Appends-nil a.1.taken };
-      leaves = inl (still, refl, (refl, refl));
+      leaves = inl (still, refl, (refl, refl), λ fit. fit);
     },
   );
 }

@@ -1,8 +1,9 @@
 -- What it is to say a text: it is gathered behind what was, and from the front some of it is written.
-use Rattle.std.specs.Prelude.{◌≡◌, ℕ, ◌+◌, true, false, List, ◌++◌, ◌⊎◌}
+use Rattle.std.specs.Prelude.{◌≡◌, ℕ, ◌+◌, ◌<◌, ◌≤◌, true, false, List, ◌++◌, ◌⊎◌, length}
 use Rattle.std.specs.Io.KnownBytes.{Appends}
 use Rattle.klp_output.specs.Written.{Written}
 use Rattle.klp_output.specs.Gathered.{Gathered}
+use Rattle.klp_types.specs.declared.limits.TheConstants.{ANSWER_ROOM}
 
 -- nothing went wrong
 abbrev pub IsWell : Written → Written → Type 0
@@ -18,16 +19,18 @@ pub record Moves (before after : Written) (bytes gone rest : List ℕ) : Type 0 
   pub cut : bytes ≡ gone ++ rest
   pub taken : Appends before.taken after.taken gone
 
--- What is left is gathered, unless the sink is to blame for what is missing.
-abbrev pub Leaves : Gathered → Written → Written → List ℕ → Type 0
-Leaves gathered before after rest = ((gathered.has_failed ≡ false) × (gathered.bytes ≡ rest) × IsWell before after) ⊎ ((gathered.has_failed ≡ true) × IsToBlame before after)
+-- What is left is gathered, and fits the room where what was gathered before did; or the sink is to blame, and some byte is missing.
+abbrev pub Leaves : Gathered × Written → Gathered × Written → List ℕ → Type 0
+Leaves before after rest =
+    ((after.0.has_failed ≡ false) × (after.0.bytes ≡ rest) × IsWell before.1 after.1 × (length before.0.bytes ≤ ANSWER_ROOM → length rest ≤ ANSWER_ROOM))
+    ⊎ ((after.0.has_failed ≡ true) × IsToBlame before.1 after.1 × (0 < length rest))
 
--- The text is said: its bytes are behind those that were gathered. The front of them all was written, and the rest is gathered.
+-- The text is said: its bytes are behind those that were gathered. The front of them all was written, and the rest is gathered or missing.
 pub record Spoken (before after : Gathered × Written) (text : List ℕ) : Type 0 where
   pub gone : List ℕ
   pub rest : List ℕ
   pub moves : Moves before.1 after.1 (before.0.bytes ++ text) gone rest
-  pub leaves : Leaves after.0 before.1 after.1 rest
+  pub leaves : Leaves before after rest
 
 -- After a failure nothing is said: nothing changes.
 unfoldable pub Speaks : Gathered × Written → Gathered × Written → List ℕ → Type 0

@@ -1,5 +1,5 @@
 //! What is said: gathered first, and written where the room is full.
-ghost use Rattle.std.specs.Prelude.{◌≡◌, ℕ, ◌+◌, ◌≤◌, ◌⊎◌, false, List, [], length, OnOk, OnErr};
+ghost use Rattle.std.specs.Prelude.{◌≡◌, ℕ, ◌+◌, ◌<◌, ◌≤◌, ◌⊎◌, false, List, [], length, OnOk, OnErr};
 ghost use Rattle.std.specs.Fmt.{decimal, signed_decimal};
 ghost use Rattle.std.specs.Io.KnownBytes.{Appends};
 ghost use Rattle.hex.specs.Hex.{encode_lower};
@@ -9,10 +9,8 @@ ghost use Rattle.klp_output.specs.Texts.{address_text};
 use crate::sink::{Failed, Sink};
 use arrayvec::ArrayVec;
 use itoa::Buffer;
+use klp_types::ANSWER_ROOM;
 use std::marker::Model;
-
-/// How many bytes are gathered at most.
-pub const ROOM: usize = 4096;
 
 /// How many bytes are turned into digits at a time.
 const PIECE: usize = 32;
@@ -20,7 +18,7 @@ const PIECE: usize = 32;
 /// What was said and isn't written yet. What is said goes to the same sink each time.
 #[derive(Drop)]
 pub struct Answers {
-    bytes: ArrayVec<u8, ROOM>,
+    bytes: ArrayVec<u8, ANSWER_ROOM>,
     /// Whether the sink has failed.
     has_failed: bool,
 }
@@ -36,7 +34,7 @@ impl Model for Answers {
 /// Writes all bytes, in as many writes as it takes.
 fn write_all<W: Sink>(writer: &mut W, bytes: &[u8]) -> Result<(), Failed>
     ensures ok { OnOk result (Appends (W.written writer.old).taken (W.written writer.new).taken bytes.now × IsWell (W.written writer.old) (W.written writer.new)) }
-    ensures err { OnErr result ((gone rest : List ℕ) × Moves (W.written writer.old) (W.written writer.new) bytes.now gone rest × IsToBlame (W.written writer.old) (W.written writer.new)) }
+    ensures err { OnErr result ((gone rest : List ℕ) × Moves (W.written writer.old) (W.written writer.new) bytes.now gone rest × IsToBlame (W.written writer.old) (W.written writer.new) × (0 < length rest)) }
 {
     let mut done = 0;
     while done < bytes.len() {
@@ -101,7 +99,7 @@ impl Answers {
     #[tactic(auto, unfolding(crate::specs::Says::Speaks))]
     fn make_room<W: Sink>(&mut self, writer: &mut W, len: usize)
         ensures says { Says (self.old, W.written writer.old) (self.new, W.written writer.new) [] }
-        ensures room { (length self.new.bytes + len ≤ ROOM) ⊎ (self.new.has_failed ≡ false → self.new.bytes ≡ []) }
+        ensures room { (length self.new.bytes + len ≤ ANSWER_ROOM) ⊎ (self.new.has_failed ≡ false → self.new.bytes ≡ []) }
     {
         if self.bytes.remaining_capacity() < len {
             self.flush(writer);
@@ -112,7 +110,7 @@ impl Answers {
     /// written at once.
     #[tactic(auto, unfolding(crate::specs::Says::Speaks))]
     fn take<W: Sink>(&mut self, writer: &mut W, text: &[u8])
-        requires { (length self.old.bytes + length text.now ≤ ROOM) ⊎ (self.old.has_failed ≡ false → self.old.bytes ≡ []) }
+        requires { (length self.old.bytes + length text.now ≤ ANSWER_ROOM) ⊎ (self.old.has_failed ≡ false → self.old.bytes ≡ []) }
         ensures { Says (self.old, W.written writer.old) (self.new, W.written writer.new) text.now }
     {
         if !self.has_failed && self.bytes.try_extend_from_slice(text).is_err() {

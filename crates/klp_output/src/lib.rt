@@ -9,6 +9,6 @@ mod answers;
 mod laws;
 mod sink;
 
-pub use answers::{Answers, ROOM};
+pub use answers::Answers;
 pub use laws::{addresses_have_16_digits, what_is_said_adds_up};
 pub use sink::{Failed, Sink};

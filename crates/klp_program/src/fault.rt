@@ -1,7 +1,8 @@
 ghost use Rattle.std.specs.Prelude.{◌≡◌};
-ghost use Rattle.klp_program.specs.declared.fault.Fault.TheVariants.{NoMemory, Image, Assemble, Boot};
+ghost use Rattle.klp_program.specs.declared.fault.Fault.TheVariants.{NoMemory, Text, Image, Assemble, Boot, Serve};
 
 use klp_catalog::{AssembleFault, TextFault};
+use klp_console::ServeFault;
 use klp_core::BootFault;
 use klp_text::ImageFault;
 use std::alloc::{AllocError, AllocFailed};
@@ -13,26 +14,39 @@ pub enum Fault {
     /// The catalog's file can't be read.
     #[error("CannotRead")]
     CannotRead,
-    /// The input can't be read.
-    #[error("Read")]
-    Read,
-    /// The output can't be written.
-    #[error("Write")]
-    Write,
     #[error("NoMemory")]
     NoMemory,
     /// The catalog's text has a faulty line.
     #[error(transparent)]
-    Text(#[from] TextFault),
+    Text(TextFault),
     #[error(transparent)]
     Image(ImageFault),
     #[error(transparent)]
     Assemble(AssembleFault),
     #[error(transparent)]
     Boot(BootFault),
+    /// The input or the output failed, or a line is too long.
+    #[error(transparent)]
+    Serve(ServeFault),
 }
 
-// A conversion that is derived has no clause, and `boot` promises which fault it answers.
+// A conversion that is derived has no clause, and `boot` and `served` promise which fault they answer.
+impl From<TextFault> for Fault {
+    ghost from_gives = { λ fault told. told ≡ Text fault };
+
+    fn from(fault: TextFault) -> Fault {
+        Fault::Text(fault)
+    }
+}
+
+impl From<ServeFault> for Fault {
+    ghost from_gives = { λ fault told. told ≡ Serve fault };
+
+    fn from(fault: ServeFault) -> Fault {
+        Fault::Serve(fault)
+    }
+}
+
 impl From<ImageFault> for Fault {
     ghost from_gives = { λ fault told. told ≡ Image fault };
 

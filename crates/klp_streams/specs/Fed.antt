@@ -13,7 +13,7 @@ pub record Fed : Type 0 where
   pub has_ended : Bool
   -- how many reads failed
   pub failures : ℕ
-  -- how many reads were made
+  -- how many reads into some room were made, or failed
   pub reads : ℕ
 
 -- what it is to those who read

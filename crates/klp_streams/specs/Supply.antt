@@ -9,7 +9,7 @@ pub record Supply : Type 0 where
   pub has_ended : Bool
   -- how many reads failed
   pub failures : ℕ
-  -- how many reads were made
+  -- how many reads into some room were made; one that fails counts wherever it reads to
   pub reads : ℕ
 
 -- A read gave the first n bytes of what is now in the room that it was given.
@@ -19,11 +19,13 @@ pub record Gives (before after : Supply) (room : List ℕ) (n : ℕ) : Type 0 wh
   -- it ends only where no byte is left
   pub ends : n ≡ 0 → 0 < length room → (after.has_ended ≡ true) × IsAtEnd after.left
   pub goes_on : 0 < n → after.has_ended ≡ before.has_ended
-  pub had_no_room : length room ≡ 0 → after.has_ended ≡ before.has_ended
+  -- a read into no room changes nothing, and isn't counted
+  pub had_no_room : length room ≡ 0 → (after.has_ended ≡ before.has_ended) × (after.reads ≡ before.reads)
   pub failures : after.failures ≡ before.failures
-  pub reads : after.reads ≡ before.reads + 1
+  -- a read into some room is counted
+  pub reads : 0 < length room → after.reads ≡ before.reads + 1
 
--- A read failed. It took nothing.
+-- A read failed. It took nothing, and is counted.
 pub record Fails (before after : Supply) : Type 0 where
   pub left : Keeps before.left after.left
   pub has_ended : after.has_ended ≡ before.has_ended

@@ -80,8 +80,11 @@ impl<'a, L: Ledger> Source for Feed<'a, L> {
         ensures count { IfOk result (λ n. n ≡ given self.old (length buf.old)) }
         ensures most { self.new.most ≡ self.old.most }
     {
-        self.reads.add(&mut self.book);
-        if is_due(&mut self.fails_in) {
+        let fails = is_due(&mut self.fails_in);
+        if fails || !buf.is_empty() {
+            self.reads.add(&mut self.book);
+        }
+        if fails {
             self.failures.add(&mut self.book);
             return Err(Failed);
         }

@@ -13,8 +13,6 @@ mod over_read;
 mod over_write;
 mod source;
 mod taken;
-#[cfg(test)]
-mod tests;
 
 pub use feed::Feed;
 pub use over_read::OverRead;

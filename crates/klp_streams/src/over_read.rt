@@ -63,15 +63,18 @@ impl<R: Read, L: Ledger> Source for OverRead<R, L> {
     ghost supply = { λ o. o };
 
     fn read(&mut self, buf: &mut [u8]) -> Result<usize, Failed> {
-        self.reads.add(&mut self.book);
         match self.reader.read(buf) {
             Ok(count) => {
+                if !buf.is_empty() {
+                    self.reads.add(&mut self.book);
+                }
                 if count == 0 && !buf.is_empty() {
                     self.has_ended = true;
                 }
                 Ok(count)
             }
             Err(_) => {
+                self.reads.add(&mut self.book);
                 self.failures.add(&mut self.book);
                 Err(Failed)
             }

@@ -10,7 +10,7 @@ pub trait Source {
     ghost supply: { Self → Supply };
 
     /// Reads some bytes to the front of `buf`, and answers how many. None into some room is the end,
-    /// and an `Err` a failure, which takes nothing.
+    /// and an `Err` a failure, which takes nothing. A read into no room counts only where it fails.
     fn read(&mut self, buf: &mut [u8]) -> Result<usize, Failed>
         ensures ok { IfOk result (λ n. Gives (supply self.old) (supply self.new) buf.new n) }
         ensures err { OnErr result (Fails (supply self.old) (supply self.new)) };

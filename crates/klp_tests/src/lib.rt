@@ -1,6 +1,5 @@
-//! Tests of what no contract says: values from outside, printed names, calls that succeed where memory
-//! is there, and a few ways of the program that no script shows. They stand above all crates, so that
-//! what they test is proved once.
+//! Tests of what no contract says: values from outside, printed names, and calls that succeed where memory
+//! is there. They stand above all crates, so that what they test is proved once.
 #![tactic(auto)]
 
 #[cfg(test)]
@@ -15,8 +14,6 @@ mod manager;
 mod modules;
 #[cfg(test)]
 mod names;
-#[cfg(test)]
-mod program;
 #[cfg(test)]
 mod records;
 #[cfg(test)]

@@ -3,7 +3,7 @@
 #![tactic(auto)]
 
 use klp_program::{CATALOG, Fault, Words, console, refused, told, words};
-use std::io::{BufReader, ErrorKind};
+use std::io::{ErrorKind, Input};
 use std::process::ExitCode;
 use std::rt::{Env, Files};
 use std::{env, fs, io};
@@ -47,10 +47,13 @@ fn run(rt: &HostRuntime) -> u8 {
         Ok(catalog) => catalog,
         Err(fault) => return told(fault, &mut err),
     };
-    let Ok(mut input) = BufReader::new(alloc, rt.reader()) else {
-        return told(Fault::NoMemory, &mut err);
-    };
-    console(alloc, &catalog, &mut input, &mut io::writer(rt), &mut err)
+    console(
+        alloc,
+        &catalog,
+        &mut rt.reader(),
+        &mut io::writer(rt),
+        &mut err,
+    )
 }
 
 fn main(rt: HostRuntime) -> ExitCode {

@@ -3,7 +3,7 @@ use Rattle.std.proofs.lemmas.List.{nil_from_length}
 use Rattle.std.proofs.lemmas.Bool.{eqb-true}
 use Rattle.std.specs.Prelude.{IfSome, IfNone}
 use Rattle.klp_lines.specs.Lines.{lines_and_rest}
-use Rattle.klp_console.proofs.SaidLemmas.{serves_none, serves_on, some_line, one_more}
+use Rattle.klp_console.proofs.SaidLemmas.{serves_none, serves_on, stops_at, some_line, one_more}
 use Rattle.klp_console.proofs.hear.hear_lines.Goals as goal
 
 pub loop-rest-init : goal.loop-rest-init
@@ -20,14 +20,16 @@ returns-then-has_failed-clause-hears g c =
     subst (λ o. IfSome o (λ rest. lines_and_rest (c.loop-rest.line ++ c.loop-rest.rest.now) ≡ c.hear.new.self ∷ lines_and_rest rest.now)) c.in-Ok-Some.field-0-is c.in-Ok-Some.ensures.finished in
     let heard = c.loop-rest.invariant.heard in
     let line = c.bytes.result.now in
-    let next = some_line c.in-Ok-Some.after.now in (
+    let next = some_line c.in-Ok-Some.after.now in
+    let failed = sym c.has_failed.ensures ∙ c.if-has_failed.true in (
       heard.0 ++ line ∷ [],
       next.0,
       next.1,
       one_more _ heard.0 _ (lines_and_rest c.in-Ok-Some.after.now) line heard.1 (finished ∙ ap (λ l. l ∷ lines_and_rest c.in-Ok-Some.after.now) (sym c.bytes.ensures.bytes))
           ∙ ap (λ rest. (heard.0 ++ line ∷ []) ++ rest) next.2,
       serves_on c.what_is_said_adds_up.ensures.adds_up _ _ _ heard.0 (line ∷ []) heard.2 c.answer_line.ensures.serves,
-      sym c.has_failed.ensures ∙ c.if-has_failed.true,
+      stops_at _ _ _ heard.0 line heard.2 c.answer_line.ensures.serves c.requires.still c.requires.none c.loop-rest.invariant.still failed,
+      failed,
     )
 
 pub loop-rest-preserved : goal.loop-rest-preserved

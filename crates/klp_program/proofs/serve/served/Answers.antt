@@ -69,8 +69,3 @@ boot-requires-clause-callbacks g c =
     in
     all_made made scripts
     (ap (λ (n : ℕ). option_map never_ran (slice_get scripts n)) count ∙ sym c.in_ok-kind.ensures ∙ ap (option_map told_by) c.in_default.is) so_far
-
--- the manager is over the image that it opens with
-pub serve_lines-ended-requires : goal.serve_lines-ended-requires
-serve_lines-ended-requires g c =
-    c.in_ok-manager.ensures.booted.state

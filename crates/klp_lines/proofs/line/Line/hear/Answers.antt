@@ -1,5 +1,5 @@
 use Rattle.std.proofs.Common.{◌≡◌, ℕ, ◌+◌, ◌<◌, ◌++◌, length, ap, ◌∙◌, arith, rules, length-append}
-use Rattle.klp_lines.specs.declared.line.TheConstants.{MAX_LINE}
+use Rattle.klp_types.specs.declared.limits.TheConstants.{MAX_CONSOLE_LINE}
 use Rattle.klp_lines.proofs.LineLemmas.{lines_and_rest-in_front, one_line_along, one_line_still, first_of_piece, finishes, goes_on}
 use Rattle.klp_lines.proofs.line.Line.hear.Goals as goal
 
@@ -8,8 +8,8 @@ returns-then-is_err-clause-too_long c =
     let old = one_line_along c.self.inside.bytes.items c.args.self.now c.self.view_is c.self.invariant in
     let front = c.cut.result.0.now in
     let first = first_of_piece c.cut.result.1 (λ r. r.now) c.args.piece.now front c.cut.ensures.front c.cut.ensures.whole c.cut.ensures.rest in
-    let no_room : MAX_LINE < length c.self.inside.bytes.items + length front = search rules in
-    let long : MAX_LINE < length (c.args.self.now ++ front) = omega (arith, length-append {A = ℕ}, ap length c.self.view_is) in
+    let no_room : MAX_CONSOLE_LINE < length c.self.inside.bytes.items + length front = search rules in
+    let long : MAX_CONSOLE_LINE < length (c.args.self.now ++ front) = omega (arith, length-append {A = ℕ}, ap length c.self.view_is) in
     (c.args.self.now ++ front, first.0, lines_and_rest-in_front c.args.self.now c.args.piece.now front first.0 old first.1, long)
 
 pub invariant_of-self-2 : goal.invariant_of-self-2

@@ -1,0 +1,40 @@
+-- What the program comes to over a catalog's text.
+use Rattle.std.specs.Prelude.{◌≡◌, ℕ, List, Result, Ok, Err}
+use Rattle.klp_plan.specs.Plan.{Plan}
+use Rattle.klp_plan.specs.Text.{plan_of, IsFaultOf}
+use Rattle.klp_core.specs.Journaled.{Journaled}
+use Rattle.klp_output.specs.Written.{Written}
+use Rattle.klp_streams.specs.Supply.{Supply}
+use Rattle.klp_console.specs.declared.served.Served.{Served}
+use Rattle.klp_console.specs.declared.served.ServeFault.{ServeFault}
+use Rattle.klp_console.specs.Served.{ComesTo}
+use Rattle.klp_program.specs.declared.fault.Fault.{Fault}
+use Rattle.klp_program.specs.declared.fault.Fault.TheVariants.{NoMemory, Text, Serve}
+use Rattle.klp_program.specs.Booted.{IsBootedOver, IsBootFault}
+
+-- what is still to be read, and what was written
+pub record Streams : Type 0 where
+  pub supply : Supply
+  pub written : Written
+
+-- a manager was booted over the text's plan, and the console was served by it
+pub record Serves (text : List ℕ) (before after : Streams) (ended : Result Served ServeFault) : Type 0 where
+  pub plan : Plan
+  pub planned : plan_of text ≡ Ok plan
+  pub booted : Journaled
+  pub is_booted : IsBootedOver plan booted
+  pub left : Journaled
+  pub comes_to : ComesTo (record { supply = before.supply; written = before.written; manager = booted })
+      (record { supply = after.supply; written = after.written; manager = left }) ended
+
+-- why no manager was booted: a fault of the text; or of its plan; or want of memory
+abbrev pub IsFault : List ℕ → Fault → Type 0
+IsFault text NoMemory = Unit {0}
+IsFault text (Text fault) = IsFaultOf text fault.line fault.kind
+IsFault text other = (plan : Plan) × (plan_of text ≡ Ok plan) × IsBootFault plan other
+
+-- the console was served, or nothing was read and nothing was written
+abbrev pub Runs : List ℕ → Streams → Streams → Result Served Fault → Type 0
+Runs text before after (Ok served) = Serves text before after (Ok served)
+Runs text before after (Err (Serve fault)) = Serves text before after (Err fault)
+Runs text before after (Err fault) = (after ≡ before) × IsFault text fault
