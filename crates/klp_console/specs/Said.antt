@@ -32,7 +32,7 @@ pub record Serves (before after : Moment) (lines : List (List ℕ)) : Type 0 whe
   pub short : are_short lines ≡ true
 
 -- The sink is to blame for what is missing of these answers: it took the front `gone`. Of those before the last no more is missing than is gathered at
--- most, so no line but the last was done once a write had failed for want of room.
+-- most: so a line is done at most that far ahead of what is written.
 pub record Stops (before after : Written) (answers : List Answer) : Type 0 where
   pub early : List Answer
   pub last : Answer
