@@ -131,9 +131,9 @@ fn say_frames<W: Sink>(
     ensures { Says (answers.old, W.written writer.old) (answers.new, W.written writer.new) (frames_text catalog.now frames.now) }
 {
     what_is_said_adds_up();
-    for place in 0..frames.len() {
-        let version = frames.at(place).unwrap();
-        say_frame(answers, writer, catalog, modules, version);
+    let versions = frames.as_slice();
+    for place in 0..versions.len() {
+        say_frame(answers, writer, catalog, modules, versions[place]);
     }
 }
 

@@ -1,11 +1,6 @@
 -- Task events, where nothing refuses them.
-use Rattle.std.proofs.Common.{w8, to_z, of_z, ◌≡◌, ℕ, Bool, true, false, List, [], ◌∷◌, Option, Some, None, Ok, refl, sym, subst, take, slice_get}
-use Rattle.std.specs.Prelude.{◌+◌}
-use Rattle.std.specs.List.{list_any}
-use Rattle.std.proofs.lemmas.List.Folds.{list_any_at, list_any_more}
-use Rattle.std.proofs.lemmas.Option.{slice_get_within, get_or_from_slice_get}
+use Rattle.std.proofs.Common.{w8, to_z, of_z, ◌≡◌, ℕ, Bool, true, false, [], ◌∷◌, Option, Some, None, Ok, refl, sym, subst}
 use Rattle.klp_types.specs.declared.record.Record.{Record}
-use Rattle.klp_types.specs.declared.version.Version.{Version}
 use Rattle.klp_types.specs.declared.version.Move.{Move}
 use Rattle.klp_types.specs.declared.task.Task.{Task}
 use Rattle.klp_machine.specs.declared.event.Event.{Event}
@@ -54,19 +49,3 @@ pub changed_as_said : (law : (state : State) (number : ℕ) (f : Task → Task) 
     → (state : State) (number : ℕ) (f : Task → Task) (tasks : Tasks) (reply : Reply) → tasks ≡ changed state.tasks number f
     → (◌≡◌ {A = Reply × State} (reply, change state number f) (reply, with_tasks state tasks))
 changed_as_said law state number f tasks reply is = rw (law state number f, is) refl
-
--- frames, one after another
-
-pub one_more : (test : Version → Bool) (versions : List Version) (place : ℕ) (version : Version)
-    → slice_get versions place ≡ Some version → test version ≡ false → list_any test (take place versions) ≡ false → list_any test (take (place + 1) versions) ≡ false
-one_more test versions place version at passes none =
-    let within = slice_get_within versions place version at in
-    let is = get_or_from_slice_get versions place version version at in
-    rw (list_any_more test versions place version within, is, none, passes) refl
-
-pub found : (test : Version → Bool) (versions : List Version) (place : ℕ) (version : Version)
-    → slice_get versions place ≡ Some version → test version ≡ true → list_any test versions ≡ true
-found test versions place version at passes =
-    let within = slice_get_within versions place version at in
-    let is = get_or_from_slice_get versions place version version at in
-    list_any_at test versions place version within (rw is passes)

@@ -334,8 +334,9 @@ fn has_bad(parts: &Parts, catalog: &Catalog, frames: &Frames) -> bool
     requires { Invariant parts.now catalog.now }
     ensures { result ≡ list_any (is_bad (setting_of (managed_of parts.now catalog.now))) frames.now }
 {
-    for place in 0..frames.len() {
-        if is_bad(parts, catalog, frames.at(place).unwrap()) {
+    let versions = frames.as_slice();
+    for version in versions {
+        if is_bad(parts, catalog, *version) {
             return true;
         }
     }

@@ -54,8 +54,9 @@ impl Parts {
         requires { Invariant self.now catalog.now }
         ensures { result ≡ list_any (λ v. is_object object (object_of_version (setting_of (managed_of self.now catalog.now)) v)) frames.now }
     {
-        for place in 0..frames.len() {
-            if self.lies_in(catalog, object, frames.at(place).unwrap()) {
+        let versions = frames.as_slice();
+        for version in versions {
+            if self.lies_in(catalog, object, *version) {
                 return true;
             }
         }

@@ -1,8 +1,6 @@
 -- Membership by flags, and by lists.
-use Rattle.std.proofs.Common.{◌≡◌, ℕ, zero, suc, Bool, true, false, List, [], ◌∷◌, get_or, take, replicate, ◌+◌, refl, Some, None}
-use Rattle.std.specs.List.{list_any, slice_get}
-use Rattle.std.proofs.lemmas.List.Folds.{list_any_at, list_any_more}
-use Rattle.std.proofs.lemmas.Option.{slice_get_within, get_or_from_slice_get}
+use Rattle.std.proofs.Common.{◌≡◌, ℕ, zero, suc, Bool, false, List, [], ◌∷◌, get_or, replicate, refl, Some, None}
+use Rattle.std.specs.List.{list_any}
 use Rattle.klp_types.specs.declared.limits.TheConstants.{MAX_SITES, MAX_PATCHES, MAX_FUNCTIONS}
 use Rattle.klp_types.specs.declared.version.Version.{Version}
 use Rattle.klp_types.specs.declared.version.Version.TheVariants.{Original, New}
@@ -33,18 +31,3 @@ pub same_sleeping : (one other : Version → Bool) → ((version : Version) → 
 same_sleeping one other same [] = refl
 same_sleeping one other same (None ∷ tasks) = same_sleeping one other same tasks
 same_sleeping one other same (Some task ∷ tasks) = rw (same_any one other same task.frames, same_sleeping one other same tasks) refl
-
--- one more frame, as at a step of a loop
-pub one_more : (test : Version → Bool) (versions : List Version) (place : ℕ) (version : Version)
-    → slice_get versions place ≡ Some version → test version ≡ false → list_any test (take place versions) ≡ false → list_any test (take (place + 1) versions) ≡ false
-one_more test versions place version at passes none =
-    let within = slice_get_within versions place version at in
-    let is = get_or_from_slice_get versions place version version at in
-    rw (list_any_more test versions place version within, is, none, passes) refl
-
-pub found : (test : Version → Bool) (versions : List Version) (place : ℕ) (version : Version)
-    → slice_get versions place ≡ Some version → test version ≡ true → list_any test versions ≡ true
-found test versions place version at passes =
-    let within = slice_get_within versions place version at in
-    let is = get_or_from_slice_get versions place version version at in
-    list_any_at test versions place version within (rw is passes)

@@ -92,11 +92,9 @@ impl VersionSet {
     pub(crate) fn holds(&self, frames: &Frames) -> bool
         ensures { result ≡ list_any (has self.now) frames.now }
     {
-        for place in 0..frames.len() {
-            if self.contains(frames.at(place).unwrap()) {
-                return true;
-            }
-        }
-        false
+        frames
+            .as_slice()
+            .iter()
+            .any(|version| self.contains(*version))
     }
 }

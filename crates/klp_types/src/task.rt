@@ -1,4 +1,4 @@
-ghost use Rattle.std.specs.Prelude.{◌≡◌, [], ◌∷◌, ◌++◌, length, slice_get, nat_lt, true, false};
+ghost use Rattle.std.specs.Prelude.{◌≡◌, [], ◌∷◌, ◌++◌, length, nat_lt, true, false};
 
 use crate::limits::MAX_FRAMES;
 use crate::number::Site;
@@ -71,15 +71,12 @@ impl Frames {
         self.count
     }
 
-    /// The frame at a place, the outermost at 0.
-    pub fn at(&self, place: u8) -> Option<Version>
-        ensures { result ≡ slice_get self.now place }
+    /// The frames, outermost first.
+    pub fn as_slice(&self) -> &[Version]
+        ensures { result.now ≡ self.now }
     {
-        if place < self.count {
-            Some(self.versions[place as usize])
-        } else {
-            None
-        }
+        let versions: &[Version] = &self.versions;
+        &versions[..self.count as usize]
     }
 
     /// Puts a frame innermost; nothing where there is no room.

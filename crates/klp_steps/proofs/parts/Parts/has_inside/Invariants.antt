@@ -1,8 +1,12 @@
-use Rattle.std.proofs.Common.{◌≡◌, false, take}
+use Rattle.std.proofs.Common.{◌≡◌, drop}
 use Rattle.std.specs.List.{list_any}
 use Rattle.klp_machine.specs.Frames.{is_object, object_of_version}
+use Rattle.klp_types.specs.declared.version.Version.{Version}
 use Rattle.klp_steps.specs.Managed.{setting_of, managed_of}
 use Rattle.klp_steps.proofs.parts.Parts.has_inside.Given as goal
 
-abbrev pub invariant-loop-place : goal.invariant-loop-place
-invariant-loop-place g l = list_any (λ v. is_object l.object (object_of_version (setting_of (managed_of l.self l.catalog)) v)) (take l.place l.frames) ≡ false
+-- whether one of those that are left lies in the object
+abbrev pub invariant-loop-version : goal.invariant-loop-version
+invariant-loop-version g l =
+    list_any (λ (v : Version). is_object l.object (object_of_version (setting_of (managed_of l.self l.catalog)) v)) (drop l.version-index l.versions)
+    ≡ list_any (λ (v : Version). is_object l.object (object_of_version (setting_of (managed_of l.self l.catalog)) v)) l.versions
