@@ -4,6 +4,7 @@ use Rattle.std.specs.List.{starts_with, before_first, after_first}
 use Rattle.klp_machine.specs.declared.event.Event.TheVariants as event
 use Rattle.klp_line.specs.Words.{spelling_of}
 use Rattle.klp_line.specs.Gives.{◌>>=◌}
+use Rattle.klp_types.specs.declared.shadow.ShadowKey.{ShadowKey}
 use Rattle.klp_command.specs.declared.fault.LineFault.{LineFault}
 use Rattle.klp_command.specs.declared.fault.LineFault.TheVariants.{BadLine, BadValue}
 use Rattle.klp_types.specs.declared.limits.TheConstants.{MAX_TASK_NUMBER, MAX_MARK}
@@ -158,22 +159,27 @@ abbrev pub task_line : Known → List (List ℕ) → Result Asked LineFault
 task_line known (verb ∷ task ∷ words) = number_to MAX_TASK_NUMBER task >>= verb_line known verb words
 task_line known words = Err BadLine
 
+-- OBJ ID: the key of a variable
+abbrev pub key_of : List (List ℕ) → Result ShadowKey LineFault
+key_of (obj ∷ id ∷ []) = number_of obj >>= λ o. number_of id >>= λ i. Ok (record { obj = o; id = i })
+key_of words = Err BadLine
+
+-- OBJ ID V: a key and a value
+abbrev pub variable_of : List (List ℕ) → Result (ShadowKey × ℕ) LineFault
+variable_of (obj ∷ id ∷ value ∷ []) = number_of obj >>= λ o. number_of id >>= λ i. number_of value >>= λ v. Ok (record { obj = o; id = i }, v)
+variable_of words = Err BadLine
+
 -- shadow alloc OBJ ID V
 abbrev pub alloc_line : List (List ℕ) → Result Asked LineFault
-alloc_line (obj ∷ id ∷ value ∷ []) =
-    number_of obj >>= λ o. number_of id >>= λ i. number_of value >>= λ v. Ok (Take (event.ShadowAlloc (record { obj = o; id = i }) v))
-alloc_line words = Err BadLine
+alloc_line words = variable_of words >>= λ v. Ok (Take (event.ShadowAlloc v.0 v.1))
 
 -- shadow getalloc OBJ ID V
 abbrev pub get_or_alloc_line : List (List ℕ) → Result Asked LineFault
-get_or_alloc_line (obj ∷ id ∷ value ∷ []) =
-    number_of obj >>= λ o. number_of id >>= λ i. number_of value >>= λ v. Ok (Take (event.ShadowGetOrAlloc (record { obj = o; id = i }) v))
-get_or_alloc_line words = Err BadLine
+get_or_alloc_line words = variable_of words >>= λ v. Ok (Take (event.ShadowGetOrAlloc v.0 v.1))
 
 -- shadow free OBJ ID
 abbrev pub free_line : List (List ℕ) → Result Asked LineFault
-free_line (obj ∷ id ∷ []) = number_of obj >>= λ o. number_of id >>= λ i. Ok (Take (event.ShadowFree (record { obj = o; id = i })))
-free_line words = Err BadLine
+free_line words = key_of words >>= λ k. Ok (Take (event.ShadowFree k))
 
 -- shadow freeall ID
 abbrev pub free_all_line : List (List ℕ) → Result Asked LineFault
@@ -182,8 +188,7 @@ free_all_line words = Err BadLine
 
 -- shadow get OBJ ID
 abbrev pub get_line : List (List ℕ) → Result Asked LineFault
-get_line (obj ∷ id ∷ []) = number_of obj >>= λ o. number_of id >>= λ i. Ok (See (look.Variable (record { obj = o; id = i })))
-get_line words = Err BadLine
+get_line words = key_of words >>= λ k. Ok (See (look.Variable k))
 
 abbrev pub shadow_line : List (List ℕ) → Result Asked LineFault
 shadow_line [] = Err BadLine

@@ -1,18 +1,16 @@
 -- The words of a console line, and what a word is by itself.
-use Rattle.std.specs.Prelude.{ℕ, ◌^◌, ◌==◌, ◌&&◌, not, Bool, nat_lt, nat_le, if◌then◌else◌, List, length, filter, ok_or, Result, Ok, Err}
-use Rattle.std.specs.List.{list_all, slice_split}
+use Rattle.std.specs.Prelude.{ℕ, ◌^◌, ◌==◌, ◌&&◌, not, Bool, nat_lt, nat_le, if◌then◌else◌, List, length, ok_or, Result, Ok, Err}
+use Rattle.std.specs.List.{list_all}
 use Rattle.klp_line.specs.Words.{decimal_of}
-use Rattle.klp_line.specs.Lines.{is_some_word}
+use Rattle.klp_line.specs.declared.split.Separators.TheVariants.{Spaces}
+use Rattle.klp_line.specs.Split.{separates, words_between}
 use Rattle.klp_line.specs.Gives.{◌>>=◌}
 use Rattle.klp_command.specs.declared.fault.LineFault.{LineFault}
 use Rattle.klp_command.specs.declared.fault.LineFault.TheVariants.{BadLine}
 
-abbrev pub is_space : ℕ → Bool
-is_space b = b == 32
-
--- what stands between spaces; a tab is a byte as any other
+-- spaces alone separate words: a tab is a byte as any other
 abbrev pub words_of : List ℕ → List (List ℕ)
-words_of line = filter is_some_word (slice_split is_space line)
+words_of line = words_between (separates Spaces) line
 
 -- any byte but `/` and `:`
 abbrev pub is_name_byte : ℕ → Bool

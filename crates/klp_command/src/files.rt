@@ -6,7 +6,8 @@ ghost use Rattle.klp_command.specs.Lines.{switch, enabled_line, force_line, echo
 use crate::asked::{Asked, Look};
 use crate::fault::LineFault;
 use crate::known::{Known, task};
-use crate::words::{Words, after_prefix, cut, is_name, number_to};
+use crate::words::{Words, after_prefix, is_name, number_to};
+use klp_line::cut;
 use klp_machine::Event;
 use klp_types::MAX_TASK_NUMBER;
 

@@ -4,9 +4,9 @@ ghost use Rattle.std.specs.Prelude.{◌≡◌};
 ghost use Rattle.klp_command.specs.Known.{patch_of, object_of, task_of, site_of, new_function_of, version_of, symbol_found};
 
 use crate::fault::LineFault;
-use crate::words::{cut, is_name, number_to, text};
+use crate::words::{is_name, number_to, text};
 use klp_catalog::Catalog;
-use klp_line::{Spelling, spelling_of};
+use klp_line::{Spelling, cut, spelling_of};
 use klp_machine::Refusal;
 use klp_modules::Modules;
 use klp_types::{MAX_INDEX, MAX_TASKS, ObjId, PatchId, Site, TaskId, Version};

@@ -1,16 +1,29 @@
 //! The lines of the shadow variables.
 
 ghost use Rattle.std.specs.Prelude.{◌≡◌};
-ghost use Rattle.klp_command.specs.Lines.{alloc_line, get_or_alloc_line, free_line, free_all_line, get_line, shadow_line};
+ghost use Rattle.klp_command.specs.Lines.{key_of, variable_of, alloc_line, get_or_alloc_line, free_line, free_all_line, get_line, shadow_line};
 
 use crate::asked::{Asked, Look};
 use crate::fault::LineFault;
 use crate::words::{Words, number};
 use klp_machine::Event;
-use klp_types::ShadowKey;
+use klp_types::{ShadowKey, ShadowValue};
 
-fn alloc_line(words: &mut Words<'_>) -> Result<Asked, LineFault>
-    ensures { result ≡ alloc_line words.old }
+/// The two words that are a key.
+fn key(words: &mut Words<'_>) -> Result<ShadowKey, LineFault>
+    ensures { result ≡ key_of words.old }
+{
+    let obj = words.word()?;
+    let id = words.word()?;
+    words.end()?;
+    let obj = number(obj)?;
+    let id = number(id)?;
+    Ok(ShadowKey { obj, id })
+}
+
+/// The three words that are a key and a value.
+fn variable(words: &mut Words<'_>) -> Result<(ShadowKey, ShadowValue), LineFault>
+    ensures { result ≡ variable_of words.old }
 {
     let obj = words.word()?;
     let id = words.word()?;
@@ -19,31 +32,27 @@ fn alloc_line(words: &mut Words<'_>) -> Result<Asked, LineFault>
     let obj = number(obj)?;
     let id = number(id)?;
     let value = number(value)?;
-    Ok(Asked::Take(Event::ShadowAlloc(ShadowKey { obj, id }, value)))
+    Ok((ShadowKey { obj, id }, value))
+}
+
+fn alloc_line(words: &mut Words<'_>) -> Result<Asked, LineFault>
+    ensures { result ≡ alloc_line words.old }
+{
+    let (key, value) = variable(words)?;
+    Ok(Asked::Take(Event::ShadowAlloc(key, value)))
 }
 
 fn get_or_alloc_line(words: &mut Words<'_>) -> Result<Asked, LineFault>
     ensures { result ≡ get_or_alloc_line words.old }
 {
-    let obj = words.word()?;
-    let id = words.word()?;
-    let value = words.word()?;
-    words.end()?;
-    let obj = number(obj)?;
-    let id = number(id)?;
-    let value = number(value)?;
-    Ok(Asked::Take(Event::ShadowGetOrAlloc(ShadowKey { obj, id }, value)))
+    let (key, value) = variable(words)?;
+    Ok(Asked::Take(Event::ShadowGetOrAlloc(key, value)))
 }
 
 fn free_line(words: &mut Words<'_>) -> Result<Asked, LineFault>
     ensures { result ≡ free_line words.old }
 {
-    let obj = words.word()?;
-    let id = words.word()?;
-    words.end()?;
-    let obj = number(obj)?;
-    let id = number(id)?;
-    Ok(Asked::Take(Event::ShadowFree(ShadowKey { obj, id })))
+    Ok(Asked::Take(Event::ShadowFree(key(words)?)))
 }
 
 fn free_all_line(words: &mut Words<'_>) -> Result<Asked, LineFault>
@@ -57,12 +66,7 @@ fn free_all_line(words: &mut Words<'_>) -> Result<Asked, LineFault>
 fn get_line(words: &mut Words<'_>) -> Result<Asked, LineFault>
     ensures { result ≡ get_line words.old }
 {
-    let obj = words.word()?;
-    let id = words.word()?;
-    words.end()?;
-    let obj = number(obj)?;
-    let id = number(id)?;
-    Ok(Asked::See(Look::Variable(ShadowKey { obj, id })))
+    Ok(Asked::See(Look::Variable(key(words)?)))
 }
 
 /// The words after `shadow`: a verb, and numbers.

@@ -8,8 +8,8 @@ ghost use Rattle.klp_command.specs.Lines.{sleep_line, fork_line, plain_event, pl
 use crate::asked::Asked;
 use crate::fault::LineFault;
 use crate::known::{Known, task};
-use crate::words::{Words, cut, is_name, number_to};
-use klp_line::spelling_of;
+use crate::words::{Words, is_name, number_to};
+use klp_line::{cut, spelling_of};
 use klp_machine::Event;
 use klp_types::{Frames, MAX_FRAMES, MAX_INDEX, MAX_TASK_NUMBER};
 

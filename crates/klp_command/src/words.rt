@@ -1,12 +1,12 @@
 //! The words of a line, and what a word is by itself.
 
-ghost use Rattle.std.specs.Prelude.{◌≡◌, ℕ, ◌≤◌, ◌==◌, not, true, false, position, List, ◌∷◌, [], length, drop, nat_eq, IfOk, MatchOption, MatchResult};
-ghost use Rattle.std.specs.List.{position_or_len, list_all, starts_with, before_first, after_first};
+ghost use Rattle.std.specs.Prelude.{◌≡◌, ℕ, ◌≤◌, true, false, List, ◌∷◌, [], length, drop, nat_eq, IfOk, MatchOption, MatchResult};
+ghost use Rattle.std.specs.List.{list_all, starts_with};
 ghost use Rattle.std.specs.Str.{is_utf8};
-ghost use Rattle.klp_command.specs.Words.{is_space, words_of, is_name_byte, is_name, number_of, number_to};
+ghost use Rattle.klp_command.specs.Words.{words_of, is_name_byte, is_name, number_of, number_to};
 
 use crate::fault::LineFault;
-use klp_line::number64;
+use klp_line::{Separators, first_word, number64};
 use std::marker::Model;
 use std::str;
 
@@ -44,12 +44,8 @@ impl<'a> Words<'a> {
     pub(crate) fn next(&mut self) -> Option<&'a [u8]>
         ensures { MatchOption result (self.old ≡ []) (λ word. self.old ≡ word.now ∷ self.new) }
     {
-        let (_, rest) = self.rest.split_at(space_len(self.rest));
-        let (word, rest) = rest.split_at(word_len(rest));
+        let (word, rest) = first_word(self.rest, Separators::Spaces)?;
         self.rest = rest;
-        if word.is_empty() {
-            return None;
-        }
         Some(word)
     }
 
@@ -70,49 +66,6 @@ impl<'a> Words<'a> {
             None => Ok(()),
             Some(_) => Err(LineFault::BadLine),
         }
-    }
-}
-
-/// How many spaces the bytes begin with.
-fn space_len(bytes: &[u8]) -> usize
-    ensures { result ≡ position_or_len (λ b. not (is_space b)) bytes.now }
-{
-    bytes
-        .iter()
-        .position(|b| !is_space(*b))
-        .unwrap_or(bytes.len())
-}
-
-/// How long the word is that the bytes begin with.
-fn word_len(bytes: &[u8]) -> usize
-    ensures { result ≡ position_or_len is_space bytes.now }
-{
-    bytes
-        .iter()
-        .position(|b| is_space(*b))
-        .unwrap_or(bytes.len())
-}
-
-fn is_space(byte: u8) -> bool
-    ensures { result ≡ is_space byte }
-{
-    byte == b' '
-}
-
-fn position_of(bytes: &[u8], at: u8) -> Option<usize>
-    ensures { result ≡ position (λ b. b == at) bytes.now }
-{
-    bytes.iter().position(|b| *b == at)
-}
-
-/// What stands before the first byte `at`, and what stands after it.
-pub(crate) fn cut(text: &[u8], at: u8) -> (&[u8], &[u8])
-    ensures before { result.0.now ≡ before_first (λ b. b == at) text.now }
-    ensures after { result.1.now ≡ after_first (λ b. b == at) text.now }
-{
-    match position_of(text, at) {
-        Some(end) => (&text[..end], &text[end + 1..]),
-        None => (text, &[]),
     }
 }
 

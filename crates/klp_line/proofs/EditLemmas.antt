@@ -4,7 +4,7 @@ use Rattle.std.proofs.lemmas.List.{take_all}
 use Rattle.std.proofs.lemmas.List.Splits.{slice_split_first, slice_split_none}
 use Rattle.std.proofs.lemmas.List.Sums.{fails_before_first}
 use Rattle.klp_line.specs.Edits.{parts_of, parts_left}
-use Rattle.klp_line.proofs.WordLemmas.{found_at, missing_from}
+use Rattle.klp_line.proofs.SplitLemmas.{found_at, missing_from}
 use Rattle.klp_line.proofs.LineLemmas.{within}
 
 -- without a colon the whole rest is the last part

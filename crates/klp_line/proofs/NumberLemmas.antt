@@ -10,26 +10,19 @@ use Rattle.std.specs.Char.{is_ascii_digit, is_ascii_hexdigit, digit_value}
 use Rattle.std.specs.Str.{IsAscii}
 use Rattle.std.specs.Str.Parse.{digits_value, ParsesUnsigned, ParsesSigned, AllDigits, IsNumeral}
 use Rattle.std.specs.Int.{w32}
+use Rattle.std.proofs.lemmas.Bool.{and_parts}
 use Rattle.klp_line.specs.declared.fault.TextFaultKind.TheVariants.{BadHex}
 use Rattle.klp_line.specs.Words.{is_address, address_of, is_decimal, decimal_of, status_of}
 use Rattle.klp_line.proofs.WordLemmas.{ascii_from_all}
 
-pub and_left : (a b : Bool) → (a && b) ≡ true → a ≡ true
-and_left true b h = refl
-and_left false b h = h
-
-pub and_right : (a b : Bool) → (a && b) ≡ true → b ≡ true
-and_right true b h = h
-and_right false b h = absurd cc
-
 -- digits don't begin with a plus
 no_plus : (p : ℕ → Bool) → p 43 ≡ false → (word : List ℕ) → list_all p word ≡ true → get_or word 0 0 ≢ 43
 no_plus p fails [] h e = omega arith
-no_plus p fails (b ∷ bs) h e = let yes = and_left (p b) (list_all p bs) h in let same : p b ≡ p 43 = ap p e in cc
+no_plus p fails (b ∷ bs) h e = let yes = (and_parts (p b) (list_all p bs) h).0 in let same : p b ≡ p 43 = ap p e in cc
 
 all_digits : (p : ℕ → Bool) (radix : ℕ) → ((b : ℕ) → p b ≡ true → digit_value b < radix) → (word : List ℕ) → list_all p word ≡ true → AllDigits radix word
 all_digits p radix low [] h = tt
-all_digits p radix low (b ∷ bs) h = (low b (and_left (p b) (list_all p bs) h), all_digits p radix low bs (and_right (p b) (list_all p bs) h))
+all_digits p radix low (b ∷ bs) h = (low b (and_parts (p b) (list_all p bs) h).0, all_digits p radix low bs (and_parts (p b) (list_all p bs) h).1)
 
 hex_below : (b : ℕ) → is_ascii_hexdigit b ≡ true → digit_value b < 16
 hex_below b h = grind (arith, nat_tests)
@@ -81,15 +74,15 @@ is_decimal_at limit word some digits small = grind (arith, nat_tests)
 
 decimal_some : (limit : ℕ) (word : List ℕ) → is_decimal limit word ≡ true → 0 < length word
 decimal_some limit word h =
-    let test = and_left (nat_lt 0 (length word)) (list_all is_ascii_digit word) (and_left _ (nat_lt (digits_value 10 word) limit) h) in
+    let test = (and_parts (nat_lt 0 (length word)) (list_all is_ascii_digit word) (and_parts _ (nat_lt (digits_value 10 word) limit) h).0).0 in
     grind (arith, nat_tests)
 
 pub decimal_digits : (limit : ℕ) (word : List ℕ) → is_decimal limit word ≡ true → list_all is_ascii_digit word ≡ true
-decimal_digits limit word h = and_right (nat_lt 0 (length word)) (list_all is_ascii_digit word) (and_left _ (nat_lt (digits_value 10 word) limit) h)
+decimal_digits limit word h = (and_parts (nat_lt 0 (length word)) (list_all is_ascii_digit word) (and_parts _ (nat_lt (digits_value 10 word) limit) h).0).1
 
 decimal_small : (limit : ℕ) (word : List ℕ) → is_decimal limit word ≡ true → digits_value 10 word < limit
 decimal_small limit word h =
-    let test = and_right (nat_lt 0 (length word) && list_all is_ascii_digit word) (nat_lt (digits_value 10 word) limit) h in
+    let test = (and_parts (nat_lt 0 (length word) && list_all is_ascii_digit word) (nat_lt (digits_value 10 word) limit) h).1 in
     grind (arith, nat_tests)
 
 -- a result that is the value exactly where the test passes
@@ -133,8 +126,8 @@ ascii_from_status word h = ascii_from_all is_status_byte status_byte_low word h
 status_from_digits : (word : List ℕ) → list_all is_ascii_digit word ≡ true → list_all is_status_byte word ≡ true
 status_from_digits [] h = refl
 status_from_digits (b ∷ bs) h =
-    let first = and_left (is_ascii_digit b) (list_all is_ascii_digit bs) h in
-    let rest = status_from_digits bs (and_right (is_ascii_digit b) (list_all is_ascii_digit bs) h) in
+    let first = (and_parts (is_ascii_digit b) (list_all is_ascii_digit bs) h).0 in
+    let rest = status_from_digits bs (and_parts (is_ascii_digit b) (list_all is_ascii_digit bs) h).1 in
     rw (first, rest) refl
 
 negative_is : {E : Type 0} (b : ℕ) (bs : List ℕ) (r : Result ℤ E) → b ≡ 45 → ParsesSigned w32 10 (b ∷ bs) r
@@ -162,7 +155,7 @@ status_is [] r bytes h = by r (parse_signed_plain own w32 [] r h (λ e. cc) (λ 
 status_is (b ∷ bs) r bytes h = by (b == 45) refl
   where
     first : is_status_byte b ≡ true
-    first = and_left (is_status_byte b) (list_all is_status_byte bs) bytes
+    first = (and_parts (is_status_byte b) (list_all is_status_byte bs) bytes).0
 
     by : (t : Bool) → (b == 45) ≡ t
         → result_ok r ≡ (if t then option_map (λ n. neg_ℤ (pos n)) (decimal_of (2 ^ 31 + 1) bs) else option_map pos (decimal_of (2 ^ 31) (b ∷ bs)))

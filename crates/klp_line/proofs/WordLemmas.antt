@@ -1,29 +1,21 @@
 -- Words and the tests of their bytes.
-use Rattle.std.proofs.Common.{◌≡◌, ℕ, ◌<◌, ◌≤◌, ◌+◌, ◌&&◌, Bool, true, false, nat_lt, nat_le, ◌==◌, List, [], ◌∷◌, length, position, Some, None, Option, cond, Result, Ok, Err, MatchResult, is_ok, refl, sym, ◌∙◌, arith}
+use Rattle.std.proofs.Common.{◌≡◌, ℕ, ◌<◌, ◌≤◌, ◌&&◌, Bool, true, false, nat_lt, nat_le, ◌==◌, List, [], ◌∷◌, length, position, Option, Result, Ok, Err, MatchResult, is_ok, refl, ◌∙◌, arith}
 use Rattle.std.proofs.lemmas.Bool.Decides.{nat_tests}
 use Rattle.std.proofs.lemmas.Str.Ascii.{IsAscii-cons, IsAscii-nil}
-use Rattle.std.proofs.lemmas.List.{take_all, drop_all}
 use Rattle.std.specs.Str.{IsAscii}
-use Rattle.std.specs.List.{list_all, before_first, after_first, position_or_len}
+use Rattle.std.specs.List.{list_all, before_first, after_first}
 use Rattle.std.specs.Char.{is_ascii_digit, is_ascii_hexdigit}
+use Rattle.std.proofs.lemmas.Bool.{and_parts}
 use Rattle.klp_line.specs.Words.{Spelling, spelling_of_parts, spelling_behind_prefix, is_name, is_name_byte, is_symbol_name, is_symbol_byte}
 
 -- a length that is in range leaves the test of the bytes
 pub length_tests : (n most : ℕ) (r : Bool) → (n == 0) ≡ false → n ≤ most → ((nat_lt 0 n && nat_le n most) && r) ≡ r
 length_tests n most r some few = grind (arith, nat_tests)
 
-and_left : (a b : Bool) → (a && b) ≡ true → a ≡ true
-and_left true b h = refl
-and_left false b h = h
-
-and_right : (a b : Bool) → (a && b) ≡ true → b ≡ true
-and_right true b h = h
-and_right false b h = absurd cc
-
 -- bytes that all pass a test which only ASCII passes
 pub ascii_from_all : (p : ℕ → Bool) → ((b : ℕ) → p b ≡ true → b < 128) → (bs : List ℕ) → list_all p bs ≡ true → IsAscii bs
 ascii_from_all p low [] h = IsAscii-nil
-ascii_from_all p low (b ∷ bs) h = IsAscii-cons b bs (low b (and_left (p b) (list_all p bs) h)) (ascii_from_all p low bs (and_right (p b) (list_all p bs) h))
+ascii_from_all p low (b ∷ bs) h = IsAscii-cons b bs (low b (and_parts (p b) (list_all p bs) h).0) (ascii_from_all p low bs (and_parts (p b) (list_all p bs) h).1)
 
 name_byte_low : (b : ℕ) → is_name_byte b ≡ true → b < 128
 name_byte_low b h = grind (arith, nat_tests)
@@ -38,37 +30,16 @@ hexdigit_low : (b : ℕ) → is_ascii_hexdigit b ≡ true → b < 128
 hexdigit_low b h = grind (arith, nat_tests)
 
 pub ascii_from_name : (word : List ℕ) → is_name word ≡ true → IsAscii word
-ascii_from_name word h = ascii_from_all is_name_byte name_byte_low word (and_right (nat_lt 0 (length word) && nat_le (length word) 55) (list_all is_name_byte word) h)
+ascii_from_name word h = ascii_from_all is_name_byte name_byte_low word (and_parts (nat_lt 0 (length word) && nat_le (length word) 55) (list_all is_name_byte word) h).1
 
 pub ascii_from_symbol_name : (word : List ℕ) → is_symbol_name word ≡ true → IsAscii word
-ascii_from_symbol_name word h = ascii_from_all is_symbol_byte symbol_byte_low word (and_right (nat_lt 0 (length word) && nat_le (length word) 127) (list_all is_symbol_byte word) h)
+ascii_from_symbol_name word h = ascii_from_all is_symbol_byte symbol_byte_low word (and_parts (nat_lt 0 (length word) && nat_le (length word) 127) (list_all is_symbol_byte word) h).1
 
 pub ascii_from_digits : (word : List ℕ) → list_all is_ascii_digit word ≡ true → IsAscii word
 ascii_from_digits word h = ascii_from_all is_ascii_digit digit_low word h
 
 pub ascii_from_hexdigits : (word : List ℕ) → list_all is_ascii_hexdigit word ≡ true → IsAscii word
 ascii_from_hexdigits word h = ascii_from_all is_ascii_hexdigit hexdigit_low word h
-
--- where the first element that passes stands
-found_by : (b : Bool) (n m : ℕ) → Some n ≡ cond b (Some m) None → n ≡ m
-found_by true n m h = cc
-found_by false n m h = absurd cc
-
-pub found_at : {A : Type 0} (p : A → Bool) (xs : List A) (n : ℕ) → position p xs ≡ Some n → n ≡ position_or_len p xs
-found_at p xs n h = found_by (nat_lt (position_or_len p xs) (length xs)) n (position_or_len p xs) (sym h)
-
-missing_by : (m n : ℕ) (b : Bool) → b ≡ nat_lt m n → cond b (Some m) None ≡ None → n ≤ m
-missing_by m n true e h = absurd cc
-missing_by m n false e h = grind (arith, nat_tests)
-
-pub missing_from : {A : Type 0} (p : A → Bool) (xs : List A) → position p xs ≡ None → length xs ≤ position_or_len p xs
-missing_from p xs h = missing_by (position_or_len p xs) (length xs) (nat_lt (position_or_len p xs) (length xs)) refl h
-
-pub before_none : (p : ℕ → Bool) (xs : List ℕ) → position p xs ≡ None → before_first p xs ≡ xs
-before_none p xs h = take_all (position_or_len p xs) xs (missing_from p xs h)
-
-pub after_none : (p : ℕ → Bool) (xs : List ℕ) → position p xs ≡ None → after_first p xs ≡ []
-after_none p xs h = let far = missing_from p xs h in drop_all (position_or_len p xs + 1) xs (omega arith)
 
 -- a result is `Ok` where the reason of each error is ruled out
 pub ok_from : {T E U : Type 0} (r : Result T E) (P : T → Type 0) (Q : E → Type 0) → MatchResult r P (λ e. (U → ⊥) × Q e) → U → is_ok r ≡ true

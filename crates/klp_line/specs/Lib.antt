@@ -1,3 +1,4 @@
+pub mod Split
 pub mod Function
 pub mod Words
 pub mod Edits

@@ -1,6 +1,6 @@
 -- The lines of a catalog's text, their words, and what one line says.
-use Rattle.std.specs.Prelude.{ℕ, ◌==◌, ◌||◌, not, Bool, true, false, nat_lt, if◌then◌else◌, List, [], ◌∷◌, length, filter, codes, Option, Some, None, Result, Ok, Err, bytes_eq}
-use Rattle.std.specs.List.{list_all, slice_split}
+use Rattle.std.specs.Prelude.{ℕ, ◌==◌, not, Bool, true, false, nat_lt, if◌then◌else◌, List, [], ◌∷◌, length, codes, Option, Some, None, Result, Ok, Err, bytes_eq}
+use Rattle.std.specs.List.{list_all}
 use Rattle.std.specs.Char.{is_ascii}
 use Rattle.klp_types.specs.declared.callback.Which.{Which}
 use Rattle.klp_types.specs.declared.callback.Which.TheVariants as which
@@ -11,20 +11,15 @@ use Rattle.klp_line.specs.declared.line.Keyword.{Keyword}
 use Rattle.klp_line.specs.declared.line.Keyword.TheVariants as keyword
 use Rattle.klp_line.specs.declared.line.Line.{Line}
 use Rattle.klp_line.specs.declared.line.Line.TheVariants as line
+use Rattle.klp_line.specs.declared.split.Separators.TheVariants.{SpacesAndTabs}
+use Rattle.klp_line.specs.Split.{separates, words_between}
 use Rattle.klp_line.specs.Words.{name_of, symbol_name_of, address_of, body_of, id_of, version_of, spelling_of, symbol_of}
 use Rattle.klp_line.specs.Edits.{script_of}
 use Rattle.klp_line.specs.Gives.{◌>>=◌}
 
--- a space or a tab
-abbrev pub is_blank : ℕ → Bool
-is_blank b = b == 32 || b == 9
-
-abbrev pub is_some_word : List ℕ → Bool
-is_some_word word = not (length word == 0)
-
--- what stands between blanks
+-- spaces and tabs separate the words
 abbrev pub words_of : List ℕ → List (List ℕ)
-words_of text = filter is_some_word (slice_split is_blank text)
+words_of line = words_between (separates SpacesAndTabs) line
 
 -- `#` makes a comment as the very first byte
 abbrev pub is_comment : List ℕ → Bool

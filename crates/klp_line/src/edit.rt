@@ -5,8 +5,9 @@ ghost use Rattle.klp_line.specs.Gives.{Gives};
 ghost use Rattle.klp_line.specs.Edits.{parts_of, edit_number, alloc_of, free_of, free_all_of, set_of, take_prev_of, edit_of, edits_of, failure_of, script_of};
 
 use crate::fault::TextFaultKind;
-use crate::lines::{Words, position_of};
+use crate::lines::Words;
 use crate::number::{number64, status};
+use crate::split::position_of;
 use arrayvec::ArrayVec;
 use klp_types::{Edit, MAX_EDITS, ShadowKey};
 use klp_world::Script;

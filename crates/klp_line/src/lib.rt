@@ -10,6 +10,7 @@ mod items;
 mod line;
 mod lines;
 mod number;
+mod split;
 mod words;
 
 pub use edit::ScriptText;
@@ -18,4 +19,5 @@ pub use items::{Name, PlanFunction, SystemState};
 pub use line::Line;
 pub use lines::{Lines, Words};
 pub use number::number64;
+pub use split::{Separators, cut, first_word};
 pub use words::{Spelling, spelling_of};

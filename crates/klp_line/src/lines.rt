@@ -1,9 +1,9 @@
-ghost use Rattle.std.specs.Prelude.{◌≡◌, ℕ, ◌==◌, not, position, List, ◌∷◌, [], MatchOption, MatchResult};
-ghost use Rattle.std.specs.List.{position_or_len};
+ghost use Rattle.std.specs.Prelude.{◌≡◌, ℕ, List, ◌∷◌, [], MatchOption, MatchResult};
 ghost use Rattle.std.specs.Str.Lines.{lines, strip_carriage_return};
-ghost use Rattle.klp_line.specs.Lines.{is_blank, words_of};
+ghost use Rattle.klp_line.specs.Lines.{words_of};
 
 use crate::fault::TextFaultKind;
+use crate::split::{Separators, first_word, position_of};
 use std::marker::Model;
 
 /// The lines of a text that are still to be read.
@@ -51,13 +51,6 @@ impl<'a> Lines<'a> {
     }
 }
 
-/// Where the first byte `at` stands.
-pub(crate) fn position_of(bytes: &[u8], at: u8) -> Option<usize>
-    ensures { result ≡ position (λ b. b == at) bytes.now }
-{
-    bytes.iter().position(|b| *b == at)
-}
-
 /// The line before its line feed, less the carriage return at its end.
 fn without_carriage_return(line: &[u8]) -> &[u8]
     ensures { result.now ≡ strip_carriage_return line.now }
@@ -66,32 +59,6 @@ fn without_carriage_return(line: &[u8]) -> &[u8]
         [front @ .., b'\r'] => front,
         _ => line,
     }
-}
-
-/// How many blanks the bytes begin with.
-fn blank_len(bytes: &[u8]) -> usize
-    ensures { result ≡ position_or_len (λ b. not (is_blank b)) bytes.now }
-{
-    bytes
-        .iter()
-        .position(|b| !is_blank(*b))
-        .unwrap_or(bytes.len())
-}
-
-/// How long the word is that the bytes begin with.
-fn word_len(bytes: &[u8]) -> usize
-    ensures { result ≡ position_or_len is_blank bytes.now }
-{
-    bytes
-        .iter()
-        .position(|b| is_blank(*b))
-        .unwrap_or(bytes.len())
-}
-
-fn is_blank(byte: u8) -> bool
-    ensures { result ≡ is_blank byte }
-{
-    byte == b' ' || byte == b'\t'
 }
 
 /// The words of a line that are still to be read. Spaces and tabs separate them.
@@ -122,12 +89,8 @@ impl<'a> Words<'a> {
     pub fn next(&mut self) -> Option<&'a [u8]>
         ensures { MatchOption result (self.old ≡ []) (λ word. self.old ≡ word.now ∷ self.new) }
     {
-        let (_, rest) = self.rest.split_at(blank_len(self.rest));
-        let (word, rest) = rest.split_at(word_len(rest));
+        let (word, rest) = first_word(self.rest, Separators::SpacesAndTabs)?;
         self.rest = rest;
-        if word.is_empty() {
-            return None;
-        }
         Some(word)
     }
 

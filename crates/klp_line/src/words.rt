@@ -9,8 +9,8 @@ ghost use Rattle.klp_line.specs.Words.{is_name_byte, is_symbol_byte, is_name, is
 
 use crate::fault::TextFaultKind;
 use crate::items::Name;
-use crate::lines::position_of;
 use crate::number::number32;
+use crate::split::cut;
 use hex::FromHexError;
 use klp_types::{MAX_ADDRESS_DIGITS, MAX_NAME, MAX_SYMBOL_NAME};
 use std::alloc::Global;
@@ -140,17 +140,6 @@ impl<'a> Model for Spelling<'a> {
     ghost Value = { Spelling };
 
     ghost view = { λ s. record { object = s.object.now; symbol = s.symbol.now; sympos = s.sympos } };
-}
-
-/// What stands before the first byte `at`, and what stands behind it.
-fn cut(text: &[u8], at: u8) -> (&[u8], &[u8])
-    ensures before { result.0.now ≡ before_first (λ b. b == at) text.now }
-    ensures after { result.1.now ≡ after_first (λ b. b == at) text.now }
-{
-    match position_of(text, at) {
-        Some(end) => (&text[..end], &text[end + 1..]),
-        None => (text, &[]),
-    }
 }
 
 #[tactic(auto, using(crate::proofs::WordLemmas::ascii_from_name, crate::proofs::WordLemmas::ascii_from_symbol_name))]

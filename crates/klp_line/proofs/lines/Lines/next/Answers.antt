@@ -1,7 +1,8 @@
 use Rattle.std.proofs.Common.{ℕ, ◌-◌, ◌+◌, ◌∷◌, length, sym, ◌∙◌, ap, drop, arith, length-drop}
 use Rattle.std.proofs.lemmas.List.{take_all}
 use Rattle.std.specs.Str.Lines.{lines}
-use Rattle.klp_line.proofs.LineLemmas.{line_at, last_line, positive, within}
+use Rattle.klp_line.proofs.LineLemmas.{line_at, last_line, within}
+use Rattle.klp_line.proofs.SplitLemmas.{positive}
 use Rattle.klp_line.proofs.lines.Lines.next.Goals as goal
 
 pub returns-in_default : goal.returns-in_default

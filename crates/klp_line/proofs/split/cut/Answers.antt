@@ -1,7 +1,7 @@
 use Rattle.std.proofs.Common.{ℕ, ◌∙◌, ◌==◌, ◌-◌, length, ap, sym, arith, take, drop, ◌+◌, length-drop}
 use Rattle.std.proofs.lemmas.List.{take_all}
-use Rattle.klp_command.proofs.WordLemmas.{found_at, before_none, after_none}
-use Rattle.klp_command.proofs.words.cut.Goals as goal
+use Rattle.klp_line.proofs.SplitLemmas.{found_at, before_none, after_none}
+use Rattle.klp_line.proofs.split.cut.Goals as goal
 
 pub returns-in-Some-clause-before : goal.returns-in-Some-clause-before
 returns-in-Some-clause-before c =

@@ -1,0 +1,73 @@
+//! How bytes are cut into words, and at one byte.
+
+ghost use Rattle.std.specs.Prelude.{◌≡◌, ℕ, ◌==◌, not, position, List, ◌∷◌, [], MatchOption};
+ghost use Rattle.std.specs.List.{position_or_len, before_first, after_first};
+ghost use Rattle.klp_line.specs.Split.{separates, words_between};
+
+/// What stands between the words of a line.
+#[derive(Clone, Copy)]
+pub enum Separators {
+    Spaces,
+    SpacesAndTabs,
+}
+
+/// The first word, which is never empty, and what stands behind it, in time that is linear in the
+/// word's length and that of what separates it from the front.
+pub fn first_word(line: &[u8], separators: Separators) -> Option<(&[u8], &[u8])>
+    ensures { MatchOption result (words_between (separates separators) line.now ≡ [])
+        (λ found. words_between (separates separators) line.now ≡ found.0.now ∷ words_between (separates separators) found.1.now) }
+{
+    let (_, line) = line.split_at(gap_len(line, separators));
+    let (word, rest) = line.split_at(word_len(line, separators));
+    if word.is_empty() {
+        return None;
+    }
+    Some((word, rest))
+}
+
+/// How many separators the bytes begin with.
+fn gap_len(bytes: &[u8], separators: Separators) -> usize
+    ensures { result ≡ position_or_len (λ b. not (separates separators b)) bytes.now }
+{
+    bytes
+        .iter()
+        .position(|b| !separates(separators, *b))
+        .unwrap_or(bytes.len())
+}
+
+/// How long the word is that the bytes begin with.
+fn word_len(bytes: &[u8], separators: Separators) -> usize
+    ensures { result ≡ position_or_len (separates separators) bytes.now }
+{
+    bytes
+        .iter()
+        .position(|b| separates(separators, *b))
+        .unwrap_or(bytes.len())
+}
+
+fn separates(separators: Separators, byte: u8) -> bool
+    ensures { result ≡ separates separators byte }
+{
+    match separators {
+        Separators::Spaces => byte == b' ',
+        Separators::SpacesAndTabs => byte == b' ' || byte == b'\t',
+    }
+}
+
+/// Where the first byte `at` stands.
+pub(crate) fn position_of(bytes: &[u8], at: u8) -> Option<usize>
+    ensures { result ≡ position (λ b. b == at) bytes.now }
+{
+    bytes.iter().position(|b| *b == at)
+}
+
+/// What stands before the first byte `at`, and what stands behind it: all and nothing where there is none.
+pub fn cut(text: &[u8], at: u8) -> (&[u8], &[u8])
+    ensures before { result.0.now ≡ before_first (λ b. b == at) text.now }
+    ensures after { result.1.now ≡ after_first (λ b. b == at) text.now }
+{
+    match position_of(text, at) {
+        Some(end) => (&text[..end], &text[end + 1..]),
+        None => (text, &[]),
+    }
+}
