@@ -3,7 +3,7 @@ use Rattle.std.proofs.Common.{◌≡◌, ℕ, zero, suc, ◌+◌, ◌-◌, ◌�
 use Rattle.std.specs.Prelude.{◌==◌, nat_lt, slice_set, if◌then◌else◌}
 use Rattle.std.specs.List.{find}
 use Rattle.std.specs.FinMap as finite
-use Rattle.std.proofs.lemmas.Bool.{eq-eqb, eqb-true, leb-false, or_parts, both_ways}
+use Rattle.std.proofs.lemmas.Bool.{eq-eqb, eqb-true, leb-false, or_parts, both_ways, not-false}
 use Rattle.std.proofs.lemmas.List.{length-map, length-set}
 use Rattle.klp_types.specs.declared.limits.TheConstants.{MAX_VARIABLES}
 use Rattle.klp_types.specs.declared.shadow.ShadowKey.{ShadowKey}
@@ -43,15 +43,11 @@ use Rattle.klp_machine.proofs.RoomLemmas.{room_after, few_enabled, few_coming, f
 use Rattle.klp_machine.proofs.TaskLemmas as tasks
 use Rattle.klp_machine.proofs.SymbolLemmas.{set_false, first_set_true, first_set_false, came, fewer, lacks-put}
 
-nothing_there : {A : Type 0} (o : Option A) → is_some o ≡ false → o ≡ None
+pub nothing_there : {A : Type 0} (o : Option A) → is_some o ≡ false → o ≡ None
 nothing_there None e = refl
 nothing_there (Some x) e = cc
 
-not_false : (b : Bool) → not b ≡ false → b ≡ true
-not_false true e = refl
-not_false false e = cc
-
-left_out-put : (patch : ℕ) (patches : List ℕ) → is_one_of patch patches ≡ false → left_out patch (patches ++ patch ∷ []) ≡ patches
+pub left_out-put : (patch : ℕ) (patches : List ℕ) → is_one_of patch patches ≡ false → left_out patch (patches ++ patch ∷ []) ≡ patches
 left_out-put patch [] away = ap (λ b. cond b [] (patch ∷ [])) (eq-eqb patch patch refl)
 left_out-put patch (first ∷ patches) away =
     let split = or_parts (first == patch) (is_one_of patch patches) away in
@@ -60,6 +56,16 @@ left_out-put patch (first ∷ patches) away =
 length-pin_all : (patches : List ℕ) (pinned : List Bool) → length (pin_all patches pinned) ≡ length pinned
 length-pin_all [] pinned = refl
 length-pin_all (patch ∷ patches) pinned = length-pin_all patches (slice_set pinned patch true) ∙ length-set pinned patch true
+
+-- SetEnabled is refused where another patch moves
+pub other_refuses : (patch : ℕ) (value : Bool) (m : Move) → (m.patch == patch) ≡ false → same_bool value (not (m.patch == patch && not m.target)) ≡ false
+    → (not value && true && not (m.patch == patch)) ≡ false → ⊥
+other_refuses patch value m other same busy =
+    by value (sym (ap (λ b. same_bool value (not (b && not m.target))) other) ∙ same) (sym (ap (λ b. not value && true && not b) other) ∙ busy)
+  where
+    by : (v : Bool) → same_bool v true ≡ false → (not v && true && true) ≡ false → ⊥
+    by true same busy = both_ways true same refl
+    by false same busy = both_ways true busy refl
 
 module _ (setting : Setting) (state : State) (allowed : Allowed setting state) where
   abbrev ps : List ℕ
@@ -105,13 +111,13 @@ module _ (setting : Setting) (state : State) (allowed : Allowed setting state) w
     abbrev after_pre : World
     after_pre = after_calls before (enable_calls patch objects)
 
-    put_last : numbers after_pre.installed ≡ ps ++ patch ∷ []
+    pub put_last : numbers after_pre.installed ≡ ps ++ patch ∷ []
     put_last = numbers-after_calls before (enable_calls patch objects) ∙ numbers-put state.world.installed (record { patch = patch; values = map (λ id. (id, 0)) (state_ids setting patch) })
 
-    away : is_one_of patch ps ≡ false
+    pub away : is_one_of patch ps ≡ false
     away = one_of-numbers patch state.world.installed ∙ open_.1.0
 
-    still : state.moving ≡ None
+    pub still : state.moving ≡ None
     still = nothing_there state.moving open_.1.1.0
 
     room_there : finite.len after_pre.shadow ≤ MAX_VARIABLES
@@ -120,7 +126,7 @@ module _ (setting : Setting) (state : State) (allowed : Allowed setting state) w
     enable_allowed : (found : Option (ℕ × PatchObject)) → Allowed setting (enabled_or_gone state patch after_pre found).1
     enable_allowed None =
         let after = record state { world = after_pre; moving = move_to patch true; tasks = all_in (at_target false) state.tasks } in
-        allowed_next after (ps ++ patch ∷ []) put_last allowed.kernel (known-put setting patch ps allowed.known (not_false (has_patch setting patch) open_.0)) (distinct-put patch ps allowed.distinct away) (one_of-put patch ps)
+        allowed_next after (ps ++ patch ∷ []) put_last allowed.kernel (known-put setting patch ps allowed.known (not-false (has_patch setting patch) open_.0)) (distinct-put patch ps allowed.distinct away) (one_of-put patch ps)
         (stacked_put setting patch true ps (subst (λ m. AreStacked setting m ps) still allowed.stacked))
         (lacks-put setting state.loaded patch ps allowed.symbols open_.1.1.1.1.1.0)
         (tasks.right_all setting state.moving (move_to patch true) (at_target false) state.tasks refl allowed.tasks) room_there refl (length-map state.tasks _) refl
@@ -131,23 +137,13 @@ module _ (setting : Setting) (state : State) (allowed : Allowed setting state) w
   -- SetEnabled
   module _ (patch : ℕ) (value : Bool) (open_ : NoneHolds (refusals setting state (SetEnabled patch value))) where
     there : is_one_of patch ps ≡ true
-    there = one_of-numbers patch state.world.installed ∙ not_false (is_installed state patch) open_.1.0
+    there = one_of-numbers patch state.world.installed ∙ not-false (is_installed state patch) open_.1.0
 
     abbrev started : List Call
     started = calls_of patch PreUn (loaded_objects setting state patch)
 
     abbrev disabled_world : World
     disabled_world = after_calls state.world started
-
-    -- another patch that moves refuses it
-    other_refuses : (m : Move) → (m.patch == patch) ≡ false → same_bool value (not (m.patch == patch && not m.target)) ≡ false
-        → (not value && true && not (m.patch == patch)) ≡ false → ⊥
-    other_refuses m other same busy =
-        by value (sym (ap (λ b. same_bool value (not (b && not m.target))) other) ∙ same) (sym (ap (λ b. not value && true && not b) other) ∙ busy)
-      where
-        by : (v : Bool) → same_bool v true ≡ false → (not v && true && true) ≡ false → ⊥
-        by true same busy = both_ways true same refl
-        by false same busy = both_ways true busy refl
 
     set_enabled_allowed : (moving : Option Move) → state.moving ≡ moving → same_bool value (not (moves_out moving patch)) ≡ false
         → (not value && is_some moving && not (moves moving patch)) ≡ false → (t : Bool) → moves moving patch ≡ t → Allowed setting (turned_or_started setting state patch value t).1
@@ -168,7 +164,7 @@ module _ (setting : Setting) (state : State) (allowed : Allowed setting state) w
         allowed.symbols
         (tasks.right_turned setting m (record { patch = patch; target = value }) state.tasks (subst (λ m. AreRight setting m state.tasks) is allowed.tasks))
         allowed.room refl refl refl
-    set_enabled_allowed (Some m) is same busy false e = absurd (other_refuses m e same busy)
+    set_enabled_allowed (Some m) is same busy false e = absurd (other_refuses patch value m e same busy)
 
   -- Force
   force_allowed : (moving : Option Move) → state.moving ≡ moving → Allowed setting (forced setting state moving).1
@@ -184,7 +180,7 @@ module _ (setting : Setting) (state : State) (allowed : Allowed setting state) w
     abbrev ended : World
     ended = after_calls state.world (end_calls setting state (Some m))
 
-    ended_same : numbers ended.installed ≡ ps
+    pub ended_same : numbers ended.installed ≡ ps
     ended_same = numbers-after_calls state.world (end_calls setting state (Some m))
 
     ended_room : finite.len ended.shadow ≤ MAX_VARIABLES
@@ -312,9 +308,6 @@ module _ (setting : Setting) (state : State) (allowed : Allowed setting state) w
       by true e = omega (arith, e, allowed.room)
       by false e = omega (arith, e, allowed.room)
 
-  some_in : (b : Bool) → not b ≡ false → b ≡ true
-  some_in = not_false
-
   allowed_step : (event : Event) → NoneHolds (refusals setting state event) → Allowed setting (accepted setting state event).1
   allowed_step (Enable patch) open_ = enable_allowed patch open_ (find refuses (loaded_objects setting state patch))
   allowed_step (SetEnabled patch value) open_ = set_enabled_allowed patch value open_ state.moving refl open_.1.1.0 open_.1.1.1.0 (moves state.moving patch) refl
@@ -324,13 +317,13 @@ module _ (setting : Setting) (state : State) (allowed : Allowed setting state) w
   allowed_step (Going object) open_ = go_allowed object open_
   allowed_step (NewTask task) open_ = set_allowed task (Some (new_task (state_wanted state.moving))) (tasks.new_right setting state.moving)
   allowed_step (Fork parent child) open_ =
-      set_allowed child _ (tasks.forked_right setting state.moving (task_at state.tasks parent) (some_in _ (or_parts (not (is_there state parent)) _ open_.0).0)
+      set_allowed child _ (tasks.forked_right setting state.moving (task_at state.tasks parent) (not-false _ (or_parts (not (is_there state parent)) _ open_.0).0)
       (tasks.right_at setting state.moving state.tasks parent allowed.tasks))
   allowed_step (EndTask task) open_ = set_allowed task None refl
   allowed_step (EnterKernel task) open_ =
-      change_allowed task _ (task_at state.tasks task) refl (λ t is right. tasks.entered_right setting state.moving t (ap (is_in User) (sym is) ∙ some_in _ open_.1.0) right)
+      change_allowed task _ (task_at state.tasks task) refl (λ t is right. tasks.entered_right setting state.moving t (ap (is_in User) (sym is) ∙ not-false _ open_.1.0) right)
   allowed_step (ExitToUser task) open_ =
-      change_allowed task _ (task_at state.tasks task) refl (λ t is right. tasks.exited_right setting state.moving t (ap (is_in Kernel) (sym is) ∙ some_in _ open_.1.0) right)
+      change_allowed task _ (task_at state.tasks task) refl (λ t is right. tasks.exited_right setting state.moving t (ap (is_in Kernel) (sym is) ∙ not-false _ open_.1.0) right)
   allowed_step (Sleep task frames) open_ =
       change_allowed task _ (task_at state.tasks task) refl (λ t is right. tasks.asleep_right setting state.moving t frames open_.1.1.0 right)
   allowed_step (Wake task) open_ = change_allowed task _ (task_at state.tasks task) refl (λ t is right. tasks.woken_right setting state.moving t right)

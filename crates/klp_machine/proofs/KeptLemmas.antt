@@ -1,8 +1,8 @@
 -- The invariant of an honest observed run, and that each item keeps it.
-use Rattle.std.proofs.Common.{◌≡◌, ◌⊎◌, inl, inr, ℕ, zero, suc, ℤ, pos, negsuc, Bool, true, false, not, ◌&&◌, cond, List, [], ◌∷◌, ◌++◌, map, length, Option, Some, None, is_some, refl, sym, ap, subst, ◌∙◌}
+use Rattle.std.proofs.Common.{◌≡◌, ◌⊎◌, inl, inr, ℕ, zero, suc, ℤ, pos, negsuc, Bool, true, false, not, ◌&&◌, cond, List, [], ◌∷◌, map, length, Option, Some, None, is_some, refl, sym, ap, subst, ◌∙◌}
 use Rattle.std.specs.Prelude.{◌==◌, if◌then◌else◌, option_map, slice_index_or, slice_set}
 use Rattle.std.specs.List.{list_any, filter, find}
-use Rattle.std.proofs.lemmas.Bool.{eq-eqb, eqb-true, and_parts, or_parts, both_ways}
+use Rattle.std.proofs.lemmas.Bool.{eq-eqb, eqb-true, and_parts, or_parts, both_ways, not-false}
 use Rattle.std.proofs.lemmas.List.Sums.{length-filter}
 use Rattle.klp_types.specs.declared.version.Version.{Version}
 use Rattle.klp_types.specs.declared.version.Move.{Move}
@@ -34,12 +34,14 @@ use Rattle.klp_machine.specs.TaskStep.{change_task, new_task, state_wanted, exit
 use Rattle.klp_machine.specs.Allowed.{is_one_of, MovesOneOf, is_right_state, is_right_task, are_right_frames, Allowed}
 use Rattle.klp_machine.proofs.ShadowLemmas.{shadow_installed}
 use Rattle.klp_machine.specs.Refusals.{NoneHolds}
-use Rattle.klp_machine.proofs.OrderLemmas.{numbers, left_out, from_on, numbers-put, numbers-taken_out, numbers-from_patch, numbers-after_calls, one_of-numbers}
+use Rattle.klp_machine.proofs.OrderLemmas.{numbers, left_out, from_on, numbers-taken_out, numbers-from_patch, numbers-after_calls}
 use Rattle.klp_machine.proofs.TaskLemmas as tasks
+use Rattle.klp_machine.proofs.AllowedLemmas.{left_out-put, other_refuses, put_last, away, still}
 use Rattle.klp_machine.specs.Observed.{Frame, Stacks, with_frames, versions, begun, is_frame_in, IsHonestEvent}
 use Rattle.klp_machine.specs.InPlace.{IsInPlace}
 use Rattle.klp_machine.specs.Consistent.{AreCurrent}
-use Rattle.klp_machine.proofs.PickLemmas.{version_for, now, current, carry_one, carry, enabling, disabling, turning, leaving, settling, replacing, zero_or_one, all_free}
+use Rattle.klp_machine.proofs.VersionLemmas.{version_for}
+use Rattle.klp_machine.proofs.PickLemmas.{now, current, carry_one, carry, enabling, disabling, turning, leaving, settling, replacing, zero_or_one, all_free}
 use Rattle.klp_machine.proofs.PlacedLemmas.{placed}
 
 -- what mode and recorded frames say of the frames: a task in user space has none, and a sleeper's are recorded
@@ -90,16 +92,8 @@ none_lags test nobody (first ∷ tasks) none number = by (test first) refl none 
     by false is none rest (suc number) = rest none number
 
 at_the_target : (target : Bool) (state : ℤ) → not (is_at target state) ≡ false → state ≡ at_target target
-at_the_target true (pos n) e = ap pos (eqb-true n 1 (holds (n == 1) e))
-  where
-    holds : (b : Bool) → not b ≡ false → b ≡ true
-    holds true e = refl
-    holds false e = cc
-at_the_target false (pos n) e = ap pos (eqb-true n 0 (holds (n == 0) e))
-  where
-    holds : (b : Bool) → not b ≡ false → b ≡ true
-    holds true e = refl
-    holds false e = cc
+at_the_target true (pos n) e = ap pos (eqb-true n 1 (not-false (n == 1) e))
+at_the_target false (pos n) e = ap pos (eqb-true n 0 (not-false (n == 0) e))
 at_the_target true (negsuc n) e = cc
 at_the_target false (negsuc n) e = cc
 
@@ -120,14 +114,6 @@ other_flag_kept (flag ∷ flags) (suc m) (suc n) apart e = other_flag_kept flags
     by : (t : Bool) → (n == m) ≡ t → (n == m) ≡ false
     by true is = absurd (both_ways (suc n == suc m) apart (eq-eqb (suc n) (suc m) (ap suc (eqb-true n m is))))
     by false is = is
-
-nothing_there : {A : Type 0} (o : Option A) → is_some o ≡ false → o ≡ None
-nothing_there None e = refl
-nothing_there (Some x) e = cc
-
-not_false : (b : Bool) → not b ≡ false → b ≡ true
-not_false true e = refl
-not_false false e = cc
 
 no_frames : (now_ : ℕ → Option Version) (frames : List Frame) → frames ≡ [] → AreCurrent now_ frames
 no_frames now_ frames e = subst (AreCurrent now_) (sym e) tt
@@ -211,44 +197,20 @@ module _ (setting : Setting) where
       abbrev after_pre : World
       after_pre = after_calls before (enable_calls patch objects)
 
-      put_last : numbers after_pre.installed ≡ ps ++ patch ∷ []
-      put_last = numbers-after_calls before (enable_calls patch objects) ∙ numbers-put state.world.installed (record { patch = patch; values = map (λ id. (id, 0)) (state_ids setting patch) })
-
-      away : is_one_of patch ps ≡ false
-      away = one_of-numbers patch state.world.installed ∙ open_.1.0
-
-      still : state.moving ≡ None
-      still = nothing_there state.moving open_.1.1.0
-
-      left_out-put : (patches : List ℕ) → is_one_of patch patches ≡ false → left_out patch (patches ++ patch ∷ []) ≡ patches
-      left_out-put [] apart = ap (λ b. cond b [] (patch ∷ [])) (eq-eqb patch patch refl)
-      left_out-put (first ∷ patches) apart =
-          let parts = or_parts (first == patch) (is_one_of patch patches) apart in
-          ap (λ b. cond b (patches ++ patch ∷ []) (first ∷ left_out patch (patches ++ patch ∷ []))) parts.0 ∙ ap (λ rest. first ∷ rest) (left_out-put patches parts.1)
-
       enable_kept : (found : Option (ℕ × PatchObject)) → Kept setting (enabled_or_gone state patch after_pre found).1 stacks
       enable_kept None =
           let after = record state { world = after_pre; moving = move_to patch true; tasks = all_in (at_target false) state.tasks } in
           kept_all state after (pos 0) stacks refl
           (λ number task is are. carry setting state after task.state (pos 0) (λ site l. l)
-          (λ site. ap (λ m. version_for setting m ps task.state site) still ∙ enabling setting patch true ps task.state site allowed.distinct away
-          ∙ ap (λ qs. version_for setting (move_to patch true) qs (pos 0) site) (sym put_last)) (stacks number) are) kept
+          (λ site. ap (λ m. version_for setting m ps task.state site) (still setting state allowed patch open_) ∙ enabling setting patch true ps task.state site allowed.distinct (away setting state allowed patch open_)
+          ∙ ap (λ qs. version_for setting (move_to patch true) qs (pos 0) site) (sym (put_last setting state allowed patch open_))) (stacks number) are) kept
       enable_kept (Some object) =
-          kept_world (without_patch after_pre patch) (numbers-taken_out patch after_pre.installed ∙ ap (left_out patch) put_last ∙ left_out-put ps away)
+          kept_world (without_patch after_pre patch) (numbers-taken_out patch after_pre.installed ∙ ap (left_out patch) (put_last setting state allowed patch open_) ∙ left_out-put patch ps (away setting state allowed patch open_))
 
     -- SetEnabled
     module _ (patch : ℕ) (value : Bool) where
       abbrev started : List Call
       started = calls_of patch PreUn (loaded_objects setting state patch)
-
-      other_refuses : (m : Move) → (m.patch == patch) ≡ false → same_bool value (not (m.patch == patch && not m.target)) ≡ false
-          → (not value && true && not (m.patch == patch)) ≡ false → ⊥
-      other_refuses m other same busy =
-          by value (sym (ap (λ b. same_bool value (not (b && not m.target))) other) ∙ same) (sym (ap (λ b. not value && true && not b) other) ∙ busy)
-        where
-          by : (v : Bool) → same_bool v true ≡ false → (not v && true && true) ≡ false → ⊥
-          by true same busy = both_ways true same refl
-          by false same busy = both_ways true busy refl
 
       set_enabled_kept : (moving : Option Move) → state.moving ≡ moving → same_bool value (not (moves_out moving patch)) ≡ false
           → (not value && is_some moving && not (moves moving patch)) ≡ false → (t : Bool) → moves moving patch ≡ t → Kept setting (turned_or_started setting state patch value t).1 stacks
@@ -265,7 +227,7 @@ module _ (setting : Setting) where
           kept_same state after stacks refl
           (λ number task are. carry setting state after task.state task.state (λ site l. l)
           (λ site. ap (λ o. version_for setting o ps task.state site) is ∙ turning setting m (record { patch = patch; target = value }) ps task.state site (eqb-true m.patch patch e)) (stacks number) are) kept
-      set_enabled_kept (Some m) is same busy false e = absurd (other_refuses m e same busy)
+      set_enabled_kept (Some m) is same busy false e = absurd (other_refuses patch value m e same busy)
 
     -- Poll
     module _ (m : Move) (is : state.moving ≡ Some m) where

@@ -2,8 +2,9 @@
 use Rattle.std.proofs.Common.{◌≡◌, ℕ, ℤ, Bool, true, false, ◌&&◌, ◌||◌, cond, List, [], ◌∷◌, ◌++◌, reverse, Option, Some, None, refl, sym, ap, subst, ◌∙◌}
 use Rattle.std.specs.Prelude.{◌==◌, if◌then◌else◌, is_some}
 use Rattle.std.specs.List.{list_any}
-use Rattle.std.proofs.lemmas.Bool.{eq-eqb, eqb-true, or_parts, both_ways}
+use Rattle.std.proofs.lemmas.Bool.{eq-eqb, eqb-true, or_parts, both_ways, false_from_ne_true}
 use Rattle.std.proofs.lemmas.Grind.{reverse_onto}
+use Rattle.std.proofs.Math.Bool.{or-true}
 use Rattle.klp_types.specs.declared.version.Version.{Version}
 use Rattle.klp_types.specs.declared.version.Version.TheVariants.{Original, New}
 use Rattle.klp_types.specs.declared.version.Entry.{Entry}
@@ -28,10 +29,6 @@ use Rattle.klp_machine.proofs.PickLemmas.{now, current}
 use Rattle.klp_machine.proofs.KeptLemmas.{IsKept}
 use Rattle.klp_machine.proofs.ObservedLemmas.{kept_from}
 
-or_true : (b : Bool) → (b || true) ≡ true
-or_true true = refl
-or_true false = refl
-
 -- what is run has an entry
 stands_newest : (site : ℕ) (entries : List Entry) → StandsIn entries (newest_version site entries)
 stands_newest site [] = tt
@@ -46,7 +43,7 @@ stands_newest site (newest ∷ older) = by newest.func refl
 
 stands_behind : (entry : Entry) (entries : List Entry) (version : Version) → StandsIn entries version → StandsIn (entry ∷ entries) version
 stands_behind entry entries (Original site) stands = tt
-stands_behind entry entries (New patch function) stands = ap (λ b. (entry.patch == patch && is_number entry.func function) || b) stands ∙ or_true (entry.patch == patch && is_number entry.func function)
+stands_behind entry entries (New patch function) stands = ap (λ b. (entry.patch == patch && is_number entry.func function) || b) stands ∙ or-true (entry.patch == patch && is_number entry.func function)
 
 stands_for : (site : ℕ) (moving : Option Move) (task : ℤ) (entries : List Entry) → StandsIn entries (newest_version site (entries_for moving task entries))
 stands_for site moving task [] = tt
@@ -145,10 +142,6 @@ module _ (setting : Setting) (move : Move) where
   some_reverse : (patch : ℕ) (patches : List ℕ) → is_empty (reverse (patch ∷ patches)) ≡ false
   some_reverse patch patches = ap is_empty (reverse_onto patches patch []) ∙ some_last (reverse patches) patch
 
-  not_true : (b : Bool) → (b ≡ true → ⊥) → b ≡ false
-  not_true true h = absurd (h refl)
-  not_true false h = refl
-
   never_empty : (first : ℕ) (patches : List ℕ) → first ∷ patches ≡ [] → ⊥
   never_empty first patches e = cc
 
@@ -157,7 +150,7 @@ module _ (setting : Setting) (move : Move) where
   tops_of (patch ∷ []) above = ((λ e. equal_either_way patch move.patch ∙ (above.0 e).1), tt)
   tops_of (patch ∷ next ∷ patches) above =
       subst (Tops setting move.patch) (sym (reverse_onto (next ∷ patches) patch []))
-      (tops_and (reverse (next ∷ patches)) patch (some_reverse next patches) (not_true (replaces setting patch) (λ e. never_empty next patches (above.0 e).0)) (tops_of (next ∷ patches) above.1))
+      (tops_and (reverse (next ∷ patches)) patch (some_reverse next patches) (false_from_ne_true (replaces setting patch) (λ e. never_empty next patches (above.0 e).0)) (tops_of (next ∷ patches) above.1))
 
   plain_and : (patches : List ℕ) (oldest : ℕ) → NoneReplaces setting patches → Plain setting (patches ++ oldest ∷ [])
   plain_and [] oldest none = ((λ e. absurd (both_ways true e refl)), tt)

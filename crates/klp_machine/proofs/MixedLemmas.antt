@@ -19,8 +19,8 @@ use Rattle.klp_machine.specs.Observed.{Frame, Seen, seen_from, IsHonestRun}
 use Rattle.klp_machine.specs.InPlace.{IsInPlace}
 use Rattle.klp_machine.specs.Consistent.{AreCurrent, is_of_patch, NoneOfPatch, below, NoneBelow, NoneMixed, site_at, site_of, AreNamed, AllNamed}
 use Rattle.klp_machine.specs.Versions.{version_in, chosen, others}
-use Rattle.klp_machine.proofs.VersionLemmas.{newest_in, distinct-reverse}
-use Rattle.klp_machine.proofs.PickLemmas.{version_for, now, current, at_rest_in, patched_in, unpatched_in}
+use Rattle.klp_machine.proofs.VersionLemmas.{version_for, newest_in, distinct-reverse}
+use Rattle.klp_machine.proofs.PickLemmas.{now, current, at_rest_in, patched_in, unpatched_in}
 use Rattle.klp_machine.proofs.KeptLemmas.{IsKept}
 use Rattle.klp_machine.proofs.ObservedLemmas.{kept_from}
 use Rattle.klp_machine.proofs.LeftLemmas.{is_version-true, or_none, others_none, on_top, not_of_patch, passed, met, apart_below}

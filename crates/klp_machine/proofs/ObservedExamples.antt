@@ -16,12 +16,13 @@ use Rattle.klp_types.specs.declared.task.Task.{Task}
 use Rattle.klp_machine.specs.Task.{task_at}
 use Rattle.klp_machine.specs.Step.{accepted}
 use Rattle.klp_machine.specs.Refusals.{refusals, accepts, is_there}
-use Rattle.klp_machine.specs.Allowed.{AreRight, Allowed}
+use Rattle.klp_machine.specs.Allowed.{Allowed}
 use Rattle.klp_machine.specs.Refusals.{NoneHolds}
 use Rattle.klp_machine.proofs.RefusalLemmas.{next_accepted}
 use Rattle.klp_machine.specs.Observed.{Stacks, with_frames, Seen, Happens, Calls, Watched, begun, is_frame_in, seen_next, seen_run, IsHonestEvent, IsHonestItem, AreHonest, IsHonestRun, seen_from}
 use Rattle.klp_machine.specs.InPlace.{IsInPlace}
 use Rattle.klp_machine.specs.ObservedExamples.{kernel, stray_kernel, nobody, one_task, state_of, towards_1, no_frames, inside, watched, start, in_original, late, sleeper_run, stray_run, under_a_task}
+use Rattle.klp_machine.proofs.OpeningLemmas.{none_there}
 
 -- from here to there by an honest run
 record Leads (setting : Setting) (w : Watched) (items : List Seen) (end : Watched) : Type 0 where
@@ -104,10 +105,6 @@ sleeper_leads =
     (on kernel w8 w9 _ _ w10 (goes kernel w8 (ExitToUser 1) (refl, (refl, tt))) (λ e. refl)
     (on kernel w9 w10 _ _ w10 (goes kernel w9 Poll (refl, (room, tt))) (λ e. tt) (done kernel w10))))))))))
 
-right_rows : (setting : Setting) (n : ℕ) → AreRight setting None (replicate n None)
-right_rows setting zero = tt
-right_rows setting (suc n) = (refl, right_rows setting n)
-
 allowed_start : (setting : Setting) → length setting.patches ≡ 1 → length setting.image.objects ≡ 2 → Allowed setting start
 allowed_start setting one two = record {
   kernel = refl;
@@ -116,7 +113,7 @@ allowed_start setting one two = record {
   moving = tt;
   stacked = tt;
   symbols = tt;
-  tasks = (refl, (refl, right_rows setting 62));
+  tasks = (refl, (refl, none_there setting 62));
   room = omega (arith, finite.len-empty key_cmp ℕ);
   objects = sym two;
   rows = refl;

@@ -23,7 +23,7 @@ flags_stay : (objects : List Object) → is_empty objects ≡ false → length (
 flags_stay [] some = cc
 flags_stay (object ∷ objects) some = ap suc (length_replicated false (length objects))
 
-none_there : (setting : Setting) (n : ℕ) → AreRight setting None (replicate n None)
+pub none_there : (setting : Setting) (n : ℕ) → AreRight setting None (replicate n None)
 none_there setting zero = tt
 none_there setting (suc n) = (refl, none_there setting n)
 

@@ -3,6 +3,7 @@ use Rattle.std.proofs.Common.{◌≡◌, ℕ, Bool, true, false, ◌||◌, cond,
 use Rattle.std.specs.Prelude.{◌==◌}
 use Rattle.std.proofs.lemmas.Bool.{eq-eqb, eqb-true, or_parts, both_ways}
 use Rattle.std.proofs.lemmas.Bool.Decides.{nat_tests}
+use Rattle.std.proofs.Math.Bool.{or-true}
 use Rattle.klp_types.specs.declared.version.Move.{Move}
 use Rattle.klp_types.specs.Setting.{Setting, replaces}
 use Rattle.klp_types.specs.World.{Installed, World, taken_out}
@@ -56,16 +57,12 @@ pub one_of-numbers : (patch : ℕ) (list : List Installed) → is_one_of patch (
 one_of-numbers patch [] = refl
 one_of-numbers patch (first ∷ list) = ap (λ b. first.patch == patch || b) (one_of-numbers patch list)
 
-or_true : (b : Bool) → (b || true) ≡ true
-or_true true = refl
-or_true false = refl
-
 pub equal_either_way : (a b : ℕ) → (a == b) ≡ (b == a)
 equal_either_way a b = grind (arith, nat_tests)
 
 pub one_of-put : (patch : ℕ) (patches : List ℕ) → is_one_of patch (patches ++ patch ∷ []) ≡ true
 one_of-put patch [] = ap (λ b. b || false) (eq-eqb patch patch refl)
-one_of-put patch (first ∷ patches) = ap (λ b. first == patch || b) (one_of-put patch patches) ∙ or_true (first == patch)
+one_of-put patch (first ∷ patches) = ap (λ b. first == patch || b) (one_of-put patch patches) ∙ or-true (first == patch)
 
 one_of-put_other : (patch other : ℕ) (patches : List ℕ) → is_one_of other patches ≡ false → (patch == other) ≡ false → is_one_of other (patches ++ patch ∷ []) ≡ false
 one_of-put_other patch other [] none apart = ap (λ b. b || false) apart

@@ -3,7 +3,7 @@ use Rattle.std.proofs.Common.{◌≡◌, ◌⊎◌, inl, inr, ℕ, zero, suc, �
 use Rattle.std.specs.Prelude.{◌==◌, nat_lt, if◌then◌else◌, option_map}
 use Rattle.std.specs.List.{list_any}
 use Rattle.std.proofs.lemmas.Bool.{eq-eqb, eqb-true, ltb-true, ltb-false, or_parts, both_ways}
-use Rattle.std.proofs.lemmas.List.{length-append}
+use Rattle.std.proofs.lemmas.List.{length-append, append-nil}
 use Rattle.std.proofs.lemmas.List.Folds.{list_any-append}
 use Rattle.klp_types.specs.declared.version.Version.{Version}
 use Rattle.klp_types.specs.declared.version.Version.TheVariants.{Original, New}
@@ -17,18 +17,14 @@ use Rattle.klp_machine.specs.State.{State, installed_patches}
 use Rattle.klp_machine.specs.Entries.{entries_of, is_object_loaded, is_site_loaded}
 use Rattle.klp_types.specs.Entries.{entries_from}
 use Rattle.klp_machine.specs.Pick.{pick_in}
-use Rattle.klp_types.specs.Pick.{moves, is_unpatched, entries_for, version_of, newest_version, target_of, address_of}
+use Rattle.klp_types.specs.Pick.{is_unpatched, entries_for, version_of, newest_version, target_of, address_of}
 use Rattle.klp_machine.specs.Blocked.{is_version, held_version, blocked_among, blocked_from, blocked}
 use Rattle.klp_machine.specs.Allowed.{is_one_of, AreDistinct}
 use Rattle.klp_machine.proofs.OrderLemmas.{left_out, from_on, distinct-put, equal_either_way}
 use Rattle.klp_machine.specs.Observed.{Frame, versions}
 use Rattle.klp_machine.specs.Consistent.{AreCurrent}
 use Rattle.klp_machine.specs.Versions.{version_in, others}
-use Rattle.klp_machine.proofs.VersionLemmas.{newest_in, newest_others, newest_from_on, others-append, others-reverse, others_same, left_out-others, distinct-reverse}
-
--- the version by what moves, the patches and the task's state
-abbrev pub version_for : Setting → Option Move → List ℕ → ℤ → ℕ → Version
-version_for setting moving patches task site = newest_version site (entries_for moving task (entries_from setting site (reverse patches)))
+use Rattle.klp_machine.proofs.VersionLemmas.{version_for, not_dropped, unmoved, newest_in, newest_others, newest_from_on, others-append, others-reverse, others_same, left_out-others, distinct-reverse}
 
 abbrev pub now_of : Setting → Bool → Option Move → List ℕ → ℤ → ℕ → Option Version
 now_of setting loaded moving patches task site =
@@ -71,23 +67,8 @@ module _ (setting : Setting) where
     carry before after x y more same frames are.1,
   )
 
-  -- a task that doesn't lag runs the newest entry
-  not_dropped : (site : ℕ) (moving : Option Move) (task : ℤ) (entries : List Entry) → is_unpatched task ≡ false
-      → newest_version site (entries_for moving task entries) ≡ newest_version site entries
-  not_dropped site moving task [] e = refl
-  not_dropped site moving task (newest ∷ older) e =
-      ap (λ b. newest_version site (if moves moving newest.patch && b then older else newest ∷ older)) e ∙ by (moves moving newest.patch)
-    where
-      by : (t : Bool) → newest_version site (if t && false then older else newest ∷ older) ≡ newest_version site (newest ∷ older)
-      by true = refl
-      by false = refl
-
-  still : (site : ℕ) (task : ℤ) (entries : List Entry) → newest_version site (entries_for None task entries) ≡ newest_version site entries
-  still site task [] = refl
-  still site task (newest ∷ older) = refl
-
   pub at_rest_in : (patches : List ℕ) (task : ℤ) (site : ℕ) → version_for setting None patches task site ≡ version_in setting site (reverse patches)
-  at_rest_in patches task site = still site task (entries_from setting site (reverse patches)) ∙ newest_in setting site (reverse patches)
+  at_rest_in patches task site = unmoved site task (entries_from setting site (reverse patches)) ∙ newest_in setting site (reverse patches)
 
   pub patched_in : (moving : Option Move) (patches : List ℕ) (task : ℤ) (site : ℕ) → is_unpatched task ≡ false
       → version_for setting moving patches task site ≡ version_in setting site (reverse patches)
@@ -99,16 +80,12 @@ module _ (setting : Setting) where
       newest_others setting site move (reverse patches) (distinct-reverse patches distinct) ∙ ap (version_in setting site) (others-reverse move.patch patches)
 
   -- Enable
-  append_nil : (patches : List ℕ) → patches ++ [] ≡ patches
-  append_nil [] = refl
-  append_nil (first ∷ patches) = ap (λ rest. first ∷ rest) (append_nil patches)
-
   pub enabling : (patch : ℕ) (target : Bool) (patches : List ℕ) (task : ℤ) (site : ℕ) → AreDistinct patches → is_one_of patch patches ≡ false
       → version_for setting None patches task site ≡ version_for setting (Some (record { patch = patch; target = target })) (patches ++ patch ∷ []) (pos 0) site
   enabling patch target patches task site distinct away =
       at_rest_in patches task site
       ∙ ap (λ list. version_in setting site (reverse list))
-      (sym (others-append patch patches (patch ∷ []) ∙ ap (λ b. others patch patches ++ cond b [] (patch ∷ [])) (eq-eqb patch patch refl) ∙ append_nil (others patch patches) ∙ others_same patch patches away))
+      (sym (others-append patch patches (patch ∷ []) ∙ ap (λ b. others patch patches ++ cond b [] (patch ∷ [])) (eq-eqb patch patch refl) ∙ append-nil (others patch patches) ∙ others_same patch patches away))
       ∙ sym (unpatched_in (record { patch = patch; target = target }) (patches ++ patch ∷ []) site (distinct-put patch patches distinct away))
 
   -- a disabling starts

@@ -11,7 +11,8 @@ use Rattle.klp_machine.specs.Frames.{object_of_function, object_of_version}
 use Rattle.klp_machine.specs.Allowed.{AreDistinct}
 use Rattle.klp_machine.specs.InPlace.{IsOfObject, AreOfObject, ObjectsInPlace, PatchesInPlace, IsInPlace}
 use Rattle.klp_machine.specs.Versions.{version_in, chosen, others}
-use Rattle.klp_machine.proofs.PickLemmas.{version_for, at_rest_in, patched_in, unpatched_in}
+use Rattle.klp_machine.proofs.VersionLemmas.{version_for}
+use Rattle.klp_machine.proofs.PickLemmas.{at_rest_in, patched_in, unpatched_in}
 
 some_is : {A : Type 0} (a b : A) → Some a ≡ Some b → a ≡ b
 some_is a b e = cc

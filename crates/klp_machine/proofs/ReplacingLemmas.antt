@@ -2,7 +2,7 @@
 use Rattle.std.proofs.Common.{◌≡◌, ℕ, ◌+◌, ◌≤◌, Bool, true, false, not, ◌&&◌, ◌||◌, cond, List, [], ◌∷◌, ◌++◌, reverse, Option, Some, None, is_some, is_none, refl, sym, ap, subst, ◌∙◌, arith}
 use Rattle.std.specs.Prelude.{◌==◌, if◌then◌else◌}
 use Rattle.std.specs.List.{count_by, list_any, filter}
-use Rattle.std.proofs.lemmas.Bool.{eq-eqb, eqb-true, both_ways}
+use Rattle.std.proofs.lemmas.Bool.{eq-eqb, eqb-true, both_ways, or_right}
 use Rattle.std.proofs.lemmas.List.{reverse-append}
 use Rattle.std.proofs.lemmas.List.Folds.{list_any-append}
 use Rattle.std.proofs.lemmas.List.Sums.{sum_by-cons}
@@ -43,10 +43,6 @@ module _ (setting : Setting) (moving : Option Move) where
 pub two_replace : (setting : Setting) (state : State) → Allowed setting state → count_by (replaces setting) (installed_patches state) ≤ 2
 two_replace setting state allowed = two_stacked setting state.moving (installed_patches state) allowed.stacked
 
-or-right : (a b : Bool) → b ≡ true → (a || b) ≡ true
-or-right true b e = refl
-or-right false b e = e
-
 turned : (a b : Bool) → (a || (b || false)) ≡ (b || a)
 turned true true = refl
 turned true false = refl
@@ -66,7 +62,7 @@ all_among : (all patches : List ℕ) → ((own : ℕ) → is_one_of own patches 
 all_among all [] among = refl
 all_among all (first ∷ patches) among =
     ap (λ b. not b || list_any (λ own. not (is_one_of own all)) patches) (among first (ap (λ b. b || is_one_of first patches) (eq-eqb first first refl)))
-    ∙ all_among all patches (λ own there. among own (or-right (first == own) (is_one_of own patches) there))
+    ∙ all_among all patches (λ own there. among own (or_right (first == own) (is_one_of own patches) there))
 
 -- a patch that replaces the older ones
 module _ (setting : Setting) (patch : ℕ) (replacing : replaces setting patch ≡ true) where

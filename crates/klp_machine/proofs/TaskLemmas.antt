@@ -2,7 +2,7 @@
 use Rattle.std.proofs.Common.{◌≡◌, ℕ, zero, suc, ℤ, Bool, true, false, not, ◌&&◌, ◌||◌, List, [], ◌∷◌, map, Option, Some, None, is_some, refl, ap}
 use Rattle.std.specs.Prelude.{option_map, slice_set, if◌then◌else◌}
 use Rattle.std.specs.List.{list_any}
-use Rattle.std.proofs.lemmas.Bool.{and_parts}
+use Rattle.std.proofs.lemmas.Bool.{and_parts, and_from}
 use Rattle.klp_types.specs.declared.version.Version.{Version}
 use Rattle.klp_types.specs.declared.version.Move.{Move}
 use Rattle.klp_types.specs.declared.task.Mode.{Mode}
@@ -15,10 +15,6 @@ use Rattle.klp_machine.specs.Frames.{is_bad}
 use Rattle.klp_machine.specs.Blocked.{is_held, switched}
 use Rattle.klp_machine.specs.TaskStep.{state_wanted, state_of_task, new_task, exited}
 use Rattle.klp_machine.specs.Allowed.{is_right_state, are_right_frames, is_right_task, AreRight}
-
-pub and_true : (a b : Bool) → a ≡ true → b ≡ true → (a && b) ≡ true
-and_true true b e f = f
-and_true false b e f = cc
 
 pub wanted_right : (moving : Option Move) → is_right_state moving (state_wanted moving) ≡ true
 wanted_right None = refl
@@ -33,7 +29,7 @@ module _ (setting : Setting) where
   state_changed : (moving other : Option Move) (state : ℤ) (task : Task) → is_right_state other state ≡ true → is_right_task setting moving (Some task) ≡ true
       → is_right_task setting other (Some (in_state state task)) ≡ true
   state_changed moving other state task right was =
-      and_true (is_right_state other state) (are_right_frames setting task) right (and_parts (is_right_state moving task.state) (are_right_frames setting task) was).1
+      and_from (is_right_state other state) (are_right_frames setting task) right (and_parts (is_right_state moving task.state) (are_right_frames setting task) was).1
 
   one_all : (moving other : Option Move) (state : ℤ) (task : Option Task) → is_right_state other state ≡ true → is_right_task setting moving task ≡ true
       → is_right_task setting other (option_map (in_state state) task) ≡ true
@@ -98,31 +94,31 @@ module _ (setting : Setting) where
   pub entered_right : (moving : Option Move) (task : Task) → is_mode task.mode User ≡ true → is_right_task setting moving (Some task) ≡ true
       → is_right_task setting moving (Some (record task { mode = Kernel })) ≡ true
   entered_right moving task user was =
-      and_true (is_right_state moving task.state) (is_empty task.frames) (and_parts (is_right_state moving task.state) (are_right_frames setting task) was).0
+      and_from (is_right_state moving task.state) (is_empty task.frames) (and_parts (is_right_state moving task.state) (are_right_frames setting task) was).0
       (frames_awake moving task (user_awake task.mode user) was)
 
   pub exited_right : (moving : Option Move) (task : Task) → is_mode task.mode Kernel ≡ true → is_right_task setting moving (Some task) ≡ true
       → is_right_task setting moving (Some (exited moving task)) ≡ true
   exited_right None task kernel was =
-      and_true (is_right_state None task.state) (is_empty task.frames) (and_parts (is_right_state None task.state) (are_right_frames setting task) was).0
+      and_from (is_right_state None task.state) (is_empty task.frames) (and_parts (is_right_state None task.state) (are_right_frames setting task) was).0
       (frames_awake None task (kernel_awake task.mode kernel) was)
   exited_right (Some move) task kernel was =
-      and_true (is_right_state (Some move) (at_target move.target)) (is_empty task.frames) (wanted_right (Some move)) (frames_awake (Some move) task (kernel_awake task.mode kernel) was)
+      and_from (is_right_state (Some move) (at_target move.target)) (is_empty task.frames) (wanted_right (Some move)) (frames_awake (Some move) task (kernel_awake task.mode kernel) was)
 
   pub asleep_right : (moving : Option Move) (task : Task) (frames : List Version) → list_any (is_bad setting) frames ≡ false → is_right_task setting moving (Some task) ≡ true
       → is_right_task setting moving (Some (record task { mode = Asleep; frames = frames })) ≡ true
   asleep_right moving task frames good was =
-      and_true (is_right_state moving task.state) (not (list_any (is_bad setting) frames)) (and_parts (is_right_state moving task.state) (are_right_frames setting task) was).0 (ap not good)
+      and_from (is_right_state moving task.state) (not (list_any (is_bad setting) frames)) (and_parts (is_right_state moving task.state) (are_right_frames setting task) was).0 (ap not good)
 
   pub woken_right : (moving : Option Move) (task : Task) → is_right_task setting moving (Some task) ≡ true
       → is_right_task setting moving (Some (record task { mode = Kernel; frames = [] })) ≡ true
-  woken_right moving task was = and_true (is_right_state moving task.state) true (and_parts (is_right_state moving task.state) (are_right_frames setting task) was).0 refl
+  woken_right moving task was = and_from (is_right_state moving task.state) true (and_parts (is_right_state moving task.state) (are_right_frames setting task) was).0 refl
 
   pub new_right : (moving : Option Move) → is_right_task setting moving (Some (new_task (state_wanted moving))) ≡ true
-  new_right moving = and_true (is_right_state moving (state_wanted moving)) true (wanted_right moving) refl
+  new_right moving = and_from (is_right_state moving (state_wanted moving)) true (wanted_right moving) refl
 
   pub forked_right : (moving : Option Move) (parent : Option Task) → is_some parent ≡ true → is_right_task setting moving parent ≡ true
       → is_right_task setting moving (Some (record { state = state_of_task parent; mode = Kernel; frames = [] })) ≡ true
   forked_right moving None there was = cc
   forked_right moving (Some task) there was =
-      and_true (is_right_state moving task.state) true (and_parts (is_right_state moving task.state) (are_right_frames setting task) was).0 refl
+      and_from (is_right_state moving task.state) true (and_parts (is_right_state moving task.state) (are_right_frames setting task) was).0 refl

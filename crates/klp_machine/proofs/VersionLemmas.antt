@@ -2,8 +2,9 @@
 use Rattle.std.proofs.Common.{◌≡◌, ℕ, ℤ, pos, Bool, true, false, not, ◌&&◌, ◌||◌, cond, List, [], ◌∷◌, ◌++◌, reverse, Option, Some, None, refl, sym, ap, subst, ◌∙◌}
 use Rattle.std.specs.Prelude.{◌==◌, if◌then◌else◌}
 use Rattle.std.specs.List.{list_any}
-use Rattle.std.proofs.lemmas.Bool.{eqb-true, or_parts, both_ways}
+use Rattle.std.proofs.lemmas.Bool.{eqb-true, or_parts, both_ways, or_right}
 use Rattle.std.proofs.lemmas.Grind.{reverse_onto}
+use Rattle.std.proofs.lemmas.List.{append-nil}
 use Rattle.klp_types.specs.declared.version.Version.{Version}
 use Rattle.klp_types.specs.declared.version.Entry.{Entry}
 use Rattle.klp_types.specs.declared.version.Move.{Move}
@@ -105,16 +106,9 @@ module _ (setting : Setting) (site : ℕ) where
   one_replaces patch [] e there = cc
   one_replaces patch (first ∷ patches) e there = by (first == patch) refl there (one_replaces patch patches e)
     where
-      or_true : (b : Bool) → b ≡ true → (replaces setting first || b) ≡ true
-      or_true b is = ap (λ b. replaces setting first || b) is ∙ right (replaces setting first)
-        where
-          right : (b : Bool) → (b || true) ≡ true
-          right true = refl
-          right false = refl
-
       by : (t : Bool) → (first == patch) ≡ t → (t || is_one_of patch patches) ≡ true → (is_one_of patch patches ≡ true → list_any (replaces setting) patches ≡ true) → (replaces setting first || list_any (replaces setting) patches) ≡ true
       by true is there rest = ap (λ p. replaces setting p || list_any (replaces setting) patches) (eqb-true first patch is) ∙ ap (λ b. b || list_any (replaces setting) patches) e
-      by false is there rest = or_true (list_any (replaces setting) patches) (rest there)
+      by false is there rest = or_right (replaces setting first) (list_any (replaces setting) patches) (rest there)
 
   -- the older patches leave: nothing changes
   pub newest_from_on : (patch : ℕ) (patches : List ℕ) → replaces setting patch ≡ true → is_one_of patch patches ≡ true
@@ -141,10 +135,6 @@ others-append patch (first ∷ patches) more = by (first == patch) (others-appen
     by true e = e
     by false e = ap (λ rest. first ∷ rest) e
 
-append_nil : (patches : List ℕ) → patches ++ [] ≡ patches
-append_nil [] = refl
-append_nil (first ∷ patches) = ap (λ rest. first ∷ rest) (append_nil patches)
-
 pub others-reverse : (patch : ℕ) (patches : List ℕ) → others patch (reverse patches) ≡ reverse (others patch patches)
 others-reverse patch [] = refl
 others-reverse patch (first ∷ patches) =
@@ -154,7 +144,7 @@ others-reverse patch (first ∷ patches) =
     ∙ by (first == patch)
   where
     by : (t : Bool) → reverse (others patch patches) ++ cond t [] (first ∷ []) ≡ reverse (cond t (others patch patches) (first ∷ others patch patches))
-    by true = append_nil (reverse (others patch patches))
+    by true = append-nil (reverse (others patch patches))
     by false = sym (reverse_onto (others patch patches) first [])
 
 pub left_out-others : (patch : ℕ) (patches : List ℕ) → AreDistinct patches → left_out patch patches ≡ others patch patches
@@ -172,28 +162,28 @@ distinct-reverse (first ∷ patches) distinct =
     subst AreDistinct (sym (reverse_onto patches first []))
     (distinct-put first (reverse patches) (distinct-reverse patches distinct.1) (list_any-reverse (λ p. p == first) patches ∙ distinct.0))
 
+-- the version by what moves, the patches and the task's state
+abbrev pub version_for : Setting → Option Move → List ℕ → ℤ → ℕ → Version
+version_for setting moving patches own site = newest_version site (entries_for moving own (entries_from setting site (reverse patches)))
+
+-- a task that doesn't lag runs the newest entry
+pub not_dropped : (site : ℕ) (moving : Option Move) (own : ℤ) (entries : List Entry) → is_unpatched own ≡ false
+    → newest_version site (entries_for moving own entries) ≡ newest_version site entries
+not_dropped site moving own [] e = refl
+not_dropped site moving own (newest ∷ older) e =
+    ap (λ b. newest_version site (if moves moving newest.patch && b then older else newest ∷ older)) e ∙ by (moves moving newest.patch)
+  where
+    by : (t : Bool) → newest_version site (if t && false then older else newest ∷ older) ≡ newest_version site (newest ∷ older)
+    by true = refl
+    by false = refl
+
+pub unmoved : (site : ℕ) (own : ℤ) (entries : List Entry) → newest_version site (entries_for None own entries) ≡ newest_version site entries
+unmoved site own [] = refl
+unmoved site own (newest ∷ older) = refl
+
 module _ (setting : Setting) where
-  -- the version by what moves, the patches and the task's state
-  abbrev version_for : Option Move → List ℕ → ℤ → ℕ → Version
-  version_for moving patches own site = newest_version site (entries_for moving own (entries_from setting site (reverse patches)))
-
-  -- a task that doesn't lag runs the newest entry
-  not_dropped : (site : ℕ) (moving : Option Move) (own : ℤ) (entries : List Entry) → is_unpatched own ≡ false
-      → newest_version site (entries_for moving own entries) ≡ newest_version site entries
-  not_dropped site moving own [] e = refl
-  not_dropped site moving own (newest ∷ older) e =
-      ap (λ b. newest_version site (if moves moving newest.patch && b then older else newest ∷ older)) e ∙ by (moves moving newest.patch)
-    where
-      by : (t : Bool) → newest_version site (if t && false then older else newest ∷ older) ≡ newest_version site (newest ∷ older)
-      by true = refl
-      by false = refl
-
-  still : (site : ℕ) (own : ℤ) (entries : List Entry) → newest_version site (entries_for None own entries) ≡ newest_version site entries
-  still site own [] = refl
-  still site own (newest ∷ older) = refl
-
   picked : (state : State) (own : ℤ) (site : ℕ) (version : Version) → is_site_loaded setting state site ≡ true
-      → version_for state.moving (installed_patches state) own site ≡ version → pick_in setting state own site ≡ target_of setting version
+      → version_for setting state.moving (installed_patches state) own site ≡ version → pick_in setting state own site ≡ target_of setting version
   picked state own site version loaded is =
       ap (λ l. if l then target_of setting (newest_version site (entries_for state.moving own (if l then entries_from setting site (reverse (installed_patches state)) else []))) else None) loaded
       ∙ ap (target_of setting) is
@@ -208,7 +198,7 @@ module _ (setting : Setting) where
       → pick_in setting state own site ≡ target_of setting (version_in setting site (reverse (installed_patches state)))
   runs_at_rest state own site loaded e =
       picked state own site _ loaded (ap (λ m. newest_version site (entries_for m own (entries_from setting site (reverse (installed_patches state))))) e
-      ∙ still site own (entries_from setting site (reverse (installed_patches state)))
+      ∙ unmoved site own (entries_from setting site (reverse (installed_patches state)))
       ∙ newest_in setting site (reverse (installed_patches state)))
 
   pub runs_others : (state : State) (move : Move) (site : ℕ) → Allowed setting state → is_site_loaded setting state site ≡ true → state.moving ≡ Some move
