@@ -1,27 +1,19 @@
-use Rattle.std.proofs.Common.{sym, subst}
-use Rattle.klp_steps.specs.Events.{PartsTake}
 use Rattle.klp_core.proofs.take.take.Goals as goal
 
 pub returns-in-NewTask-clause-taken : goal.returns-in-NewTask-clause-taken
-returns-in-NewTask-clause-taken g c =
-    subst (λ e. PartsTake c.args.parts.now c.new_task.new.parts c.args.catalog.now c.args.catalog.now e c.new_task.result) (sym c.in-NewTask.is) (c.new_task.ensures.taken c.args.catalog.now c.requires)
+returns-in-NewTask-clause-taken g c = rw c.in-NewTask.is (c.new_task.ensures.taken c.args.catalog.now c.requires)
 
 pub returns-in-Fork-clause-taken : goal.returns-in-Fork-clause-taken
-returns-in-Fork-clause-taken g c =
-    subst (λ e. PartsTake c.args.parts.now c.fork.new.parts c.args.catalog.now c.args.catalog.now e c.fork.result) (sym c.in-Fork.is) (c.fork.ensures.taken c.args.catalog.now c.requires)
+returns-in-Fork-clause-taken g c = rw c.in-Fork.is (c.fork.ensures.taken c.args.catalog.now c.requires)
 
 pub returns-in-EndTask-clause-taken : goal.returns-in-EndTask-clause-taken
-returns-in-EndTask-clause-taken g c =
-    subst (λ e. PartsTake c.args.parts.now c.end_task.new.parts c.args.catalog.now c.args.catalog.now e c.end_task.result) (sym c.in-EndTask.is) (c.end_task.ensures.taken c.args.catalog.now c.requires)
+returns-in-EndTask-clause-taken g c = rw c.in-EndTask.is (c.end_task.ensures.taken c.args.catalog.now c.requires)
 
 pub returns-in-EnterKernel-clause-taken : goal.returns-in-EnterKernel-clause-taken
-returns-in-EnterKernel-clause-taken g c =
-    subst (λ e. PartsTake c.args.parts.now c.enter_kernel.new.parts c.args.catalog.now c.args.catalog.now e c.enter_kernel.result) (sym c.in-EnterKernel.is) (c.enter_kernel.ensures.taken c.args.catalog.now c.requires)
+returns-in-EnterKernel-clause-taken g c = rw c.in-EnterKernel.is (c.enter_kernel.ensures.taken c.args.catalog.now c.requires)
 
 pub returns-in-ExitToUser-clause-taken : goal.returns-in-ExitToUser-clause-taken
-returns-in-ExitToUser-clause-taken g c =
-    subst (λ e. PartsTake c.args.parts.now c.exit_to_user.new.parts c.args.catalog.now c.args.catalog.now e c.exit_to_user.result) (sym c.in-ExitToUser.is) (c.exit_to_user.ensures.taken c.args.catalog.now c.requires)
+returns-in-ExitToUser-clause-taken g c = rw c.in-ExitToUser.is (c.exit_to_user.ensures.taken c.args.catalog.now c.requires)
 
 pub returns-in-Wake-clause-taken : goal.returns-in-Wake-clause-taken
-returns-in-Wake-clause-taken g c =
-    subst (λ e. PartsTake c.args.parts.now c.wake.new.parts c.args.catalog.now c.args.catalog.now e c.wake.result) (sym c.in-Wake.is) (c.wake.ensures.taken c.args.catalog.now c.requires)
+returns-in-Wake-clause-taken g c = rw c.in-Wake.is (c.wake.ensures.taken c.args.catalog.now c.requires)

@@ -1,14 +1,13 @@
-use Rattle.std.proofs.Common.{◌≡◌, ◌+◌, ◌<◌, ◌&&◌, ℕ, List, Option, length, false, eqb, refl, sym, ap, ◌∙◌, arith}
+use Rattle.std.proofs.Common.{◌≡◌, ◌+◌, ◌<◌, ◌&&◌, ℕ, List, Option, length, false, eqb, refl, ap, ◌∙◌, arith}
 use Rattle.std.specs.Prelude.{cond}
 use Rattle.std.specs.Option.{is_some}
-use Rattle.std.proofs.lemmas.List.{length-map}
 use Rattle.klp_types.specs.declared.version.Entry.{Entry}
-use Rattle.klp_types.specs.Setting.{Function, function_for, is_at}
-use Rattle.klp_catalog.specs.Catalog.{CatalogFunction, setting_function}
+use Rattle.klp_types.specs.Setting.{function_for}
 use Rattle.klp_stack.specs.Stack.{entries_at, entries_of_others}
 use Rattle.klp_patch.specs.Covered.{is_covered, functions_in}
-use Rattle.klp_patch.proofs.MadeLemmas.{same_covered, made_both, made_also, notes_taken, notes_longer}
-use Rattle.klp_patch.proofs.FunctionLemmas.{is_below, is_number, at_its_number, all_below, next_function}
+use Rattle.klp_patch.proofs.MadeLemmas.{made_both, made_also, notes_taken, notes_longer}
+use Rattle.klp_patch.proofs.FunctionLemmas.{is_below, next_function}
+use Rattle.klp_patch.proofs.MeantLemmas.{meant_here, all_meant}
 use Rattle.klp_patch.proofs.patch.take_functions.Goals as goal
 use Rattle.klp_patch.proofs.patch.take_functions.Goals.{in-Some, in_default}
 
@@ -23,11 +22,7 @@ loop-number-preserved g c =
     let make : ℕ → List Entry → List Entry = λ site entries. entries_of_others c.args.patch entries in
     let so_far = c.loop-number.invariant.entries in
     let below : i < length functions = omega arith in
-    let at : (site : ℕ) → is_at c.index-functions-number.result.site site ≡ is_number (number site) i =
-    λ site. ap (λ (f : CatalogFunction). is_at f.site site) c.index-functions-number.is ∙ at_its_number functions i c.index-functions-number.result site c.functions-functions.ensures.distinct below
-    ∙ ap (λ (fs : List Function). is_number (function_for fs site) i) c.functions-functions.ensures.setting in
-    let own : (site : ℕ) → (is_covered now only site && is_at c.index-functions-number.result.site site) ≡ (is_covered before only site && is_number (number site) i) =
-    λ site. ap (λ b. b && is_at c.index-functions-number.result.site site) (same_covered before now _ _ only so_far site) ∙ ap (λ b. is_covered before only site && b) (at site) in
+    let own = meant_here functions _ c.functions-functions.ensures.setting i before now only _ make so_far c.functions-functions.ensures.distinct below c.index-functions-number.result c.index-functions-number.is in
     elim c.match-meant_site.branch [
       | in-Some w ↦ rw (w.sites-is, w.log-is) (record {
         entries = made_both before now w.take.new.sites (λ site. is_covered before only site && is_below (number site) i) (λ site. eqb w.in-Some.site site) (λ site. is_covered before only site && is_below (number site) (i + 1))
@@ -52,8 +47,7 @@ returns-clause-entries g c =
     let number : ℕ → Option ℕ = λ site. function_for (functions_in c.args.catalog.now c.args.patch) site in
     let make : ℕ → List Entry → List Entry = λ site entries. entries_of_others c.args.patch entries in
     let so_far = c.loop-number.invariant.entries in
-    let all : i ≡ length (functions_in c.args.catalog.now c.args.patch) =
-    (let past : i ≡ length functions = omega arith in past) ∙ sym (length-map functions setting_function) ∙ ap (λ (fs : List Function). length fs) c.functions-functions.ensures.setting in
-    let done : (site : ℕ) → is_below (number site) i ≡ is_some (number site) = λ site. ap (is_below (number site)) all ∙ all_below (functions_in c.args.catalog.now c.args.patch) site in
+    let past : i ≡ length functions = omega arith in
+    let done = all_meant functions _ c.functions-functions.ensures.setting i past in
     made_also before now (λ site. is_covered before only site && is_below (number site) i) (λ site. is_covered before only site && is_some (number site)) make make so_far
     (λ site. ap (λ b. cond (is_covered before only site && b) (make site (entries_at before.stacks site)) (entries_at before.stacks site)) (done site))
