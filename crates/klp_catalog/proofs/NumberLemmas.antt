@@ -5,6 +5,7 @@ use Rattle.std.specs.List.{AllByRecursion, list_any, position_from}
 use Rattle.std.proofs.lemmas.Bool.{eqb-true, eq-eqb}
 use Rattle.std.proofs.lemmas.Iterator.Adapters.{position_from-zero}
 use Rattle.std.proofs.lemmas.List.{length-map}
+use Rattle.std.proofs.Math.Bool.{and-false}
 use Rattle.klp_types.specs.declared.callback.Which.{Which}
 use Rattle.klp_types.specs.declared.callback.Which.TheVariants.{Pre, Post, PreUn, PostUn}
 use Rattle.klp_types.specs.Setting.{Callback}
@@ -175,10 +176,6 @@ module _ {A B S : Type 0} (test : A → Bool) (gives : ℕ → B → List A) (ma
       (only-at (n + size b) (i + 1) d bs (omega arith) fits.1))
 
 -- ---- callbacks
-
-and-false : (b : Bool) → (b && false) ≡ false
-and-false true = refl
-and-false false = refl
 
 eqb-false : (m n : ℕ) → (n ≡ m → ⊥) → (m == n) ≡ false
 eqb-false m n apart = by (m == n) refl

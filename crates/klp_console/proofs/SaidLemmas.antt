@@ -1,6 +1,6 @@
 -- Lines that are served one after another.
-use Rattle.std.proofs.Common.{◌≡◌, ℕ, ◌+◌, ◌<◌, ◌≤◌, inl, inr, ◌&&◌, Bool, true, false, true≢false, ◌==◌, cond, List, [], ◌∷◌, ◌++◌, length, refl, sym, ap, ◌∙◌, subst, append_assoc, append-nil, arith}
-use Rattle.std.proofs.lemmas.Bool.{le-leb}
+use Rattle.std.proofs.Common.{◌≡◌, ℕ, ◌+◌, ◌<◌, ◌≤◌, inl, inr, ◌&&◌, Bool, true, false, ◌==◌, cond, List, [], ◌∷◌, ◌++◌, length, refl, sym, ap, ◌∙◌, subst, append_assoc, append-nil, arith}
+use Rattle.std.proofs.lemmas.Bool.{le-leb, and_from, both_ways}
 use Rattle.std.proofs.lemmas.List.{length-append}
 use Rattle.std.proofs.lemmas.List.Folds.{list_all-append}
 use Rattle.std.proofs.lemmas.List.Sums.{sum_by-append}
@@ -47,9 +47,6 @@ refusals answers = count_by (λ (a : Answer). a.is_refused) answers
 pub refusals_on : (answers more : List Answer) → refusals (answers ++ more) ≡ refusals answers + refusals more
 refusals_on answers more = sum_by-append (λ (a : Answer). cond a.is_refused 1 0) answers more
 
-pub both : (a b : Bool) → a ≡ true → b ≡ true → (a && b) ≡ true
-both a b first second = ap (λ x. x && b) first ∙ second
-
 abbrev pub serves_on : AddUp → (a b c : Moment) (lines others : List (List ℕ)) → Serves a b lines → Serves b c others → Serves a c (lines ++ others)
 serves_on add_up a b c lines others first next = record {
   answers = first.answers ++ next.answers;
@@ -57,7 +54,7 @@ serves_on add_up a b c lines others first next = record {
   said = subst (Says a.said c.said) (sym (texts_on first.answers next.answers)) (add_up a.said b.said c.said (texts_of first.answers) (texts_of next.answers) first.said next.said);
   counted = omega (arith, next.counted, first.counted, length-append lines others);
   refused = omega (arith, next.refused, first.refused, refusals_on first.answers next.answers);
-  short = list_all-append is_short lines others ∙ both (are_short lines) (are_short others) first.short next.short;
+  short = list_all-append is_short lines others ∙ and_from (are_short lines) (are_short others) first.short next.short;
 }
 
 -- no line is served
@@ -94,13 +91,10 @@ some_line bytes = first_of (lines_and_rest bytes) (omega (arith, length-slice_sp
 pub one_more : (all : List (List ℕ)) (lines next rest : List (List ℕ)) (line : List ℕ) → all ≡ lines ++ next → next ≡ line ∷ rest → all ≡ (lines ++ line ∷ []) ++ rest
 one_more all lines next rest line so_far heard = so_far ∙ ap (λ more. lines ++ more) heard ∙ sym (append_assoc lines (line ∷ []) rest)
 
-not_both : (b : Bool) → b ≡ true → b ≡ false → ⊥
-not_both b is isnt = true≢false (sym is ∙ isnt)
-
 -- after a failure nothing is said
 still_before : (a b : Gathered × Written) (t : List ℕ) → Says a b t → b.0.has_failed ≡ false → a.0.has_failed ≡ true → ⊥
 unfolding Speaks
-still_before a b t said still failed = not_both a.0.has_failed failed (ap (λ (s : Gathered × Written). s.0.has_failed) (sym (said.speaks.0 failed)) ∙ still)
+still_before a b t said still failed = both_ways a.0.has_failed (ap (λ (s : Gathered × Written). s.0.has_failed) (sym (said.speaks.0 failed)) ∙ still) failed
 
 spoken : (a b : Gathered × Written) (text : List ℕ) → Says a b text → a.0.has_failed ≡ false → Spoken a b text
 unfolding Speaks
@@ -125,7 +119,7 @@ goes a b text said still after =
         fits = λ room. subst (λ rest. length rest ≤ ANSWER_ROOM) (sym calm.1) (calm.3 room);
         well = calm.2;
       }
-      | inr blamed ↦ absurd (not_both _ blamed.0 after)
+      | inr blamed ↦ absurd (both_ways _ after blamed.0)
     ]
 
 -- a text was said and the sink failed: it took a front of it
@@ -141,7 +135,7 @@ pub fails : (a b : Gathered × Written) (text : List ℕ) → Says a b text → 
 fails a b text said still failed =
     let now = spoken a b text said still in
     elim now.leaves [
-      | inl calm ↦ absurd (not_both _ failed calm.0)
+      | inl calm ↦ absurd (both_ways _ calm.0 failed)
       | inr blamed ↦ record { gone = now.gone; rest = now.rest; cut = now.moves.cut; written = now.moves.taken; missing = blamed.2; blame = blamed.1 }
     ]
 
@@ -291,7 +285,7 @@ hears_unwritten add_up a b said pieces rest (Err Read) heard still empty more fa
 
 -- a last line that has a byte is a line
 pub whole_line : (line : List ℕ) → (length line == 0) ≡ false → whole (line ∷ []) ≡ line ∷ []
-whole_line [] some = absurd (not_both true refl some)
+whole_line [] some = absurd (both_ways true some refl)
 whole_line (b ∷ bs) some = refl
 
 -- one line is served
@@ -310,5 +304,5 @@ serves_one a manager said served line refused asked told is_asked is_told spoken
       said = subst (Says a.said said) (sym (append-nil spoken.0)) spoken.2;
       counted = omega (arith, lines);
       refused = omega (arith, refusals_are);
-      short = both (is_short line) true (le-leb (length line) MAX_CONSOLE_LINE short) refl;
+      short = and_from (is_short line) true (le-leb (length line) MAX_CONSOLE_LINE short) refl;
     }

@@ -1,7 +1,8 @@
 -- What no patch has twice.
-use Rattle.std.proofs.Common.{◌≡◌, ℕ, suc, ◌+◌, ◌≤◌, ◌==◌, ◌||◌, Bool, true, false, if◌then◌else◌, List, [], ◌∷◌, ◌++◌, length, refl, arith}
+use Rattle.std.proofs.Common.{◌≡◌, ℕ, suc, ◌+◌, ◌≤◌, ◌==◌, Bool, true, false, if◌then◌else◌, List, [], ◌∷◌, ◌++◌, length, refl, arith}
 use Rattle.std.proofs.lemmas.Bool.Decides.{nat_tests}
 use Rattle.std.specs.List.{AllByRecursion, list_any}
+use Rattle.std.proofs.lemmas.Bool.{or_parts}
 use Rattle.klp_types.specs.declared.callback.Which.{Which}
 use Rattle.klp_types.specs.declared.callback.Which.TheVariants.{Pre, Post, PreUn, PostUn}
 use Rattle.klp_plan.specs.Plan.{PlanTarget}
@@ -13,17 +14,9 @@ pub all-push : {A : Type 0} (P : A → Type 0) (xs : List A) (x : A) → AllByRe
 all-push P [] x all h = (h, tt)
 all-push P (y ∷ xs) x all h = (all.0, all-push P xs x all.1 h)
 
-or_left : (a b : Bool) → (a || b) ≡ false → a ≡ false
-or_left false b h = refl
-or_left true b h = absurd cc
-
-or_right : (a b : Bool) → (a || b) ≡ false → b ≡ false
-or_right false b h = h
-or_right true b h = absurd cc
-
 none-push : {A : Type 0} (p : A → Bool) (xs : List A) (x : A) → list_any p xs ≡ false → p x ≡ false → list_any p (xs ++ x ∷ []) ≡ false
 none-push p [] x none h = rw h refl
-none-push p (y ∷ ys) x none h = rw (or_left (p y) (list_any p ys) none) (none-push p ys x (or_right (p y) (list_any p ys) none) h)
+none-push p (y ∷ ys) x none h = rw (or_parts (p y) (list_any p ys) none).0 (none-push p ys x (or_parts (p y) (list_any p ys) none).1 h)
 
 other_way : (m n : ℕ) → (m == n) ≡ false → (n == m) ≡ false
 other_way m n h = grind (arith, nat_tests)
@@ -33,11 +26,11 @@ pub distinct-push : {A : Type 0} (number : A → ℕ) (xs : List A) (x : A) → 
     → has_same number (xs ++ x ∷ []) ≡ false
 distinct-push number [] x distinct new = refl
 distinct-push number (y ∷ ys) x distinct new =
-    let first = or_left (number y == number x) (list_any (λ z. number z == number x) ys) new in
-    let rest = or_right (number y == number x) (list_any (λ z. number z == number x) ys) new in
-    let others = or_left (list_any (λ z. number z == number y) ys) (has_same number ys) distinct in
+    let first = (or_parts (number y == number x) (list_any (λ z. number z == number x) ys) new).0 in
+    let rest = (or_parts (number y == number x) (list_any (λ z. number z == number x) ys) new).1 in
+    let others = (or_parts (list_any (λ z. number z == number y) ys) (has_same number ys) distinct).0 in
     rw (none-push (λ z. number z == number y) ys x others (other_way (number y) (number x) first))
-    (distinct-push number ys x (or_right (list_any (λ z. number z == number y) ys) (has_same number ys) distinct) rest)
+    (distinct-push number ys x (or_parts (list_any (λ z. number z == number y) ys) (has_same number ys) distinct).1 rest)
 
 -- ---- callbacks of each kind
 
@@ -49,14 +42,14 @@ count n (c ∷ cs) = if callback_number c == n then 1 + count n cs else count n 
 count_none : (n : ℕ) (cs : List PlanCallback) → list_any (λ c. callback_number c == n) cs ≡ false → count n cs ≡ 0
 count_none n [] h = refl
 count_none n (c ∷ cs) h =
-    rw (or_left (callback_number c == n) (list_any (λ d. callback_number d == n) cs) h) (count_none n cs (or_right (callback_number c == n) (list_any (λ d. callback_number d == n) cs) h))
+    rw (or_parts (callback_number c == n) (list_any (λ d. callback_number d == n) cs) h).0 (count_none n cs (or_parts (callback_number c == n) (list_any (λ d. callback_number d == n) cs) h).1)
 
 count_once : (n : ℕ) (cs : List PlanCallback) → has_same callback_number cs ≡ false → count n cs ≤ 1
 count_once n [] h = omega arith
-count_once n (c ∷ cs) h = by (count_once n cs (or_right (list_any (λ d. callback_number d == callback_number c) cs) (has_same callback_number cs) h)) (callback_number c == n) refl
+count_once n (c ∷ cs) h = by (count_once n cs (or_parts (list_any (λ d. callback_number d == callback_number c) cs) (has_same callback_number cs) h).1) (callback_number c == n) refl
   where
     others : list_any (λ d. callback_number d == callback_number c) cs ≡ false
-    others = or_left (list_any (λ d. callback_number d == callback_number c) cs) (has_same callback_number cs) h
+    others = (or_parts (list_any (λ d. callback_number d == callback_number c) cs) (has_same callback_number cs) h).0
 
     same_number : (callback_number c == n) ≡ true → callback_number c ≡ n
     same_number e = grind (arith, nat_tests)

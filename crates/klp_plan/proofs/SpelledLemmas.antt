@@ -1,5 +1,5 @@
 -- A script is read back from its words.
-use Rattle.std.proofs.Common.{◌≡◌, ℕ, ℤ, suc, pos, negsuc, neg_ℤ, ◌+◌, ◌<◌, ◌^◌, ◌==◌, ◌&&◌, Bool, true, false, not, List, [], ◌∷◌, length, map, Some, Ok, refl, ap, ◌∙◌, arith, rules}
+use Rattle.std.proofs.Common.{◌≡◌, ℕ, ℤ, suc, pos, negsuc, neg_ℤ, ◌+◌, ◌<◌, ◌^◌, ◌==◌, Bool, true, false, not, List, [], ◌∷◌, length, map, Some, Ok, refl, ap, ◌∙◌, arith, rules}
 use Rattle.std.specs.Prelude.{FitsSigned, codes}
 use Rattle.std.proofs.lemmas.Bool.Decides.{nat_tests}
 use Rattle.std.proofs.lemmas.List.Elements.{All-cons, All-nil}
@@ -17,17 +17,10 @@ use Rattle.klp_line.specs.Words.{status_of}
 use Rattle.klp_line.specs.Edits.{edit_number, alloc_of, free_of, free_all_of, set_of, take_prev_of, edit_of_parts, edit_of, edits_of, failure_of, script_with, script_of}
 use Rattle.klp_plan.specs.Spelled.{edit_word, script_words, IsEdit, IsScript}
 use Rattle.std.proofs.lemmas.Str.Parse.{IsNumeralModel, numerals_by_value}
+use Rattle.std.proofs.lemmas.Bool.{and_parts}
 use Rattle.klp_line.specs.Words.{is_decimal}
 
 -- ---- digits
-
-and_left : (a b : Bool) → (a && b) ≡ true → a ≡ true
-and_left true b h = refl
-and_left false b h = h
-
-and_right : (a b : Bool) → (a && b) ≡ true → b ≡ true
-and_right true b h = h
-and_right false b h = absurd cc
 
 own : IsNumeralModel (λ ds. list_all is_ascii_digit ds ≡ true) (digits_value 10)
 own = numerals_by_value _ (search rules)
@@ -46,14 +39,14 @@ colon_no_digit b h = grind (arith, nat_tests)
 no_colon_in : (word : List ℕ) → list_all (λ b. not (b == 58)) word ≡ true → All (λ b. (b == 58) ≡ false) word
 no_colon_in [] h = All-nil (λ b. (b == 58) ≡ false)
 no_colon_in (b ∷ bs) h =
-    All-cons (λ b. (b == 58) ≡ false) b bs (no_colon b (and_left (not (b == 58)) (list_all (λ b. not (b == 58)) bs) h))
-    (no_colon_in bs (and_right (not (b == 58)) (list_all (λ b. not (b == 58)) bs) h))
+    All-cons (λ b. (b == 58) ≡ false) b bs (no_colon b (and_parts (not (b == 58)) (list_all (λ b. not (b == 58)) bs) h).0)
+    (no_colon_in bs (and_parts (not (b == 58)) (list_all (λ b. not (b == 58)) bs) h).1)
 
 no_colon_in_digits : (word : List ℕ) → list_all is_ascii_digit word ≡ true → All (λ b. (b == 58) ≡ false) word
 no_colon_in_digits [] h = All-nil (λ b. (b == 58) ≡ false)
 no_colon_in_digits (b ∷ bs) h =
-    All-cons (λ b. (b == 58) ≡ false) b bs (colon_no_digit b (and_left (is_ascii_digit b) (list_all is_ascii_digit bs) h))
-    (no_colon_in_digits bs (and_right (is_ascii_digit b) (list_all is_ascii_digit bs) h))
+    All-cons (λ b. (b == 58) ≡ false) b bs (colon_no_digit b (and_parts (is_ascii_digit b) (list_all is_ascii_digit bs) h).0)
+    (no_colon_in_digits bs (and_parts (is_ascii_digit b) (list_all is_ascii_digit bs) h).1)
 
 in_decimal : (n : ℕ) → n < 2 ^ 64 → All (λ b. (b == 58) ≡ false) (decimal n)
 in_decimal n h = no_colon_in_digits (decimal n) (digits_decimal own n h)
@@ -74,7 +67,7 @@ number_read n h =
 plain_status : (word : List ℕ) → 0 < length word → list_all is_ascii_digit word ≡ true → digits_value 10 word < 2 ^ 31 → status_of word ≡ Some (pos (digits_value 10 word))
 plain_status [] some digits small = absurd (omega arith)
 plain_status (b ∷ bs) some digits small =
-    let minus = digit_no_minus b (and_left (is_ascii_digit b) (list_all is_ascii_digit bs) digits) in
+    let minus = digit_no_minus b (and_parts (is_ascii_digit b) (list_all is_ascii_digit bs) digits).0 in
     rw (minus, is_decimal_at (2 ^ 31) (b ∷ bs) some digits small) refl
   where
     digit_no_minus : (b : ℕ) → is_ascii_digit b ≡ true → (b == 45) ≡ false

@@ -1,6 +1,6 @@
 -- Over a fair company: from phase to phase, and what holds when the patch isn't installed.
 use Rattle.std.proofs.Common.{◌≡◌, ◌⊎◌, inl, inr, ℕ, Bool, true, false, not, [], ◌∷◌, Option, Some, None, refl, sym, ap, subst, ◌∙◌}
-use Rattle.std.proofs.lemmas.Bool.{both_ways}
+use Rattle.std.proofs.lemmas.Bool.{both_ways, not-false}
 use Rattle.klp_types.specs.declared.shadow.ShadowKey.{ShadowKey}
 use Rattle.klp_types.specs.declared.callback.Which.TheVariants.{Pre, Post}
 use Rattle.klp_machine.specs.declared.event.Event.{Event}
@@ -27,10 +27,6 @@ use Rattle.klp_round_trip.proofs.Phases.Advance.{stays}
 use Rattle.klp_round_trip.proofs.PlaceLemmas.{ran_none}
 use Rattle.klp_round_trip.proofs.PhaseLemmas as phases
 
-pub not_false : (b : Bool) → not b ≡ false → b ≡ true
-not_false true e = refl
-not_false false e = cc
-
 module _ (setting : Setting) (patch : ℕ) (start : State) (fair : IsFairStart setting patch start) where
   abbrev keys : ShadowKey → Bool
   keys = company_keys setting start patch
@@ -55,7 +51,7 @@ module _ (setting : Setting) (patch : ℕ) (start : State) (fair : IsFairStart s
     enable_kept open_ Standing is = absurd (both_ways _ open_.1.0 (installed_standing is))
 
     set_enabled_kept : (value : Bool) → NoneHolds (refusals setting state (SetEnabled patch value)) → (stage : Stage) → PhaseAt setting patch start base stage state → Then stage (SetEnabled patch value)
-    set_enabled_kept value open_ Away is = absurd (both_ways _ (installed_gone is) (not_false _ open_.1.0))
+    set_enabled_kept value open_ Away is = absurd (both_ways _ (installed_gone is) (not-false _ open_.1.0))
     set_enabled_kept value open_ Moving phase = phases.turned_on_the_move setting patch start fair base is_base state phase.0 value phase.1
     set_enabled_kept value open_ Standing is = phases.turned_standing setting patch start fair base is_base state value is
 

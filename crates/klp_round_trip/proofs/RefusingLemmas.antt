@@ -1,7 +1,7 @@
 -- What runs of the object that refuses, and of those behind it.
 use Rattle.std.proofs.Common.{◌≡◌, ℕ, zero, suc, ◌+◌, ◌<◌, ◌≤◌, Bool, true, false, not, cond, List, [], ◌∷◌, ◌++◌, Option, Some, None, is_some, refl, sym, ap, subst, ◌∙◌, arith, append_assoc, append-nil}
 use Rattle.std.specs.List.{find, before_first}
-use Rattle.std.proofs.lemmas.Bool.{both_ways}
+use Rattle.std.proofs.lemmas.Bool.{both_ways, not-false}
 use Rattle.klp_types.specs.declared.callback.Which.{Which}
 use Rattle.klp_types.specs.declared.callback.Which.TheVariants.{Pre, PostUn}
 use Rattle.klp_types.specs.Setting.{Setting, PatchObject}
@@ -25,7 +25,6 @@ use Rattle.klp_round_trip.proofs.Phases.{IsGone, PhaseAt, Stage, IsBase}
 use Rattle.klp_round_trip.proofs.Phases.Stage.{Away, Moving, Standing}
 use Rattle.klp_round_trip.proofs.PlaceLemmas.{RiseFrom, kinds_for-append, other_call, own_call, apart_places', found_above, rise_loaded}
 use Rattle.klp_round_trip.proofs.PhaseLemmas.{loaded_same}
-use Rattle.klp_round_trip.proofs.CompanyLemmas.{not_false}
 use Rattle.klp_round_trip.proofs.RoundLemmas.{calls_accepted, enablings_first}
 use Rattle.klp_round_trip.proofs.TripLemmas as trip
 
@@ -114,7 +113,7 @@ module _ (setting : Setting) (patch : ℕ) (start : State) (fair : IsFairStart s
       ap (λ p. kinds_for place (enable_calls p (loaded_objects setting state p))) same
       ∙ ap (λ objects. kinds_for place (enable_calls patch objects)) (loaded_same setting patch start fair state is.steady) ∙ own ∙ sym (append-nil kinds)
   of_event base state is (SetEnabled other value) open_ same =
-      absurd (both_ways (is_installed state other) (ap (λ p. is_installed state p) same ∙ ap (is_among patch) is.installed ∙ fair.away) (not_false _ open_.1.0))
+      absurd (both_ways (is_installed state other) (ap (λ p. is_installed state p) same ∙ ap (is_among patch) is.installed ∙ fair.away) (not-false _ open_.1.0))
   of_event base state is (Force other) open_ never = absurd never
   of_event base state is Poll open_ apart =
       let never : true ≡ false = sym (ap (λ m. not (is_moving (record state { moving = m }))) is.moving) ∙ open_.0 in cc

@@ -2,6 +2,7 @@
 use Rattle.std.proofs.Common.{◌≡◌, ℕ, Bool, true, false, ◌||◌, cond, List, [], ◌∷◌, ◌++◌, Option, Some, None, refl, sym, ap, ◌∙◌}
 use Rattle.std.specs.Prelude.{◌==◌}
 use Rattle.std.proofs.lemmas.Bool.{eq-eqb, or_parts}
+use Rattle.std.proofs.Math.Bool.{or-true}
 use Rattle.klp_types.specs.declared.shadow.ShadowKey.{ShadowKey}
 use Rattle.klp_types.specs.declared.edit.Edit.{Edit}
 use Rattle.klp_types.specs.declared.edit.Edit.TheVariants.{Alloc, Free, FreeAll, SetData, TakePrev}
@@ -75,11 +76,7 @@ module _ (patch : ℕ) where
 
   pub is_among-last : (older : List Installed) (values : List (ℕ × ℕ)) → is_among patch (older ++ last_of patch values) ≡ true
   is_among-last [] values = ap (λ b. b || false) (eq-eqb patch patch refl)
-  is_among-last (first ∷ older) values = ap (λ b. first.patch == patch || b) (is_among-last older values) ∙ or_true (first.patch == patch)
-    where
-      or_true : (b : Bool) → (b || true) ≡ true
-      or_true true = refl
-      or_true false = refl
+  is_among-last (first ∷ older) values = ap (λ b. first.patch == patch || b) (is_among-last older values) ∙ or-true (first.patch == patch)
 
   module _ (older : List Installed) (away : is_among patch older ≡ false) where
     changed_last : (f : List (ℕ × ℕ) → List (ℕ × ℕ)) (world : World) → IsLast patch older world

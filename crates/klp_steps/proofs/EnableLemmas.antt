@@ -1,7 +1,8 @@
 -- A patch that nothing refuses is put last.
 use Rattle.std.proofs.Common.{◌++◌, ◌≡◌, ℕ, Bool, true, false, List, [], ◌∷◌, Option, Some, None, refl, sym, ap, ◌∙◌}
-use Rattle.std.specs.Prelude.{is_none, not}
+use Rattle.std.specs.Prelude.{is_none}
 use Rattle.std.specs.Prelude.{ℤ, find, option_map}
+use Rattle.std.proofs.lemmas.Bool.{not-false}
 use Rattle.klp_types.specs.FirstOf.{first_of}
 use Rattle.klp_types.specs.Setting.{Setting}
 use Rattle.klp_machine.specs.declared.event.Event.TheVariants.{Enable}
@@ -45,14 +46,10 @@ pub record Enablable (setting : Setting) (state : State) (patch : ℕ) : Type 0 
   pub apart : is_installed state patch ≡ false
   pub room : lacks_room setting state (Enable patch) ≡ false
 
-not_not : (b : Bool) → not b ≡ false → b ≡ true
-not_not true h = refl
-not_not false h = let no : ⊥ = cc in absurd no
-
 pub enablable : (setting : Setting) (state : State) (patch : ℕ) → NoCase → refusal setting state (Enable patch) ≡ None → Enablable setting state patch
 enablable setting state patch law free =
     let none = law (refusals setting state (Enable patch)) (ap is_none free) in
-    record { there = not_not (has_patch setting patch) none.0; apart = none.1.0; room = none.1.1.1.1.1.1.0 }
+    record { there = not-false (has_patch setting patch) none.0; apart = none.1.0; room = none.1.1.1.1.1.1.0 }
 
 -- the steps that enabling may take
 

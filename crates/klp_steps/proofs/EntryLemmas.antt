@@ -2,7 +2,7 @@
 use Rattle.std.proofs.Common.{◌≡◌, ℕ, Bool, true, false, ◌&&◌, ◌||◌, List, [], ◌∷◌, ◌++◌, reverse, Option, Some, None, refl, sym, ap, ◌∙◌}
 use Rattle.std.specs.Prelude.{not, ◌==◌, if◌then◌else◌}
 use Rattle.std.specs.List.{list_any}
-use Rattle.std.proofs.Math.Bool.{or_comm}
+use Rattle.std.proofs.Math.Bool.{or_comm, or-false}
 use Rattle.std.proofs.lemmas.Grind.{reverse_onto}
 use Rattle.std.proofs.lemmas.List.{reverse-append}
 use Rattle.std.proofs.lemmas.List.Folds.{list_any-append}
@@ -59,10 +59,6 @@ no_entry : OfInstalled → (setting : Setting) (site patch : ℕ) (patches : Lis
     → is_one_of patch patches ≡ false → any ≡ false
 no_entry law setting site patch patches true is apart = let there = law setting site patch patches is in let no : ⊥ = cc in absurd no
 no_entry law setting site patch patches false is apart = refl
-
-or-false : (a : Bool) → (a || false) ≡ a
-or-false true = refl
-or-false false = refl
 
 any-last : (patch p : ℕ) (patches : List ℕ) → is_one_of patch (patches ++ p ∷ []) ≡ (is_one_of patch patches || p == patch)
 any-last patch p patches = list_any-append (λ q. q == patch) patches (p ∷ []) ∙ ap (λ b. is_one_of patch patches || b) (or-false (p == patch))

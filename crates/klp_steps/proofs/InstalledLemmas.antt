@@ -6,6 +6,7 @@ use Rattle.std.specs.Cmp.{nat_eq_equiv}
 use Rattle.std.proofs.lemmas.List.{map-append}
 use Rattle.std.proofs.lemmas.Map.Keys.{IsDistinct-cons}
 use Rattle.std.proofs.lemmas.Map.Steps.{length-le_from_distinct_below}
+use Rattle.std.proofs.lemmas.Bool.{or_parts}
 use Rattle.klp_types.specs.Setting.{Setting}
 use Rattle.klp_types.specs.World.{Installed, World, with_patch, without_patch, taken_out}
 use Rattle.klp_machine.specs.Refusals.{has_patch}
@@ -55,18 +56,10 @@ gone-again patch world before last apart = numbers-taken patch world.installed �
 
 -- patches of the catalog, among which one isn't, are fewer than its patches
 
-or-first : (a b : Bool) → (a || b) ≡ false → a ≡ false
-or-first false b none = refl
-or-first true b none = let no : ⊥ = cc in absurd no
-
-or-second : (a b : Bool) → (a || b) ≡ false → b ≡ false
-or-second false b none = none
-or-second true b none = let no : ⊥ = cc in absurd no
-
 apart_each : (patch : ℕ) (patches : List ℕ) → is_one_of patch patches ≡ false → AllByRecursion (λ y. eqb patch y ≡ false) patches
 apart_each patch [] apart = tt
 apart_each patch (p ∷ patches) apart =
-    (nat_eq_equiv.symm patch p ∙ or-first (p == patch) (is_one_of patch patches) apart, apart_each patch patches (or-second (p == patch) (is_one_of patch patches) apart))
+    (nat_eq_equiv.symm patch p ∙ (or_parts (p == patch) (is_one_of patch patches) apart).0, apart_each patch patches (or_parts (p == patch) (is_one_of patch patches) apart).1)
 
 distinct_keys : (patches : List ℕ) → AreDistinct patches → IsDistinct eqb patches
 unfolding IsDistinct

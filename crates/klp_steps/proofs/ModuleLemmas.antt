@@ -2,10 +2,11 @@
 use Rattle.std.proofs.Common.{◌≡◌, ℕ, zero, suc, ◌+◌, ◌<◌, Bool, true, false, not, ◌&&◌, ◌||◌, cond, List, [], ◌∷◌, ◌++◌, length, reverse, take, get_or, Some, is_some, refl, sym, ap, ◌∙◌, arith}
 use Rattle.std.specs.Prelude.{◌==◌, if◌then◌else◌}
 use Rattle.std.specs.List.{count_by, filter, list_any}
-use Rattle.std.proofs.lemmas.Bool.{eq-eqb, eqb-true}
+use Rattle.std.proofs.lemmas.Bool.{eq-eqb, eqb-true, false_from_ne_true, or_right}
 use Rattle.std.proofs.lemmas.List.{take_more, reverse-append}
 use Rattle.std.proofs.lemmas.List.Folds.{list_any-append, list_any_at}
 use Rattle.std.proofs.lemmas.List.Sums.{sum_by-append}
+use Rattle.std.proofs.Math.Bool.{or-false}
 use Rattle.klp_types.specs.declared.version.Entry.{Entry}
 use Rattle.klp_types.specs.Image.{Image, object_of}
 use Rattle.klp_types.specs.Setting.{Setting, functions_of, function_for, replaces}
@@ -24,18 +25,6 @@ setting_with image catalog = record { image = image; patches = patches_of catalo
 
 -- truth values
 
-pub not_true : (b : Bool) → (b ≡ true → ⊥) → b ≡ false
-not_true true away = absurd (away refl)
-not_true false away = refl
-
-or-false : (a : Bool) → (a || false) ≡ a
-or-false true = refl
-or-false false = refl
-
-or-later : (a b : Bool) → b ≡ true → (a || b) ≡ true
-or-later true b is = refl
-or-later false b is = is
-
 neither : (a b : Bool) → a ≡ false → b ≡ false → (a || b) ≡ false
 neither a b no_a no_b = rw (no_a, no_b) refl
 
@@ -47,7 +36,7 @@ eqb-sym : (a b : ℕ) → (a == b) ≡ (b == a)
 eqb-sym a b =
     elim (a == b) as (λ v. (a == b) ≡ v → v ≡ (b == a)) [
       | true ↦ λ same. sym (eq-eqb b a (sym (eqb-true a b same)))
-      | false ↦ λ apart. sym (not_true (b == a) (λ same. let no : false ≡ true = sym apart ∙ eq-eqb a b (sym (eqb-true b a same)) in let none : ⊥ = cc in none))
+      | false ↦ λ apart. sym (false_from_ne_true (b == a) (λ same. let no : false ≡ true = sym apart ∙ eq-eqb a b (sym (eqb-true b a same)) in let none : ⊥ = cc in none))
     ] refl
 
 -- lists
@@ -60,7 +49,7 @@ any-filter p keep (x ∷ xs) there =
         | true ↦ λ h. refl
         | false ↦ λ h. any-filter p keep xs h
       ]
-      | false ↦ λ h. or-later (p x) (list_any p xs) (any-filter p keep xs h)
+      | false ↦ λ h. or_right (p x) (list_any p xs) (any-filter p keep xs h)
     ] there
 
 filter-filter : {X : Type 0} (one other both : X → Bool) → ((x : X) → (one x && other x) ≡ both x) → (xs : List X) → filter other (filter one xs) ≡ filter both xs
@@ -92,7 +81,7 @@ not_before (first ∷ patches) zero patch distinct below is = refl
 not_before (first ∷ patches) (suc i) patch distinct below is =
     let within : i < length patches = omega arith in
     let own = not_before patches i patch distinct.1 within is in
-    let other = not_true (first == patch) (λ same.
+    let other = false_from_ne_true (first == patch) (λ same.
     let first_is = eqb-true first patch same in
     let there = list_any_at (λ p. p == first) patches i patch within (eq-eqb (get_or patches i patch) first (sym is ∙ sym first_is)) in
     let no : true ≡ false = sym there ∙ distinct.0 in
@@ -117,7 +106,7 @@ OfInstalled = (setting : Setting) (site patch : ℕ) (patches : List ℕ)
 pub fresh : OfInstalled → (image : Image) (catalog : Catalog) (site : ℕ) (patches : List ℕ) (i patch : ℕ) → AreDistinct patches → i < length patches → patch ≡ get_or patches i patch
     → has_entry patch (entries_from (setting_with image catalog) site (reverse (take i patches))) ≡ false
 fresh law image catalog site patches i patch distinct below is =
-    not_true (has_entry patch (entries_from (setting_with image catalog) site (reverse (take i patches)))) (λ there.
+    false_from_ne_true (has_entry patch (entries_from (setting_with image catalog) site (reverse (take i patches)))) (λ there.
     let one = law (setting_with image catalog) site patch (reverse (take i patches)) there in
     let no : true ≡ false = sym one ∙ list_any-reverse (λ p. p == patch) (take i patches) ∙ not_before patches i patch distinct below is in
     let none : ⊥ = cc in none)
@@ -160,7 +149,7 @@ all_taken patches [] own = refl
 all_taken patches (e ∷ entries) own =
     let here = own e.patch (ap (λ b. b || has_entry e.patch entries) (eq-eqb e.patch e.patch refl)) in
     ap (λ b. if not b then e ∷ filter (λ (f : Entry). not (is_one_of f.patch patches)) entries else filter (λ (f : Entry). not (is_one_of f.patch patches)) entries) here
-    ∙ all_taken patches entries (λ patch there. own patch (or-later (e.patch == patch) (has_entry patch entries) there))
+    ∙ all_taken patches entries (λ patch there. own patch (or_right (e.patch == patch) (has_entry patch entries) there))
 
 -- once all have left there is none
 pub none_left : OfInstalled → (setting : Setting) (site : ℕ) (patches : List ℕ)

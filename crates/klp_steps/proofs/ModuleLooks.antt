@@ -1,5 +1,5 @@
 -- What is looked at before a module comes or goes: symbols that aren't found, and who sleeps inside of it.
-use Rattle.std.proofs.Common.{◌≡◌, ℕ, zero, suc, ◌+◌, ◌-◌, ◌<◌, ◌≤◌, Bool, true, false, ◌&&◌, ◌||◌, List, [], ◌∷◌, ◌++◌, length, map, take, Option, Some, None, refl, sym, ap, ◌∙◌, arith}
+use Rattle.std.proofs.Common.{◌≡◌, ℕ, zero, suc, ◌+◌, ◌-◌, ◌<◌, Bool, true, false, ◌&&◌, ◌||◌, List, [], ◌∷◌, ◌++◌, length, map, take, Option, Some, None, refl, sym, ap, ◌∙◌, arith}
 use Rattle.std.proofs.lemmas.List.{length-map}
 use Rattle.std.specs.Prelude.{◌==◌, nat_lt, is_none, option_map, slice_get, bytes_eq, if◌then◌else◌}
 use Rattle.std.specs.List.{filter, list_any, enumerate_from, count_by}
@@ -7,36 +7,21 @@ use Rattle.std.proofs.lemmas.List.Folds.{list_any-append}
 use Rattle.std.proofs.lemmas.Option.{slice_get-map, slice_get-get_or}
 use borrow.Author.Tests.{ltb-true, ltb-false}
 use Rattle.klp_types.specs.Image.{Symbol, Object, object_of}
-use Rattle.klp_types.specs.Setting.{Function, PatchObject, patch_objects}
+use Rattle.klp_types.specs.Setting.{PatchObject, patch_objects}
+use Rattle.klp_types.proofs.SiteLemmas.{slice_get-append_left, slice_get-append_right}
 use Rattle.klp_machine.specs.Frames.{object_of_function}
 use Rattle.klp_machine.specs.ModuleCalls.{Part, parts_among}
 use Rattle.klp_machine.specs.Refusals.{lacks_symbol_of}
 use Rattle.klp_modules.specs.Names.{ObjectNames, Named, names_of, named_at, symbol_from}
 use Rattle.klp_plan.specs.Plan.{PlanFunction, PlanTarget, PlanPatch}
-use Rattle.klp_catalog.specs.Catalog.{Catalog, CatalogFunction, catalog_functions, resolved_function, site_of, setting_function, functions_of_target, functions_of_patch, targets_of_patch, patch_object, setting_patch}
+use Rattle.klp_catalog.specs.Catalog.{Catalog, CatalogFunction, catalog_functions, resolved_function, setting_function, functions_of_target, functions_of_patch, targets_of_patch, patch_object, setting_patch}
 use Rattle.klp_calls.specs.Parts.{parts_at, parts_in}
+use Rattle.klp_steps.proofs.SymbolLemmas.{lacks_target}
 
 -- a patch has a function for the module that names no site
 
 abbrev lacks : ℕ → CatalogFunction → Bool
 lacks object f = f.object == object && is_none f.site
-
-and-or : (b x y : Bool) → (b && (x || y)) ≡ ((b && x) || (b && y))
-and-or true x y = refl
-and-or false x y = refl
-
-and-false : (b : Bool) → (b && false) ≡ false
-and-false true = refl
-and-false false = refl
-
-lacks_target : (names : List ObjectNames) (object own : ℕ) (functions : List PlanFunction)
-    → ((own == object) && list_any (λ (f : Function). is_none f.site) (map setting_function (map (resolved_function names own) functions)))
-    ≡ list_any (lacks object) (map (resolved_function names own) functions)
-lacks_target names object own [] = and-false (own == object)
-lacks_target names object own (f ∷ functions) =
-    let here = is_none (site_of names own f) in
-    let later = list_any (λ (g : Function). is_none g.site) (map setting_function (map (resolved_function names own) functions)) in
-    and-or (own == object) here later ∙ ap (λ b. ((own == object) && here) || b) (lacks_target names object own functions)
 
 one_of_them : (there : Bool) (patch place : ℕ) (own : PatchObject) (others : List (ℕ × PatchObject))
     → list_any (λ (p : Part). lacks_symbol_of p.1.1) (parts_among patch (if there then (place, own) ∷ others else others))
@@ -52,7 +37,7 @@ lacks_targets names object patch place [] = refl
 lacks_targets names object patch place (target ∷ targets) =
     let others = filter (λ (o : ℕ × PatchObject). o.1.object == object) (enumerate_from (place + 1) (map (patch_object names) targets)) in
     one_of_them (target.object == object) patch place (patch_object names target) others
-    ∙ ap (λ b. b || list_any (λ (p : Part). lacks_symbol_of p.1.1) (parts_among patch others)) (lacks_target names object target.object target.functions)
+    ∙ ap (λ b. b || list_any (λ (p : Part). lacks_symbol_of p.1.1) (parts_among patch others)) (lacks_target names (λ own. own == object) target.object target.functions)
     ∙ ap (λ b. list_any (lacks object) (functions_of_target names target) || b) (lacks_targets names object patch (place + 1) targets)
     ∙ sym (list_any-append (lacks object) (functions_of_target names target) (functions_of_patch names targets))
 
@@ -81,19 +66,6 @@ lacks_in catalog object (patch ∷ patches) =
 
 -- the object of a function
 
-at_front : {X : Type 0} (xs ys : List X) (n : ℕ) → n < length xs → slice_get (xs ++ ys) n ≡ slice_get xs n
-at_front [] ys n h = absurd (omega arith)
-at_front (x ∷ xs) ys zero h = refl
-at_front (x ∷ xs) ys (suc n) h = let below : n < length xs = omega arith in at_front xs ys n below
-
-behind : {X : Type 0} (xs ys : List X) (n : ℕ) → length xs ≤ n → slice_get (xs ++ ys) n ≡ slice_get ys (n - length xs)
-behind [] ys n h = let e : n - 0 ≡ n = omega arith in rw e refl
-behind (x ∷ xs) ys zero h = absurd (omega arith)
-behind (x ∷ xs) ys (suc n) h =
-    let below : length xs ≤ n = omega arith in
-    let e : suc n - suc (length xs) ≡ n - length xs = omega arith in
-    rw e (behind xs ys n below)
-
 object_in : (names : List ObjectNames) (object : ℕ) (functions : List PlanFunction) (number : ℕ) → number < length functions
     → option_map (λ (f : CatalogFunction). f.object) (slice_get (map (resolved_function names object) functions) number) ≡ Some object
 object_in names object [] number below = absurd (omega arith)
@@ -109,10 +81,10 @@ either_target : (names : List ObjectNames) (target : PlanTarget) (other : Option
 either_target names target other others number true is later =
     let within = ltb-true number (length (functions_of_target names target)) is in
     let count = length-map target.functions (resolved_function names target.object) in
-    ap (option_map (λ (f : CatalogFunction). f.object)) (at_front (functions_of_target names target) others number within)
+    ap (option_map (λ (f : CatalogFunction). f.object)) (slice_get-append_left (functions_of_target names target) others number within)
     ∙ object_in names target.object target.functions number (omega (arith, within, count))
 either_target names target other others number false is later =
-    ap (option_map (λ (f : CatalogFunction). f.object)) (behind (functions_of_target names target) others number (ltb-false number (length (functions_of_target names target)) is))
+    ap (option_map (λ (f : CatalogFunction). f.object)) (slice_get-append_right (functions_of_target names target) others number (ltb-false number (length (functions_of_target names target)) is))
     ∙ later
 
 object_of_targets : (names : List ObjectNames) (targets : List PlanTarget) (number : ℕ)

@@ -2,7 +2,7 @@
 use Rattle.std.proofs.Common.{w32, to_z, of_z, ◌≡◌, ◌≢◌, ℕ, ℤ, ◌+◌, ◌<◌, ◌≤◌, Bool, true, false, List, [], ◌∷◌, ◌++◌, length, reverse, Option, Some, None, refl, sym, ap, ◌∙◌, arith, get_or-set_same, get_or-set_other}
 use Rattle.std.specs.Prelude.{◌==◌, ◌&&◌, not, nat_lt, option_map, if◌then◌else◌, slice_index_or, slice_set}
 use Rattle.std.specs.List.{All, find, list_any, flat_map}
-use Rattle.std.proofs.lemmas.Bool.{eq-eqb, eqb-true, and_parts}
+use Rattle.std.proofs.lemmas.Bool.{eq-eqb, eqb-true, and_parts, not-false}
 use Rattle.std.proofs.lemmas.List.{length-map}
 use Rattle.std.proofs.lemmas.List.Elements.{All-nil, All-cons}
 use Rattle.std.proofs.lemmas.List.Sums.{sum_by-append}
@@ -60,10 +60,6 @@ pub record MayCome (setting : Setting) (state : State) (object : ℕ) : Type 0 w
 in_image : (setting : Setting) (object : ℕ) → is_module setting object ≡ true → object < length setting.image.objects
 in_image setting object is = ltb-true object (length setting.image.objects) (and_parts (not (object == 0)) (nat_lt object (length setting.image.objects)) is).1
 
-not_false : (b : Bool) → not b ≡ false → b ≡ true
-not_false true is = refl
-not_false false is = let no : ⊥ = cc in absurd no
-
 pub may_come : (setting : Setting) (state : State) (object : ℕ) → refusal setting state (Coming object) ≡ None → MayCome setting state object
 may_come setting state object free =
     let full : Bool × Refusal = (lacks_room setting state (Coming object), Full) in
@@ -73,7 +69,7 @@ may_come setting state object free =
     let two = passed there (lacks ∷ full ∷ []) one.1 in
     let three = passed lacks (full ∷ []) two.1 in
     let four = passed full [] three.1 in
-    record { within = in_image setting object (not_false (is_module setting object) one.0); room = four.0 }
+    record { within = in_image setting object (not-false (is_module setting object) one.0); room = four.0 }
 
 pub record MayGo (setting : Setting) (state : State) (object : ℕ) : Type 0 where
   pub within : object < length setting.image.objects
@@ -87,7 +83,7 @@ may_go setting state object free =
     let two = passed used (full ∷ []) one.1 in
     let three = passed full [] two.1 in
     record {
-      within = in_image setting object (and_parts (is_module setting object) (is_loaded state object) (not_false (is_module setting object && is_loaded state object) one.0)).0;
+      within = in_image setting object (and_parts (is_module setting object) (is_loaded state object) (not-false (is_module setting object && is_loaded state object) one.0)).0;
       room = three.0;
     }
 

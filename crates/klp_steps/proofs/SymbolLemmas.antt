@@ -4,6 +4,7 @@ use Rattle.std.specs.Prelude.{is_none, option_map, slice_get, slice_index_or}
 use Rattle.std.specs.List.{list_any}
 use Rattle.std.proofs.lemmas.List.Folds.{list_any-append}
 use Rattle.std.proofs.lemmas.Option.{slice_get-map}
+use Rattle.std.proofs.Math.Bool.{and-false}
 use Rattle.klp_types.specs.Setting.{Patch, PatchObject, Function, patch_objects}
 use Rattle.klp_machine.specs.Refusals.{lacks_symbol}
 use Rattle.klp_modules.specs.Names.{ObjectNames}
@@ -17,11 +18,7 @@ and-or : (b x y : Bool) → (b && (x || y)) ≡ ((b && x) || (b && y))
 and-or true x y = refl
 and-or false x y = refl
 
-and-false : (b : Bool) → (b && false) ≡ false
-and-false true = refl
-and-false false = refl
-
-lacks_target : (names : List ObjectNames) (loaded : ℕ → Bool) (object : ℕ) (functions : List PlanFunction)
+pub lacks_target : (names : List ObjectNames) (loaded : ℕ → Bool) (object : ℕ) (functions : List PlanFunction)
     → (loaded object && list_any (λ (f : Function). is_none f.site) (map setting_function (map (resolved_function names object) functions)))
     ≡ list_any (λ (f : CatalogFunction). loaded f.object && is_none f.site) (map (resolved_function names object) functions)
 lacks_target names loaded object [] = and-false (loaded object)
