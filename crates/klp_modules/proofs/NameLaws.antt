@@ -17,7 +17,7 @@ use Rattle.klp_types.specs.Image.{Symbol, Object, symbols_of}
 use Rattle.klp_types.proofs.SiteLemmas.{symbols_of-take}
 use Rattle.klp_modules.specs.Names.{ObjectNames, named_at, sites_where, first_site, symbol_names, picked, resolved, object_named, names_of, names_of_object}
 use Rattle.klp_modules.specs.declared.fault.SymbolFault.TheVariants.{Missing}
-use Rattle.klp_modules.specs.Kept.{texts_of, text_at, object_names, names_from, symbol_count, numbered_first_site, HasTexts, IsApart, Extends, AddsName, AddsNames, AddsObject}
+use Rattle.klp_modules.specs.Kept.{texts_of, text_at, object_names, names_from, symbol_count, numbered_first_site, HasTexts, IsApart, Extends, AddsName, AddsNames, AddsObject, AreNumbered}
 use Rattle.klp_modules.specs.declared.numbered.NumberedObject.{NumberedObject}
 
 -- ---- texts
@@ -366,13 +366,6 @@ symbol_count-append : (xs : List NumberedObject) (x : NumberedObject) → symbol
 symbol_count-append [] x = omega arith
 symbol_count-append (y ∷ xs) x = omega (arith, symbol_count-append xs x)
 
--- what holds of the objects so far
-pub record AreNumbered (texts : List (List ℕ)) (numbered : List NumberedObject) (objects : List Object) : Type 0 where
-  pub apart : IsApart texts
-  pub there : All (HasTexts texts) numbered
-  pub names : names_from texts numbered ≡ names_of objects
-  pub symbols : symbol_count numbered ≡ length (symbols_of objects)
-
 pub one_object_more : (old new : List (List ℕ)) (objects : List Object) (numbered more : List NumberedObject) (o : ℕ) (x : NumberedObject) →
     AreNumbered old numbered (take o objects) → o < length objects →
     IfSome (slice_get objects o) (λ given. AddsObject old new (names_of_object given) x) → more ≡ numbered ++ x ∷ [] →
@@ -395,6 +388,11 @@ one_object_more old new objects numbered more o x h below adds pushed =
       symbols = symbol_count-append numbered x
           ∙ sym (ap length (symbols_of-take objects o none below) ∙ (length-append (symbols_of (take o objects)) given.symbols ∙ omega (arith, h.symbols, count)));
     })
+
+pub numbered_all : (texts : List (List ℕ)) (numbered : List NumberedObject) (objects : List Object) →
+    AreNumbered texts numbered objects → length numbered ≡ length objects
+numbered_all texts numbered objects h =
+    sym (length-map numbered (object_names texts)) ∙ (ap length h.names ∙ length-map objects names_of_object)
 
 -- ---- the symbol of a site
 

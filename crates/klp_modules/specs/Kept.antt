@@ -2,7 +2,8 @@
 use Rattle.std.specs.Prelude.{◌≡◌, ℕ, zero, suc, ◌+◌, ◌≤◌, ◌<◌, Bool, List, [], ◌∷◌, length, map, slice_index_or, string_bytes, String}
 use Rattle.std.specs.declared.alloc.Global.{Global}
 use Rattle.std.specs.List.{All}
-use Rattle.klp_modules.specs.Names.{ObjectNames}
+use Rattle.klp_types.specs.Image.{Object, symbols_of}
+use Rattle.klp_modules.specs.Names.{ObjectNames, names_of}
 use Rattle.klp_modules.specs.declared.numbered.NumberedObject.{NumberedObject}
 
 -- the texts of the numbers
@@ -71,3 +72,10 @@ pub record AddsObject (old new : List (List ℕ)) (names : ObjectNames) (object 
   pub names_are : object_names new object ≡ names
   pub extends : Extends old new
   pub apart : IsApart old → IsApart new
+
+-- these objects by the numbers of their names
+pub record AreNumbered (texts : List (List ℕ)) (numbered : List NumberedObject) (objects : List Object) : Type 0 where
+  pub apart : IsApart texts
+  pub there : All (HasTexts texts) numbered
+  pub names : names_from texts numbered ≡ names_of objects
+  pub symbols : symbol_count numbered ≡ length (symbols_of objects)

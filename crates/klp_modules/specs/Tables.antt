@@ -6,6 +6,7 @@ use Rattle.klp_modules.specs.Names.{sites_where}
 use Rattle.klp_modules.specs.Kept.{numbered_first_site, IsKept}
 use Rattle.klp_modules.specs.declared.numbered.NumberedObject.{NumberedObject}
 use Rattle.klp_modules.specs.declared.numbered.NumberedSymbol.{NumberedSymbol}
+use Rattle.klp_modules.specs.declared.tables.Tables.{Tables}
 
 -- a number has the place of the first object of that name
 abbrev pub HasObjects : {S : Type 0} → List NumberedObject → IndexMap ℕ ℕ S → Type 0
@@ -42,10 +43,13 @@ abbrev pub placed_symbols : ℕ → List NumberedObject → List NumberedSymbol
 placed_symbols number [] = []
 placed_symbols number (object ∷ objects) = placed number 0 object.symbols.items object.symbols.items ++ placed_symbols (number + 1) objects
 
+-- the tables are for these objects
+pub record AreTabled (objects : List NumberedObject) (tables : Tables) : Type 0 where
+  pub by_name : HasObjects objects tables.named
+  pub by_object : HasSites objects tables.sites.items
+  pub by_site : tables.symbols.items ≡ placed_symbols 0 objects
+
 -- what the modules keep, with the tables for it
-pub record IsTabled {S : Type 0} (texts : List (List ℕ)) (objects : List NumberedObject) (loaded : List Bool)
-    (named : IndexMap ℕ ℕ S) (sites : List (IndexMap ℕ (Vec ℕ Global) S)) (symbols : List NumberedSymbol) : Type 0 where
+pub record IsTabled (texts : List (List ℕ)) (objects : List NumberedObject) (loaded : List Bool) (tables : Tables) : Type 0 where
   pub kept : IsKept texts objects loaded
-  pub by_name : HasObjects objects named
-  pub by_object : HasSites objects sites
-  pub by_site : symbols ≡ placed_symbols 0 objects
+  pub tabled : AreTabled objects tables

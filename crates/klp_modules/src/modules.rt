@@ -1,12 +1,12 @@
 ghost use Rattle.std.specs.Prelude.{◌≡◌, ◌<◌, length, slice_set, slice_get, slice_index_or, false, option_map, IfOk, IfSome};
 ghost use Rattle.klp_modules.specs.Names.{ObjectNames, names_of_object, Named, opening, object_named, picked, resolved, symbol_at_site};
-ghost use Rattle.klp_modules.specs.Kept.{texts_of, text_at, AddsName, AddsObject};
+ghost use Rattle.klp_modules.specs.Kept.{texts_of, text_at, AddsName, AddsObject, AreNumbered};
 ghost use Rattle.klp_modules.specs.Undo.{put_back};
 
 use crate::fault::SymbolFault;
-use crate::numbered::{NumberedObject, NumberedSymbol};
-use crate::tables::{objects_by_name, sites_by_object, symbols_by_site};
-use indexmap::{IndexMap, IndexSet};
+use crate::numbered::NumberedObject;
+use crate::tables::Tables;
+use indexmap::IndexSet;
 use klp_text::Image;
 use klp_types::{ObjId, Record, Site};
 use std::alloc::{AllocError, Global};
@@ -24,12 +24,7 @@ pub struct Modules {
     objects: Vec<NumberedObject>,
     /// By object, whether it is loaded.
     loaded: Vec<bool>,
-    /// By the number of a name, the first object of that name.
-    named: IndexMap<usize, ObjId>,
-    /// By object, the sites of its symbols by the numbers of their names, in order.
-    sites: Vec<IndexMap<usize, Vec<Site>>>,
-    /// By site, the symbol.
-    symbols: Vec<NumberedSymbol>,
+    tables: Tables,
 }
 
 impl Model for Modules {
@@ -44,7 +39,7 @@ impl Model for Modules {
       loaded = m.loaded.items;
     } };
 
-    ghost invariant = { λ m. IsTabled (texts_of m.names.keys) m.objects.items m.loaded.items m.named m.sites.items m.symbols.items };
+    ghost invariant = { λ m. IsTabled (texts_of m.names.keys) m.objects.items m.loaded.items m.tables };
 }
 
 impl Modules {
@@ -56,21 +51,13 @@ impl Modules {
     {
         let mut loaded = vec![in alloc; false; usize::from(image.objects())]?;
         loaded[0] = true;
-        let mut names = IndexSet::new(alloc);
-        let mut objects = Vec::new(alloc);
-        for number in 0..image.objects() {
-            objects.push(numbered(alloc, &mut names, image, ObjId(number))?)?;
-        }
-        let named = objects_by_name(alloc, &objects)?;
-        let sites = sites_by_object(alloc, &objects)?;
-        let symbols = symbols_by_site(alloc, &objects)?;
+        let (names, objects) = numbered_objects(alloc, image)?;
+        let tables = Tables::new(alloc, &objects)?;
         Ok(Modules {
             names,
             objects,
             loaded,
-            named,
-            sites,
-            symbols,
+            tables,
         })
     }
 
@@ -81,7 +68,7 @@ impl Modules {
         let Some(number) = self.names.get_index_of(name) else {
             return None;
         };
-        self.named.get(&number).copied()
+        self.tables.named.get(&number).copied()
     }
 
     /// The name of an object.
@@ -146,7 +133,7 @@ impl Modules {
         let Some(number) = self.names.get_index_of(name) else {
             return Err(SymbolFault::Missing);
         };
-        let Some(table) = self.sites.get(usize::from(object.0)) else {
+        let Some(table) = self.tables.sites.get(usize::from(object.0)) else {
             return Err(SymbolFault::Missing);
         };
         let Some(sites) = table.get(&number) else {
@@ -162,7 +149,7 @@ impl Modules {
         ensures name { option_map (λ found. found.1.now) result ≡ option_map (λ (s : Named). s.name) (symbol_at_site self.now.names site) }
         ensures position { option_map (λ found. found.2) result ≡ option_map (λ (s : Named). s.position) (symbol_at_site self.now.names site) }
     {
-        let symbol = self.symbols.get(usize::from(site.0))?;
+        let symbol = self.tables.symbols.get(usize::from(site.0))?;
         Some((
             symbol.object,
             text(&self.names, symbol.name),
@@ -196,6 +183,21 @@ fn pick(sites: &[Site], position: u32) -> Result<Site, SymbolFault>
         return Err(SymbolFault::Ambiguous);
     }
     Ok(*first)
+}
+
+/// Every name of an image, and its objects by the numbers of their names.
+fn numbered_objects(
+    alloc: Global,
+    image: &Image,
+) -> Result<(IndexSet<String>, Vec<NumberedObject>), AllocError>
+    ensures { IfOk result (λ made. AreNumbered (texts_of made.0.keys) made.1.items image.now.image.objects) }
+{
+    let mut names = IndexSet::new(alloc);
+    let mut objects = Vec::new(alloc);
+    for number in 0..image.objects() {
+        objects.push(numbered(alloc, &mut names, image, ObjId(number))?)?;
+    }
+    Ok((names, objects))
 }
 
 /// An object by the numbers of its names, which are kept from now on.

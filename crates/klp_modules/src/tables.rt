@@ -2,15 +2,44 @@
 
 ghost use Rattle.std.specs.Prelude.{◌≡◌, ◌+◌, ◌≤◌, ◌++◌, ◌==◌, length, count_by, IfOk, OnOk};
 ghost use Rattle.klp_modules.specs.Kept.{symbol_count};
-ghost use Rattle.klp_modules.specs.Tables.{HasObjects, IsSiteTable, HasSites, placed, placed_symbols};
+ghost use Rattle.klp_modules.specs.Tables.{HasObjects, IsSiteTable, HasSites, AreTabled, placed, placed_symbols};
 
 use crate::numbered::{NumberedObject, NumberedSymbol};
 use indexmap::IndexMap;
 use klp_types::{ObjId, Site};
 use std::alloc::{AllocError, Global};
 
+/// The tables for numbered objects.
+#[derive(Drop)]
+pub struct Tables {
+    /// By the number of a name, the first object of that name.
+    pub named: IndexMap<usize, ObjId>,
+    /// By object, the sites of its symbols by the numbers of their names, in order.
+    pub sites: Vec<IndexMap<usize, Vec<Site>>>,
+    /// By site, the symbol.
+    pub symbols: Vec<NumberedSymbol>,
+}
+
+impl Tables {
+    /// Makes the tables for these objects.
+    pub fn new(alloc: Global, objects: &[NumberedObject]) -> Result<Tables, AllocError>
+        requires few_objects { length objects.now ≤ 17 }
+        requires few_symbols { symbol_count objects.now ≤ 256 }
+        ensures { IfOk result (AreTabled objects.now) }
+    {
+        let named = objects_by_name(alloc, objects)?;
+        let sites = sites_by_object(alloc, objects)?;
+        let symbols = symbols_by_site(alloc, objects)?;
+        Ok(Tables {
+            named,
+            sites,
+            symbols,
+        })
+    }
+}
+
 /// By the number of a name, the first object of that name.
-pub fn objects_by_name(
+fn objects_by_name(
     alloc: Global,
     objects: &[NumberedObject],
 ) -> Result<IndexMap<usize, ObjId>, AllocError>
@@ -25,7 +54,7 @@ pub fn objects_by_name(
 }
 
 /// By object, the sites of its symbols by the numbers of their names.
-pub fn sites_by_object(
+fn sites_by_object(
     alloc: Global,
     objects: &[NumberedObject],
 ) -> Result<Vec<IndexMap<usize, Vec<Site>>>, AllocError>
@@ -60,7 +89,7 @@ fn sites_by_name(
 }
 
 /// By site, the symbol.
-pub fn symbols_by_site(
+fn symbols_by_site(
     alloc: Global,
     objects: &[NumberedObject],
 ) -> Result<Vec<NumberedSymbol>, AllocError>

@@ -16,4 +16,4 @@ returns c =
     let some : position (bytes_eq c.args.name.now) (texts_of c.self.inside.names.keys) ≡ Some c.in-Some.number =
     sym (position-texts (bytes_eq c.args.name.now) c.self.inside.names.keys) ∙ sym c.in-Some.ensures.index in
     let is = object_named-number _ c.self.inside.objects.items c.args.name.now c.in-Some.number c.self.invariant.kept.numbered c.self.invariant.kept.apart some in
-    rw (← c.self.view_is) (c.copied.ensures ∙ c.get.ensures.value ∙ (c.self.invariant.by_name c.in-Some.number ∙ sym is))
+    rw (← c.self.view_is) (c.copied.ensures ∙ c.get.ensures.value ∙ (c.self.invariant.tabled.by_name c.in-Some.number ∙ sym is))

@@ -18,7 +18,7 @@ pub returns-in_default-get : goal.returns-in_default-get
 returns-in_default-get c =
     let read = c.in_default-get.ensures.lookup in
     let place : c.from.result ≡ c.args.object = c.from.ensures ∙ c.object.view_is in
-    let past : length c.self.inside.objects.items ≤ c.args.object = omega (arith, read.3, ap length c.deref.ensures.value, place, c.self.invariant.by_object.each) in
+    let past : length c.self.inside.objects.items ≤ c.args.object = omega (arith, read.3, ap length c.deref.ensures.value, place, c.self.invariant.tabled.by_object.each) in
     rw (← c.self.view_is) (sym (resolved_past (texts_of c.self.inside.names.keys) c.self.inside.objects.items c.args.object c.args.position c.args.name.now past))
 
 pub returns-in_default-get-2 : goal.returns-in_default-get-2
@@ -29,7 +29,7 @@ returns-in_default-get-2 c =
     sym (position-texts (bytes_eq c.args.name.now) c.self.inside.names.keys) ∙ sym c.in-Some.ensures.index in
     let at = rw (c.deref.ensures.value, place) at (slice_get_read c.deref.result.now _ c.from.result c.in-Some-get.table.now refl read.3.0 read.1) in
     let is = resolved_tabled _ c.self.inside.objects.items _ c.args.object c.args.position _ _ _ None c.self.invariant.kept.numbered c.self.invariant.kept.apart
-    c.self.invariant.by_object some at (sym c.in_default-get-2.ensures.value) in
+    c.self.invariant.tabled.by_object some at (sym c.in_default-get-2.ensures.value) in
     rw (← c.self.view_is) (sym is)
 
 pub returns : goal.returns
@@ -40,5 +40,5 @@ returns c =
     sym (position-texts (bytes_eq c.args.name.now) c.self.inside.names.keys) ∙ sym c.in-Some.ensures.index in
     let at = rw (c.deref.ensures.value, place) at (slice_get_read c.deref.result.now _ c.from.result c.in-Some-get.table.now refl read.3.0 read.1) in
     let is = resolved_tabled _ c.self.inside.objects.items _ c.args.object c.args.position _ _ _ (Some c.in-Some-get-2.sites.now) c.self.invariant.kept.numbered
-    c.self.invariant.kept.apart c.self.invariant.by_object some at (sym c.in-Some-get-2.ensures.value) in
+    c.self.invariant.kept.apart c.self.invariant.tabled.by_object some at (sym c.in-Some-get-2.ensures.value) in
     rw (← c.self.view_is) (c.pick.ensures ∙ (ap (λ (sites : List ℕ). picked sites c.args.position) c.deref-2.ensures.value ∙ sym is))
