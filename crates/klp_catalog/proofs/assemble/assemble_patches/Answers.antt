@@ -1,5 +1,6 @@
 -- One more patch has its numbers and its functions.
 use Rattle.std.proofs.Common.{◌≡◌, ◌||◌, length, sym, ap, ◌∙◌, arith}
+use Rattle.std.proofs.lemmas.Grind.{common_steps}
 use Rattle.klp_plan.specs.Scripts.{scripts_of}
 use Rattle.klp_catalog.specs.declared.numbers.Numbers.{Numbers}
 use Rattle.klp_catalog.specs.Catalog.{has_same_site, some_same_site}
@@ -30,3 +31,6 @@ loop-patch-preserved c =
           ∙ or_made c.loop-patch.same_site (has_same_site (functions_of_plan names c.in-Some.patch)) (some_same_site names rest)
           ∙ sym (ap (λ ps. c.loop-patch.same_site || some_same_site names ps) split) ∙ c.loop-patch.invariant.apart;
     }
+
+pub returns-then-same_site-clause-fault : goal.returns-then-same_site-clause-fault
+returns-then-same_site-clause-fault c = grind (arith, common_steps)

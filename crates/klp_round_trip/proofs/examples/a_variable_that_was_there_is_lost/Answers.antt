@@ -1,3 +1,4 @@
+use Rattle.std.proofs.Common.{rules}
 use Rattle.klp_round_trip.proofs.LostLemmas.{lost_gone, lost, expected, not_undone}
 use Rattle.klp_round_trip.proofs.examples.a_variable_that_was_there_is_lost.Goals as goal
 
@@ -12,3 +13,6 @@ returns-clause-expected c = expected
 
 pub returns-clause-not_undone : goal.returns-clause-not_undone
 returns-clause-not_undone c = not_undone
+
+pub returns-clause-of_the_company : goal.returns-clause-of_the_company
+returns-clause-of_the_company c = search rules

@@ -32,3 +32,6 @@ returns-clause-unfinished c =
     let whole = one_line_still c.self.inside.bytes.items c.try_extend_from_slice.new.self.items front c.self.invariant c.cut.ensures.front taken in
     goes_on c.cut.result.1 c.args.self.now c.try_extend_from_slice.new.self.items c.args.piece.now front whole
     (taken ∙ ap (λ line. line ++ front) c.self.view_is) c.cut.ensures.whole
+
+pub returns-clause-limit : goal.returns-clause-limit
+returns-clause-limit c = search rules

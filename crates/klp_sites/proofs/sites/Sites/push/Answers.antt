@@ -1,4 +1,5 @@
-use Rattle.std.proofs.Common.{true, sym, ◌∙◌, ◌∷◌}
+use Rattle.std.proofs.Common.{true, sym, ◌∙◌, ◌∷◌, arith}
+use Rattle.std.proofs.lemmas.Grind.{common_steps}
 use Rattle.klp_stack.specs.Stack.{entries_at}
 use Rattle.klp_sites.proofs.StepLemmas.{turned, unturned, hooked_now}
 use Rattle.klp_sites.proofs.sites.Sites.push.Goals as goal
@@ -20,3 +21,6 @@ invariant_of-self-else-not-was_hooked c =
     let there = rw (← c.self.view_is) at c.requires.there in
     unturned c.self.inside.image seen c.self.invariant c.args.site (c.args.entry ∷ older) c.push.new.self is true
     (sym c.is_hooked-was_hooked.ensures ∙ c.if-not-was_hooked.false) (hooked_now seen c.args.site c.args.entry older c.push.new.self is there)
+
+pub returns-then-not-was_hooked : goal.returns-then-not-was_hooked
+returns-then-not-was_hooked c = grind (arith, common_steps)

@@ -11,3 +11,6 @@ returns-clause-changes c = record {
       (ap (λ (s : Shadow). record { installed = c.self.inside.patches.items; shadow = s }) c.insert.ensures ∙ ap (λ (w : World). with_variable w c.args.key c.args.value) c.self.view_is)
       (is_missing _ _ _ c.get.ensures c.self.view_is c.if-is_some.ensures);
 }
+
+pub returns-then-is_some-clause-changes : goal.returns-then-is_some-clause-changes
+returns-then-is_some-clause-changes c = search rules

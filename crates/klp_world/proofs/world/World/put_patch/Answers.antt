@@ -1,4 +1,5 @@
-use Rattle.std.proofs.Common.{sym, ap, ◌∙◌, ℕ, Option}
+use Rattle.std.proofs.Common.{sym, ap, ◌∙◌, ℕ, Option, arith}
+use Rattle.std.proofs.lemmas.Grind.{common_steps}
 use Rattle.klp_world.specs.Undo.{put_patch}
 use Rattle.klp_world.proofs.PatchLemmas.{taken_from, not_in}
 use Rattle.klp_world.proofs.world.World.put_patch.Goals as goal
@@ -13,3 +14,6 @@ pub returns-in_default : goal.returns-in_default
 returns-in_default c =
     not_in c.args.patch c.deref.result.now c.self.inside.patches.items c.self.inside.shadow c.args.self.now c.deref.ensures.value c.self.view_is c.in_default.ensures
     ∙ ap (λ (place : Option ℕ). record c.args.self.now { installed = put_patch c.args.patch place c.args.self.now.installed }) (sym c.in-None.is)
+
+pub returns-then-len-lt-MAX_PATCHES : goal.returns-then-len-lt-MAX_PATCHES
+returns-then-len-lt-MAX_PATCHES c = grind (arith, common_steps)

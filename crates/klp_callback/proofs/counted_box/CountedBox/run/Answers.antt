@@ -1,0 +1,6 @@
+use Rattle.std.proofs.Common.{rules, arith}
+use Rattle.std.proofs.lemmas.Grind.{common_steps}
+use Rattle.klp_callback.proofs.counted_box.CountedBox.run.Goals as goal
+
+pub returns-then-is_same-clause-runs : goal.returns-then-is_same-clause-runs
+returns-then-is_same-clause-runs g c = search rules
