@@ -1,5 +1,6 @@
-//! What is proved of honest observed runs, and examples of them. A function here does nothing: its
-//! contract is the law or the example.
+//! What is proved of honest observed runs, and examples of them. A function here does nothing: its contract
+//! is the law or the example. The laws are in this crate because they alone depend on which versions hold a
+//! sleeper back (docs/DECISIONS.md, "Where the consistency laws are").
 ghost use Rattle.std.specs.Prelude.{◌≡◌, ℕ, pos, negsuc, true, false, List, [], ◌∷◌, ◌++◌, Some, None};
 ghost use Rattle.klp_types.specs.declared.version.Version.TheVariants.{Original, New};
 ghost use Rattle.klp_types.specs.Setting.{Setting};
@@ -13,23 +14,24 @@ ghost use Rattle.klp_machine.specs.InPlace.{IsInPlace};
 ghost use Rattle.klp_machine.specs.Consistent.{version_now, AllCurrent, NoneLeft, NoneMixed, AllNamed};
 ghost use Rattle.klp_machine.specs.ObservedExamples.{kernel, stray_kernel, one_task, state_of, towards_1, no_frames, inside, watched, start, in_original, late, sleeper_run, stray_run, under_a_task};
 
-/// At every moment of an honest observed run each frame of each task is the version that the task
-/// would run at that site now.
+/// At every moment of an honest observed run each frame of each task is the version that the task would run
+/// at that site now. This is the consistency model in one sentence: no task is in old code while its calls
+/// get new code.
 pub fn frames_are_current()
     ensures { (setting : Setting) (start : State) (first second : List Seen)
         → IsInPlace setting → IsHonestRun setting start (first ++ second)
         → AllCurrent setting (seen_from setting start first) }
 {}
 
-/// No task has a frame of a function that has left the stacks.
+/// No task has a frame of a function that has left the stacks, so what a patch brought may be freed.
 pub fn none_has_left()
     ensures { (setting : Setting) (start : State) (first second : List Seen)
         → IsInPlace setting → IsHonestRun setting start (first ++ second)
         → NoneLeft setting (seen_from setting start first) }
 {}
 
-/// During a transition a task of state 0 has no frame of the moving patch's functions, and one of
-/// state 1 none of the version below an entry of that patch.
+/// During a transition a task of state 0 has no frame of the moving patch's functions, and one of state 1
+/// none of the version below an entry of that patch: so no task mixes the two.
 pub fn none_is_mixed()
     ensures { (setting : Setting) (start : State) (first second : List Seen)
         → IsInPlace setting → IsHonestRun setting start (first ++ second)
@@ -43,14 +45,15 @@ pub fn versions_name_their_sites()
         → AllNamed setting (seen_from setting start first) }
 {}
 
-/// The same at the end of a run: what a call that does its items promises.
+/// At the end of an honest observed run each frame of each task is the version that the task would run at
+/// that site now: the law in the form that a call which does a list of items can promise.
 pub fn frames_are_current_at_the_end()
     ensures { (setting : Setting) (start : State) (items : List Seen)
         → IsInPlace setting → IsHonestRun setting start items
         → AllCurrent setting (seen_from setting start items) }
 {}
 
-/// The state of an observed run is that of a run of its events.
+/// The state of an observed run is that of a run of its events: to watch what tasks call changes nothing.
 pub fn state_is_that_of_the_events()
     ensures { (setting : Setting) (w : Watched) (items : List Seen)
         → (seen_run setting w items).state ≡ run setting w.state (events_of items) }

@@ -1,35 +1,39 @@
 use klp_types::{Frames, ObjId, PatchId, ShadowKey, ShadowValue, TaskId};
 use thiserror::Error;
 
-/// What may happen to the manager. One event is one atomic step.
+/// What may happen to the manager. One event is one atomic step, so callbacks, entries and tasks of one
+/// event are never seen apart.
 #[derive(Clone, Copy, Debug, PartialEq, Eq)]
 pub enum Event {
     /// The patch is loaded and enabled: its transition starts.
     Enable(PatchId),
-    /// The value is written to the `enabled` file of an installed patch: its transition is reversed,
-    /// or it is disabled.
+    /// The value is written to the `enabled` file of an installed patch: its transition is reversed, or it
+    /// is disabled (the kernel's `enabled_store`).
     SetEnabled(PatchId, bool),
-    /// All tasks are brought to the target of the patch in transition.
+    /// All tasks are brought to the target of the patch in transition, whatever they are inside of (the
+    /// kernel's `klp_force_transition`).
     Force(PatchId),
-    /// The transition is tried once more, and completed where nothing holds it up.
+    /// The transition is tried once more, and completed where nothing holds it up. A kernel does so every
+    /// second by itself (`klp_transition_work_fn`).
     Poll,
-    /// A module is loaded.
+    /// A module is loaded (the kernel's `klp_module_coming`): the patches that are installed come to it.
     Coming(ObjId),
-    /// A module is unloaded.
+    /// A module is unloaded (the kernel's `klp_module_going`), unless a task sleeps inside of it.
     Going(ObjId),
-    /// A task begins, in user space.
+    /// A task begins, in user space. Where a patch moves it is at the target, since it runs nothing old.
     NewTask(TaskId),
-    /// A task in the kernel, the first one, makes another.
+    /// A task in the kernel, the first one, makes another, which gets its state (the kernel's
+    /// `klp_copy_process`).
     Fork(TaskId, TaskId),
-    /// A task ends.
+    /// A task ends: it holds up no transition any more.
     EndTask(TaskId),
-    /// A task enters the kernel.
+    /// A task enters the kernel. Its state stays, so what it runs there is what it ran before.
     EnterKernel(TaskId),
-    /// A task goes back to user space.
+    /// A task goes back to user space, where it is switched (the kernel's `klp_update_patch_state`).
     ExitToUser(TaskId),
-    /// A task falls asleep inside of these functions.
+    /// A task falls asleep inside of these functions, which are told because a sleeper is switched by them.
     Sleep(TaskId, Frames),
-    /// A task wakes up.
+    /// A task wakes up, and runs in the kernel again, where no frames are known of it.
     Wake(TaskId),
     /// A shadow variable is added with this value (`klp_shadow_alloc`).
     ShadowAlloc(ShadowKey, ShadowValue),
@@ -43,14 +47,14 @@ pub enum Event {
     ShadowFreeAll(u64),
 }
 
-/// What an accepted event answers.
+/// What an accepted event answers. An event that is accepted may still have failed: see `PreFailed`.
 #[derive(Clone, Copy, Debug, PartialEq, Eq)]
 pub enum Reply {
-    /// The event did what it says.
+    /// The event did what it says, and there is no more to tell.
     Done,
     /// A transition started.
     Started,
-    /// The transition turned round.
+    /// The transition turned round: no callback runs, and the tasks keep the states that they have.
     Reversed,
     /// So many tasks aren't at the target.
     Pending(u8),
@@ -59,7 +63,7 @@ pub enum Reply {
     /// The pre-patch callback of this patch for this object answered the status, which isn't 0: the
     /// patch isn't installed, or the module isn't loaded.
     PreFailed(PatchId, ObjId, i32),
-    /// The value of the shadow variable.
+    /// The value of the shadow variable: the one that was there, or the one that was added.
     Value(ShadowValue),
     /// How many shadow variables were removed.
     Freed(u16),
@@ -67,7 +71,7 @@ pub enum Reply {
     Woken(Frames),
 }
 
-/// Why an event is refused. The numbers are this project's own, and stay.
+/// Why an event is refused. The numbers are this project's own, and stay, so that scripts may rely on them.
 #[derive(Clone, Copy, Debug, PartialEq, Eq, Error)]
 pub enum Refusal {
     /// The catalog has no such patch.
@@ -95,20 +99,22 @@ pub enum Refusal {
     /// A sleeping task is inside of the module.
     #[error("InUse")]
     InUse = 8,
-    /// There is no such task, or its number is above 63.
+    /// There is no such task, or its number is above 63, which no task can have.
     #[error("NoTask")]
     NoTask = 9,
     /// The task is there already.
     #[error("TaskThere")]
     TaskThere = 10,
-    /// The task isn't where the event wants it.
+    /// The task isn't where the event wants it: only a task in the kernel falls asleep, and only a sleeper
+    /// wakes.
     #[error("WrongMode")]
     WrongMode = 11,
-    /// There is no such function to be inside of.
+    /// There is no such function to be inside of: the image lacks the site, or the catalog the new
+    /// function. Whether its object is loaded isn't asked.
     #[error("BadFrame")]
     BadFrame = 12,
-    /// There is no room for another shadow variable, or for all those that the callbacks which the
-    /// event may run add.
+    /// There is no room for another shadow variable, or for all those that the callbacks which the event
+    /// may run add. This is asked before the first of them, since an event isn't left half done.
     #[error("Full")]
     Full = 13,
     /// The journal has no room for another event.
@@ -123,7 +129,7 @@ pub enum Refusal {
     /// The patch isn't installed.
     #[error("NotFound")]
     NotFound = 17,
-    /// The `enabled` file has this value already.
+    /// The `enabled` file has this value already, which the kernel refuses too (`enabled_store`).
     #[error("SameValue")]
     SameValue = 18,
 }

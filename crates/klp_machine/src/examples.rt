@@ -1,5 +1,5 @@
 //! Worked examples of the definitions, by computation. A function here does nothing: its contract is the
-//! example.
+//! example. They pin down what laws say only in general, so that a wrong definition has nowhere to hide.
 ghost use Rattle.std.specs.Prelude.{◌≡◌, pos, negsuc, true, false, [], ◌∷◌, Some, None};
 ghost use Rattle.klp_types.specs.declared.callback.Which.TheVariants.{Pre, Post, PreUn, PostUn};
 ghost use Rattle.klp_types.specs.declared.version.Version.TheVariants.{Original, New};
@@ -19,7 +19,8 @@ ghost use Rattle.klp_machine.specs.Refusals.{refusal};
 ghost use Rattle.klp_machine.specs.Step.{accepted};
 ghost use Rattle.klp_machine.specs.Examples.{small_kernel, module_kernel, taking_over, lacking, crowded, move_of, state_with, with_state, with_states, in_user, in_kernel, asleep_in, ran_by};
 
-/// A transition that is reversed runs nothing, towards either target, and the states of tasks stay.
+/// A transition that is reversed runs nothing, towards either target, and the states of tasks stay: what
+/// was set up is still there, and each task goes back from where it is.
 pub fn a_reversal_runs_nothing()
     ensures enabling { calls small_kernel (state_with true (0 ∷ []) (move_of 0 true) []) (SetEnabled 0 false) ≡ [] }
     ensures disabling { calls small_kernel (state_with true (0 ∷ []) (move_of 0 false) []) (SetEnabled 0 true) ≡ [] }
@@ -28,7 +29,7 @@ pub fn a_reversal_runs_nothing()
         ≡ state_with true (0 ∷ []) (move_of 0 false) (in_kernel (pos 1) ∷ []) }
 {}
 
-/// A disabling starts with pre-unpatch, and every task still runs the patch.
+/// A disabling starts with pre-unpatch, and every task still runs the patch, since no entry has gone yet.
 pub fn a_disabling_starts_with_pre_unpatch()
     ensures runs { ran (calls small_kernel (state_with true (0 ∷ []) None []) (SetEnabled 0 false)) ≡ (0, PreUn) ∷ (1, PreUn) ∷ [] }
     ensures unloaded { ran (calls small_kernel (state_with false (0 ∷ []) None []) (SetEnabled 0 false)) ≡ (0, PreUn) ∷ [] }
@@ -38,9 +39,9 @@ pub fn a_disabling_starts_with_pre_unpatch()
         ≡ state_with true (0 ∷ []) (move_of 0 false) (in_kernel (pos 1) ∷ []) }
 {}
 
-/// Pre-patch runs in the order of the patch's objects up to the one that refuses, and those before it
-/// get post-unpatch; objects that aren't loaded take no part. Then the patch isn't installed, and nothing
-/// moves.
+/// Pre-patch runs in the order of the patch's objects up to the one that refuses, and those before it get
+/// post-unpatch, so that each pre-patch that succeeded is cleaned up; objects that aren't loaded take no
+/// part. Then the patch isn't installed, and nothing moves.
 pub fn objects_before_the_one_that_refuses_get_post_unpatch()
     ensures runs { ran (calls (refusing_in 1) (record { loaded = true ∷ true ∷ true ∷ []; world = (state_with true [] None []).world; moving = None; pinned = false ∷ []; tasks = [] }) (Enable 0))
         ≡ (0, Pre) ∷ (1, Pre) ∷ (2, Pre) ∷ (0, PostUn) ∷ (1, PostUn) ∷ [] }
@@ -62,8 +63,9 @@ pub fn a_replacement_takes_the_older_patches_out()
     ensures withdrawn { installed_patches (accepted small_kernel (state_with true (0 ∷ 1 ∷ []) (move_of 1 false) []) Poll).1 ≡ 0 ∷ [] }
 {}
 
-/// While a task isn't at the target a poll completes nothing and runs nothing. A sleeping task that
-/// nothing holds gets there by the poll; one in the kernel doesn't, nor one in user space.
+/// While a task isn't at the target a poll completes nothing and runs nothing. A sleeping task that nothing
+/// holds gets there by the poll; one in the kernel doesn't, nor one in user space, because both switch when
+/// they next leave the kernel.
 pub fn a_poll_waits_for_tasks()
     ensures runs { calls small_kernel (state_with true (0 ∷ []) (move_of 0 true) (in_kernel (pos 0) ∷ [])) Poll ≡ [] }
     ensures reply { (accepted small_kernel (state_with true (0 ∷ []) (move_of 0 true) (in_kernel (pos 0) ∷ [])) Poll).0 ≡ Pending 1 }
@@ -103,7 +105,8 @@ pub fn tasks_pick_by_their_state()
     ensures no_site { pick small_kernel (state_with true (0 ∷ 2 ∷ []) (move_of 2 true) (in_kernel (pos 1) ∷ [])) 0 3 ≡ None }
 {}
 
-/// An object that isn't loaded, or isn't there, has no entries and no text.
+/// An object that isn't loaded, or isn't there, has no entries and no text: a function for it waits for the
+/// module to come.
 pub fn what_is_not_loaded_has_nothing()
     ensures entries { entries_of small_kernel (state_with false (0 ∷ []) None []) 2 ≡ [] }
     ensures text { text_of small_kernel (state_with false [] None []) 1 ≡ None }
@@ -134,9 +137,9 @@ pub fn a_row_tells_the_two_newest_entries()
     ensures not_hooked { is_hooked small_kernel (state_with true (2 ∷ []) None []) 1 ≡ false }
 {}
 
-/// A module that comes gets pre-patch and post-patch patch by patch, oldest first; a patch that moves
-/// runs pre-patch alone. Where a pre-patch refuses, the patches before it are cleaned up, and the module
-/// isn't loaded.
+/// A module that comes gets pre-patch and post-patch patch by patch, oldest first; a patch that moves runs
+/// pre-patch alone, because its post-patch comes with the end of the transition. Where a pre-patch refuses,
+/// the patches before it are cleaned up, and the module isn't loaded.
 pub fn a_module_comes_patch_by_patch()
     ensures still { ran_by (calls small_kernel (state_with false (0 ∷ []) None []) (Coming 1)) ≡ (0, Pre) ∷ (0, Post) ∷ [] }
     ensures moving { ran_by (calls small_kernel (state_with false (0 ∷ []) (move_of 0 true) []) (Coming 1)) ≡ (0, Pre) ∷ [] }
@@ -149,7 +152,8 @@ pub fn a_module_comes_patch_by_patch()
 {}
 
 /// A module that goes gets pre-unpatch and post-unpatch patch by patch, oldest first; a patch that moves
-/// runs post-unpatch alone. It stays while a task sleeps inside of it, in a function of its own or in a new one for it.
+/// runs post-unpatch alone, since it never ran post-patch or has run pre-unpatch. The module stays while a
+/// task sleeps inside of it, in a function of its own or in a new one for it.
 pub fn a_module_goes_patch_by_patch()
     ensures still { ran_by (calls small_kernel (state_with true (0 ∷ []) None []) (Going 1)) ≡ (0, PreUn) ∷ (0, PostUn) ∷ [] }
     ensures moving { ran_by (calls small_kernel (state_with true (0 ∷ []) (move_of 0 false) []) (Going 1)) ≡ (0, PostUn) ∷ [] }
@@ -158,8 +162,8 @@ pub fn a_module_goes_patch_by_patch()
     ensures in_a_new_one { refusal small_kernel (state_with true (0 ∷ []) None (asleep_in (negsuc 0) (New 0 2 ∷ []) ∷ [])) (Going 1) ≡ Some InUse }
 {}
 
-/// A transition that is forced brings every task to the target. Away from the patch it pins the patch,
-/// to a cumulative one all others.
+/// A transition that is forced brings every task to the target. Away from the patch it pins the patch, to a
+/// cumulative one all others, because a task may still be inside of their functions.
 pub fn who_is_forced_away_is_pinned()
     ensures away { (accepted small_kernel (state_with true (0 ∷ 2 ∷ []) (move_of 2 false) (in_kernel (pos 1) ∷ [])) (Force 2)).1
         ≡ record (state_with true (0 ∷ 2 ∷ []) (move_of 2 false) (in_kernel (pos 0) ∷ [])) { pinned = false ∷ false ∷ true ∷ false ∷ [] } }
@@ -188,22 +192,24 @@ pub fn tasks_come_and_go()
 {}
 
 /// Callbacks find the list of patches as it was before the event's change at its end, and as it is after
-/// the change at its start: pre-patch sets a state of its own patch, and post-patch takes over the value
-/// of a patch that is about to be replaced.
+/// the change at its start: so pre-patch can set a state of its own patch, and post-patch can take over the
+/// value of a patch that is about to be replaced.
 pub fn callbacks_find_the_patches_there()
     ensures set { state_value (accepted taking_over (with_states (with_state 0 5 ∷ []) None) (Enable 1)).1.world 1 7 ≡ Some 3 }
     ensures taken { state_value (accepted taking_over (with_states (with_state 0 5 ∷ with_state 1 3 ∷ []) (move_of 1 true)) Poll).1.world 1 7 ≡ Some 5 }
 {}
 
-/// There has to be room for what the callbacks that may run would add, whether they run or not: at a
-/// poll that stays pending, at an enabling that succeeds, for the cleaning up of a module that comes.
+/// There has to be room for what the callbacks that may run would add, whether they run or not, so that one
+/// can add it up beforehand: at a poll that stays pending, at an enabling that succeeds, for the cleaning
+/// up of a module that comes.
 pub fn room_is_asked_for_all_that_may_run()
     ensures pending { refusal (crowded Post) (state_with true (0 ∷ []) (move_of 0 true) (in_kernel (pos 0) ∷ [])) Poll ≡ Some Full }
     ensures enabling { refusal (crowded PostUn) (state_with true [] None []) (Enable 0) ≡ Some Full }
     ensures coming { refusal (crowded PreUn) (state_with false (0 ∷ []) None []) (Coming 1) ≡ Some Full }
 {}
 
-/// What enabling, writing and forcing are refused for, in their order.
+/// What enabling, writing and forcing are refused for, in their order: where two reasons hold, the first is
+/// told.
 pub fn refusals_come_in_order()
     ensures no_patch { refusal small_kernel (state_with true (0 ∷ []) (move_of 0 true) []) (Enable 4) ≡ Some NoPatch }
     ensures there_first { refusal small_kernel (state_with true (0 ∷ []) (move_of 0 true) []) (Enable 0) ≡ Some AlreadyThere }

@@ -1,5 +1,7 @@
-//! What is proved of the definitions themselves. Each law is the contract of a function that does
-//! nothing: it keeps the definitions honest, and a crate above may rely on it.
+//! What is proved of the definitions themselves. Each law is the contract of a function that does nothing:
+//! it keeps the definitions honest, and a crate above may rely on it. A lemma that a crate above needs is a
+//! law here too, since only what a public contract says can be cited there (docs/DECISIONS.md, "Lemmas of
+//! other crates").
 ghost use Rattle.std.specs.Prelude.{◌≡◌, ℕ, ◌+◌, ◌≤◌, ℤ, pos, Bool, true, false, not, ◌==◌, ◌&&◌, List, [], ◌∷◌, ◌++◌, map, reverse, filter, Some, None, is_some, is_none, option_map, Ok};
 ghost use Rattle.std.specs.List.{count_by, list_any};
 ghost use Rattle.klp_types.specs.declared.shadow.ShadowKey.{ShadowKey};
@@ -35,12 +37,14 @@ ghost use Rattle.klp_machine.specs.Allowed.{is_one_of, Allowed};
 ghost use Rattle.klp_machine.specs.Stated.{IsStated};
 ghost use Rattle.klp_machine.specs.Opening.{opening_state};
 
-/// The state that a manager is booted with is allowed, if the image has an object.
+/// The state that a manager is booted with is allowed, if the image has an object: `vmlinux`, which is
+/// loaded from the start.
 pub fn the_opening_state_is_allowed()
     ensures { (setting : Setting) → is_empty setting.image.objects ≡ false → Allowed setting (opening_state setting) }
 {}
 
-/// A step leads from an allowed state to an allowed state, and so does a run.
+/// A step leads from an allowed state to an allowed state, and so does a run: so what laws ask of a state
+/// holds of every state that a manager comes to.
 pub fn states_stay_allowed()
     ensures step { (setting : Setting) (state : State) (event : AnyEvent) → Allowed setting state → Allowed setting (next setting state event) }
     ensures run { (setting : Setting) (state : State) (events : List AnyEvent) → Allowed setting state → Allowed setting (run setting state events) }
@@ -64,8 +68,8 @@ pub fn tasks_run_whole_lists_of_patches()
         → pick_in setting state (pos 0) site ≡ target_of setting (version_in setting site (reverse (others move.patch (installed_patches state)))) }
 {}
 
-/// When the moving patch is taken out its own entries are gone, and those of the other patches are as
-/// they were, nops among them.
+/// When the moving patch is taken out its own entries are gone, and those of the other patches are as they
+/// were, nops among them. So the stacks needn't be made anew.
 pub fn a_patch_leaves_the_entries_of_the_others()
     ensures { (setting : Setting) (state : State) (patch : ℕ) (site : ℕ) → Allowed setting state → moves state.moving patch ≡ true
         → entries_of setting (with_world state (without_patch state.world patch)) site ≡ filter (λ (e : Entry). not (e.patch == patch)) (entries_of setting state site) }
@@ -94,14 +98,16 @@ pub fn histories_grow_and_are_cut_at_their_end()
         → map (λ (p : AnyEvent × AnyReply). p.0) one ≡ map (λ (p : AnyEvent × AnyReply). p.0) other → one ≡ other }
 {}
 
-/// What a list of events adds to the history is legal, and leads where all of them lead.
+/// What a list of events adds to the history is legal, and leads where all of them lead, since those that
+/// are refused change nothing.
 pub fn accepted_events_lead_where_all_lead()
     ensures legal { (setting : Setting) (state : State) (events : List AnyEvent) → IsLegal setting state (history_of setting state events) }
     ensures state { (setting : Setting) (state : State) (events : List AnyEvent)
         → state_after_history setting state (history_of setting state events) ≡ run setting state events }
 {}
 
-/// Where no task lags, sleepers that are tried change nothing.
+/// Where no task lags, sleepers that are tried change nothing: so a poll may complete without asking who
+/// sleeps.
 pub fn where_none_lags_none_is_switched()
     ensures { (blocked : List AnyVersion) (target : Bool) (tasks : Tasks) → count_by (lags target) tasks ≡ 0 → map (option_map (switched blocked target)) tasks ≡ tasks }
 {}
@@ -121,13 +127,14 @@ pub fn a_replacement_takes_the_older_entries_along()
         ≡ filter (λ (e : Entry). e.patch == move.patch && is_some e.func) (entries_of setting state site) }
 {}
 
-/// Of the installed patches at most two replace: the oldest, and one that moves.
+/// Of the installed patches at most two replace: the oldest, and one that moves. One whose replacement is
+/// complete has no older patch left, since all of them went out with it.
 pub fn at_most_two_patches_replace()
     ensures { (setting : Setting) (state : State) → Allowed setting state → count_by (replaces setting) (installed_patches state) ≤ 2 }
 {}
 
-/// In every state that is reached, an installed patch has a value for each system state that the
-/// catalog tells of it, and for no other.
+/// In every state that is reached, an installed patch has a value for each system state that the catalog
+/// gives it, and for no other: so to ask for one can fail only for want of the patch or its state.
 pub fn installed_patches_have_their_states()
     ensures opening { (setting : Setting) → IsStated setting (opening_state setting) }
     ensures step { (setting : Setting) (state : State) (event : AnyEvent) → IsStated setting state → IsStated setting (next setting state event) }
@@ -135,15 +142,15 @@ pub fn installed_patches_have_their_states()
         → is_some (state_value state.world patch id) ≡ (is_installed state patch && list_any (λ own. own == id) (state_ids setting patch)) }
 {}
 
-/// A site has an entry exactly where its object is loaded and an installed patch has a function for
-/// it: a nop never stands alone.
+/// A site has an entry exactly where its object is loaded and an installed patch has a function for it: a
+/// nop is never alone, because a cumulative patch puts it only over an older entry.
 pub fn entry_where_patched()
     ensures { (setting : Setting) (state : State) (site : ℕ)
         → is_hooked setting state site
         ≡ (is_site_loaded setting state site && list_any (patches_site setting site) (installed_patches state)) }
 {}
 
-/// A function of a loaded object reads as it was built, but for its entry site.
+/// A function of a loaded object reads as it was built, but for its entry site, whatever happened before.
 pub fn reads_as_built()
     ensures { (setting : Setting) (state : State) (object : ℕ) (number : ℕ)
         → is_loaded state object ≡ true
@@ -152,7 +159,8 @@ pub fn reads_as_built()
         (given_symbol setting.image object number) }
 {}
 
-/// A function without an entry reads the NOP, and behind it as it was built.
+/// A function without an entry reads the NOP, and behind it as it was built: so it runs as if there were no
+/// patches at all.
 pub fn reads_nop_without_entry()
     ensures { (setting : Setting) (state : State) (object : ℕ) (number : ℕ)
         → is_loaded state object ≡ true
@@ -170,7 +178,7 @@ pub fn same_functions_same_text()
 {}
 
 /// A run over one list and then another is the run over the first, and from where that ends over the
-/// second.
+/// second: so runs may be cut anywhere.
 pub fn runs_go_on_where_they_end()
     ensures state { (setting : Setting) (state : State) (first second : List AnyEvent)
         → run setting state (first ++ second) ≡ run setting (run setting state first) second }

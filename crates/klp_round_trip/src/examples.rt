@@ -1,5 +1,5 @@
-//! Worked examples, by computation: that there are fair companies, and what is lost where a premise
-//! fails. A function here does nothing: its contract is the example.
+//! Worked examples, by computation: that there are fair companies, so that the laws don't hold of nothing,
+//! and what is lost where a premise fails. A function here does nothing: its contract is the example.
 ghost use Rattle.std.specs.Prelude.{◌≡◌, true, false, [], ◌∷◌, find, is_some, Some, None};
 ghost use Rattle.klp_types.specs.World.{variable};
 ghost use Rattle.klp_machine.specs.declared.event.Event.TheVariants.{Enable, ShadowAlloc};
@@ -32,8 +32,9 @@ pub fn a_variable_that_was_there_is_lost()
     ensures not_undone { EachUndoes 0 (shadow_changed bare.world (ShadowAlloc (key_of 1 9) 77)) (taking_part adding bare 0) → ⊥ }
 {}
 
-/// Two objects whose callbacks share a variable: those of each undo each other, and yet the variable
-/// isn't what it was when the patch is gone.
+/// Two objects whose callbacks share a variable: those of each undo each other, and yet the variable isn't
+/// what it was when the patch is gone, because the objects clean up in the order in which they were set up,
+/// and not backwards.
 pub fn objects_that_share_a_variable_leave_a_trace()
     ensures undone { EachUndoes 0 with_five.world (taking_part sharing with_five 0) }
     ensures before { variable with_five.world (key_of 1 1) ≡ Some 5 }

@@ -1,5 +1,6 @@
-//! What is proved of a patch that is enabled and gone again. A function here does nothing: its
-//! contract is the law.
+//! What is proved of a patch that is enabled and gone again. A function here does nothing: its contract is
+//! the law. The premises are those of `specs/Company`; `examples` shows what is lost where some of them
+//! fail.
 ghost use Rattle.std.specs.Prelude.{◌≡◌, ℕ, ◌<◌, false, List, [], ◌∷◌, ◌++◌, Some};
 ghost use Rattle.std.specs.List.{find};
 ghost use Rattle.klp_types.specs.declared.callback.Which.TheVariants.{Pre};
@@ -16,8 +17,8 @@ ghost use Rattle.klp_round_trip.specs.Footprint.{SameFootprint};
 ghost use Rattle.klp_round_trip.specs.Rounds.{enablings, kinds_for, repeated, RanInRounds, RanOneRound};
 ghost use Rattle.klp_round_trip.specs.Company.{taking_part, company_keys, IsFairCompany};
 
-/// At every moment of a fair company of a patch at which the patch isn't installed, the footprint is
-/// that of the start.
+/// At every moment of a fair company of a patch at which the patch isn't installed, the footprint is that
+/// of the start. Every moment counts, since the patch may come and go many times.
 pub fn gone_without_a_trace()
     ensures { (setting : Setting) (patch : ℕ) (start : State) (first second : List AnyEvent)
         → IsFairCompany setting patch start (first ++ second)
@@ -25,8 +26,9 @@ pub fn gone_without_a_trace()
         → SameFootprint setting (company_keys setting start patch) (run setting start first) start }
 {}
 
-/// At every moment of a fair company, outside of the patch's own variables the shadow variables are
-/// those of the start with the changes of the shadow events.
+/// At every moment of a fair company, outside of the patch's own variables the shadow variables are those
+/// of the start with the changes of the shadow events: no callback of another patch runs, since none comes
+/// or goes.
 pub fn only_shadow_events_outside()
     ensures { (setting : Setting) (patch : ℕ) (start : State) (first second : List AnyEvent)
         → IsFairCompany setting patch start (first ++ second)
@@ -34,9 +36,9 @@ pub fn only_shadow_events_outside()
         → variable (run setting start first).world key ≡ variable (shadow_changes start.world first) key }
 {}
 
-/// Between two moments of a fair company at which the patch isn't installed, the callbacks of each
-/// object that takes part ran in as many rounds as there are enablings: pre-patch, post-patch and
-/// pre-unpatch any number of times, post-unpatch.
+/// Between two moments of a fair company at which the patch isn't installed, the callbacks of each object
+/// that takes part ran in as many rounds as there are enablings: pre-patch, post-patch and pre-unpatch any
+/// number of times, post-unpatch. So a callback may count on its partner having run.
 pub fn callbacks_in_rounds()
     ensures { (setting : Setting) (patch : ℕ) (start : State) (first second third : List AnyEvent)
         → IsFairCompany setting patch start (first ++ second ++ third)
@@ -45,7 +47,8 @@ pub fn callbacks_in_rounds()
         → RanInRounds (taking_part setting start patch) (callbacks_of_run setting (run setting start first) second) (enablings second) }
 {}
 
-/// And where there is one enabling, in one round.
+/// Where there is one enabling between two such moments, the callbacks of each object that takes part ran
+/// in one round. This is the common case, in which the number of rounds needn't be spoken of.
 pub fn callbacks_of_one_round()
     ensures { (setting : Setting) (patch : ℕ) (start : State) (first second third : List AnyEvent)
         → IsFairCompany setting patch start (first ++ second ++ third)
@@ -55,8 +58,8 @@ pub fn callbacks_of_one_round()
         → RanOneRound (taking_part setting start patch) (callbacks_of_run setting (run setting start first) second) }
 {}
 
-/// Where an object refuses, each enabling runs its pre-patch callback and nothing else of it, and
-/// nothing of the objects behind it.
+/// Where an object refuses, each enabling runs its pre-patch callback and nothing else of it, and nothing
+/// of the objects behind it: a pre-patch that fails has to clean up after itself.
 pub fn callbacks_of_the_object_that_refuses()
     ensures refusing { (setting : Setting) (patch : ℕ) (start : State) (first second third : List AnyEvent)
         → IsFairCompany setting patch start (first ++ second ++ third)
@@ -91,8 +94,9 @@ pub fn at_the_end_of_a_run()
         → variable (run setting start events).world key ≡ variable (shadow_changes start.world (accepted_events setting start events)) key }
 {}
 
-/// At every moment of a fair company at which the patch isn't installed, the world is as if the
-/// patch had never been: that of the start with the changes of the shadow events.
+/// At every moment of a fair company at which the patch isn't installed, the world is as if the patch had
+/// never been: that of the start with the changes of the shadow events. This is stronger than the footprint
+/// alone, since shadow events may go on meanwhile.
 pub fn as_if_it_had_never_been()
     ensures { (setting : Setting) (patch : ℕ) (start : State) (first second : List AnyEvent)
         → IsFairCompany setting patch start (first ++ second)

@@ -19,7 +19,8 @@ pub enum Edit {
     TakePrev(u64),
 }
 
-/// A free of the variable (0, 0): what stands in the unused places of a list of edits.
+/// A free of the variable (0, 0). It fills the unused places of a list of edits, which has a fixed size and
+/// wants a value everywhere; none is ever read.
 impl Default for Edit {
     fn default() -> Self {
         Edit::Free(ShadowKey::default())

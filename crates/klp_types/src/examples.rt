@@ -1,5 +1,5 @@
 //! Worked examples of the definitions, by computation. A function here does nothing: its contract is the
-//! example.
+//! example, so a definition that comes to something else isn't proved.
 ghost use Rattle.std.specs.Prelude.{◌≡◌, pos, true, false, [], ◌∷◌, Some, None};
 ghost use Rattle.klp_types.specs.declared.callback.Which.TheVariants.{Pre, Post, PostUn};
 ghost use Rattle.klp_types.specs.declared.version.Version.TheVariants.{Original, New};

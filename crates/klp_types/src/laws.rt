@@ -24,21 +24,24 @@ use crate::limits::{
     MAX_VARIABLES, READ_ROOM,
 };
 
-/// In the text of an object each function reads as it was built, but for its entry site.
+/// In the text of an object each function reads as it was built, but for its entry site: so nothing that
+/// hooks come to can change what is behind it.
 pub fn text_is_as_built_but_for_entry_sites()
     ensures { (image : Image) (hooked : ℕ → Bool) (object : ℕ) (number : ℕ)
         → symbol_in (text_where image hooked object) number
         ≡ option_map (patched image.handler (hooked (first_site image.objects object + number))) (given_symbol image object number) }
 {}
 
-/// A function whose site isn't hooked reads the NOP, and behind it as it was built.
+/// A function whose site isn't hooked reads the NOP, and behind it as it was built: so a function that no
+/// patch has runs its own body.
 pub fn text_has_a_nop_where_not_hooked()
     ensures { (image : Image) (hooked : ℕ → Bool) (object : ℕ) (number : ℕ)
         → hooked (first_site image.objects object + number) ≡ false
         → symbol_in (text_where image hooked object) number ≡ option_map resting (given_symbol image object number) }
 {}
 
-/// The keys of shadow variables are in a total order, in which those that tie are the same.
+/// The keys of shadow variables are in a total order, in which those that tie are the same. Finite maps ask
+/// for it, since what they hold mustn't depend on the order of insertions.
 pub fn keys_are_in_order()
     ensures total { IsTotalOrder key_cmp }
     ensures antisymmetric { finite.IsAntisymmetric key_cmp }
@@ -46,12 +49,13 @@ pub fn keys_are_in_order()
     ensures one { (own key : ShadowKey) → is_key own key ≡ true → own ≡ key }
 {}
 
-/// Where shadow variables are taken out, no more are left than there were.
+/// Where shadow variables are taken out, no more are left than there were: so a removal never wants room.
 pub fn no_more_variables_are_left()
     ensures { (shadow : Shadow) (keep : ShadowKey → Bool) → finite.len (finite.retain_keys shadow keep) ≤ finite.len shadow }
 {}
 
-/// An edit changes each shadow variable by itself, and so do edits one after another.
+/// An edit changes each shadow variable by itself, and so do edits one after another. What a script does to
+/// one variable can so be told without all others.
 pub fn edits_go_key_by_key()
     ensures each { (patch : ℕ) (world : World) (edit : Edit) (key : ShadowKey) → variable (edited patch world edit) key ≡ edited_at key (variable world key) edit }
     ensures all { (patch : ℕ) (world : World) (edits : List Edit) (key : ShadowKey) → variable (edited_by patch world edits) key ≡ made_of key (variable world key) edits }
@@ -63,37 +67,39 @@ pub fn untouched_variables_stay()
     ensures script { (patch : ℕ) (world : World) (script : Script) (key : ShadowKey) → touches script key ≡ false → variable (effect patch world script) key ≡ variable world key }
 {}
 
-/// Two scripts that touch no common shadow variable leave the same shadow variables in either
-/// order. Of the values of system states this isn't so.
+/// Two scripts that touch no common shadow variable leave the same shadow variables in either order. Of the
+/// values of system states this isn't so, since the later of two scripts of one patch decides.
 pub fn scripts_apart_commute()
     ensures { (p q : ℕ) (a b : Script) (world : World) → ((key : ShadowKey) → (touches a key && touches b key) ≡ false)
         → (effect q (effect p world a) b).shadow ≡ (effect p (effect q world b) a).shadow }
 {}
 
-/// A script leaves the states of every patch but its own.
+/// A script leaves the states of every patch but its own: no edit names another patch.
 pub fn states_of_others_stay()
     ensures { (patch other : ℕ) (world : World) (script : Script) → (other ≡ patch → ⊥) → states_of other (effect patch world script).installed ≡ states_of other world.installed }
 {}
 
-/// A script leaves which patches are installed, and in which order.
+/// A script leaves which patches are installed, and in which order, so callbacks can't enable or disable.
 pub fn installed_patches_stay()
     ensures { (patch : ℕ) (world : World) (script : Script) → map (λ (i : Installed). i.patch) (effect patch world script).installed ≡ map (λ (i : Installed). i.patch) world.installed }
 {}
 
-/// Where there is room for the shadow variables that edits add, the first of them leaves room for
-/// those that the others add.
+/// Where there is room for the shadow variables that edits add, the first of them leaves room for those
+/// that the others add. So room is asked for once, before the first edit.
 pub fn edits_keep_to_their_room()
     ensures { (patch : ℕ) (world : World) (edit : Edit) (edits : List Edit)
         → finite.len (edited patch world edit).shadow + alloc_count edits ≤ finite.len world.shadow + alloc_count (edit ∷ edits) }
 {}
 
-/// A script adds no more shadow variables than it has edits that add one.
+/// A script adds no more shadow variables than it has edits that add one; fewer where a variable is there
+/// already, or a later edit removes it.
 pub fn variables_are_few()
     ensures { (patch : ℕ) (world : World) (script : Script)
         → finite.len (effect patch world script).shadow ≤ finite.len world.shadow + alloc_count script.edits }
 {}
 
-/// An edit adds at most one shadow variable, and a script makes no more edits than it has.
+/// An edit adds at most one shadow variable, and a script makes no more edits than it has: none where its
+/// status isn't 0.
 pub fn allocs_are_edits()
     ensures each { (edits : List Edit) → alloc_count edits ≤ length edits }
     ensures made { (script : Script) → alloc_count (edits_made script) ≤ alloc_count script.edits }

@@ -2,9 +2,21 @@
 //!
 //! `specs/` has the definitions that every crate of this repository is proved against: the image, the
 //! patches, the scripts of callbacks and the world that they change, the entries that patches put on a
-//! site, the version that is the newest of some entries, and the bytes of the text. The state of the
-//! whole machine and its events stand above, in `klp_machine`. `laws` has what is proved of the
-//! definitions themselves, and `examples` what they come to over a small kernel.
+//! site, the version that is the newest of some entries, and the bytes of the text. Begin with
+//! `specs/Setting`, then `World`, `Script`, `Entries` and `Bytes`. The state of the whole machine and its
+//! events are above, in `klp_machine`, so that the crates of the image, the world and the catalog don't
+//! depend on the machine (docs/DECISIONS.md, "Definitions without a state").
+//!
+//! `laws` has what is proved of the definitions themselves. Of entries: when patches put an entry on a
+//! site, and whose it is. Of the text: how a function reads by which sites are hooked, and that sites go
+//! object by object. Of scripts: that an edit changes each shadow variable by itself, which variables,
+//! system states and patches a script leaves, how few variables it adds, and which scripts may change
+//! places. Also what each limit is. `examples` has five over a small kernel: nops, the version of the
+//! newest entry, where versions begin, which callbacks run where an object refuses, and which at the end of
+//! a transition.
+//!
+//! The code is small. [`Records`] logs a record last, gives the newest back, and is emptied; its room is
+//! taken once. [`Frames`] has at most 32 versions: `push` puts one last, or leaves a full list as it is.
 #![tactic(auto)]
 
 mod callback;

@@ -8,7 +8,8 @@ use crate::version::Move;
 use std::alloc::{AllocError, Global};
 use std::marker::Model;
 
-/// What one row of the state was before a change. To put it back undoes the change of that row.
+/// What one row of the state was before a change. To put it back undoes the change of that row. A row that
+/// wasn't there has a kind of its own, or a `None`, since to undo its coming is to take it out.
 #[derive(Clone, Copy, Debug, PartialEq, Eq)]
 pub enum Record {
     /// A shadow variable: its value, or `None` where it wasn't there.
@@ -34,7 +35,7 @@ pub enum Record {
         patch: PatchId,
         place: Option<u8>,
     },
-    /// Whether an object was loaded.
+    /// Whether an object was loaded. The image and the names keep the flag each, and both put it back.
     LoadedFlag {
         object: ObjId,
         was: bool,
@@ -45,12 +46,15 @@ pub enum Record {
         patch: PatchId,
         was: Option<Place>,
     },
-    /// Whether a site was hooked.
+    /// Whether a site was hooked. It is logged like every row, but changes nothing when it is put back: the
+    /// hook follows the entries of its site, and so the entry's own record brings it back or takes it away.
     HookFlag {
         site: Site,
         was: bool,
     },
-    /// A task that was there.
+    /// A task that was there. This and `NoTaskRow` are two kinds, and so are `Moving` and `NothingMoving`,
+    /// because a value of an enum that holds an option of such a struct can't be handed on
+    /// (docs/DECISIONS.md, "Two kinds of record for a task and for the transition").
     TaskRow {
         task: TaskId,
         was: Task,
@@ -59,31 +63,33 @@ pub enum Record {
     NoTaskRow {
         task: TaskId,
     },
-    /// The patch in transition.
+    /// The patch that was in transition, and its target.
     Moving {
         was: Move,
     },
-    /// No patch was in transition.
+    /// No patch was in transition: to put this back ends the transition that the event began.
     NothingMoving,
-    /// Whether a patch was pinned.
+    /// Whether a patch was pinned: to undo a forced transition takes the pins away again.
     PinnedFlag {
         patch: PatchId,
         was: bool,
     },
 }
 
-/// Where an entry stood on a function stack, and what it was.
+/// Where an entry was on a function stack, and what it was. Its patch and its site are in the record.
 #[derive(Clone, Copy, Debug, PartialEq, Eq)]
 pub struct Place {
-    /// The place from the oldest entry, counted from 0.
+    /// The place from the oldest entry, counted from 0, since the entries above it may have gone when it is
+    /// put back.
     pub index: u8,
     /// The function of the patch; `None` is a nop.
     pub func: Option<u16>,
 }
 
-/// Records in the order in which they were noted, in a list whose room is reserved when it is made.
+/// Records in the order in which they were logged, in a list whose room is taken when it is made.
 ///
-/// Noting takes no memory. What undoes a change takes them newest first.
+/// To log takes no memory, since no event may fail half done. What undoes a change takes them newest first,
+/// so that each row finds the rows around it as they were when it was logged.
 #[derive(Debug, Drop)]
 pub struct Records {
     noted: Vec<Record>,
@@ -102,7 +108,8 @@ impl Model for Records {
 }
 
 impl Records {
-    /// An empty list with room for `room` records. An error is want of memory.
+    /// An empty list with room for `room` records, which is never left or grown. An error is want of
+    /// memory.
     pub fn new(alloc: Global, room: usize) -> Result<Self, AllocError>
         ensures { IfOk result (λ records. records ≡ record { noted = []; room = room }) }
     {
@@ -112,7 +119,7 @@ impl Records {
         })
     }
 
-    /// The records, oldest first.
+    /// The records, oldest first, as the journal copies them when the event is accepted.
     pub fn noted(&self) -> &[Record]
         ensures records { result.now ≡ self.now.noted }
         ensures limit { length result.now ≤ self.now.room }
@@ -120,14 +127,15 @@ impl Records {
         &self.noted
     }
 
-    /// How many more records there is room for.
+    /// How many more records there is room for. Every change asks for its room before it begins.
     pub fn spare(&self) -> usize
         ensures { result ≡ spare_of self.now }
     {
         self.room - self.noted.len()
     }
 
-    /// Notes a record, as the newest.
+    /// Logs a record, as the newest. The push can't fail, since the caller has seen to its place, so its
+    /// answer is dropped.
     pub fn note(&mut self, row: Record)
         requires { 0 < spare_of self.old }
         ensures { self.new ≡ record self.old { noted = self.old.noted ++ row ∷ [] } }
@@ -135,7 +143,7 @@ impl Records {
         let _ = self.noted.push(row);
     }
 
-    /// Takes the newest record out, if there is one.
+    /// Takes the newest record out, if there is one: undoing takes the list apart from its end.
     pub fn take_last(&mut self) -> Option<Record>
         ensures newest { IfSome result (λ newest. self.old ≡ record self.new { noted = self.new.noted ++ newest ∷ [] }) }
         ensures empty { IfNone result (self.old.noted ≡ []) }
@@ -144,7 +152,7 @@ impl Records {
         self.noted.pop()
     }
 
-    /// Takes all records out. The room stays.
+    /// Takes all records out. The room stays, so that the next event logs without new memory.
     pub fn clear(&mut self)
         ensures { self.new ≡ record self.old { noted = [] } }
     {

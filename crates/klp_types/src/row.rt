@@ -1,10 +1,11 @@
 use crate::version::Entry;
 
-/// What stands at a site: its two newest entries, and whether the newest one's patch is in transition.
+/// What a call at a site has to know: its two newest entries, and whether the newest one's patch is in
+/// transition. Two are enough, since only the newest entry's patch can be passed over (`klp_stack::laws`).
 #[derive(Clone, Copy, Debug, PartialEq, Eq)]
 pub struct SiteWord {
     pub top: Option<Entry>,
-    /// The entry next below.
+    /// The entry next below, which a task that isn't at the transition's target 1 runs.
     pub below: Option<Entry>,
     pub moves: bool,
 }

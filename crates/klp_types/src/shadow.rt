@@ -6,5 +6,5 @@ pub struct ShadowKey {
     pub id: u64,
 }
 
-/// The value of a shadow variable.
+/// The value of a shadow variable: a number, where the kernel's has any data, since scripts only copy it.
 pub type ShadowValue = u64;

@@ -5,7 +5,7 @@ use crate::number::Site;
 use crate::version::Version;
 use std::marker::Model;
 
-/// A task, by its number.
+/// A task, by its number, which is free again when the task ends.
 #[derive(Clone, Copy, Debug, PartialEq, Eq)]
 pub struct TaskId(pub u8);
 
@@ -19,7 +19,8 @@ impl Model for TaskId {
     ghost inverse = { λ n. record { 0 = n } };
 }
 
-/// Where a task is.
+/// Where a task is. The three are told apart because a transition switches each in its own way: a sleeper
+/// by its frames, the others when they next leave the kernel.
 #[derive(Clone, Copy, Debug, PartialEq, Eq)]
 pub enum Mode {
     /// In user space: it runs no function of the kernel.
@@ -30,7 +31,8 @@ pub enum Mode {
     Asleep,
 }
 
-/// The functions that a sleeping task is inside of, innermost last.
+/// The functions that a sleeping task is inside of, innermost last. There are at most 32 by the type, which
+/// an allowed state doesn't ask for (docs/DECISIONS.md, "Frames in allowed states").
 #[derive(Clone, Copy, Debug, PartialEq, Eq)]
 pub struct Frames {
     versions: [Version; MAX_FRAMES],
@@ -54,7 +56,7 @@ impl Model for Frames {
 }
 
 impl Frames {
-    /// No frames.
+    /// No frames: the unused places hold the original of site 0, so that equal frames are equal values.
     pub fn new() -> Self
         ensures { result ≡ [] }
     {
@@ -64,7 +66,7 @@ impl Frames {
         }
     }
 
-    /// How many there are.
+    /// How many there are, at most [`MAX_FRAMES`].
     pub fn len(&self) -> u8
         ensures { result ≡ length self.now }
     {
@@ -79,7 +81,8 @@ impl Frames {
         &versions[..self.count as usize]
     }
 
-    /// Puts a frame innermost; nothing where there is no room.
+    /// Puts a frame innermost. Where there is no room nothing changes, and the answer is `false`: the
+    /// caller decides what a list that is too long is.
     pub fn push(&mut self, version: Version) -> bool
         ensures full { result ≡ nat_lt (length self.old) MAX_FRAMES }
         ensures pushed { result ≡ true → self.new ≡ self.old ++ version ∷ [] }
@@ -95,7 +98,8 @@ impl Frames {
     }
 }
 
-/// A task: how far it is brought to the patch in transition, where it is, and what it is inside of.
+/// A task: how far it is brought to the patch in transition, where it is, and what it is inside of. It is a
+/// row of the state, and copied whole into the record that undoes a change of it.
 #[derive(Clone, Copy, Debug, PartialEq, Eq)]
 pub struct Task {
     /// As `/proc/<pid>/patch_state` shows it: -1 where no patch moves, else 1 where the task runs the

@@ -1,6 +1,8 @@
 use std::marker::Model;
 
-/// A symbol of an object: its name, the address of its first byte, and the bytes of its body.
+/// A symbol of an object: its name, the address of its first byte, and the bytes of its body. It is plain
+/// fields and a record of lists in contracts, so that it gives back what went in (docs/DECISIONS.md, "Texts
+/// as records of lists").
 #[derive(Debug, Drop)]
 pub struct SymbolText {
     pub name: String,
@@ -17,7 +19,7 @@ impl Model for SymbolText {
     ghost view = { λ s. record { name = string_bytes s.name; address = s.address; body = s.body.items } };
 }
 
-/// An object of the image: its name, and its symbols in order.
+/// An object of the image: its name, and its symbols in order. That order is the one of its sites.
 #[derive(Debug, Drop)]
 pub struct ObjectText {
     pub name: String,

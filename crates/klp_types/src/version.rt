@@ -1,6 +1,6 @@
 use crate::number::{PatchId, Site};
 
-/// Which code answers a call of a function.
+/// Which code answers a call of a function. It names code, and no entry: a nop is the original.
 #[derive(Clone, Copy, Debug, PartialEq, Eq)]
 pub enum Version {
     /// The function that the site was built with.
@@ -9,11 +9,12 @@ pub enum Version {
     New(PatchId, u16),
 }
 
-/// A version with the address that a call jumps to.
+/// A version with the address that a call jumps to, which is what a handler needs.
 #[derive(Clone, Copy, Debug, PartialEq, Eq)]
 pub struct Target {
     pub version: Version,
-    /// The address of the new function, or the one behind the entry site of an original.
+    /// The address of the new function, or the one behind the entry site of an original, so that the
+    /// original doesn't call the handler again.
     pub address: u64,
 }
 
@@ -26,7 +27,7 @@ pub struct Entry {
     pub func: Option<u16>,
 }
 
-/// The patch in transition.
+/// The patch in transition. There is one at most (the kernel's `klp_transition_patch`).
 #[derive(Clone, Copy, Debug, PartialEq, Eq)]
 pub struct Move {
     pub patch: PatchId,
