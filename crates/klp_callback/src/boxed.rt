@@ -10,8 +10,8 @@ use klp_types::{PatchId, Records};
 use klp_world::{MAX_EDITS, World};
 use std::marker::Model;
 
-/// A boxed callback, as its script and the count of its runs. It told both when it was handed in:
-/// what is known of a value keeps no fact about the inside of a box.
+/// A boxed callback, as its script and the count of its runs. It gave both when it was handed in: what is
+/// known of a value keeps no fact about the inside of a box (docs/DECISIONS.md, "Models and boxes").
 #[derive(Drop)]
 pub struct Boxed {
     counted: CountedBox,
@@ -26,7 +26,8 @@ impl Model for Boxed {
 }
 
 impl Boxed {
-    /// Takes a callback, and asks it for its script and its count.
+    /// Takes a callback, and asks it for its script and its count, since nothing can be asked of the box in
+    /// a contract afterwards.
     pub fn new(callback: Box<dyn Callback>) -> Self
         ensures { result ≡ record { script = script_of callback; runs = runs_of callback } }
     {
@@ -48,7 +49,7 @@ impl Boxed {
         self.counted.run(patch, world, log)
     }
 
-    /// How many edits of the script add a shadow variable.
+    /// How many edits of the script add a shadow variable: what a run needs room for.
     pub fn allocs(&self) -> u16
         ensures value { result ≡ alloc_count self.now.script.edits }
         ensures limit { length self.now.script.edits ≤ MAX_EDITS }
@@ -56,7 +57,8 @@ impl Boxed {
         self.counted.allocs()
     }
 
-    /// How many times the callback ran; the greatest number stays.
+    /// How many times the callback ran; the greatest number stays, since a run is never refused for its
+    /// count.
     pub fn runs(&self) -> u64
         ensures { result ≡ self.now.runs }
     {

@@ -9,11 +9,11 @@ use crate::edits::{allocs_of, is_same, run_script};
 use klp_types::{PatchId, Records};
 use klp_world::{MAX_EDITS, Script, World};
 
-/// A callback in its box, beside the script and the count that it told.
+/// A callback in its box, beside the script and the count that it gave.
 ///
-/// A model can't ask a box, so [`crate::Boxed`] shows what stands beside it. Nothing outside this file
-/// can write that: the count grows by [`CountedBox::run`] alone, of which a clause says that the
-/// callback in the box ran as well.
+/// A model can't ask a box, so [`crate::Boxed`] shows what is beside it. Nothing outside this file can
+/// write that: the count grows by [`CountedBox::run`] alone, of which a clause says that the callback in
+/// the box ran as well.
 #[derive(Drop)]
 pub(crate) struct CountedBox {
     script: Script,
@@ -22,7 +22,7 @@ pub(crate) struct CountedBox {
 }
 
 impl CountedBox {
-    /// Takes a callback, and asks it for its script and its count.
+    /// Takes a callback, and asks it for its script and its count while its contract is still at hand.
     pub(crate) fn new(callback: Box<dyn Callback>) -> Self
         ensures script { result.script ≡ script_of callback }
         ensures runs { result.runs ≡ runs_of callback }
@@ -34,8 +34,8 @@ impl CountedBox {
         }
     }
 
-    /// Runs the callback in the box, which is asked for its script again: where that were another
-    /// one, which the trait's contract rules out, the world would change as the callback told.
+    /// Runs the callback in the box, which is asked for its script again: if that were another one, which
+    /// the trait's contract rules out, the world would change by the script that was given first.
     pub(crate) fn run(&mut self, patch: PatchId, world: &mut World, log: &mut Records) -> i32
         requires room { HasRoom world.old log.old (alloc_count self.old.script.edits) (rows_of_script patch world.old self.old.script) }
         ensures status { result ≡ self.old.script.status }
@@ -46,6 +46,8 @@ impl CountedBox {
         ensures changes { Changes world.old world.new log.old log.new (effect patch world.old self.old.script) (rows_of_script patch world.old self.old.script) }
     {
         self.runs = self.runs.saturating_add(1);
+        // What was said of the box when it was made can't be known here, so it is compared
+        // (docs/DECISIONS.md, "The script of a boxed callback").
         if is_same(&self.callback.script(), &self.script) {
             self.callback.run(patch, world, log)
         } else {
@@ -53,7 +55,7 @@ impl CountedBox {
         }
     }
 
-    /// How many edits of the script add a shadow variable.
+    /// How many edits of the script add a shadow variable, by the copy, without asking the box.
     pub(crate) fn allocs(&self) -> u16
         ensures value { result ≡ alloc_count self.now.script.edits }
         ensures limit { length self.now.script.edits ≤ MAX_EDITS }
@@ -61,7 +63,7 @@ impl CountedBox {
         allocs_of(&self.script)
     }
 
-    /// How many times the callback ran; the greatest number stays.
+    /// How many times the callback ran, by the count beside the box; the greatest number stays.
     pub(crate) fn runs(&self) -> u64
         ensures { result ≡ self.now.runs }
     {

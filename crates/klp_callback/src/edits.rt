@@ -10,7 +10,8 @@ use klp_types::{Edit, PatchId, Records};
 use klp_world::laws::scripts_are_undone;
 use klp_world::{MAX_EDITS, Script, World};
 
-/// Makes one edit for the patch.
+/// Makes one edit for the patch. What an edit finds (a variable that is there, a state that isn't) is no
+/// fault, so nothing is answered.
 fn make_edit(edit: Edit, patch: PatchId, world: &mut World, log: &mut Records)
     requires room { HasRoom world.old log.old (alloc_count (edit ∷ [])) (rows_of_edit patch world.old edit) }
     ensures changes { Changes world.old world.new log.old log.new (edited patch world.old edit) (rows_of_edit patch world.old edit) }
@@ -30,7 +31,8 @@ fn make_edit(edit: Edit, patch: PatchId, world: &mut World, log: &mut Records)
     }
 }
 
-/// Gives the patch's state the value that it has in the patch before.
+/// Gives the patch's state the value that it has in the patch before. Where no older patch names it the
+/// state stays as it is, since there is nothing to take over.
 fn take_previous(patch: PatchId, id: u64, world: &mut World, log: &mut Records)
     requires { length (rows_of_edit patch world.old (Edit.TakePrev id)) ≤ spare_of log.old }
     ensures changes { Changes world.old world.new log.old log.new (edited patch world.old (Edit.TakePrev id)) (rows_of_edit patch world.old (Edit.TakePrev id)) }
@@ -42,7 +44,7 @@ fn take_previous(patch: PatchId, id: u64, world: &mut World, log: &mut Records)
     }
 }
 
-/// Makes edits one after another.
+/// Makes edits one after another, each over what those before it left.
 fn make_edits(edits: &[Edit], patch: PatchId, world: &mut World, log: &mut Records)
     requires room { HasRoom world.old log.old (alloc_count edits.now) (rows_of_edits patch world.old edits.now) }
     ensures world { world.new ≡ edited_by patch world.old edits.now }
@@ -54,7 +56,8 @@ fn make_edits(edits: &[Edit], patch: PatchId, world: &mut World, log: &mut Recor
     }
 }
 
-/// Runs a script for the patch, and answers its status, as [`crate::Callback::run`] does.
+/// Runs a script for the patch, and answers its status, as [`crate::Callback::run`] does. A script that
+/// refuses makes no edit.
 pub fn run_script(script: &Script, patch: PatchId, world: &mut World, log: &mut Records) -> i32
     requires room { HasRoom world.old log.old (alloc_count script.now.edits) (rows_of_script patch world.old script.now) }
     ensures status { result ≡ script.now.status }
@@ -67,7 +70,8 @@ pub fn run_script(script: &Script, patch: PatchId, world: &mut World, log: &mut 
     script.status
 }
 
-/// How many edits of the script add a shadow variable.
+/// How many edits of the script add a shadow variable. Those that remove one aren't counted against them,
+/// since the room has to be there before any edit is made.
 pub fn allocs_of(script: &Script) -> u16
     ensures value { result ≡ alloc_count script.now.edits }
     ensures limit { length script.now.edits ≤ MAX_EDITS }
@@ -84,7 +88,7 @@ fn count_allocs(edits: &[Edit]) -> usize
         .count()
 }
 
-/// A script with the same edits and status.
+/// A script with the same edits and status, since an array of edits isn't copied by itself.
 pub(crate) fn copy_of(script: &Script) -> Script
     ensures { result ≡ script.now }
 {
@@ -96,7 +100,7 @@ pub(crate) fn copy_of(script: &Script) -> Script
     }
 }
 
-/// Whether two scripts have the same edits and status.
+/// Whether two scripts have the same edits and status. The unused places of their lists don't count.
 pub(crate) fn is_same(a: &Script, b: &Script) -> bool
     ensures same { IsTrue result → a.now ≡ b.now }
     ensures whole { a.now ≡ b.now → IsTrue result }

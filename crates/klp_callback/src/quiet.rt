@@ -6,7 +6,7 @@ use klp_types::{PatchId, Records};
 use klp_world::{Script, World};
 use std::marker::Model;
 
-/// A callback that edits nothing and succeeds.
+/// A callback that edits nothing and succeeds: for a place where one is wanted, and nothing has to happen.
 #[derive(Debug, Drop)]
 pub struct Quiet {
     runs: u64,
@@ -21,7 +21,7 @@ impl Model for Quiet {
 }
 
 impl Quiet {
-    /// A callback that never ran.
+    /// A callback that never ran: its count is 0.
     pub fn new() -> Self
         ensures { result ≡ 0 }
     {

@@ -6,7 +6,7 @@ use klp_types::{PatchId, Records};
 use klp_world::{Script, World};
 use std::marker::Model;
 
-/// A callback that edits nothing and answers a status.
+/// A callback that edits nothing and answers a status, so that a pre-patch refuses its patch.
 #[derive(Debug, Drop)]
 pub struct Refusing {
     status: i32,
@@ -22,7 +22,7 @@ impl Model for Refusing {
 }
 
 impl Refusing {
-    /// A callback that never ran.
+    /// A callback that never ran. A status of 0 refuses nothing.
     pub fn new(status: i32) -> Self
         ensures { result ≡ record { status = status; runs = 0 } }
     {

@@ -6,7 +6,7 @@ use klp_types::{PatchId, Records};
 use klp_world::{Script, World};
 use std::marker::Model;
 
-/// A callback that runs any script.
+/// A callback that runs any script, as a catalog's text gives it.
 #[derive(Debug, Drop)]
 pub struct Scripted {
     script: Script,
@@ -22,7 +22,7 @@ impl Model for Scripted {
 }
 
 impl Scripted {
-    /// A callback that never ran.
+    /// A callback that never ran, for this script.
     pub fn new(script: Script) -> Self
         ensures { result ≡ record { script = script; runs = 0 } }
     {

@@ -4,13 +4,13 @@ use thiserror::Error;
 /// stay.
 #[derive(Clone, Copy, Debug, PartialEq, Eq, Error)]
 pub enum SymbolFault {
-    /// No symbol has the name.
+    /// No symbol of the object has the name.
     #[error("Missing")]
     Missing = 1,
-    /// Several symbols have the name, and the position is 0.
+    /// Several symbols have the name, and the position is 0, which asks for the only one.
     #[error("Ambiguous")]
     Ambiguous = 2,
-    /// Fewer symbols than the position have the name.
+    /// Fewer symbols than the position have the name. Positions count from 1, as in kallsyms.
     #[error("NoPosition")]
     NoPosition = 3,
 }

@@ -1,4 +1,4 @@
-//! The tables that look-ups go by. Each is made once.
+//! The tables that look-ups go by. Each is made once, from the objects, since these never change.
 
 ghost use Rattle.std.specs.Prelude.{◌≡◌, ◌+◌, ◌≤◌, ◌++◌, ◌==◌, length, count_by, IfOk, OnOk};
 ghost use Rattle.klp_modules.specs.Kept.{symbol_count};
@@ -38,7 +38,8 @@ impl Tables {
     }
 }
 
-/// By the number of a name, the first object of that name.
+/// By the number of a name, the first object of that name: of two of one name, which an image hasn't, the
+/// other is never found.
 fn objects_by_name(
     alloc: Global,
     objects: &[NumberedObject],
@@ -53,7 +54,7 @@ fn objects_by_name(
     Ok(table)
 }
 
-/// By object, the sites of its symbols by the numbers of their names.
+/// By object, the sites of its symbols by the numbers of their names, so that a position is an index.
 fn sites_by_object(
     alloc: Global,
     objects: &[NumberedObject],
@@ -70,8 +71,8 @@ fn sites_by_object(
     Ok(tables)
 }
 
-/// By the number of a name, the sites of the symbols of that name, where the first symbol's is
-/// this.
+/// By the number of a name, the sites of the symbols of that name, in order, where the first symbol's site
+/// is this.
 fn sites_by_name(
     alloc: Global,
     first: u16,
@@ -88,7 +89,7 @@ fn sites_by_name(
     Ok(table)
 }
 
-/// By site, the symbol.
+/// By site, its symbol: the way back from a site to what an administrator calls it.
 fn symbols_by_site(
     alloc: Global,
     objects: &[NumberedObject],
@@ -104,7 +105,8 @@ fn symbols_by_site(
     Ok(table)
 }
 
-/// Adds the symbols of an object.
+/// Adds the symbols of an object, whose positions are counted over the symbols before each. That is
+/// quadratic in them, and done once.
 fn add_symbols(
     table: &mut Vec<NumberedSymbol>,
     object: ObjId,
@@ -124,7 +126,7 @@ fn add_symbols(
     Ok(())
 }
 
-/// How many of the symbols have the name of this number.
+/// How many of the symbols have the name of this number: the last one's position, from 1.
 fn count(symbols: &[usize], number: usize) -> usize
     ensures { result ≡ count_by (λ other. other == number) symbols.now }
 {

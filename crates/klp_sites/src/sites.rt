@@ -21,8 +21,8 @@ use std::marker::Model;
 
 /// The image and the function stacks of its sites.
 ///
-/// All room is taken by [`Sites::new`]. Each change notes or answers a record of every row that it
-/// changes, as it was. To put these records back, newest first, gives the table before the changes.
+/// All room is taken by [`Sites::new`]. Each change logs or answers a record of every row that it changes,
+/// as it was. To put these records back, newest first, gives the table before the changes.
 #[derive(Debug, Drop)]
 pub struct Sites {
     image: Image,
@@ -39,7 +39,7 @@ impl Model for Sites {
     ghost invariant = { λ s. IsInStep s.image s.stacks };
 }
 
-/// How many sites the objects of an image have, loaded or not.
+/// How many sites the objects of an image have, loaded or not, since each wants its stack from the start.
 fn count_sites(image: &Image) -> usize
     ensures { result ≡ site_count image.now.image }
 {
@@ -50,7 +50,8 @@ fn count_sites(image: &Image) -> usize
     sites
 }
 
-/// Whether a site is to be hooked: it has an entry.
+/// Whether a site is to be hooked: it has an entry. A nop is one too, because it has to be run by the
+/// handler.
 fn is_hooked(stacks: &Stacks, site: Site) -> bool
     ensures { result ≡ is_hooked_at stacks.now site }
 {
@@ -58,8 +59,8 @@ fn is_hooked(stacks: &Stacks, site: Site) -> bool
 }
 
 impl Sites {
-    /// The image with a stack without entries for each site. An error is want of memory, and the
-    /// image is dropped with it.
+    /// The image with a stack without entries for each site. Nothing may be hooked yet, since nothing has
+    /// an entry. An error is want of memory, and the image is dropped with it.
     pub fn new(alloc: Global, image: Image) -> Result<Self, AllocError>
         requires { image.hooked ≡ replicate (site_count image.image) false }
         ensures { IfOk result (λ sites. sites ≡ opening image) }
@@ -68,8 +69,8 @@ impl Sites {
         Ok(Self { image, stacks })
     }
 
-    /// Puts an entry on top of a site's stack, and hooks the site with its first. The cost is
-    /// constant.
+    /// Puts an entry on top of a site's stack, and hooks the site with its first, as the kernel registers
+    /// its `ftrace_ops` with the first function of a stack. The cost is constant.
     pub fn push(&mut self, site: Site, entry: Entry, log: &mut Records)
         requires there { site < length self.old.stacks }
         requires fresh { has_entry entry.patch (entries_at self.old.stacks site) ≡ false }
@@ -85,8 +86,8 @@ impl Sites {
         }
     }
 
-    /// Takes the entry of a patch out of a site's stack, and unhooks the site with its last. The cost
-    /// is at most the stack's height.
+    /// Takes the entry of a patch out of a site's stack, and unhooks the site with its last, so that a
+    /// function without patches pays for none. The cost is at most the stack's height.
     pub fn take(&mut self, site: Site, patch: PatchId, log: &mut Records)
         requires there { has_entry patch (entries_at self.old.stacks site) ≡ true }
         requires records { length (rows_of_take self.old site patch) ≤ spare_of log.old }
@@ -99,8 +100,8 @@ impl Sites {
         }
     }
 
-    /// Makes an object loaded, and answers whether it was. Its sites stay hooked or unhooked as they
-    /// are. The cost is constant.
+    /// Makes an object loaded, and answers whether it was. Its sites stay hooked or unhooked as they are,
+    /// because the entries of a module come by changes of their own. The cost is constant.
     pub fn load(&mut self, object: ObjId) -> Record
         requires { object < length self.old.image.objects }
         ensures row { result ≡ Record.LoadedFlag object (slice_index_or self.old.loaded object false) }
@@ -110,8 +111,8 @@ impl Sites {
         self.set_loaded(object, true)
     }
 
-    /// Makes an object one that isn't loaded, and answers whether it was. Its sites stay hooked or
-    /// unhooked as they are. The cost is constant.
+    /// Makes an object one that isn't loaded, and answers whether it was. Its sites stay hooked or unhooked
+    /// as they are: the caller takes its entries out beside. The cost is constant.
     pub fn unload(&mut self, object: ObjId) -> Record
         requires { object < length self.old.image.objects }
         ensures row { result ≡ Record.LoadedFlag object (slice_index_or self.old.loaded object false) }
@@ -121,9 +122,10 @@ impl Sites {
         self.set_loaded(object, false)
     }
 
-    /// Gives one row what the record tells: an entry, with which the hook of its site comes or goes,
-    /// or whether an object is loaded. Nothing changes where there is no such site or object, and by
-    /// a record of another kind. The cost is at most the stack's height.
+    /// Gives one row what the record tells: an entry, with which the hook of its site comes or goes, or
+    /// whether an object is loaded. Nothing changes where there is no such site or object, and by a record
+    /// of another kind: a hook's own record is one, since the entry's has brought the hook back
+    /// (docs/DECISIONS.md, "Hooks in undo"). The cost is at most the stack's height.
     pub fn put_back(&mut self, row: Record)
         ensures { self.new ≡ put_back self.old row }
     {
@@ -134,7 +136,8 @@ impl Sites {
         }
     }
 
-    /// Puts an entry of the site back, or takes it out.
+    /// Puts an entry of the site back, or takes it out. The hook is written only where it changes, which is
+    /// with the first entry and the last.
     fn put_entry(&mut self, site: Site, patch: PatchId, was: Option<Place>)
         ensures { self.new ≡ put_back self.old (Record.StackEntry site patch was) }
     {
@@ -159,7 +162,8 @@ impl Sites {
         }
     }
 
-    /// Makes an object loaded or one that isn't, and answers which it was.
+    /// Makes an object loaded or one that isn't, and answers which it was. Both ways are one, so that
+    /// undoing has the same code as the change.
     fn set_loaded(&mut self, object: ObjId, loaded: bool) -> Record
         requires { object < length self.old.image.objects }
         ensures row { result ≡ Record.LoadedFlag object (slice_index_or self.old.loaded object false) }
@@ -175,8 +179,8 @@ impl Sites {
         Record::LoadedFlag { object, was }
     }
 
-    /// The image as it stands, to be looked at: its names, its addresses, and its bytes with the
-    /// hooks.
+    /// The image as it is, to be looked at: its names, its addresses, and its bytes with the hooks. It is
+    /// lent for reading alone, since a hook that was written from outside would be out of step.
     pub fn image(&self) -> &Image
         ensures value { result.now ≡ image_of self.now }
         ensures sites { length self.now.stacks ≡ site_count self.now.image }
@@ -200,15 +204,15 @@ impl Sites {
         self.image.bytes(object, number)
     }
 
-    /// How many entries a site has, nops among them; a site that isn't there has none. It is hooked
-    /// while it has one. The cost is constant.
+    /// How many entries a site has, nops among them; a site that isn't there has none. It is hooked while
+    /// it has one, so this is how to ask for its hook. The cost is constant.
     pub fn hooks(&self, site: Site) -> u16
         ensures { result ≡ length (entries_at self.now.stacks site) }
     {
         self.stacks.hooks(site)
     }
 
-    /// How many sites there are, at a constant cost.
+    /// How many sites there are, at a constant cost: one for each symbol of the image.
     pub fn sites(&self) -> usize
         ensures value { result ≡ length self.now.stacks }
         ensures image { result ≡ site_count self.now.image }
@@ -220,21 +224,22 @@ impl Sites {
     /// height.
     pub fn entry(&self, site: Site, patch: PatchId) -> Option<Entry>
         ensures value { result ≡ find (λ (e : AnyEntry). e.patch == patch) (entries_at self.now.stacks site) }
-        // what each stack keeps to
+        // what each stack keeps to, so that callers needn't prove it again
         ensures stack { IsStack (entries_at self.now.stacks site) }
     {
         self.stacks.entry(site, patch)
     }
 
     /// What a call at a site needs to know, at a constant cost. `moving` is the patch in transition, if
-    /// there is one.
+    /// there is one, which isn't kept here.
     pub fn word(&self, site: Site, moving: Option<PatchId>) -> SiteWord
         ensures { result ≡ word_of moving (entries_at self.now.stacks site) }
     {
         self.stacks.word(site, moving)
     }
 
-    /// The entries of a site, newest first. The cost is the stack's height.
+    /// The entries of a site, newest first, in an array, so that none is lent. The cost is the stack's
+    /// height.
     pub fn entries(&self, site: Site) -> ArrayVec<Entry, MAX_PATCHES>
         ensures { result.items ≡ entries_at self.now.stacks site }
     {

@@ -7,8 +7,9 @@ ghost use Rattle.klp_stack.specs.Pick.{picked};
 
 use klp_types::{Entry, Site, SiteWord, Version};
 
-/// The version that a task of this state (-1, 0 or 1) runs at a site, at a constant cost. A nop stands
-/// for the original.
+/// The version that a task of this state (-1, 0 or 1) runs at a site, at a constant cost. Only a task of
+/// state 0 passes over the entry of the patch in transition: -1 means that nothing moves. A nop is the
+/// original.
 pub fn pick(site: Site, word: SiteWord, state: i8) -> Version
     ensures { result ≡ picked site word state }
 {
@@ -20,7 +21,8 @@ pub fn pick(site: Site, word: SiteWord, state: i8) -> Version
     version(site, entry)
 }
 
-/// The version of an entry, or the original where there is none.
+/// The version of an entry, or the original where there is none. A nop is the original too, since that is
+/// what a cumulative patch gives back.
 pub(crate) fn version(site: Site, entry: Option<Entry>) -> Version
     ensures { result ≡ newest_version site (option_to_list entry) }
 {

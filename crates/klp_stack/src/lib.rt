@@ -1,5 +1,13 @@
-//! The function stacks of all sites: what the installed patches do with each site, newest first, and
-//! which version a task runs there (livepatch, Livepatch life-cycle).
+//! The function stacks of all sites: what the installed patches do with each site, newest first, and which
+//! version a task runs there (livepatch, Livepatch life-cycle).
+//!
+//! The model is a list of entries for each site, newest first (`specs/Stack`). `push` puts an entry on top,
+//! `take` takes that of a patch out, and each answers a record of the one row that it changed; the record,
+//! put back, gives the equal stacks (`specs/Changes`, `Undo`). `hooks` is how many entries a site has,
+//! `word` the two newest, `blocked` what holds a sleeper back there; a site that isn't there has nothing.
+//!
+//! [`pick`] is the version of the definition (`specs/Pick`), by the word alone: `laws` says that the word
+//! is enough. One site by itself is in `src/stack.rt`.
 #![tactic(auto)]
 
 mod handler;

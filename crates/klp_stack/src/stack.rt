@@ -11,7 +11,8 @@ use arrayvec::ArrayVec;
 use klp_types::{Entry, MAX_PATCHES, Move, PatchId, Place, Site, SiteWord, Version};
 use std::marker::Model;
 
-/// The entries of one site.
+/// The entries of one site (the kernel's `func_stack`). The order is that of the enablings, since a newer
+/// patch hides the older ones.
 #[derive(Debug, Drop)]
 pub(crate) struct Stack {
     /// Oldest first, so that a new entry moves no other.
@@ -30,7 +31,7 @@ impl Model for Stack {
     ghost invariant = { λ s. IsStack (reverse s.row.items) };
 }
 
-/// The place of a patch's entry in a row.
+/// The place of a patch's entry in a row. A patch has one at most, so the first is the only one.
 fn place_in(row: &[Entry], patch: PatchId) -> Option<usize>
     ensures { result ≡ position (λ (e : AnyEntry). e.patch == patch) row.now }
 {
@@ -38,7 +39,7 @@ fn place_in(row: &[Entry], patch: PatchId) -> Option<usize>
 }
 
 impl Stack {
-    /// No entries.
+    /// No entries: the state in which the site isn't hooked.
     pub(crate) fn new() -> Self
         ensures { result ≡ [] }
     {
@@ -47,7 +48,7 @@ impl Stack {
         }
     }
 
-    /// How many entries there are.
+    /// How many entries there are: 0 is what unhooks the site.
     pub(crate) fn len(&self) -> usize
         ensures value { result ≡ length self.now }
         ensures bound { result ≤ MAX_PATCHES }
@@ -55,7 +56,7 @@ impl Stack {
         self.row.len()
     }
 
-    /// The entry that has so many newer ones.
+    /// The entry that has so many newer ones, counted from the end, where the row has its newest.
     fn at(&self, newer: usize) -> Option<Entry>
         ensures { result ≡ slice_get self.now newer }
     {
@@ -67,7 +68,7 @@ impl Stack {
         }
     }
 
-    /// Puts an entry on top.
+    /// Puts an entry on top. There is room, because each of the 16 patches has one entry at most.
     pub(crate) fn push(&mut self, entry: Entry)
         requires fresh { has_entry entry.patch self.old ≡ false }
         requires number { entry.patch < MAX_PATCHES }
@@ -76,7 +77,8 @@ impl Stack {
         self.row.push(entry);
     }
 
-    /// Takes the entry of a patch out, if it has one, and answers where it stood.
+    /// Takes the entry of a patch out, if it has one, and answers where it was: with that it can be put
+    /// back below entries that are newer.
     pub(crate) fn take(&mut self, patch: PatchId) -> Option<Place>
         ensures place { result ≡ place_of patch self.old }
         ensures entries { self.new ≡ entries_of_others patch self.old }
@@ -92,7 +94,7 @@ impl Stack {
         })
     }
 
-    /// The entry of a patch, if it has one.
+    /// The entry of a patch, if it has one, wherever it is on the stack.
     pub(crate) fn entry(&self, patch: PatchId) -> Option<Entry>
         ensures value { result ≡ find (λ (e : AnyEntry). e.patch == patch) self.now }
         ensures stack { IsStack self.now }
@@ -109,14 +111,15 @@ impl Stack {
         place_in(&self.row, patch).is_some()
     }
 
-    /// Whether an entry of the patch may get this place from the oldest.
+    /// Whether an entry of the patch may get this place from the oldest. A record that fits no more, which
+    /// undoing never meets, is left alone, so that the stack stays one.
     fn may_stand(&self, patch: PatchId, index: u8) -> bool
         ensures { result ≡ may_stand patch index self.now }
     {
         usize::from(patch.0) < MAX_PATCHES && !self.has(patch) && usize::from(index) <= self.len()
     }
 
-    /// Takes the entry of a patch out, or gives it its place again.
+    /// Takes the entry of a patch out, or gives it the place that it had.
     pub(crate) fn put_back(&mut self, patch: PatchId, was: Option<Place>)
         ensures { self.new ≡ put_entry patch was self.old }
     {
@@ -129,7 +132,8 @@ impl Stack {
         }
     }
 
-    /// The two newest entries, and whether the newest one's patch moves.
+    /// The two newest entries, and whether the newest one's patch moves. Whether an older one's does isn't
+    /// asked, since the newest entry is what every task runs then.
     pub(crate) fn word(&self, moving: Option<PatchId>) -> SiteWord
         ensures { result ≡ word_of moving self.now }
     {
@@ -145,7 +149,7 @@ impl Stack {
         }
     }
 
-    /// The entries, newest first.
+    /// The entries, newest first, as contracts and the console have them; the row is the other way round.
     pub(crate) fn entries(&self) -> ArrayVec<Entry, MAX_PATCHES>
         ensures { result.items ≡ self.now }
     {
@@ -157,7 +161,9 @@ impl Stack {
         entries
     }
 
-    /// What holds a sleeper back at the site of these entries.
+    /// What holds a sleeper back at the site of these entries (the kernel's `klp_check_stack_func`). Away
+    /// from the patch that is the patch's own version. Towards it, it is what is below: the older entry, or
+    /// the original where there is none.
     pub(crate) fn blocked(&self, site: Site, moving: Move) -> Option<Version>
         ensures { option_to_list result ≡ blocked_among site moving self.now }
     {

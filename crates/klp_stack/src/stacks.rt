@@ -15,11 +15,11 @@ use std::marker::Model;
 
 /// The function stacks of all sites (the kernel's `func_stack` of each `klp_ops`).
 ///
-/// All room is taken by [`Stacks::new`]. Each change answers a record of the one entry that it
-/// changes, as it was. To put these records back, newest first, gives the stacks before the changes.
+/// All room is taken by [`Stacks::new`]. Each change answers a record of the one entry that it changes, as
+/// it was. To put these records back, newest first, gives the stacks before the changes.
 #[derive(Debug, Drop)]
 pub struct Stacks {
-    /// By site.
+    /// By site, so that no look-up is needed.
     stacks: Vec<Stack>,
 }
 
@@ -33,7 +33,8 @@ impl Model for Stacks {
 }
 
 impl Stacks {
-    /// A stack without entries for each of so many sites. An error is want of memory.
+    /// A stack without entries for each of so many sites, all with their full room, since no later call
+    /// takes memory. An error is want of memory.
     pub fn new(alloc: Global, sites: usize) -> Result<Self, AllocError>
         ensures { IfOk result (λ stacks. stacks ≡ replicate sites []) }
     {
@@ -44,7 +45,7 @@ impl Stacks {
         Ok(Self { stacks })
     }
 
-    /// Puts an entry on top of a site's stack, at a constant cost.
+    /// Puts an entry on top of a site's stack, at a constant cost. The record says that it wasn't there.
     pub fn push(&mut self, site: Site, entry: Entry) -> Record
         requires there { site < length self.old }
         requires fresh { has_entry entry.patch (entries_at self.old site) ≡ false }
@@ -62,7 +63,8 @@ impl Stacks {
         }
     }
 
-    /// Takes the entry of a patch out of a site's stack. The cost is at most the stack's height.
+    /// Takes the entry of a patch out of a site's stack, also from below newer ones. The cost is at most
+    /// the stack's height.
     pub fn take(&mut self, site: Site, patch: PatchId) -> Record
         requires { has_entry patch (entries_at self.old site) ≡ true }
         ensures row { result ≡ Record.StackEntry site patch (place_of patch (entries_at self.old site)) }
@@ -73,9 +75,9 @@ impl Stacks {
         Record::StackEntry { site, patch, was }
     }
 
-    /// Gives one entry what the record tells; a record of another kind changes nothing. An entry that
-    /// can't stand in its place stays away; none is met where the records of changes are put back
-    /// newest first. The cost is at most the stack's height.
+    /// Gives one entry what the record tells; a record of another kind changes nothing. An entry that can't
+    /// have its place stays away, because a row that doesn't fit must do no harm; none is met where the
+    /// records of changes are put back newest first. The cost is at most the stack's height.
     pub fn put_back(&mut self, row: Record)
         ensures { self.new ≡ put_back self.old row }
     {
@@ -88,8 +90,8 @@ impl Stacks {
         }
     }
 
-    /// How many entries a site has, nops among them; a site that isn't there has none. It is hooked
-    /// while it has one. The cost is constant.
+    /// How many entries a site has, nops among them; a site that isn't there has none. It is hooked while
+    /// it has one. The cost is constant.
     pub fn hooks(&self, site: Site) -> u16
         ensures { result ≡ length (entries_at self.now site) }
     {
@@ -99,7 +101,7 @@ impl Stacks {
         }
     }
 
-    /// How many sites there are, at a constant cost.
+    /// How many sites there are, at a constant cost: as many as the stacks were made for.
     pub fn sites(&self) -> usize
         ensures { result ≡ length self.now }
     {
@@ -110,7 +112,7 @@ impl Stacks {
     /// height.
     pub fn entry(&self, site: Site, patch: PatchId) -> Option<Entry>
         ensures value { result ≡ find (λ (e : AnyEntry). e.patch == patch) (entries_at self.now site) }
-        // what each stack keeps to
+        // what each stack keeps to, so that callers needn't prove it again
         ensures stack { IsStack (entries_at self.now site) }
     {
         match self.stacks.get(usize::from(site.0)) {
@@ -120,7 +122,7 @@ impl Stacks {
     }
 
     /// What a call at a site needs to know, at a constant cost. `moving` is the patch in transition, if
-    /// there is one.
+    /// there is one: the stacks don't keep it, since it is one for all sites.
     pub fn word(&self, site: Site, moving: Option<PatchId>) -> SiteWord
         ensures { result ≡ word_of moving (entries_at self.now site) }
     {
@@ -134,7 +136,8 @@ impl Stacks {
         }
     }
 
-    /// The entries of a site, newest first. The cost is the stack's height.
+    /// The entries of a site, newest first, in an array, so that none is lent. The cost is the stack's
+    /// height.
     pub fn entries(&self, site: Site) -> ArrayVec<Entry, MAX_PATCHES>
         ensures { result.items ≡ entries_at self.now site }
     {

@@ -1,5 +1,5 @@
-//! What is proved of the definitions themselves. Each law is the contract of a function that does
-//! nothing: a crate above may rely on it.
+//! What is proved of the definitions themselves. Each law is the contract of a function that does nothing:
+//! a crate above may rely on it.
 ghost use Rattle.std.specs.Prelude.{◌≡◌, ℕ, ◌≤◌, List, length};
 ghost use Rattle.klp_types.specs.declared.task.Task.{Task as AnyTask};
 ghost use Rattle.klp_types.specs.declared.version.Version.{Version as AnyVersion};
@@ -9,18 +9,19 @@ ghost use Rattle.klp_machine.specs.TaskStep.{change};
 ghost use Rattle.klp_tasks.specs.Changes.{changed, records_switched};
 ghost use Rattle.klp_tasks.specs.Members.{VersionFlags, IsSetOf};
 
-/// A change of one task's row is that of the step of a task event.
+/// A change of one task's row is that of the step of a task event: so the table and the definition of an
+/// event can't drift apart.
 pub fn rows_change_as_the_step_says()
     ensures { (state : State) (number : ℕ) (f : AnyTask → AnyTask)
         → change state number f ≡ with_tasks state (changed state.tasks number f) }
 {}
 
-/// No more rows are told than there are tasks' numbers.
+/// No more rows are logged than there are tasks' numbers, so 64 records are room enough for any switch.
 pub fn records_are_few()
     ensures { (number : ℕ) (before : Tasks) (after : Tasks) → length (records_switched number before after) ≤ length before }
 {}
 
-/// Each set has exactly the versions of some list: what is told of sets over their lists is told of
+/// Each set has exactly the versions of some list: so what is proved of sets over their lists holds of
 /// every set.
 pub fn every_set_is_that_of_a_list()
     ensures { (flags : VersionFlags) → (versions : List AnyVersion) × IsSetOf flags versions }

@@ -39,7 +39,8 @@ impl Model for Tasks {
     ghost invariant = { λ t. vec_len t.rows ≡ MAX_TASKS };
 }
 
-/// Whether a task isn't at the target.
+/// Whether a task isn't at the target. A number without a task never lags, so an empty table lets every
+/// transition complete.
 fn lags(row: &Option<Task>, target: bool) -> bool
     ensures { result ≡ lags target row.now }
 {
@@ -49,14 +50,14 @@ fn lags(row: &Option<Task>, target: bool) -> bool
     }
 }
 
-/// The state of a task that is brought to this target.
+/// The state of a task that is brought to this target. At rest it is -1, which no target is.
 fn target_state(target: bool) -> i8
     ensures { result ≡ at_target target }
 {
     if target { 1 } else { 0 }
 }
 
-/// Whether a task sleeps inside of one of the versions.
+/// Whether a task sleeps inside of one of the versions. Any other has no frames to be asked for.
 fn sleeps_inside(row: &Option<Task>, versions: &VersionSet) -> bool
     ensures { result ≡ sleeps_where (has versions.now) row.now }
 {
@@ -66,21 +67,23 @@ fn sleeps_inside(row: &Option<Task>, versions: &VersionSet) -> bool
     }
 }
 
-/// Whether a task sleeps and is inside of nothing that is blocked.
+/// Whether a task sleeps and is inside of nothing that is blocked. One that doesn't sleep is never free,
+/// since what it runs isn't known.
 fn is_free(task: &Task, blocked: &VersionSet) -> bool
     ensures { result ≡ (is_mode task.now.mode Asleep && not (list_any (has blocked.now) task.now.frames)) }
 {
     task.mode == Mode::Asleep && !blocked.holds(&task.frames)
 }
 
-/// Whether a task has the state.
+/// Whether a task has the state: then to set it changes nothing, and nothing is logged.
 fn has_state(task: &Task, state: i8) -> bool
     ensures { result ≡ int_eq task.now.state state }
 {
     task.state == state
 }
 
-/// What the row of a number was.
+/// What the row of a number was: with a task or without one, which are two kinds of record
+/// (docs/DECISIONS.md, "Two kinds of record for a task and for the transition").
 fn record_of(task: TaskId, was: Option<Task>) -> Record
     ensures { result ≡ record_of task was }
 {
@@ -91,7 +94,7 @@ fn record_of(task: TaskId, was: Option<Task>) -> Record
 }
 
 impl Tasks {
-    /// No task. An error is want of memory.
+    /// No task, with a row for each number that there may be. An error is want of memory.
     pub fn new(alloc: Global) -> Result<Self, AllocError>
         ensures { IfOk result (λ tasks. tasks ≡ replicate MAX_TASKS None) }
     {
@@ -108,7 +111,8 @@ impl Tasks {
         self.rows.get(usize::from(task.0))?.as_ref()
     }
 
-    /// For each number the state of the task, if it is there. It looks at all rows.
+    /// For each number the state of the task, if it is there, as `/proc/<pid>/patch_state` shows it. It
+    /// looks at all rows.
     pub fn states(&self) -> ArrayVec<Option<i8>, MAX_TASKS>
         ensures { result.items ≡ map (option_map (λ (t : AnyTask). t.state)) self.now }
     {
@@ -122,21 +126,23 @@ impl Tasks {
         states
     }
 
-    /// How many tasks aren't at the target. It looks at all rows.
+    /// How many tasks aren't at the target: 0 is what completes a transition. It looks at all rows.
     pub fn lagging(&self, target: bool) -> u8
         ensures { result ≡ count_by (lags target) self.now }
     {
         self.rows.iter().filter(|row| lags(*row, target)).count() as u8
     }
 
-    /// Whether a task sleeps inside of one of the versions. It looks at all rows and their frames.
+    /// Whether a task sleeps inside of one of the versions, as those of a module that is to go. It looks at
+    /// all rows and their frames.
     pub fn sleeps_in(&self, versions: &VersionSet) -> bool
         ensures { (test : AnyVersion → Bool) → ArePassing versions.now test → result ≡ list_any (sleeps_where test) self.now }
     {
         self.holds_sleeper(versions)
     }
 
-    /// A new task is there. It runs in user space.
+    /// A new task is there. It runs in user space. Its state is its caller's to say, since the table
+    /// doesn't know what moves.
     pub fn add(&mut self, task: TaskId, state: i8) -> Record
         requires number { task < MAX_TASKS }
         requires free { is_some (task_at self.old task) ≡ false }
@@ -150,7 +156,8 @@ impl Tasks {
         self.replace(task, Some(added))
     }
 
-    /// A task starts another, which takes its state over and runs in the kernel.
+    /// A task starts another, which takes its state over and runs in the kernel (the kernel's
+    /// `klp_copy_process`): it is in the middle of what its parent runs.
     pub fn fork(&mut self, parent: TaskId, child: TaskId) -> Record
         requires there { is_some (task_at self.old parent) ≡ true }
         requires number { child < MAX_TASKS }
@@ -166,7 +173,7 @@ impl Tasks {
         self.replace(child, Some(forked))
     }
 
-    /// A task ends: its number is free again.
+    /// A task ends: its number is free again, and the record keeps the task for undoing.
     pub fn end(&mut self, task: TaskId) -> Record
         requires { is_some (task_at self.old task) ≡ true }
         ensures { Changes self.old self.new task result (with_task self.old task None) }
@@ -174,7 +181,7 @@ impl Tasks {
         self.replace(task, None)
     }
 
-    /// A task enters the kernel.
+    /// A task enters the kernel. Its state stays, because it switches when it leaves and not when it comes.
     pub fn enter(&mut self, task: TaskId) -> Record
         requires { is_some (task_at self.old task) ≡ true }
         ensures { Changes self.old self.new task result (changed self.old task (λ (t : AnyTask). record t { mode = Kernel })) }
@@ -186,7 +193,8 @@ impl Tasks {
         self.replace(task, Some(entered))
     }
 
-    /// A task leaves the kernel, and is brought to the target of whatever moves (kernel exit switching).
+    /// A task leaves the kernel, and is brought to the target of whatever moves (kernel exit switching),
+    /// since outside of the kernel it is inside of no function.
     pub fn leave(&mut self, task: TaskId, moving: Option<Move>) -> Record
         requires { is_some (task_at self.old task) ≡ true }
         ensures { Changes self.old self.new task result (changed self.old task (exited moving)) }
@@ -203,7 +211,7 @@ impl Tasks {
         self.replace(task, Some(left))
     }
 
-    /// A task falls asleep inside of these frames.
+    /// A task falls asleep inside of these frames, by which alone it can be switched while it sleeps.
     pub fn sleep(&mut self, task: TaskId, frames: Frames) -> Record
         requires { is_some (task_at self.old task) ≡ true }
         ensures { Changes self.old self.new task result (changed self.old task (λ (t : AnyTask). record t { mode = Asleep; frames = frames })) }
@@ -216,7 +224,8 @@ impl Tasks {
         self.replace(task, Some(asleep))
     }
 
-    /// A task wakes up in the kernel. The record tells what it was inside of.
+    /// A task wakes up in the kernel, and its frames are known no more. The record has what it was inside
+    /// of.
     pub fn wake(&mut self, task: TaskId) -> Record
         requires { is_some (task_at self.old task) ≡ true }
         ensures { Changes self.old self.new task result (changed self.old task (λ (t : AnyTask). record t { mode = Kernel; frames = [] })) }
@@ -230,8 +239,8 @@ impl Tasks {
     }
 
     /// A sleeping task is brought to the target where none of its frames is blocked (stack checking of
-    /// sleeping tasks). Nothing is told of a task that stays as it was, nor of a number that no task
-    /// has. It looks at no more than the task's frames.
+    /// sleeping tasks). Nothing is logged of a task that stays as it was, nor of a number that no task has.
+    /// It looks at no more than the task's frames.
     pub fn switch_if_clear(
         &mut self,
         task: TaskId,
@@ -250,7 +259,7 @@ impl Tasks {
     }
 
     /// Each sleeping task that is inside of nothing blocked is brought to the target (the kernel's
-    /// `klp_try_switch_task`, for sleepers). Each task that changed is noted, in the order of their
+    /// `klp_try_switch_task`, for sleepers). Each task that changed is logged, in the order of their
     /// numbers. It looks at all rows.
     pub fn try_all(&mut self, blocked: &VersionSet, target: bool, log: &mut Records)
         requires { length self.old ≤ spare_of log.old }
@@ -265,8 +274,9 @@ impl Tasks {
         }
     }
 
-    /// Every task gets the state. Each task whose state was another is noted, in the order of their
-    /// numbers. It looks at all rows.
+    /// Every task gets the state, whatever it is inside of: at a transition's start and end, and where one
+    /// is forced. Each task whose state was another is logged, in the order of their numbers. It looks at
+    /// all rows.
     pub fn set_all(&mut self, state: i8, log: &mut Records)
         requires { length (records_switched 0 self.old (all_in state self.old)) ≤ spare_of log.old }
         ensures tasks { self.new ≡ all_in state self.old }
@@ -280,8 +290,8 @@ impl Tasks {
         }
     }
 
-    /// Gives one row what the record tells. A record of a number that no task can have, or of a row
-    /// that isn't the tasks', changes nothing.
+    /// Gives one row what the record tells. A record of a number that no task can have, or of a row that
+    /// isn't the tasks', changes nothing, so that all parts can be handed each record.
     pub fn put_back(&mut self, row: Record)
         ensures { self.new ≡ put_back self.old row }
     {
@@ -292,14 +302,15 @@ impl Tasks {
         }
     }
 
-    /// Whether a task sleeps inside of one of the versions.
+    /// Whether a task sleeps inside of one of the versions, told of the set itself; `sleeps_in` tells it of
+    /// any test that the set stands for.
     fn holds_sleeper(&self, versions: &VersionSet) -> bool
         ensures { result ≡ list_any (sleeps_where (has versions.now)) self.now }
     {
         self.rows.iter().any(|row| sleeps_inside(row, versions))
     }
 
-    /// A task that is there.
+    /// A task that is there. The other case can't come up, by what the caller has to show.
     fn there(&self, task: TaskId) -> Task
         requires { is_some (task_at self.now task) ≡ true }
         ensures { task_at self.now task ≡ Some result }
@@ -310,7 +321,8 @@ impl Tasks {
         }
     }
 
-    /// The row of a number, if there may be one, is this.
+    /// The row of a number is this from now on. A number that there can't be has no row, and nothing
+    /// changes.
     fn put(&mut self, task: TaskId, row: Option<Task>)
         ensures { self.new ≡ with_task self.old task row }
     {
@@ -320,7 +332,8 @@ impl Tasks {
         }
     }
 
-    /// The row of a number, if there may be one, is this, and the record tells what it was.
+    /// The row of a number is this from now on, and the record has what it was: so each change of a task is
+    /// one copy of its row.
     fn replace(&mut self, task: TaskId, row: Option<Task>) -> Record
         ensures { Changes self.old self.new task result (with_task self.old task row) }
     {
@@ -329,7 +342,8 @@ impl Tasks {
         record_of(task, was)
     }
 
-    /// A task gets the state, if it is there. What it was is told where its state was another.
+    /// A task gets the state, if it is there. A record is given only where its state was another, since no
+    /// record is kept of an unchanged row.
     fn set_state(&mut self, task: TaskId, state: i8) -> Option<Record>
         ensures tasks { self.new ≡ changed self.old task (in_state state) }
         ensures row { result ≡ record_if_switched task (task_at self.old task) (task_at self.new task) }

@@ -7,9 +7,9 @@ ghost use Rattle.klp_tasks.specs.Members.{has, IsSetOf, IsWithin};
 use klp_types::{Frames, MAX_FUNCTIONS, MAX_PATCHES, MAX_SITES, Version};
 use std::marker::Model;
 
-/// A set of versions, as of those that hold a sleeping task back. To ask for a version takes the same
-/// time whatever the set has. No call takes memory: the flags are 1,280 bytes, which `new` and `clear`
-/// write.
+/// A set of versions, as of those that hold a sleeping task back. It is flags and no list, so that to ask
+/// for a version takes the same time whatever the set has. No call takes memory: the flags are 1,280 bytes,
+/// which `new` and `clear` write.
 #[derive(Debug, Drop)]
 pub struct VersionSet {
     /// By site, whether its original is in the set.
@@ -26,14 +26,14 @@ impl Model for VersionSet {
     ghost view = { λ s. record { originals = s.originals; functions = s.functions } };
 }
 
-/// The flag of a number; one that there can't be isn't set.
+/// The flag of a number; one that there can't be isn't set, so that frames of any numbers may be asked for.
 fn is_set(flags: &[bool], number: u16) -> bool
     ensures { result ≡ slice_index_or flags.now number false }
 {
     flags.get(usize::from(number)).copied().unwrap_or(false)
 }
 
-/// Sets the flag of a number.
+/// Sets the flag of a number, which has to be in range: what is put in comes from the catalog.
 fn set(flags: &mut [bool], number: u16)
     requires { number < length flags.old }
     ensures { (other : ℕ) → slice_index_or flags.new other false ≡ (slice_index_or flags.old other false || other == number) }
@@ -42,7 +42,7 @@ fn set(flags: &mut [bool], number: u16)
 }
 
 impl VersionSet {
-    /// The empty set.
+    /// The empty set, which holds nobody back.
     pub fn new() -> Self
         ensures { IsSetOf result [] }
     {
@@ -52,7 +52,7 @@ impl VersionSet {
         }
     }
 
-    /// Puts a version into the set, where it may be already.
+    /// Puts a version into the set, where it may be already, so callers needn't ask first.
     pub fn insert(&mut self, version: Version)
         requires { IsWithin version }
         ensures version { (other : AnyVersion) → has self.new other ≡ (has self.old other || is_version other version) }
@@ -66,7 +66,7 @@ impl VersionSet {
         }
     }
 
-    /// Takes all versions out.
+    /// Takes all versions out: writes all flags, since it isn't kept which are set.
     pub fn clear(&mut self)
         ensures { IsSetOf self.new [] }
     {

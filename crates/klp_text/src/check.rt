@@ -7,10 +7,11 @@ use crate::entry::can_reach;
 use crate::fault::ImageFault;
 use klp_types::{ENTRY_SITE_END, MAX_BODY, MAX_OBJECTS, MAX_SITES, ObjectText, SymbolText};
 
-/// The name of the first object.
+/// The name of the first object, the kernel itself: all others are modules.
 const KERNEL: &str = "vmlinux";
 
-/// The fault of these objects, if they make no image.
+/// The fault of these objects, if they make no image. The limits are looked at first, since they bound what
+/// the rest costs.
 pub fn image_fault(handler: u64, objects: &[ObjectText]) -> Option<ImageFault>
     ensures { result ≡ faults.image_fault handler objects.now }
 {
@@ -87,7 +88,7 @@ fn has_name(objects: &[ObjectText], name: &str) -> bool
     objects.iter().any(|object| object.name.as_str() == name)
 }
 
-/// The fault of the first symbol that has one.
+/// The fault of the first symbol that has one, in the image's order, as an administrator reads it.
 fn symbols_fault(handler: u64, objects: &[ObjectText]) -> Option<ImageFault>
     ensures { result ≡ faults.first_fault (faults.symbols_tests handler [] (symbols_of objects.now)) }
 {
@@ -99,7 +100,7 @@ fn symbols_fault(handler: u64, objects: &[ObjectText]) -> Option<ImageFault>
     None
 }
 
-/// The same of one object, which these others come before.
+/// The fault of the first symbol of one object that has one, where these other objects come before it.
 fn object_fault(handler: u64, earlier: &[ObjectText], symbols: &[SymbolText]) -> Option<ImageFault>
     ensures { result ≡ faults.first_fault (faults.symbols_tests handler (symbols_of earlier.now) symbols.now) }
 {
@@ -111,7 +112,8 @@ fn object_fault(handler: u64, earlier: &[ObjectText], symbols: &[SymbolText]) ->
     None
 }
 
-/// The fault of one symbol, which these objects and these symbols of its own object come before.
+/// The fault of one symbol. The objects and the symbols of its own object that come before it are asked
+/// for, since a symbol may lie on any of them.
 fn symbol_fault(
     handler: u64,
     objects: &[ObjectText],
@@ -133,12 +135,14 @@ fn symbol_fault(
 
 /// Whether a symbol ends beyond the last address, or lies on one of these others.
 ///
-/// Each symbol is compared with all before it: at most 256 * 255 / 2 times for an image. The fault
-/// is that of the first symbol in the image's order, which a sort by address would lose, and a
-/// sort takes memory.
+/// Each symbol is compared with all before it, and not sorted: at most 256 * 255 / 2 times for an image.
+/// The fault is that of the first symbol in the image's order, which a sort by address would lose, and a
+/// sort takes memory (docs/DECISIONS.md, "Overlaps by pairs").
 fn is_in_the_way(objects: &[ObjectText], symbols: &[SymbolText], symbol: &SymbolText) -> bool
     ensures { result ≡ faults.is_in_the_way (symbols_of objects.now ++ symbols.now) symbol.now }
 {
+    // A symbol that ends at 2^64 sharp is in the way too, since the address behind it has more than 64 bits
+    // (docs/DECISIONS.md, "The last address").
     end_of(symbol) > u128::from(u64::MAX)
         || lies_on_objects(objects, symbol)
         || lies_on_symbols(symbols, symbol)
@@ -167,7 +171,7 @@ fn share_address(a: &SymbolText, b: &SymbolText) -> bool
     u128::from(a.address) < end_of(b) && u128::from(b.address) < end_of(a)
 }
 
-/// The address behind a symbol, which may be above all of 64 bits.
+/// The address behind a symbol. It has 128 bits, because it may be above all of 64.
 fn end_of(symbol: &SymbolText) -> u128
     ensures { result ≡ symbol.now.address + length symbol.now.body }
 {

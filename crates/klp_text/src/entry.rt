@@ -5,27 +5,29 @@ ghost use Rattle.klp_types.specs.Bytes.{can_reach};
 
 use klp_types::{ENTRY_SITE_END, ENTRY_SITE_LEN};
 
-/// What stands at an entry site that isn't hooked: `nopl 0x0(%rax,%rax,1)`.
+/// What an entry site that isn't hooked holds: `nopl 0x0(%rax,%rax,1)`, one instruction of five bytes, so
+/// that no task can be in the middle of what a call is written over.
 pub const NOP: [u8; ENTRY_SITE_LEN] = [0x0f, 0x1f, 0x44, 0x00, 0x00];
 
 /// The opcode of a near call.
 const CALL: u8 = 0xe8;
 
-/// How far the handler is from the instruction behind the call in the body at this address.
+/// How far the handler is from the instruction behind the call in the body at this address, as the
+/// processor counts it. 128 bits have room for any two addresses.
 pub fn displacement(handler: u64, address: u64) -> i128
     ensures { result ≡ bytes.displacement handler address }
 {
     i128::from(handler) - (i128::from(address) + ENTRY_SITE_END as i128)
 }
 
-/// Whether a call in the body at this address reaches the handler.
+/// Whether a call in the body at this address reaches the handler: a near call has 32 bits with a sign.
 pub fn can_reach(handler: u64, address: u64) -> bool
     ensures { result ≡ can_reach handler address }
 {
     i32::try_from(displacement(handler, address)).is_ok()
 }
 
-/// A call of the handler in the body at this address.
+/// A call of the handler in the body at this address: the opcode and the displacement, lowest byte first.
 pub fn call(handler: u64, address: u64) -> [u8; ENTRY_SITE_LEN]
     requires { FitsSigned w32 (bytes.displacement handler address) }
     ensures { result ≡ bytes.call handler address }

@@ -7,17 +7,17 @@ use thiserror::Error;
 /// Why objects make no image. The numbers are this project's own, and stay.
 #[derive(Clone, Copy, Debug, PartialEq, Eq, Error)]
 pub enum ImageFault {
-    /// A symbol lies on an address of an earlier one of any object, or ends beyond the last
-    /// address of 64 bits.
+    /// A symbol lies on an address of an earlier one of any object, or its last byte is at the last address
+    /// of 64 bits or beyond it, so that there is no address behind it.
     #[error("Overlap")]
     Overlap = 1,
-    /// A body is shorter than an entry site.
+    /// A body is shorter than an entry site, so a call would be written over its neighbour.
     #[error("ShortSymbol")]
     ShortSymbol = 2,
-    /// A call at the symbol's address doesn't reach the handler.
+    /// A call at the symbol's address doesn't reach the handler, whose displacement has 32 bits.
     #[error("Displacement")]
     Displacement = 3,
-    /// Two objects have one name.
+    /// Two objects have one name, by which targets and modules are found.
     #[error("DuplicateObject")]
     DuplicateObject = 4,
     /// There are too many objects or sites, or a body is too long.
@@ -26,7 +26,7 @@ pub enum ImageFault {
     /// There is no memory for the image.
     #[error("NoMemory")]
     NoMemory = 6,
-    /// There is no object, or the first one isn't `vmlinux`.
+    /// There is no object, or the first one isn't `vmlinux`, which is what is loaded from the start.
     #[error("NoKernel")]
     NoKernel = 7,
 }

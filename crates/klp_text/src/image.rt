@@ -14,22 +14,23 @@ use klp_types::{ObjId, ObjectText, Site};
 use std::alloc::{AllocError, Global};
 use std::marker::Model;
 
-/// The text of all objects, loaded or not: their names and symbols, and the bytes of each body as
-/// they stand.
+/// The text of all objects, loaded or not: their names and symbols, and the bytes of each body as they are
+/// now.
 ///
-/// Sites are numbered over all objects in order. The objects are fixed from the start; what
-/// changes is which of them are loaded and which sites are hooked. All calls but `new` cost the
-/// same however many sites there are, and take no memory.
+/// Sites are numbered over all objects in order. The objects are fixed from the start; what changes is
+/// which of them are loaded and which sites are hooked. All calls but `new` cost the same however many
+/// sites there are, and take no memory.
 #[derive(Debug, Drop)]
 pub struct Image {
     handler: u64,
-    /// As they were given.
+    /// As they were given, since contracts speak of the image that was handed in (docs/DECISIONS.md,
+    /// "Bodies as they were given").
     objects: Vec<ObjectText>,
     /// By object, whether it is loaded.
     loaded: Vec<bool>,
-    /// By object, the site of its first symbol.
+    /// By object, the site of its first symbol, so that a symbol's bytes are found without counting.
     first_sites: Vec<u16>,
-    /// By site, the symbol as it stands.
+    /// By site, the symbol as it is in the text now.
     sites: Vec<StoredSymbol>,
 }
 
@@ -49,12 +50,12 @@ impl Model for Image {
 }
 
 impl Image {
-    /// Makes an image of these objects, for hooked sites to call this handler. Object 0 is loaded
-    /// and nothing is hooked: each entry site holds the NOP, whatever stood there.
+    /// Makes an image of these objects, for hooked sites to call this handler. Object 0 is loaded and
+    /// nothing is hooked: each entry site holds the NOP, whatever was there.
     ///
-    /// Faults are looked for in this order: `TooMany`, `NoKernel`, `DuplicateObject`, and then
-    /// symbol by symbol `ShortSymbol`, `Displacement` and `Overlap`. `NoMemory` may come in place
-    /// of any of them. The objects are dropped on a fault.
+    /// Faults are looked for in this order: `TooMany`, `NoKernel`, `DuplicateObject`, and then symbol by
+    /// symbol `ShortSymbol`, `Displacement` and `Overlap`. `NoMemory` may come in place of any of them. The
+    /// objects are dropped on a fault.
     ///
     /// Each symbol is compared with all before it, and each body is copied.
     pub fn new(alloc: Global, objects: Vec<ObjectText>, handler: u64) -> Result<Image, ImageFault>
@@ -79,7 +80,8 @@ impl Image {
         })
     }
 
-    /// Puts a call of the handler at an entry site, in one write of five bytes.
+    /// Puts a call of the handler at an entry site, in one write of five bytes. A site that is hooked may
+    /// be hooked again, since that writes the same bytes (docs/DECISIONS.md, "Hooking twice").
     pub fn hook(&mut self, site: Site)
         requires { site < site_count self.old.image }
         ensures { self.new ≡ record self.old { hooked = slice_set self.old.hooked site true } }
@@ -87,7 +89,8 @@ impl Image {
         self.set_hooked(site, true);
     }
 
-    /// Puts the NOP back at an entry site, in one write of five bytes.
+    /// Puts the NOP back at an entry site, in one write of five bytes, so that the function is its own
+    /// again. A site that isn't hooked may be unhooked.
     pub fn unhook(&mut self, site: Site)
         requires { site < site_count self.old.image }
         ensures { self.new ≡ record self.old { hooked = slice_set self.old.hooked site false } }
@@ -95,7 +98,8 @@ impl Image {
         self.set_hooked(site, false);
     }
 
-    /// Puts a call of the handler at an entry site, or the NOP.
+    /// Puts a call of the handler at an entry site, or the NOP. The call is made anew from the site's
+    /// address, since it is nowhere kept.
     fn set_hooked(&mut self, site: Site, hooked: bool)
         requires { site < site_count self.old.image }
         ensures { self.new ≡ record self.old { hooked = slice_set self.old.hooked site hooked } }
@@ -104,9 +108,9 @@ impl Image {
         self.sites[usize::from(site.0)].set_hooked(handler, hooked);
     }
 
-    /// Makes an object loaded: from now on `bytes` shows the bodies of its symbols. Its sites stay
-    /// hooked or unhooked as they are. Writes one flag, whatever the object has; one that is loaded
-    /// already may be loaded again.
+    /// Makes an object loaded: from now on `bytes` shows the bodies of its symbols. Its sites stay hooked
+    /// or unhooked as they are, because hooks follow entries and not modules. Writes one flag, whatever the
+    /// object has; one that is loaded already may be loaded again.
     pub fn load(&mut self, object: ObjId)
         requires { object < length self.old.image.objects }
         ensures { self.new ≡ record self.old { loaded = slice_set self.old.loaded object true } }
@@ -125,7 +129,8 @@ impl Image {
         self.loaded[usize::from(object.0)] = false;
     }
 
-    /// Whether an object is loaded. An object that isn't there isn't.
+    /// Whether an object is loaded. An object that isn't there isn't, so that a number which has no meaning
+    /// has an answer (docs/DECISIONS.md, "Numbers out of range").
     pub fn is_loaded(&self, object: ObjId) -> bool
         ensures { result ≡ slice_index_or self.now.loaded object false }
     {
@@ -135,8 +140,9 @@ impl Image {
             .unwrap_or(false)
     }
 
-    /// The bytes of a symbol of a loaded object, as a processor would run them. Symbols count from
-    /// 0 in each object. There is none where the object isn't loaded or has no such symbol.
+    /// The bytes of a symbol of a loaded object, as a processor would run them. Symbols count from 0 in
+    /// each object. There is none where the object isn't loaded or has no such symbol (docs/DECISIONS.md,
+    /// "Numbers out of range").
     pub fn bytes(&self, object: ObjId, number: u16) -> Option<&[u8]>
         ensures { option_map (λ b. b.now) result ≡ bytes_at self.now object number }
     {
@@ -155,7 +161,8 @@ impl Image {
     pub fn address(&self, site: Site) -> u64
         requires { site < site_count self.now.image }
         ensures value { option_map (λ (s : Symbol). s.address) (symbol_of self.now.image site) ≡ Some result }
-        // the entry site lies within 64 bits, and an address stands behind it
+        // the entry site is within 64 bits, and there is an address behind it, so the original can be
+        // jumped to
         ensures end { result + entry_end < 2 ^ 64 }
     {
         self.sites[usize::from(site.0)].address
@@ -164,13 +171,13 @@ impl Image {
     /// How many objects there are, loaded or not.
     pub fn objects(&self) -> u8
         ensures count { result ≡ length self.now.image.objects }
-        // what every image has
+        // what every image has, so that tables above need no check of their own
         ensures limits { IsWithinLimits self.now.image.objects }
     {
         self.objects.len() as u8
     }
 
-    /// How many symbols an object has, loaded or not.
+    /// How many symbols an object has, loaded or not: the catalog is resolved before modules come.
     pub fn symbols(&self, object: ObjId) -> Option<u16>
         ensures { result ≡ option_map (λ (found : Object). length found.symbols) (slice_get self.now.image.objects object) }
     {
@@ -178,7 +185,7 @@ impl Image {
         Some(object.symbols.len() as u16)
     }
 
-    /// The name of an object, loaded or not.
+    /// The name of an object, loaded or not, as the catalog's text has it.
     pub fn object_name(&self, object: ObjId) -> Option<&str>
         ensures { option_map (λ name. name.now) result
             ≡ option_map (λ (found : Object). found.name) (slice_get self.now.image.objects object) }
@@ -187,7 +194,8 @@ impl Image {
         Some(object.name.as_str())
     }
 
-    /// The name and the address of a symbol, loaded or not.
+    /// The name and the address of a symbol, loaded or not. Several symbols of an object may have one name,
+    /// so it is found by its number.
     pub fn symbol(&self, object: ObjId, number: u16) -> Option<(&str, u64)>
         ensures name { option_map (λ found. found.0.now) result
             ≡ option_map (λ (s : Symbol). s.name) (given_symbol self.now.image object number) }
@@ -204,7 +212,7 @@ impl Image {
     }
 }
 
-/// By object, the site of its first symbol.
+/// By object, the site of its first symbol. 16 bits do, since there are at most 256 sites.
 fn first_sites(alloc: Global, objects: &[ObjectText]) -> Result<Vec<u16>, AllocError>
     requires { length (symbols_of objects.now) ≤ 256 }
     ensures { IfOk result (λ sites. sites.items ≡ first_sites_from 0 objects.now) }
@@ -218,7 +226,7 @@ fn first_sites(alloc: Global, objects: &[ObjectText]) -> Result<Vec<u16>, AllocE
     Ok(sites)
 }
 
-/// By site, the symbol with a NOP at its entry site.
+/// By site, the symbol with a NOP at its entry site, whatever bytes it was given with.
 fn stored_symbols(alloc: Global, objects: &[ObjectText]) -> Result<Vec<StoredSymbol>, AllocError>
     requires { All IsLong (symbols_of objects.now) }
     ensures { IfOk result (λ sites. AllZip IsResting sites.items (symbols_of objects.now)) }

@@ -6,7 +6,7 @@ use crate::entry::{NOP, call};
 use klp_types::{ENTRY_SITE_END, ENTRY_SITE_LEN, ENTRY_SITE_OFFSET, SymbolText};
 use std::alloc::{AllocError, Global};
 
-/// A symbol as it stands in the text.
+/// A symbol as it is in the text now. The address is beside the body, because a call is made from it.
 #[derive(Debug, Drop)]
 pub struct StoredSymbol {
     pub address: u64,
@@ -15,7 +15,8 @@ pub struct StoredSymbol {
 }
 
 impl StoredSymbol {
-    /// The symbol with a NOP at its entry site.
+    /// The symbol with a NOP at its entry site, in a copy of its body, so that the one given stays as it
+    /// was.
     pub fn new(alloc: Global, symbol: &SymbolText) -> Result<StoredSymbol, AllocError>
         requires { entry_end ≤ length symbol.now.body }
         ensures address { IfOk result (λ s. s.address ≡ symbol.now.address) }
@@ -31,7 +32,8 @@ impl StoredSymbol {
         })
     }
 
-    /// Puts a call of the handler at the entry site, or the NOP.
+    /// Puts a call of the handler at the entry site, or the NOP, and sets the flag with it, so that the two
+    /// can't differ.
     pub fn set_hooked(&mut self, handler: u64, hooked: bool)
         requires long { entry_end ≤ length self.old.body.items }
         requires near { FitsSigned w32 (displacement handler self.old.address) }
@@ -49,7 +51,7 @@ impl StoredSymbol {
     }
 }
 
-/// Writes over the entry site of a body, in one step.
+/// Writes over the entry site of a body. All five bytes change in one step, so no task runs a half of them.
 fn write_entry(body: &mut [u8], entry: &[u8; ENTRY_SITE_LEN])
     requires { entry_end ≤ length body.old }
     ensures { body.new ≡ with_entry entry.now body.old }

@@ -11,26 +11,29 @@ ghost use Rattle.klp_world.specs.Undo.{undone, is_of_world};
 
 use klp_types::MAX_VARIABLES;
 
-/// How many records a script notes: at most one for each edit, one more for each edit that adds a
-/// shadow variable, and one for each shadow variable that is gone afterwards.
+/// How many records a script logs: at most one for each edit, one more for each edit that adds a shadow
+/// variable, and one for each shadow variable that is gone afterwards. The last is because a removal of an
+/// id logs each variable that it takes out.
 pub fn records_are_few()
     ensures { (patch : ℕ) (world : World) (script : Script)
         → length (rows_of_script patch world script) + finite.len (effect patch world script).shadow ≤ finite.len world.shadow + length script.edits + alloc_count script.edits }
 {}
 
-/// The shadow variables of an id, each of which a removal notes, and those that are left are all.
+/// The shadow variables of an id, each of which a removal logs, and those that are left are all. So the
+/// records of a removal are paid by the room that it gives back.
 pub fn freed_and_left_are_all()
     ensures { (world : World) (id : ℕ) → length (rows_of_free_all world id) + finite.len (without_id world id).shadow ≡ finite.len world.shadow }
 {}
 
-/// The records of a script give back the world before it, where that has room for all that the
-/// script adds.
+/// The records of a script give back the world before it, where that has room for all that the script adds:
+/// a variable that is put back needs its place too.
 pub fn scripts_are_undone()
     ensures { (patch : ℕ) (world : World) (script : Script) → finite.len world.shadow + alloc_count script.edits ≤ MAX_VARIABLES
         → undone (effect patch world script) (rows_of_script patch world script) ≡ world }
 {}
 
-/// What changes of the world note is rows of the world and of nothing else.
+/// What changes of the world log is rows of the world and of nothing else, so the other parts of a manager
+/// needn't look at these records.
 #[tactic(auto, using(crate::proofs::KindLemmas::of_free_all, crate::proofs::KindLemmas::of_add, crate::proofs::KindLemmas::of_drop, crate::proofs::KindLemmas::of_script))]
 pub fn what_is_noted_is_of_the_world()
     ensures alloc { (world : World) (key : ShadowKey) → All (λ row. is_of_world row ≡ true) (rows_of_alloc world key) }

@@ -1,5 +1,14 @@
-//! The world that livepatch callbacks change: the installed patches with the values of their
-//! system states, and the shadow variables.
+//! The world that livepatch callbacks change: the installed patches with the values of their system states,
+//! and the shadow variables (system-state, shadow-vars).
+//!
+//! The model is the world of the definitions (`klp_types/specs/World`). Each change makes one edit, or
+//! installs one patch or takes it out, and logs the rows that it changes; a row that it leaves as it was
+//! isn't logged. Put back newest first, these records give the equal world (`specs/Changes`, `Undo`,
+//! `Noted`). No call but [`World::new`] takes memory. `laws` has of scripts' records how few there are, and
+//! that they give the world back.
+//!
+//! Installed patches are one list, oldest first, with their numbers in another beside it. Variables are
+//! kept by a hash (`src/shadow.rt`), and those of one hash in the order of their keys (`src/sorted.rt`).
 #![tactic(auto)]
 
 pub mod laws;

@@ -7,7 +7,8 @@ use arrayvec::ArrayVec;
 use klp_types::{MAX_STATES, PatchId};
 use std::marker::Model;
 
-/// A system state of an installed patch.
+/// A system state of an installed patch: its id and its value. Its version is the catalog's, since it never
+/// changes.
 #[derive(Clone, Copy, Debug, Default)]
 pub(crate) struct SystemState {
     pub(crate) id: u64,
@@ -24,7 +25,7 @@ impl Model for SystemState {
     ghost inverse = { λ p. record { id = p.0; value = p.1 } };
 }
 
-/// An installed patch with its system states, in the order of the patch.
+/// An installed patch with its system states, in the order of the patch, which is that of the text.
 #[derive(Debug, Drop)]
 pub(crate) struct InstalledPatch {
     patch: PatchId,
@@ -42,14 +43,14 @@ impl Model for InstalledPatch {
     ghost view = { λ i. record { patch = i.patch; values = i.states.items } };
 }
 
-/// The place of the state of this id.
+/// The place of the state of this id. A patch names each id once, so there is one at most.
 fn place_of_state(states: &[SystemState], id: u64) -> Option<usize>
     ensures { result ≡ position (λ (s : ℕ × ℕ). s.0 == id) states.now }
 {
     states.iter().position(|state| state.id == id)
 }
 
-/// The place of an installed patch, from the oldest.
+/// The place of an installed patch, from the oldest, which is what a record of it has.
 pub(crate) fn place_of_patch(patches: &[InstalledPatch], patch: PatchId) -> Option<usize>
     ensures { result ≡ position (λ (i : Installed). i.patch == patch) patches.now }
 {
@@ -59,7 +60,7 @@ pub(crate) fn place_of_patch(patches: &[InstalledPatch], patch: PatchId) -> Opti
 }
 
 impl InstalledPatch {
-    /// The patch, without states.
+    /// The patch, without states: they are added one by one, since each is a row with a record of its own.
     pub(crate) fn new(patch: PatchId) -> Self
         ensures { result ≡ record { patch = patch; values = [] } }
     {
@@ -69,7 +70,7 @@ impl InstalledPatch {
         }
     }
 
-    /// The states in the order of the patch.
+    /// The states in the order of the patch, as they are logged when the patch goes.
     pub(crate) fn states(&self) -> &[SystemState]
         ensures value { result.now ≡ self.now.values }
         ensures limit { length result.now ≤ MAX_STATES }
@@ -83,7 +84,8 @@ impl InstalledPatch {
         self.patch
     }
 
-    /// The value of the state of this id, if the patch names it.
+    /// The value of the state of this id, if the patch names it. A patch can't see states of another by
+    /// this.
     pub(crate) fn value(&self, id: u64) -> Option<u64>
         ensures { result ≡ value_among id self.now.values }
     {
@@ -94,7 +96,8 @@ impl InstalledPatch {
         Some(state.value)
     }
 
-    /// Sets the state of this id, where the patch names it, and answers the value before.
+    /// Sets the state of this id, where the patch names it, and answers the value before, by which the
+    /// caller knows whether anything changed.
     pub(crate) fn set_value(&mut self, id: u64, value: u64) -> Option<u64>
         ensures was { result ≡ value_among id self.old.values }
         ensures states { self.new ≡ record self.old { values = set_among id value self.old.values } }
@@ -108,7 +111,7 @@ impl InstalledPatch {
         Some(was)
     }
 
-    /// Adds a state, as the last.
+    /// Adds a state, as the last: so the states have the order in which the patch names them.
     pub(crate) fn push(&mut self, id: u64, value: u64)
         requires { length self.old.values < MAX_STATES }
         ensures { self.new ≡ record self.old { values = self.old.values ++ (id, value) ∷ [] } }
@@ -116,7 +119,8 @@ impl InstalledPatch {
         self.states.push(SystemState { id, value });
     }
 
-    /// Takes the state of this id out, where the patch names it.
+    /// Takes the state of this id out, where the patch names it. Undoing takes them out last first, so none
+    /// moves.
     pub(crate) fn remove(&mut self, id: u64)
         ensures { self.new ≡ record self.old { values = state_taken id self.old.values } }
     {
@@ -125,7 +129,8 @@ impl InstalledPatch {
         }
     }
 
-    /// Takes the state of this id out again, or adds it as the last where there is room for it.
+    /// Takes the state of this id out again, or adds it as the last where there is room for it. A record
+    /// that doesn't fit changes nothing; none is met when records go back newest first.
     pub(crate) fn put_back(&mut self, id: u64, was: Option<u64>)
         ensures { self.new ≡ record self.old { values = put_state id was self.old.values } }
     {

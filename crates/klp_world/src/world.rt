@@ -18,16 +18,17 @@ use klp_types::{
 use std::alloc::{AllocError, Global};
 use std::marker::Model;
 
-/// The installed patches with the values of their system states (system-state), and the shadow
-/// variables (shadow-vars).
+/// The installed patches with the values of their system states (system-state), and the shadow variables
+/// (shadow-vars).
 ///
-/// All room is taken by [`World::new`]. Each change notes, in the records handed in, every row that
-/// it changes as it was; a row that it leaves as it was isn't noted. To put these records back,
-/// newest first, gives the world before the change.
+/// All room is taken by [`World::new`]. Each change logs, in the records handed in, every row that it
+/// changes as it was; a row that it leaves as it was isn't logged. To put these records back, newest first,
+/// gives the world before the change.
 #[derive(Debug, Drop)]
 pub struct World {
     patches: Vec<InstalledPatch>,
-    /// The patches of `patches`, without their states.
+    /// The numbers of `patches`, kept beside it so that `installed` can lend them as a slice
+    /// (docs/DECISIONS.md, "The list of installed patches").
     installed: ArrayVec<PatchId, MAX_PATCHES>,
     shadow: ShadowMap,
 }
@@ -48,7 +49,8 @@ impl Model for World {
     ghost invariant = { λ w. (vec_len w.patches ≤ MAX_PATCHES) × (MAX_PATCHES ≤ vec_capacity w.patches) × (map (λ (i : Installed). i.patch) w.patches.items ≡ w.installed.items) };
 }
 
-/// Notes the states of a patch, the last first.
+/// Logs the states of a patch, the last first, since putting back takes the newest record first and adds
+/// each as the last.
 fn note_states(patch: PatchId, states: &[SystemState], log: &mut Records)
     requires { length states.now ≤ spare_of log.old }
     ensures { log.new ≡ noting log.old (map (state_row patch) (reverse states.now)) }
@@ -63,7 +65,8 @@ fn note_states(patch: PatchId, states: &[SystemState], log: &mut Records)
     }
 }
 
-/// The newest patch before this one that names the state.
+/// The newest patch before this one that names the state. The walk is from the oldest, because what is
+/// behind the patch itself doesn't count.
 fn newest_before(patches: &[InstalledPatch], patch: PatchId, id: u64) -> Option<PatchId>
     ensures { result ≡ newest_naming id (installed_before patch patches.now) }
 {
@@ -80,7 +83,8 @@ fn newest_before(patches: &[InstalledPatch], patch: PatchId, id: u64) -> Option<
 }
 
 impl World {
-    /// No patch is installed and no shadow variable is there. An error is want of memory.
+    /// No patch is installed and no shadow variable is there. All room that later changes need is taken
+    /// here. An error is want of memory.
     pub fn new(alloc: Global) -> Result<Self, AllocError>
         ensures { IfOk result (λ world. world ≡ record { installed = []; shadow = finite.empty }) }
     {
@@ -98,7 +102,8 @@ impl World {
         self.shadow.get(key)
     }
 
-    /// How many shadow variables there are.
+    /// How many shadow variables there are, at a constant cost: by it room is asked for before callbacks
+    /// run.
     pub fn count(&self) -> u16
         ensures value { result ≡ finite.len self.now.shadow }
         ensures limit { result ≤ MAX_VARIABLES }
@@ -106,7 +111,7 @@ impl World {
         self.shadow.len() as u16
     }
 
-    /// The installed patches, oldest first.
+    /// The installed patches, oldest first, which is the order in which their entries were put on sites.
     pub fn installed(&self) -> &[PatchId]
         ensures value { result.now ≡ map (λ (i : Installed). i.patch) self.now.installed }
         ensures limit { length result.now ≤ MAX_PATCHES }
@@ -114,7 +119,7 @@ impl World {
         &self.installed
     }
 
-    /// Whether the patch is installed.
+    /// Whether the patch is installed, also while it is in transition.
     pub fn is_installed(&self, patch: PatchId) -> bool
         ensures { result ≡ list_any (λ (i : Installed). i.patch == patch) self.now.installed }
     {
@@ -134,8 +139,9 @@ impl World {
         self.patches[place].value(id)
     }
 
-    /// The newest patch installed before this one that names the state. Where the patch isn't
-    /// installed, all installed patches count as before it. (The rule is this project's own.)
+    /// The newest patch installed before this one that names the state. Where the patch isn't installed,
+    /// all installed patches count as before it, since it would be the newest. (The rule is this project's
+    /// own.)
     pub fn previous(&self, patch: PatchId, id: u64) -> Option<PatchId>
         ensures { result ≡ previous_patch self.now patch id }
     {
@@ -159,7 +165,7 @@ impl World {
     }
 
     /// The value of a shadow variable, which is added with this value where it isn't there
-    /// (`klp_shadow_get_or_alloc`).
+    /// (`klp_shadow_get_or_alloc`). One that is there needs no room.
     pub fn get_or_alloc(
         &mut self,
         key: ShadowKey,
@@ -176,7 +182,8 @@ impl World {
         there.unwrap_or(value)
     }
 
-    /// Removes a shadow variable, and answers whether it was there (`klp_shadow_free`).
+    /// Removes a shadow variable, and answers whether it was there (`klp_shadow_free`). Nothing is logged
+    /// where it wasn't.
     pub fn free(&mut self, key: ShadowKey, log: &mut Records) -> bool
         requires { length (rows_of_free self.old key) ≤ spare_of log.old }
         ensures answer { result ≡ is_some (variable self.old key) }
@@ -206,7 +213,8 @@ impl World {
         (before - self.shadow.len()) as u16
     }
 
-    /// Puts a patch last, with these system states at 0.
+    /// Puts a patch last, since it is the newest, with these system states at 0: a fresh state has the
+    /// value of none before it until a callback takes one over.
     pub fn add_states(&mut self, patch: PatchId, ids: &[u64], log: &mut Records)
         requires fresh { list_any (λ (i : Installed). i.patch == patch) self.old.installed ≡ false }
         requires room { length self.old.installed < MAX_PATCHES }
@@ -227,7 +235,8 @@ impl World {
         self.put_last(installed);
     }
 
-    /// Takes a patch out with its system states, where it is installed. The patches behind it move.
+    /// Takes a patch out with its system states, where it is installed. The patches behind it move. The
+    /// states are logged before the patch, so that the patch is back before they are.
     pub fn drop_states(&mut self, patch: PatchId, log: &mut Records)
         requires { length (rows_of_drop self.old patch) ≤ spare_of log.old }
         ensures changes { Changes self.old self.new log.old log.new (without_patch self.old patch) (rows_of_drop self.old patch) }
@@ -243,8 +252,8 @@ impl World {
         });
     }
 
-    /// How many records [`World::drop_states`] notes: none where the patch isn't installed, else one
-    /// for each of its system states and one for itself.
+    /// How many records [`World::drop_states`] logs: none where the patch isn't installed, else one for
+    /// each of its system states and one for itself. A caller asks first, since records have to have room.
     pub fn drop_records(&self, patch: PatchId) -> usize
         ensures value { result ≡ length (rows_of_drop self.now patch) }
         ensures limit { result ≤ MAX_STATES + 1 }
@@ -262,15 +271,16 @@ impl World {
         ensures changes { Changes self.old self.new log.old log.new (with_value self.old patch id value) (rows_of_set self.old patch id value) }
     {
         if let Some(was) = self.replace_value(patch, id, value) {
+            // A value that is set again is no change (docs/DECISIONS.md, "No record of an unchanged row").
             if was != value {
                 log.note(Record::StateValue { patch, id, was });
             }
         }
     }
 
-    /// Gives one row what the record tells; a row that isn't the world's changes nothing. A row for
-    /// which there is no room stays away; none is met where the records of changes are put back
-    /// newest first.
+    /// Gives one row what the record tells; a row that isn't the world's changes nothing. A row for which
+    /// there is no room stays away, so that the limits hold whatever comes; none is met where the records
+    /// of changes are put back newest first.
     pub fn put_back(&mut self, row: Record)
         ensures { self.new ≡ put_back self.old row }
     {
@@ -326,7 +336,8 @@ impl World {
         }
     }
 
-    /// Sets a state of an installed patch, where it is there, and answers the value before.
+    /// Sets a state of an installed patch, where it is there, and answers the value before. It logs
+    /// nothing, because undoing uses it too.
     fn replace_value(&mut self, patch: PatchId, id: u64, value: u64) -> Option<u64>
         ensures was { result ≡ state_value self.old patch id }
         ensures world { self.new ≡ with_value self.old patch id value }
