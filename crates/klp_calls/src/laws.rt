@@ -9,7 +9,7 @@ ghost use Rattle.klp_machine.specs.ModuleCalls.{Part, coming_calls, going_calls}
 ghost use Rattle.klp_machine.specs.EventCalls.{coming_may_run, going_may_run};
 ghost use Rattle.klp_calls.specs.Calls.{records_of};
 
-/// The callbacks that run note no more records than those that may.
+/// The callbacks that run log no more records than those that may, so room for these is room enough.
 pub fn those_that_run_note_no_more_than_those_that_may()
     ensures enabling { (patch : ℕ) (objects : List (ℕ × PatchObject))
         → records_of (enable_calls patch objects) ≤ records_of (calls_of patch Pre objects ++ calls_of patch PostUn objects) }

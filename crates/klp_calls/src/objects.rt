@@ -1,4 +1,4 @@
-//! The callbacks of a patch, object by object.
+//! The callbacks of a patch, object by object, in the order in which the patch has its objects.
 ghost use Rattle.std.specs.Prelude.{◌≡◌, ℕ, ◌≤◌, ◌++◌, length, slice_get, find, None, Some, option_map, MatchOption};
 ghost use Rattle.klp_types.specs.declared.callback.Which.TheVariants.{Pre, PostUn};
 ghost use Rattle.klp_types.specs.Setting.{PatchObject as ObjectOf};
@@ -16,7 +16,8 @@ use klp_modules::Modules;
 use klp_types::{ObjId, PatchId, Records, Which};
 use klp_world::World;
 
-/// How many shadow variables the callback of one object adds at most, where the object is loaded.
+/// How many shadow variables the callback of one object adds at most, where the object is loaded. An object
+/// that isn't loaded takes no part: its callbacks run when it comes.
 fn allocs_where_loaded(
     catalog: &Catalog,
     modules: &Modules,
@@ -34,11 +35,12 @@ fn allocs_where_loaded(
     }
 }
 
-/// How many shadow variables the callbacks of a kind for the loaded objects of a patch add at most.
+/// How many shadow variables the callbacks of a kind for the loaded objects of a patch add at most: those
+/// that are there already and those that are removed aren't counted against them.
 pub fn allocs(catalog: &Catalog, modules: &Modules, patch: PatchId, which: Which) -> usize
     ensures value { result ≡ allocs_of (calls_of patch which (loaded_in catalog.now modules.now patch)) }
     ensures limit { result ≤ 128 }
-    // so they note few records
+    // so they log few records
     ensures records { records_of (calls_of patch which (loaded_in catalog.now modules.now patch)) ≤ 256 }
 {
     let mut sum = 0;
@@ -48,8 +50,8 @@ pub fn allocs(catalog: &Catalog, modules: &Modules, patch: PatchId, which: Which
     sum
 }
 
-/// Runs the callback of one object, where the object is loaded, and answers its status: 0 where
-/// there is none.
+/// Runs the callback of one object, where the object is loaded, and answers its status: 0 where there is
+/// none, since what isn't there can't refuse.
 fn run_where_loaded(
     catalog: &mut Catalog,
     modules: &Modules,
@@ -71,7 +73,8 @@ fn run_where_loaded(
     }
 }
 
-/// Runs the callbacks of a kind for the loaded ones of the patch's first `end` objects, in order.
+/// Runs the callbacks of a kind for the loaded ones of the patch's first `end` objects, in order. The end
+/// is for cleaning up, which stops before the object that refused.
 fn run_first(
     catalog: &mut Catalog,
     modules: &Modules,
@@ -91,7 +94,8 @@ fn run_first(
     }
 }
 
-/// Runs the callbacks of a kind for the loaded objects of a patch, in order.
+/// Runs the callbacks of a kind for the loaded objects of a patch, in order. Their statuses are dropped:
+/// only pre-patch may refuse, as in the kernel, where the other kinds return nothing.
 pub fn run_callbacks(
     catalog: &mut Catalog,
     modules: &Modules,
@@ -126,8 +130,8 @@ fn run_pre(
     }
 }
 
-/// Runs pre-patch object by object, up to and with the first that refuses, and answers the place of
-/// that object and the status.
+/// Runs pre-patch object by object, up to and with the first that refuses, and answers the place of that
+/// object, before which the cleaning up stops, and the status.
 fn pre_patch(
     catalog: &mut Catalog,
     modules: &Modules,
@@ -152,8 +156,9 @@ fn pre_patch(
     None
 }
 
-/// Runs pre-patch object by object, up to and with the first that refuses. If one does, the objects
-/// before it get post-unpatch, and its number and the status are answered.
+/// Runs pre-patch object by object, up to and with the first that refuses. If one does, the objects before
+/// it get post-unpatch, so that what they set up is cleaned up, and its number and the status are answered.
+/// The one that refuses cleans up after itself.
 pub fn run_pre_patch(
     catalog: &mut Catalog,
     modules: &Modules,

@@ -23,7 +23,8 @@ use klp_catalog::laws::runs_add_up;
 use klp_types::{Move, ObjId, PatchId, Records, Which};
 use klp_world::World;
 
-/// Whether this is the patch in transition.
+/// Whether this is the patch in transition: its post-patch will come with the end of the transition, or its
+/// pre-unpatch came with the start.
 fn moves(moving: &Option<Move>, patch: PatchId) -> bool
     ensures { result ≡ pick.moves moving.now patch }
 {
@@ -33,7 +34,7 @@ fn moves(moving: &Option<Move>, patch: PatchId) -> bool
     }
 }
 
-/// How many shadow variables a callback adds at most.
+/// How many shadow variables a callback adds at most; none where there is no such callback.
 fn allocs_at(catalog: &Catalog, patch: PatchId, place: u8, which: Which) -> usize
     ensures value { result ≡ allocs_of (call_at catalog.now patch place which) }
     ensures limit { result ≤ 16 }
@@ -42,7 +43,7 @@ fn allocs_at(catalog: &Catalog, patch: PatchId, place: u8, which: Which) -> usiz
     usize::from(catalog.allocs(patch, place, which))
 }
 
-/// The same of one that runs only if the patch doesn't move.
+/// How many shadow variables a callback adds at most that runs only if the patch doesn't move.
 fn allocs_still(
     catalog: &Catalog,
     patch: PatchId,
@@ -61,7 +62,8 @@ fn allocs_still(
     }
 }
 
-/// How many shadow variables the patch's callbacks that may run when the module comes add at most.
+/// How many shadow variables the patch's callbacks that may run when the module comes add at most: all four
+/// kinds, since a patch behind this one may refuse and this one be cleaned up.
 pub(crate) fn allocs_to_bring(
     catalog: &Catalog,
     patch: PatchId,
@@ -84,7 +86,8 @@ pub(crate) fn allocs_to_bring(
     }
 }
 
-/// The same where the module goes.
+/// How many shadow variables the patch's callbacks that may run when the module goes add at most: the two
+/// kinds of leaving.
 pub(crate) fn allocs_to_let_go(
     catalog: &Catalog,
     patch: PatchId,
@@ -104,7 +107,7 @@ pub(crate) fn allocs_to_let_go(
     }
 }
 
-/// Runs a callback if the patch doesn't move.
+/// Runs a callback if the patch doesn't move, and drops its status, as only pre-patch may refuse.
 fn run_still(
     catalog: &mut Catalog,
     patch: PatchId,
@@ -140,8 +143,8 @@ fn run_pre_at(
     }
 }
 
-/// Runs pre-patch, and post-patch if the patch doesn't move, for the object at this place. Where
-/// pre-patch refuses it runs alone, and its status is answered.
+/// Runs pre-patch, and post-patch if the patch doesn't move, for the object at this place. Where pre-patch
+/// refuses it runs alone, since nothing was set up, and its status is answered.
 fn bring_at(
     catalog: &mut Catalog,
     patch: PatchId,
@@ -164,7 +167,8 @@ fn bring_at(
     }
 }
 
-/// The same for the module, where the patch has it.
+/// Brings a module to one patch: where the patch has it, pre-patch runs for it, and post-patch if the patch
+/// doesn't move. Answers the status of a pre-patch that refuses.
 pub(crate) fn bring(
     catalog: &mut Catalog,
     patch: PatchId,
@@ -175,7 +179,7 @@ pub(crate) fn bring(
 ) -> Option<i32>
     requires { HasRoomFor world.old log.old (bring_calls moving.now (parts_at catalog.old object patch)) }
     ensures refused { option_map (λ status. (patch, status)) result ≡ option_map refusal (find part_refuses (parts_at catalog.old object patch)) }
-    // nothing of the patch stands before what refuses
+    // nothing of the patch comes before what refuses, since a patch has the module once
     ensures first { is_some result ≡ true → parts_before (parts_at catalog.old object patch) ≡ [] }
     ensures ran { HaveRun catalog.old catalog.new world.old world.new log.old log.new (bring_calls moving.now (parts_at catalog.old object patch)) }
 {
@@ -183,7 +187,8 @@ pub(crate) fn bring(
     bring_at(catalog, patch, place, moving, world, log)
 }
 
-/// Runs pre-unpatch if the patch doesn't move, and post-unpatch, for the object at this place.
+/// Runs pre-unpatch if the patch doesn't move, and post-unpatch, for the object at this place. One that
+/// moves gets post-unpatch alone, because it has run pre-unpatch already, or never post-patch.
 fn let_go_at(
     catalog: &mut Catalog,
     patch: PatchId,
@@ -200,7 +205,8 @@ fn let_go_at(
     run_at(catalog, patch, place, Which::PostUn, world, log);
 }
 
-/// The same for the module, where the patch has it.
+/// Lets a module go from one patch: where the patch has it, pre-unpatch runs for it if the patch doesn't
+/// move, and post-unpatch.
 pub(crate) fn let_go(
     catalog: &mut Catalog,
     patch: PatchId,

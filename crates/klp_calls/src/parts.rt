@@ -17,7 +17,8 @@ use klp_catalog::laws::runs_add_up;
 use klp_types::{Move, ObjId, PatchId, Records};
 use klp_world::World;
 
-/// How many shadow variables the callbacks that may run when a module comes add at most.
+/// How many shadow variables the callbacks that may run when a module comes add at most, the cleaning up
+/// after a refusal among them.
 pub fn allocs_of_coming(
     catalog: &Catalog,
     installed: &[PatchId],
@@ -26,7 +27,7 @@ pub fn allocs_of_coming(
 ) -> usize
     requires { length installed.now ≤ MAX_PATCHES }
     ensures value { result ≡ allocs_of (flat_map (coming_may_run moving) (parts_in catalog.now object installed.now)) }
-    // so they note few records
+    // so they log few records
     ensures records { records_of (flat_map (coming_may_run moving) (parts_in catalog.now object installed.now)) ≤ 1024 + result }
 {
     let mut sum = 0;
@@ -36,7 +37,7 @@ pub fn allocs_of_coming(
     sum
 }
 
-/// The same of a module that goes.
+/// How many shadow variables the callbacks that may run when a module goes add at most.
 pub fn allocs_of_going(
     catalog: &Catalog,
     installed: &[PatchId],
@@ -73,9 +74,9 @@ fn let_go_each(
     }
 }
 
-/// For each of these patches that has the module, pre-patch, and post-patch if the patch doesn't move;
-/// up to and with the first pre-patch that refuses. If one does, its place among these, its patch and
-/// the status are answered.
+/// For each of these patches that has the module, pre-patch, and post-patch if the patch doesn't move; up
+/// to and with the first pre-patch that refuses. If one does, its place among these, before which the
+/// cleaning up stops, its patch and the status are answered.
 fn bring_each(
     catalog: &mut Catalog,
     installed: &[PatchId],
@@ -101,9 +102,9 @@ fn bring_each(
 }
 
 /// Runs, for each of these patches that has the module, pre-patch, and post-patch if the patch doesn't
-/// move; up to and with the first pre-patch that refuses. If one does, the patches before it are
-/// cleaned up, oldest first: pre-unpatch if the patch doesn't move, and post-unpatch. Its patch and
-/// the status are answered.
+/// move; up to and with the first pre-patch that refuses. If one does, the patches before it are cleaned
+/// up, oldest first (the kernel's `klp_cleanup_module_patches_limited`): pre-unpatch if the patch doesn't
+/// move, and post-unpatch. Its patch and the status are answered.
 pub fn run_coming(
     catalog: &mut Catalog,
     installed: &[PatchId],
@@ -125,7 +126,7 @@ pub fn run_coming(
 }
 
 /// Runs, for each of these patches that has the module, pre-unpatch if the patch doesn't move, and
-/// post-unpatch.
+/// post-unpatch. None of them can keep the module from going.
 pub fn run_going(
     catalog: &mut Catalog,
     installed: &[PatchId],

@@ -11,8 +11,8 @@ use klp_types::{PatchId, Records, Which};
 use klp_world::World;
 use klp_world::laws::records_are_few;
 
-/// Runs the callback of a patch for its object at this place, and answers its status: 0 where there
-/// is no such callback.
+/// Runs the callback of a patch for its object at this place, and answers its status: 0 where there is no
+/// such callback. The laws that every run needs are called here, so that no walk over callbacks has to.
 pub(crate) fn run_at(
     catalog: &mut Catalog,
     patch: PatchId,

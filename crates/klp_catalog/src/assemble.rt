@@ -24,10 +24,11 @@ use thiserror::Error;
 /// Why a plan becomes no catalog. The numbers are this project's own, and stay.
 #[derive(Clone, Copy, Debug, PartialEq, Eq, Error)]
 pub enum AssembleFault {
-    /// There isn't one callback for each script of the plan. This is looked at first.
+    /// There isn't one callback for each script of the plan. This is looked at first, since the callbacks
+    /// are the caller's and the text isn't at fault.
     #[error("WrongCallbacks")]
     WrongCallbacks = 1,
-    /// A patch has two functions for one site.
+    /// A patch has two functions for one site, of which only one could run.
     #[error("SameSite")]
     SameSite = 2,
     /// Memory ran out. This may stand in place of the other faults.
@@ -51,7 +52,8 @@ impl<T: Drop> From<AllocFailed<T>> for AssembleFault {
     }
 }
 
-/// How many symbols each object has, as far as an `ObjId` can name it.
+/// How many symbols each object has, as far as an `ObjId` can name it. They are kept, so that boot can
+/// compare them with the image's.
 pub(crate) fn symbol_counts(alloc: Global, modules: &Modules) -> Result<Vec<u16>, AllocError>
     ensures { IfOk result (λ counts. counts.items ≡ take 256 (map symbol_count modules.now.names)) }
 {
@@ -85,7 +87,8 @@ fn resolve(modules: &Modules, object: ObjId, function: PlanFunction) -> CatalogF
     }
 }
 
-/// Adds the functions of an object behind the others.
+/// Adds the functions of an object behind the others: a patch's functions are numbered over all its
+/// objects.
 fn push_functions(
     modules: &Modules,
     object: ObjId,
@@ -100,7 +103,7 @@ fn push_functions(
     Ok(())
 }
 
-/// The kinds of callbacks, in order.
+/// The kinds of callbacks, in order: with the number of the first, they give the number of each.
 fn kinds_of(alloc: Global, callbacks: &[PlanCallback]) -> Result<Vec<Which>, AllocError>
     ensures { IfOk result (λ kinds. kinds.items ≡ map (λ (c : CallbackValue). c.which) callbacks.now) }
 {
@@ -120,7 +123,8 @@ fn is_same_site(one: Option<Site>, other: Option<Site>) -> bool
     }
 }
 
-/// Whether one of the functions is for this site.
+/// Whether one of the functions is for this site. No site is none's, so two functions without one aren't
+/// for the same.
 fn is_among(site: Option<Site>, functions: &[CatalogFunction]) -> bool
     ensures { result ≡ list_any (λ (f : FunctionValue). catalog.is_same_site site f.site) functions.now }
 {
@@ -129,7 +133,8 @@ fn is_among(site: Option<Site>, functions: &[CatalogFunction]) -> bool
         .any(|function| is_same_site(site, function.site))
 }
 
-/// Whether two of the functions are for one site. Each pair is compared.
+/// Whether two of the functions are for one site. Each pair is compared, since there are at most 64
+/// (docs/DECISIONS.md, "Functions by pairs").
 fn has_same_site(functions: &[CatalogFunction]) -> bool
     ensures { result ≡ catalog.has_same_site functions.now }
 {
@@ -143,7 +148,8 @@ fn has_same_site(functions: &[CatalogFunction]) -> bool
     false
 }
 
-/// An object with the numbers of its callbacks; its functions go behind the others.
+/// An object with the numbers of its callbacks; its functions go behind the others, so that all of a patch
+/// are one list.
 fn assemble_target(
     alloc: Global,
     modules: &Modules,
@@ -175,7 +181,8 @@ fn assemble_target(
     })
 }
 
-/// The patch with its functions resolved and the numbers of its callbacks.
+/// The patch with its functions resolved and the numbers of its callbacks. Its name is a snapshot, since
+/// the catalog's table has it.
 fn assemble_patch(
     alloc: Global,
     modules: &Modules,
@@ -208,11 +215,11 @@ fn assemble_patch(
     })
 }
 
-/// The patches in order, each with its functions resolved and the numbers of its callbacks, of
-/// which there are so many.
+/// The patches in order, each with its functions resolved and the numbers of its callbacks, of which there
+/// are so many.
 ///
-/// That two functions are for one site is told only once all numbers are given out, since a wrong
-/// number of callbacks is looked at first.
+/// That two functions are for one site is told only once all numbers are given out, since a wrong number of
+/// callbacks is looked at first.
 pub(crate) fn assemble_patches(
     alloc: Global,
     modules: &Modules,
@@ -232,9 +239,13 @@ pub(crate) fn assemble_patches(
     let mut patches = Vec::new(alloc);
     for patch in given {
         let assembled = assemble_patch(alloc, modules, patch, &mut numbers)?;
+        // A function whose symbol isn't resolved is for no site, and so not for the same as another
+        // (docs/DECISIONS.md, "Functions without a site").
         same_site |= has_same_site(&assembled.functions);
         patches.push(assembled)?;
     }
+    // Too many callbacks are known only here, and come before the sites (docs/DECISIONS.md,
+    // "`WrongCallbacks` before `SameSite`").
     if numbers.next < callbacks {
         return Err(AssembleFault::WrongCallbacks);
     }

@@ -35,20 +35,22 @@ use std::alloc::Global;
 use std::marker::Model;
 use std::snapshot::Snapshot;
 
-/// The patches of a plan over the objects of a kernel: each function's name and position are
-/// resolved to a site once.
+/// The patches of a plan over the objects of a kernel: each function's name and position are resolved to a
+/// site once, so no event looks a name up.
 ///
-/// Patches are numbered from 0 in the order of the text. The names of the objects and of their
-/// symbols aren't kept: contracts alone know them. No call but `read` and `assemble` takes memory.
+/// Patches are numbered from 0 in the order of the text. The names of the objects and of their symbols
+/// aren't kept: contracts alone know them. No call but `read` and `assemble` takes memory.
 #[derive(Drop)]
 pub struct Catalog {
-    /// The modules that it was assembled over, as they were then.
+    /// The modules that it was assembled over, as they were then. A snapshot takes no memory: the names are
+    /// for contracts alone (docs/DECISIONS.md, "Names of objects and symbols").
     over: Snapshot<Modules>,
-    /// By object, how many symbols it has.
+    /// By object, how many symbols it has, for boot to compare with the image.
     symbols: Vec<u16>,
     names: Names,
     patches: Vec<CatalogPatch>,
-    /// Those of all patches, in the order of the text.
+    /// Those of all patches, in the order of the text, so that they are the caller's list as it was handed
+    /// in.
     callbacks: Vec<Boxed>,
 }
 
@@ -72,21 +74,24 @@ impl Catalog {
     /// line where memory ran out.
     pub fn read(alloc: Global, text: &[u8]) -> Result<Plan, TextFault>
         ensures plan { IfOk result (λ plan. plan_of text.now ≡ Ok plan) }
-        // so a plan's targets are objects of the image that its objects make
+        // so a plan's targets are objects of the image that its objects make, as `assemble` wants, though
+        // the objects are handed out in between (docs/DECISIONS.md, "The targets of a plan")
         ensures targets { IfOk result (λ plan. AreTargetsWithin (length plan.objects) plan.patches) }
         ensures fault { IfErr result (λ fault. IsFaultOf text.now fault.line fault.kind) }
     {
         klp_plan::read(alloc, text)
     }
 
-    /// Makes a catalog of a plan, over the modules of the image that its objects make. The handler
-    /// and the objects of the plan aren't looked at, and the plan is dropped on a fault.
+    /// Makes a catalog of a plan, over the modules of the image that its objects make. The handler and the
+    /// objects of the plan aren't looked at, and the plan is dropped on a fault.
     ///
-    /// Each function is resolved once, and compared with the others of its patch. A function whose
-    /// symbol isn't resolved is for no site, and is no fault.
+    /// Each function is resolved once, and compared with the others of its patch. A function whose symbol
+    /// isn't resolved is for no site, and is no fault, since its module may never come.
     ///
-    /// Each script of the plan wants one callback, in the order of the text. The callbacks' own
-    /// scripts count, and not those of the text.
+    /// Each script of the plan wants one callback, in the order of the text. The callbacks' own scripts
+    /// count, and not those of the text, so that `patches_of` has what will run (docs/DECISIONS.md,
+    /// "Scripts by the callbacks"). They come in their boxes, because no box is made here
+    /// (docs/DECISIONS.md, "Callbacks in their boxes").
     pub fn assemble(
         alloc: Global,
         modules: &Modules,
@@ -121,15 +126,15 @@ impl Catalog {
     pub fn patches(&self) -> u8
         ensures count { result ≡ length self.now.patches }
         ensures limit { result ≤ MAX_PATCHES }
-        // what each patch keeps to
+        // what each patch keeps to, so that room for its records is known beforehand
         ensures limits { AreWithin self.now.patches }
     {
         self.patches.len() as u8
     }
 
-    /// Whether a patch can be installed beside these: for each system state of each of them, it
-    /// names the state with the same version or a higher one, or doesn't name it and isn't
-    /// cumulative (system-state).
+    /// Whether a patch can be installed beside these (the kernel's `klp_is_patch_compatible`): for each
+    /// system state of each of them, it names the state with the same version or a higher one, or doesn't
+    /// name it and isn't cumulative (system-state).
     pub fn is_compatible(&self, patch: PatchId, installed: &[PatchId]) -> bool
         requires patch { patch < length self.now.patches }
         requires installed { All (λ other. other < length self.now.patches) installed.now }
@@ -149,7 +154,7 @@ impl Catalog {
         patch::previous_state(&self.patches, patch, id, installed)
     }
 
-    /// How many symbols an object has.
+    /// How many symbols an object has, by the names that the catalog was assembled over.
     pub fn symbols(&self, object: ObjId) -> Option<u16>
         ensures { result ≡ option_map (λ (found : ObjectNames). length found.symbols) (slice_get self.now.names object) }
     {
@@ -157,7 +162,7 @@ impl Catalog {
         count_at(&self.symbols, number)
     }
 
-    /// The number of the patch of this name. Takes one look-up.
+    /// The number of the patch of this name. Takes one look-up by its hash.
     pub fn patch(&self, name: &str) -> Option<PatchId>
         ensures { result ≡ position (bytes_eq name.now) (patch_names_of self.now.patches) }
     {
@@ -165,7 +170,7 @@ impl Catalog {
         Some(PatchId(number as u8))
     }
 
-    /// The name of a patch.
+    /// The name of a patch, as its line of the text has it.
     pub fn patch_name(&self, patch: PatchId) -> Option<&str>
         ensures { option_map (λ name. name.now) result ≡ slice_get (patch_names_of self.now.patches) patch }
     {
@@ -181,7 +186,7 @@ impl Catalog {
     }
 
     /// How many objects a patch changes, at most [`MAX_TARGETS`](klp_types::MAX_TARGETS). A patch that
-    /// isn't there changes none.
+    /// isn't there changes none, so that a loop over them needs no check.
     pub fn target_len(&self, patch: PatchId) -> u8
         ensures count { result ≡ length (objects_at self.now patch) }
         ensures limit { result ≤ MAX_TARGETS }
@@ -189,7 +194,8 @@ impl Catalog {
         patch::targets_of(&self.patches, patch).len() as u8
     }
 
-    /// The object that a patch changes, by its place among those of the patch from 0.
+    /// The object that a patch changes, by its place among those of the patch from 0, by which its
+    /// callbacks are run.
     pub fn target(&self, patch: PatchId, number: u8) -> Option<ObjId>
         ensures { result ≡ option_map (λ (found : PatchObject). found.object) (slice_get (objects_at self.now patch) number) }
     {
@@ -201,7 +207,7 @@ impl Catalog {
     /// twice.
     pub fn place(&self, patch: PatchId, object: ObjId) -> Option<u8>
         ensures place { result ≡ place_of object (objects_at self.now patch) }
-        // so it is the object's only place
+        // so it is the object's only place, and to go by places is to go by objects
         ensures once { count_by (λ (found : PatchObject). found.object == object) (objects_at self.now patch) ≤ 1 }
     {
         let targets = patch::targets_of(&self.patches, patch);
@@ -217,9 +223,10 @@ impl Catalog {
         patch::ids_of(patch::states_of(&self.patches, patch))
     }
 
-    /// Runs a callback of a patch for one of its objects, by the object's place in the patch from 0,
-    /// and answers its status. `None` where the patch has no such callback. It takes no memory
-    /// (callbacks).
+    /// Runs a callback of a patch for one of its objects, by the object's place in the patch from 0, and
+    /// answers its status. `None` where the patch has no such callback. It takes no memory (callbacks). The
+    /// place is what a walk over the objects has, so none is looked up by its number (docs/DECISIONS.md,
+    /// "Callbacks by place").
     pub fn run(
         &mut self,
         patch: PatchId,
@@ -230,7 +237,7 @@ impl Catalog {
     ) -> Option<i32>
         requires room { IfSome (script_at self.old patch place which) (λ script. HasRoom world.old log.old (alloc_count script.edits) (rows_of_script patch world.old script)) }
         ensures status { result ≡ option_map (λ (s : ScriptOfEdits). s.status) (script_at self.old patch place which) }
-        // one run of the callback, if there is one
+        // one run of the callback, if there is one, so its count grows by one
         ensures catalog { self.new ≡ after_runs self.old (call_of patch place which (script_at self.old patch place which)) }
         ensures changes { let script = script_at self.old patch place which in
             Changes world.old world.new log.old log.new (after_calls world.old (call_of patch place which script)) (rows_if patch world.old script) }
@@ -239,11 +246,12 @@ impl Catalog {
         Some(self.callbacks[number].run(patch, world, log))
     }
 
-    /// How many shadow variables such a run adds at most. 0 where there is no such callback.
+    /// How many shadow variables such a run adds at most. 0 where there is no such callback, so that sums
+    /// need no case for it.
     pub fn allocs(&self, patch: PatchId, place: u8, which: Which) -> u16
         ensures value { result ≡ allocs_if (script_at self.now patch place which) }
         ensures limit { result ≤ MAX_EDITS }
-        // so a run notes few rows
+        // so a run logs few rows
         ensures edits { IfSome (script_at self.now patch place which) (λ script. length script.edits ≤ MAX_EDITS) }
     {
         match patch::number_of(&self.patches, patch, usize::from(place), which) {
@@ -252,8 +260,8 @@ impl Catalog {
         }
     }
 
-    /// How often the callback of a kind for this object ran, up to the greatest number. `None` where
-    /// the patch has no such callback.
+    /// How often the callback of a kind for this object ran, up to the greatest number. `None` where the
+    /// patch has no such callback, which isn't the same as one that never ran.
     pub fn callback_runs(&self, patch: PatchId, object: ObjId, which: Which) -> Option<u64>
         ensures runs { result ≡ callback_runs self.now patch object which }
         ensures there { is_some result ≡ is_some (option_and_then (λ place. script_at self.now patch place which) (place_of object (objects_at self.now patch))) }
@@ -266,7 +274,7 @@ impl Catalog {
     /// The new functions of a patch, over its objects in order. A patch that isn't there has none.
     pub fn functions(&self, patch: PatchId) -> &[CatalogFunction]
         ensures functions { result.now ≡ catalog_functions self.now patch }
-        // what the manager reads of them
+        // what the manager reads of them when it puts their entries on sites
         ensures setting { map setting_function result.now ≡ all_functions (patch_objects (slice_get (patches_of self.now) patch)) }
         ensures in_object { All (LiesInObject self.now.names) result.now }
         ensures distinct { has_same_site result.now ≡ false }
@@ -275,8 +283,8 @@ impl Catalog {
         patch::functions_of(&self.patches, patch)
     }
 
-    /// A new function of a patch, by its place over the patch's objects from 0: the site that it
-    /// is for, its name and its address.
+    /// A new function of a patch, by its place over the patch's objects from 0: the site that it is for,
+    /// its name and its address.
     pub fn function(&self, patch: PatchId, number: u16) -> Option<(Option<Site>, &str, u64)>
         ensures { option_map {U = Option ℕ × List ℕ × ℕ} (λ f. (f.0, f.1.now, f.2)) result
             ≡ option_map (λ (f : FunctionValue). (f.site, f.new_name, f.address)) (slice_get (catalog_functions self.now patch) number) }

@@ -3,7 +3,7 @@ ghost use Rattle.std.specs.Prelude.{◌≡◌};
 use klp_types::{ObjId, Site};
 use std::marker::Model;
 
-/// A new function of a catalog's patch.
+/// A new function of a catalog's patch, with what its line says and the site that this comes to.
 #[derive(Debug, Drop)]
 pub struct CatalogFunction {
     pub(crate) object: ObjId,
@@ -31,14 +31,14 @@ impl Model for CatalogFunction {
 }
 
 impl CatalogFunction {
-    /// The object that it changes.
+    /// The object that it changes, which is that of its site.
     pub fn object(&self) -> ObjId
         ensures { result ≡ self.now.object }
     {
         self.object
     }
 
-    /// The name of the symbol that it stands in for.
+    /// The name of the symbol that it replaces, which is kept for the console to print.
     pub fn symbol(&self) -> &str
         ensures { result.now ≡ self.now.symbol }
     {
@@ -53,8 +53,8 @@ impl CatalogFunction {
         self.sympos
     }
 
-    /// The site of that symbol. `None` where the object has no such symbol, or with position 0
-    /// several of them.
+    /// The site of that symbol. `None` where the object has no such symbol, or with position 0 several of
+    /// them: then the patch can't be enabled while the object is loaded.
     pub fn site(&self) -> Option<Site>
         ensures { result ≡ self.now.site }
     {

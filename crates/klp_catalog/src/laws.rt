@@ -10,16 +10,17 @@ ghost use Rattle.klp_catalog.specs.Catalog.{Catalog, site_of};
 ghost use Rattle.klp_catalog.specs.Runs.{objects_at, place_of, after_runs, runs_of, callback_runs, RunsAddUp};
 ghost use Rattle.klp_catalog.specs.Counts.{times, grown};
 
-/// The site that a function's name and position pick, by the names of an image, lies in the object
-/// that the function is for.
+/// The site that a function's name and position pick, by the names of an image, is in the object that the
+/// function is for. The consistency of tasks needs it: no function outlives its site.
 pub fn sites_lie_in_their_objects()
     ensures { (objects : List Object) (object : ℕ) (function : PlanFunction) (site : ℕ)
         → site_of (names_of objects) object function ≡ Some site → object_of objects site ≡ Some object }
 {}
 
-/// When callbacks ran, each callback's count has grown by the number of times that it stands among
-/// them, up to the greatest number, and no other count changes; patches, scripts and names stay.
-/// `looks` says the same of a patch's callback for an object, by the object's place in the patch.
+/// When callbacks ran, each callback's count has grown by the number of times that it is among them, up to
+/// the greatest number, and no other count changes; patches, scripts and names stay. `looks` says so of a
+/// patch's callback for an object, by the object's place in the patch, since that is how one asks for a
+/// count.
 pub fn counts_grow_by_runs()
     ensures counts { (catalog : Catalog) (calls : List Call) (patch place : ℕ) (which : Which)
         → runs_of (after_runs catalog calls) patch place which ≡ option_map (grown (times patch place which calls)) (runs_of catalog patch place which) }
@@ -30,7 +31,8 @@ pub fn counts_grow_by_runs()
     ensures patches { (catalog : Catalog) (calls : List Call) → (after_runs catalog calls).patches ≡ catalog.patches }
 {}
 
-/// Runs that follow one another grow the counts as all of them together, and no run changes nothing.
+/// Runs that follow one another grow the counts as all of them together, and no run changes nothing: so a
+/// walk over callbacks can be told as one list.
 pub fn runs_add_up()
     ensures { RunsAddUp }
 {}

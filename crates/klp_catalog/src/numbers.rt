@@ -3,16 +3,18 @@ ghost use Rattle.klp_catalog.specs.Assembled.{IsShort};
 
 use crate::assemble::AssembleFault;
 
-/// The numbers of the callbacks that aren't given out yet.
+/// The numbers of the callbacks that aren't given out yet. They are counted and not the callbacks moved,
+/// since a box that changed hands would lose what is known of it.
 #[derive(Drop)]
 pub(crate) struct Numbers {
     pub(crate) next: usize,
-    /// One more than the last.
+    /// One more than the last: too few callbacks are found here, and too many by what is left.
     pub(crate) end: usize,
 }
 
 impl Numbers {
-    /// Gives out so many, and answers the first of them.
+    /// Gives out so many, and answers the first of them. An object's callbacks have numbers in a row, so
+    /// the first is enough.
     pub(crate) fn take(&mut self, wanted: usize) -> Result<usize, AssembleFault>
         requires { self.old.next ≤ self.old.end }
         ensures first { IfOk result (λ first. first ≡ self.old.next) }

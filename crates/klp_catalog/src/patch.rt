@@ -14,15 +14,15 @@ use klp_types::{MAX_STATES, ObjId, PatchId, Which};
 use std::marker::Model;
 use std::snapshot::Snapshot;
 
-/// A patch of a catalog.
+/// A patch of a catalog, as it is kept: its callbacks are numbers in the catalog's list.
 #[derive(Drop)]
 pub(crate) struct CatalogPatch {
-    /// The name; the catalog keeps the names of its patches in a table.
+    /// The name, for contracts alone; the catalog keeps the names of its patches in a table.
     pub(crate) name: Snapshot<String>,
     pub(crate) replace: bool,
-    /// The objects that it changes.
+    /// The objects that it changes, in the order of the text.
     pub(crate) targets: Vec<CatalogTarget>,
-    /// The new functions in all of them, in order.
+    /// The new functions in all of them, in order: their places are the numbers in versions and entries.
     pub(crate) functions: Vec<CatalogFunction>,
     pub(crate) states: Vec<SystemState>,
 }
@@ -36,8 +36,8 @@ impl Model for CatalogPatch {
     ghost view = { λ p. record { name = string_bytes p.name.value; replace = p.replace; targets = p.targets.items; functions = p.functions.items; states = p.states.items } };
 }
 
-/// The number of a patch's callback among all of the catalog, if it has one of the kind for the
-/// object at this place.
+/// The number of a patch's callback among all of the catalog, if it has one of the kind for the object at
+/// this place.
 pub(crate) fn number_of(
     patches: &[CatalogPatch],
     patch: PatchId,
@@ -50,14 +50,15 @@ pub(crate) fn number_of(
     target.number(which)
 }
 
-/// The place of an object among those that a patch changes.
+/// The place of an object among those that a patch changes. There is one at most, so it is searched from
+/// the front.
 pub(crate) fn place_of(targets: &[CatalogTarget], object: ObjId) -> Option<usize>
     ensures { result ≡ position (λ (t : StoredTarget). t.object == object) targets.now }
 {
     targets.iter().position(|target| target.object == object)
 }
 
-/// The objects that a patch changes, if it is there.
+/// The objects that a patch changes; none where it isn't there, so that callers need no case for it.
 pub(crate) fn targets_of(patches: &[CatalogPatch], patch: PatchId) -> &[CatalogTarget]
     ensures { result.now ≡ targets_at (slice_get patches.now patch) }
 {
@@ -67,7 +68,7 @@ pub(crate) fn targets_of(patches: &[CatalogPatch], patch: PatchId) -> &[CatalogT
     }
 }
 
-/// The new functions of a patch, if it is there.
+/// The new functions of a patch; none where it isn't there (docs/DECISIONS.md, "Numbers out of range").
 pub(crate) fn functions_of(patches: &[CatalogPatch], patch: PatchId) -> &[CatalogFunction]
     ensures { result.now ≡ stored_functions (slice_get patches.now patch) }
 {
@@ -77,7 +78,7 @@ pub(crate) fn functions_of(patches: &[CatalogPatch], patch: PatchId) -> &[Catalo
     }
 }
 
-/// The system states that a patch names, if it is there.
+/// The system states that a patch names; none where it isn't there.
 pub(crate) fn states_of(patches: &[CatalogPatch], patch: PatchId) -> &[SystemState]
     ensures { result.now ≡ states_at patches.now patch }
 {
@@ -87,7 +88,7 @@ pub(crate) fn states_of(patches: &[CatalogPatch], patch: PatchId) -> &[SystemSta
     }
 }
 
-/// The ids of states, in order.
+/// The ids of states, in order, in an array, since an enabling takes no memory.
 pub(crate) fn ids_of(states: &[SystemState]) -> ArrayVec<u64, MAX_STATES>
     requires { length states.now ≤ MAX_STATES }
     ensures { result.items ≡ map (λ (s : StateValue). s.id) states.now }
@@ -99,7 +100,7 @@ pub(crate) fn ids_of(states: &[SystemState]) -> ArrayVec<u64, MAX_STATES>
     ids
 }
 
-/// Whether a patch is there and cumulative.
+/// Whether a patch is there and cumulative: one that isn't there replaces nothing.
 fn is_cumulative(patches: &[CatalogPatch], patch: PatchId) -> bool
     ensures { result ≡ stored_replaces (slice_get patches.now patch) }
 {
@@ -109,7 +110,7 @@ fn is_cumulative(patches: &[CatalogPatch], patch: PatchId) -> bool
     }
 }
 
-/// The version in which the state of this id is named.
+/// The version in which the state of this id is named. Each id is named once.
 fn version_among(id: u64, states: &[SystemState]) -> Option<u32>
     ensures { result ≡ compatible.version_among id states.now }
 {
@@ -117,7 +118,8 @@ fn version_among(id: u64, states: &[SystemState]) -> Option<u32>
     Some(state.version)
 }
 
-/// Whether a patch that names these states can live with this one.
+/// Whether a patch with these states of its own can live with a state of another: one that replaces all
+/// others has to know each of their states, since it takes them over.
 fn can_live_with(replace: bool, own: &[SystemState], state: SystemState) -> bool
     ensures { result ≡ compatible.can_live_with replace state (compatible.version_among state.id own.now) }
 {
@@ -127,7 +129,7 @@ fn can_live_with(replace: bool, own: &[SystemState], state: SystemState) -> bool
     }
 }
 
-/// Whether it can live with each of these.
+/// Whether a patch with these states of its own can live with each of another's states.
 fn can_live_with_all(replace: bool, own: &[SystemState], states: &[SystemState]) -> bool
     ensures { result ≡ list_all (λ (s : StateValue). compatible.can_live_with replace s (compatible.version_among s.id own.now)) states.now }
 {
@@ -136,7 +138,8 @@ fn can_live_with_all(replace: bool, own: &[SystemState], states: &[SystemState])
         .all(|state| can_live_with(replace, own, *state))
 }
 
-/// Whether a patch can be installed beside these.
+/// Whether a patch can be installed beside these: with each of them, since they all stay until it is
+/// complete.
 pub(crate) fn is_compatible(patches: &[CatalogPatch], patch: PatchId, installed: &[PatchId]) -> bool
     ensures { result ≡ list_all (λ other. can_live_with_patch patches.now patch other) installed.now }
 {
@@ -150,7 +153,8 @@ pub(crate) fn is_compatible(patches: &[CatalogPatch], patch: PatchId, installed:
     true
 }
 
-/// The newest of the patches installed before this one that names the state.
+/// The newest of the patches installed before this one that names the state. The walk is from the oldest,
+/// because what is behind the patch itself doesn't count.
 pub(crate) fn previous_state(
     patches: &[CatalogPatch],
     patch: PatchId,

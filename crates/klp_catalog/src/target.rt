@@ -11,11 +11,13 @@ use std::snapshot::Snapshot;
 #[derive(Drop)]
 pub(crate) struct CatalogTarget {
     pub(crate) object: ObjId,
-    /// The functions as the plan has them.
+    /// The functions as the plan has them, for contracts alone: what runs are the resolved ones.
     pub(crate) functions: Snapshot<Vec<PlanFunction>>,
-    /// The number of its first callback among all of the catalog.
+    /// The number of its first callback among all of the catalog. Callbacks and their counts are one list
+    /// in the order of the text, so this and the kinds find each (docs/DECISIONS.md, "Counts of
+    /// callbacks").
     pub(crate) first: usize,
-    /// The kinds of its callbacks, in order.
+    /// The kinds of its callbacks, in the order of their numbers.
     pub(crate) kinds: Vec<Which>,
 }
 
@@ -31,7 +33,7 @@ impl Model for CatalogTarget {
 }
 
 impl CatalogTarget {
-    /// The number of the callback of a kind among all of the catalog.
+    /// The number of the callback of a kind among all of the catalog, if the object has one.
     pub(crate) fn number(&self, which: Which) -> Option<usize>
         ensures { result ≡ number_in which self.now }
     {
@@ -46,7 +48,7 @@ fn is_kind(own: Which, which: Which) -> bool
     own == which
 }
 
-/// The place of a kind.
+/// The place of a kind, which is how far its callback is behind the object's first.
 fn place_of(kinds: &[Which], which: Which) -> Option<usize>
     ensures { result ≡ position (λ own. callbacks.is_kind own which) kinds.now }
 {

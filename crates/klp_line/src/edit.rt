@@ -14,11 +14,11 @@ use klp_world::Script;
 use std::alloc::Global;
 use std::marker::Model;
 
-/// The parts of an edit that are still to be read. Colons separate them.
+/// The parts of an edit that are still to be read. Colons separate them, since spaces separate edits.
 #[derive(Drop)]
 struct Parts<'a> {
     rest: &'a [u8],
-    /// Whether the last part was read.
+    /// Whether the last part was read: an empty rest may still be one part, which is empty.
     is_over: bool,
 }
 
@@ -41,7 +41,8 @@ impl<'a> Parts<'a> {
         }
     }
 
-    /// The next part of an edit that has too few parts without it.
+    /// The next part of an edit that has too few parts without it, which is a `BadEdit` like any other
+    /// fault in an edit.
     fn part(&mut self) -> Result<&'a [u8], TextFaultKind>
         ensures { MatchResult result (λ part. self.old ≡ part.now ∷ self.new)
             (λ kind. (kind ≡ TextFaultKind.BadEdit) × (self.old ≡ [])) }
@@ -70,6 +71,8 @@ impl<'a> Parts<'a> {
     }
 }
 
+/// A number in an edit. One out of range is a `BadEdit` and no `BadNumber`, since the fault of a line is no
+/// finer than a word (docs/DECISIONS.md, "Faults inside an edit").
 fn edit_number(part: &[u8]) -> Result<u64, TextFaultKind>
     ensures { result ≡ edit_number part.now }
 {
@@ -125,7 +128,8 @@ fn take_prev_edit(parts: &mut Parts<'_>) -> Result<Edit, TextFaultKind>
     Ok(Edit::TakePrev(edit_number(state)?))
 }
 
-/// An edit: its name and its numbers.
+/// An edit: its name and its numbers. All parts are there before a number is read, but every fault is the
+/// same one.
 fn edit(word: &[u8]) -> Result<Edit, TextFaultKind>
     ensures { result ≡ edit_of word.now }
 {
@@ -146,7 +150,8 @@ fn edit(word: &[u8]) -> Result<Edit, TextFaultKind>
     }
 }
 
-/// The edits that the words are, of which there may be too many.
+/// The edits that the words are, of which there may be too many: whether that matters is known only when
+/// the line has its place.
 fn edits(alloc: Global, words: &mut Words<'_>) -> Result<Vec<Edit>, TextFaultKind>
     ensures { Gives (λ e. e.items) result (edits_of words.old) }
 {
@@ -157,7 +162,8 @@ fn edits(alloc: Global, words: &mut Words<'_>) -> Result<Vec<Edit>, TextFaultKin
     Ok(edits)
 }
 
-/// A script as a line gives it: there may be more edits than a script may have.
+/// A script as a line gives it. There may be more edits than a script may have, since every word is checked
+/// before the line is too much (docs/DECISIONS.md, "Scripts with too many edits").
 #[derive(Debug, Drop)]
 pub struct ScriptText {
     edits: Vec<Edit>,
@@ -173,7 +179,7 @@ impl Model for ScriptText {
 }
 
 impl ScriptText {
-    /// The script, unless it has too many edits. Takes no memory.
+    /// The script, unless it has too many edits. Takes no memory, because a script's edits are an array.
     pub fn into_script(self) -> Option<Script>
         ensures { MatchOption result (MAX_EDITS < length self.edits) (λ script. (length self.edits ≤ MAX_EDITS) × (script ≡ self)) }
     {
@@ -186,7 +192,7 @@ impl ScriptText {
     }
 }
 
-/// The script of a callback that fails: it has no edits.
+/// The script of a callback that fails: it has no edits, since a callback that refuses changes nothing.
 fn failure(alloc: Global, status: i32, words: &mut Words<'_>) -> Result<ScriptText, TextFaultKind>
     ensures { Gives (λ s. s) result (failure_of status words.old) }
 {
@@ -203,6 +209,8 @@ pub(crate) fn script(alloc: Global, words: &mut Words<'_>) -> Result<ScriptText,
 {
     let word = words.word()?;
     let status = status(word).ok_or(TextFaultKind::BadNumber)?;
+    // Behind another status edits are words too many, whatever they are (docs/DECISIONS.md, "Edits behind a
+    // status").
     if status != 0 {
         return failure(alloc, status, words);
     }

@@ -4,7 +4,8 @@ ghost use Rattle.klp_line.specs.declared.fault.TextFaultKind.TheVariants.{NoMemo
 use std::alloc::{AllocError, AllocFailed};
 use thiserror::Error;
 
-/// What is wrong with a line of a catalog's text. The numbers are this project's own, and stay.
+/// What is wrong with a line of a catalog's text. The numbers are this project's own, and stay, since
+/// scripts may ask for them.
 ///
 /// In a line that has more than one fault, the first of these is told: `NotAscii`, `LineTooLong`,
 /// `UnknownWord`, `WrongCount`, then the words from left to right (`BadNumber` to `BadEdit`), then
@@ -40,19 +41,20 @@ pub enum TextFaultKind {
     /// An edit of a callback is spelled wrong, or a number in it is out of range.
     #[error("BadEdit")]
     BadEdit = 9,
-    /// The line may not stand here.
+    /// The line may not be here: a symbol before any object, say, or a function where no target is open.
     #[error("OutOfPlace")]
     OutOfPlace = 10,
-    /// The same was said before.
+    /// The same was said before: a name, a target, a state or a kind of callback that may be there once.
     #[error("Twice")]
     Twice = 11,
     /// A target names no object of the text.
     #[error("UnknownObject")]
     UnknownObject = 12,
-    /// A limit is reached.
+    /// A limit is reached (`klp_types::limits`), which this line would exceed.
     #[error("TooMany")]
     TooMany = 13,
-    /// The text has no handler or no object. The line is 0.
+    /// The text has no handler or no object, of which an image needs one each. The line is 0, since no line
+    /// is at fault.
     #[error("Missing")]
     Missing = 14,
     /// Memory ran out. This may stand in place of any fault of this line or a later one.

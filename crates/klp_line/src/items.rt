@@ -2,7 +2,8 @@
 
 use std::marker::Model;
 
-/// A name of an object, a patch, a symbol or a new function, as a word of the text spells it.
+/// A name of an object, a patch, a symbol or a new function, as a word of the text spells it. It is ASCII,
+/// so bytes and text are the same.
 #[derive(Debug, Drop)]
 pub struct Name(pub String);
 
@@ -14,7 +15,8 @@ impl Model for Name {
     ghost view = { λ n. string_bytes n.0 };
 }
 
-/// A new function of a patch.
+/// A new function of a patch, as its line has it: which site it is for isn't known before the names are
+/// resolved.
 #[derive(Debug, Drop)]
 pub struct PlanFunction {
     /// The name of the symbol that it stands in for.
@@ -35,8 +37,8 @@ impl Model for PlanFunction {
     ghost view = { λ f. record { symbol = string_bytes f.symbol; sympos = f.sympos; new_name = string_bytes f.new_name; address = f.address } };
 }
 
-/// A system state that a patch names (system-state): its id, and the version in which the patch
-/// knows it.
+/// A system state that a patch names (system-state): its id, and the version in which the patch knows it,
+/// by which patches are compared.
 #[derive(Clone, Copy, Debug, PartialEq, Eq)]
 pub struct SystemState {
     pub id: u64,

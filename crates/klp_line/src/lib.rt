@@ -1,7 +1,13 @@
 //! One line of a catalog's text: its words, and what they say.
 //!
-//! A text is cut into [`Lines`] and a line into [`Words`]. [`Line::read`] says what the words mean
-//! by themselves: whether the line may stand where it does, `klp_plan` says.
+//! A text is cut into [`Lines`] and a line into [`Words`]. [`Line::read`] answers what the words mean by
+//! themselves (`specs/Lines`, `Words`, `Edits`), the first of their faults in a fixed order, or want of
+//! memory (`specs/Gives`). Whether the line may be where it is, `klp_plan` decides.
+//! [`ScriptText::into_script`] answers the script unless it has more than 16 edits.
+//!
+//! [`first_word`] is the first word of a line, separated by spaces, or by spaces and tabs, with what is
+//! behind it (`specs/Split`); [`cut`] is what is before the first byte of a kind, and what is behind it.
+//! [`spelling_of`] is what the name of a symbol spells. The console's lines are cut by these too.
 #![tactic(auto)]
 
 mod edit;

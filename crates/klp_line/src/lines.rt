@@ -6,10 +6,10 @@ use crate::fault::TextFaultKind;
 use crate::split::{Separators, first_word, position_of};
 use std::marker::Model;
 
-/// The lines of a text that are still to be read.
+/// The lines of a text that are still to be read. They are cut off one by one, so no list of them is kept.
 ///
-/// A line ends at a line feed, or at the end of the text where bytes are left. A carriage return
-/// right before the line feed isn't a part of the line.
+/// A line ends at a line feed, or at the end of the text where bytes are left. A carriage return right
+/// before the line feed isn't a part of the line.
 #[derive(Drop)]
 pub struct Lines<'a> {
     rest: &'a [u8],
@@ -51,7 +51,8 @@ impl<'a> Lines<'a> {
     }
 }
 
-/// The line before its line feed, less the carriage return at its end.
+/// The line before its line feed, less the carriage return at its end: the line of a text that was written
+/// elsewhere is the same one (docs/DECISIONS.md, "Carriage returns").
 fn without_carriage_return(line: &[u8]) -> &[u8]
     ensures { result.now ≡ strip_carriage_return line.now }
 {
@@ -61,7 +62,8 @@ fn without_carriage_return(line: &[u8]) -> &[u8]
     }
 }
 
-/// The words of a line that are still to be read. Spaces and tabs separate them.
+/// The words of a line that are still to be read. Spaces and tabs separate them, as in what administrators
+/// write by hand.
 #[derive(Drop)]
 pub struct Words<'a> {
     rest: &'a [u8],
@@ -94,7 +96,8 @@ impl<'a> Words<'a> {
         Some(word)
     }
 
-    /// The next word of a line that has too few words without it.
+    /// The next word of a line that has too few words without it, which is a `WrongCount` whatever the
+    /// line.
     pub(crate) fn word(&mut self) -> Result<&'a [u8], TextFaultKind>
         ensures { MatchResult result (λ word. self.old ≡ word.now ∷ self.new)
             (λ kind. (kind ≡ TextFaultKind.WrongCount) × (self.old ≡ [])) }
@@ -102,7 +105,8 @@ impl<'a> Words<'a> {
         self.next().ok_or(TextFaultKind::WrongCount)
     }
 
-    /// The end of a line that has too many words with one more.
+    /// The end of a line that has too many words with one more. It is asked for before any word's own fault
+    /// is told.
     pub(crate) fn end(&mut self) -> Result<(), TextFaultKind>
         ensures { MatchResult result (λ _. self.old ≡ [])
             (λ kind. (kind ≡ TextFaultKind.WrongCount) × (word : List ℕ) × (words : List (List ℕ)) × (self.old ≡ word ∷ words)) }

@@ -1,10 +1,10 @@
-//! How bytes are cut into words, and at one byte.
+//! How bytes are cut into words, and at one byte. The lines of catalogs and of the console share it.
 
 ghost use Rattle.std.specs.Prelude.{◌≡◌, ℕ, ◌==◌, not, position, List, ◌∷◌, [], MatchOption};
 ghost use Rattle.std.specs.List.{position_or_len, before_first, after_first};
 ghost use Rattle.klp_line.specs.Split.{separates, words_between};
 
-/// What stands between the words of a line.
+/// What separates the words of a line: a tab is a byte of a word on the console, and none in a catalog.
 #[derive(Clone, Copy)]
 pub enum Separators {
     Spaces,
@@ -25,7 +25,7 @@ pub fn first_word(line: &[u8], separators: Separators) -> Option<(&[u8], &[u8])>
     Some((word, rest))
 }
 
-/// How many separators the bytes begin with.
+/// How many separators the bytes begin with: words may have any number of them in between.
 fn gap_len(bytes: &[u8], separators: Separators) -> usize
     ensures { result ≡ position_or_len (λ b. not (separates separators b)) bytes.now }
 {
@@ -35,7 +35,8 @@ fn gap_len(bytes: &[u8], separators: Separators) -> usize
         .unwrap_or(bytes.len())
 }
 
-/// How long the word is that the bytes begin with.
+/// How long the word is that the bytes begin with: 0 only where there are no bytes, once the gap is cut
+/// off.
 fn word_len(bytes: &[u8], separators: Separators) -> usize
     ensures { result ≡ position_or_len (separates separators) bytes.now }
 {
@@ -54,14 +55,15 @@ fn separates(separators: Separators, byte: u8) -> bool
     }
 }
 
-/// Where the first byte `at` stands.
+/// Where the first byte `at` is, from 0.
 pub(crate) fn position_of(bytes: &[u8], at: u8) -> Option<usize>
     ensures { result ≡ position (λ b. b == at) bytes.now }
 {
     bytes.iter().position(|b| *b == at)
 }
 
-/// What stands before the first byte `at`, and what stands behind it: all and nothing where there is none.
+/// What is before the first byte `at`, and what is behind it: all and nothing where there is none. So a
+/// text without the byte and one that ends with it come to the same.
 pub fn cut(text: &[u8], at: u8) -> (&[u8], &[u8])
     ensures before { result.0.now ≡ before_first (λ b. b == at) text.now }
     ensures after { result.1.now ≡ after_first (λ b. b == at) text.now }

@@ -70,7 +70,7 @@ fn is_symbol_name(word: &[u8]) -> bool
     has_only_symbol_bytes(word)
 }
 
-/// The word as text.
+/// The word as text, which it is since it is ASCII: nothing is copied, and nothing can fail.
 pub(crate) fn text(word: &[u8]) -> &str
     requires { IsAscii word.now }
     ensures { result.now ≡ word.now }
@@ -78,7 +78,8 @@ pub(crate) fn text(word: &[u8]) -> &str
     str::from_utf8(word).unwrap()
 }
 
-/// The name of an object, a patch or a new function.
+/// The name of an object, a patch or a new function. No `.` may be in it, because it ends the object's name
+/// in the spelling of a symbol.
 #[tactic(auto, using(crate::proofs::WordLemmas::ascii_from_name))]
 pub(crate) fn name(alloc: Global, word: &[u8]) -> Result<Name, TextFaultKind>
     ensures { Gives (λ n. n) result (name_of word.now) }
@@ -89,7 +90,8 @@ pub(crate) fn name(alloc: Global, word: &[u8]) -> Result<Name, TextFaultKind>
     Ok(Name(String::from_str(alloc, text(word))?))
 }
 
-/// The name of a symbol.
+/// The name of a symbol. It may have a `.`, as compilers make them (`f.constprop.0`), and a `$`, but no
+/// comma, which its position is behind.
 #[tactic(auto, using(crate::proofs::WordLemmas::ascii_from_symbol_name))]
 pub(crate) fn symbol_name(alloc: Global, word: &[u8]) -> Result<Name, TextFaultKind>
     ensures { Gives (λ n. n) result (symbol_name_of word.now) }
@@ -100,7 +102,8 @@ pub(crate) fn symbol_name(alloc: Global, word: &[u8]) -> Result<Name, TextFaultK
     Ok(Name(String::from_str(alloc, text(word))?))
 }
 
-/// An address, in hexadecimal digits.
+/// An address, in hexadecimal digits. How many is asked for first, so that the standard library can't find
+/// it too great.
 #[tactic(auto, using(crate::proofs::WordLemmas::ascii_from_hexdigits))]
 pub(crate) fn address(word: &[u8]) -> Result<u64, TextFaultKind>
     ensures { result ≡ address_of word.now }
@@ -114,7 +117,9 @@ pub(crate) fn address(word: &[u8]) -> Result<u64, TextFaultKind>
     }
 }
 
-/// The bytes of a symbol, in hexadecimal digits.
+/// The bytes of a symbol, in hexadecimal digits. Here an odd number of them is a `BadHex`; one that is too
+/// long is found when the line gets its place, and one that is too short by the image (docs/DECISIONS.md,
+/// "Bodies of odd or great length").
 pub(crate) fn body(alloc: Global, word: &[u8]) -> Result<Vec<u8>, TextFaultKind>
     ensures { Gives (λ b. b.items) result (body_of word.now) }
 {
@@ -178,7 +183,8 @@ pub fn spelling_of(word: &[u8]) -> Option<Spelling<'_>>
     spelling_behind_prefix(rest)
 }
 
-/// The symbol of a `func` line. Where a target is open, the symbol lies in its object.
+/// The symbol of a `func` line. Where a target is open, the symbol is in its object. Whatever is wrong with
+/// its spelling is a `BadSymbol`, since it is one word (docs/DECISIONS.md, "The spelling of a symbol").
 pub(crate) fn symbol<'a>(
     target: Option<&str>,
     word: &'a [u8],

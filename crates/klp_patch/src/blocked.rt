@@ -15,13 +15,13 @@ use klp_sites::Sites;
 use klp_tasks::VersionSet;
 use klp_types::{MAX_SITES, Move, Site};
 
-/// Puts what is blocked at one site into the set.
+/// Puts what is blocked at one site into the set, which is one version at most.
 fn block_at(sites: &Sites, site: Site, moving: &Move, blocked: &mut VersionSet)
     requires number { AreFunctions (entries_at sites.now.stacks site) }
     requires sites { length sites.now.stacks ≤ MAX_SITES }
     ensures { (versions : List AnyVersion) → IsSetOf blocked.old versions → IsSetOf blocked.new (versions ++ blocked_among site moving.now (entries_at sites.now.stacks site)) }
 {
-    // where the patch has no entry, it holds nobody back
+    // where the patch has no entry, it holds nobody back, since no task runs anything else afterwards
     if sites.entry(site, moving.patch).is_none() {
         return;
     }
@@ -30,7 +30,8 @@ fn block_at(sites: &Sites, site: Site, moving: &Move, blocked: &mut VersionSet)
     }
 }
 
-/// Puts what is blocked at all sites into the empty set.
+/// Puts what is blocked at all sites into the empty set: a cumulative patch has nops where it has no
+/// function.
 fn block_all(sites: &Sites, moving: &Move, blocked: &mut VersionSet)
     requires empty { IsSetOf blocked.old [] }
     requires number { (site : ℕ) → AreFunctions (entries_at sites.now.stacks site) }
@@ -42,7 +43,8 @@ fn block_all(sites: &Sites, moving: &Move, blocked: &mut VersionSet)
     }
 }
 
-/// Puts what is blocked at the sites of the patch's functions into the empty set.
+/// Puts what is blocked at the sites of the patch's functions into the empty set. Other sites aren't looked
+/// at, because there such a patch has no entry.
 fn block_functions(sites: &Sites, catalog: &Catalog, moving: &Move, blocked: &mut VersionSet)
     requires empty { IsSetOf blocked.old [] }
     requires number { (site : ℕ) → AreFunctions (entries_at sites.now.stacks site) }
@@ -59,15 +61,17 @@ fn block_functions(sites: &Sites, catalog: &Catalog, moving: &Move, blocked: &mu
     }
 }
 
-/// Makes the set that of the versions that a task mustn't be inside of when it switches to the target
-/// of the patch in transition. What the set had before is gone.
+/// Makes the set that of the versions that a task mustn't be inside of when it switches to the target of
+/// the patch in transition. What the set had before is gone. It is made once for all tasks, while the
+/// kernel goes over the patch's functions for each frame (`klp_check_stack`).
 ///
 /// It costs as much as the patch has functions; for a cumulative one as much as there are sites.
 pub fn block(sites: &Sites, catalog: &Catalog, moving: Move, blocked: &mut VersionSet)
     requires number { (site : ℕ) → AreFunctions (entries_at sites.now.stacks site) }
     requires sites { length sites.now.stacks ≤ MAX_SITES }
     requires names { catalog.now.names ≡ names_of sites.now.image.objects }
-    // only a cumulative patch has entries where it has no function
+    // only a cumulative patch has entries where it has no function, so its functions are enough for any
+    // other
     requires own { (site : ℕ) → has_entry moving.patch (entries_at sites.now.stacks site) ≡ true
         → (is_some (function_for (functions_in catalog.now moving.patch) site) || is_cumulative catalog.now moving.patch) ≡ true }
     ensures { IsSetOf blocked.new (blocked_at 0 moving sites.now.stacks) }

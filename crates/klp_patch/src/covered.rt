@@ -1,4 +1,4 @@
-//! The sites that a change is about.
+//! The sites that a change is about: those of one object, or of all that are loaded.
 ghost use Rattle.std.specs.Prelude.{◌≡◌, ℕ, ◌+◌, ◌<◌, ◌≤◌, ◌&&◌, false, ◌++◌, length, replicate, slice_index_or, IfSome};
 ghost use Rattle.klp_types.specs.Setting.{is_at};
 ghost use Rattle.klp_modules.specs.Names.{names_of};
@@ -12,7 +12,8 @@ use klp_sites::Sites;
 use klp_text::Image;
 use klp_types::{MAX_SITES, ObjId, Site};
 
-/// Whether a change of one object, or of all that are loaded, is about this object.
+/// Whether a change of one object, or of all that are loaded, is about this object. The one that is named
+/// is meant whether it is loaded or not.
 fn is_meant(image: &Image, only: Option<ObjId>, object: ObjId) -> bool
     ensures { result ≡ covered.is_meant only image.now.loaded object }
 {
@@ -22,7 +23,7 @@ fn is_meant(image: &Image, only: Option<ObjId>, object: ObjId) -> bool
     }
 }
 
-/// The site of a function, where the change is about its object.
+/// The site of a function, where the change is about its object. A function without a site has no entry.
 pub(crate) fn meant_site(
     sites: &Sites,
     only: &Option<ObjId>,
@@ -51,7 +52,7 @@ fn push_times(flags: &mut ArrayVec<bool, MAX_SITES>, flag: bool, times: u16)
     }
 }
 
-/// For each site of an object, whether the change is about it.
+/// For each site of an object, whether the change is about it: all of them or none.
 fn push_object(
     flags: &mut ArrayVec<bool, MAX_SITES>,
     image: &Image,
@@ -65,7 +66,8 @@ fn push_object(
     push_times(flags, is_meant(image, *only, object), symbols);
 }
 
-/// For each site, whether the change is about it.
+/// For each site, whether the change is about it. The flags are made before anything changes, since the
+/// sites are borrowed for the change.
 pub(crate) fn covered_sites(sites: &Sites, only: Option<ObjId>) -> ArrayVec<bool, MAX_SITES>
     requires { length sites.now.stacks ≤ MAX_SITES }
     ensures length { length result.items ≡ length sites.now.stacks }

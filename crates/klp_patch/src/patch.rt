@@ -14,14 +14,15 @@ use klp_catalog::Catalog;
 use klp_sites::Sites;
 use klp_types::{Entry, MAX_PATCHES, MAX_SITES, ObjId, PatchId, Records, Site};
 
-/// Whether a patch is a cumulative one.
+/// Whether a patch is a cumulative one; one that isn't there isn't.
 pub(crate) fn replaces(catalog: &Catalog, patch: PatchId) -> bool
     ensures { result ≡ is_cumulative catalog.now patch }
 {
     catalog.replaces(patch).unwrap_or(false)
 }
 
-/// Puts the functions of a patch on top of the stacks of their sites.
+/// Puts the functions of a patch on top of the stacks of their sites. No two are for one site, so each
+/// stack gets one entry at most.
 fn put_functions(
     sites: &mut Sites,
     catalog: &Catalog,
@@ -47,7 +48,8 @@ fn put_functions(
     }
 }
 
-/// Puts a nop of a patch on each site that has entries but none of the patch.
+/// Puts a nop of a patch on each site that has entries but none of the patch, so that what older patches
+/// replaced is the original again. The patch's own functions have to be there first.
 fn put_nops(sites: &mut Sites, patch: PatchId, only: Option<ObjId>, log: &mut Records)
     requires number { patch < MAX_PATCHES }
     requires sites { length sites.old.stacks ≤ MAX_SITES }
@@ -63,7 +65,8 @@ fn put_nops(sites: &mut Sites, patch: PatchId, only: Option<ObjId>, log: &mut Re
     }
 }
 
-/// Takes the entries of a patch out of the stacks of its functions' sites.
+/// Takes the entries of a patch out of the stacks of its functions' sites. There are no others, where the
+/// patch isn't cumulative.
 fn take_functions(
     sites: &mut Sites,
     catalog: &Catalog,
@@ -85,7 +88,8 @@ fn take_functions(
     }
 }
 
-/// Takes the entries of a patch out of all stacks that the change is about.
+/// Takes the entries of a patch out of all stacks that the change is about, since its nops may be at any
+/// site.
 fn take_all(sites: &mut Sites, patch: PatchId, only: Option<ObjId>, log: &mut Records)
     requires sites { length sites.old.stacks ≤ MAX_SITES }
     requires records { length sites.old.stacks + hooked_count sites.old ≤ spare_of log.old }
@@ -101,7 +105,7 @@ fn take_all(sites: &mut Sites, patch: PatchId, only: Option<ObjId>, log: &mut Re
 }
 
 /// Puts a patch's entries on top of the stacks of its sites: those of one object, or of all that are
-/// loaded. A cumulative patch gets a nop on each other site that has entries.
+/// loaded. A cumulative patch gets a nop on each other site that has entries (the kernel's `klp_add_nops`).
 ///
 /// It costs as much as the patch has functions; for a cumulative one as much as there are sites.
 pub fn patch_sites(
@@ -138,7 +142,8 @@ pub fn unpatch_sites(
 )
     requires sites { length sites.old.stacks ≤ MAX_SITES }
     requires names { catalog.now.names ≡ names_of sites.old.image.objects }
-    // only a cumulative patch has entries where it has no function
+    // only a cumulative patch has entries where it has no function, so its functions are enough for any
+    // other
     requires own { (site : ℕ) → is_covered sites.old only site ≡ true → has_entry patch (entries_at sites.old.stacks site) ≡ true
         → (is_some (function_for (functions_in catalog.now patch) site) || is_cumulative catalog.now patch) ≡ true }
     requires records { most_entries catalog.now patch sites.old + MAX_SITES ≤ spare_of log.old }
@@ -152,7 +157,8 @@ pub fn unpatch_sites(
     }
 }
 
-/// Takes the nops of a patch out of all stacks, at the cost of all sites.
+/// Takes the nops of a patch out of all stacks, at the cost of all sites: once no older entry is left, the
+/// original needs none to stand for it.
 pub fn drop_nops(sites: &mut Sites, patch: PatchId, log: &mut Records)
     requires sites { length sites.old.stacks ≤ MAX_SITES }
     requires records { length sites.old.stacks + MAX_SITES ≤ spare_of log.old }

@@ -7,7 +7,8 @@ ghost use Rattle.klp_patch.specs.Changes.{AreMade, Notes, with_nop, without_nop,
 use klp_sites::Sites;
 use klp_types::{Entry, MAX_PATCHES, MAX_SITES, PatchId, Records, Site};
 
-/// Puts an entry on top of a site's stack.
+/// Puts an entry on top of a site's stack. Its records are told in the form that those of all sites add up
+/// to.
 #[tactic(auto, using(crate::proofs::SiteLemmas::push_of_sites))]
 pub(crate) fn put(sites: &mut Sites, site: Site, entry: Entry, log: &mut Records)
     requires there { site < length sites.old.stacks }
@@ -21,7 +22,8 @@ pub(crate) fn put(sites: &mut Sites, site: Site, entry: Entry, log: &mut Records
     sites.push(site, entry, log);
 }
 
-/// Puts a nop on top of a site's stack, where it has entries but none of the patch.
+/// Puts a nop on top of a site's stack, where it has entries but none of the patch: an unpatched site runs
+/// its original without one.
 #[tactic(auto, using(crate::proofs::SiteLemmas::none_of_sites))]
 pub(crate) fn put_nop(sites: &mut Sites, site: Site, patch: PatchId, log: &mut Records)
     requires there { site < length sites.old.stacks }
@@ -36,7 +38,8 @@ pub(crate) fn put_nop(sites: &mut Sites, site: Site, patch: PatchId, log: &mut R
     }
 }
 
-/// Takes the entry of a patch out of a site's stack, if it has one there.
+/// Takes the entry of a patch out of a site's stack, if it has one there: a walk over all sites meets many
+/// without.
 #[tactic(auto, using(crate::proofs::SiteLemmas::none_of_sites, crate::proofs::SiteLemmas::take_of_sites))]
 pub(crate) fn take(sites: &mut Sites, site: Site, patch: PatchId, log: &mut Records)
     requires { 1 + hooked_count sites.old ≤ spare_of log.old }
@@ -48,7 +51,7 @@ pub(crate) fn take(sites: &mut Sites, site: Site, patch: PatchId, log: &mut Reco
     }
 }
 
-/// Takes the nop of a patch out of a site's stack, if it has one there.
+/// Takes the nop of a patch out of a site's stack, if it has one there, and leaves a function of the patch.
 #[tactic(auto, using(crate::proofs::SiteLemmas::none_of_sites))]
 pub(crate) fn take_nop(sites: &mut Sites, site: Site, patch: PatchId, log: &mut Records)
     requires { 1 + hooked_count sites.old ≤ spare_of log.old }

@@ -22,17 +22,18 @@ use std::marker::Model;
 
 /// The plan as far as the lines up to here give it.
 ///
-/// The open target, to which a `func` line adds, is the last one of the last patch.
+/// The open target, to which a `func` line adds, is the last one of the last patch: it needs no field of
+/// its own, and a `patch` line closes it.
 #[derive(Drop)]
 pub(crate) struct Draft {
     handler: Option<u64>,
     objects: Vec<ObjectText>,
     object_names: Names,
-    /// How many symbols the objects have together.
+    /// How many symbols the objects have together, since the limit is one for all of them.
     symbols: usize,
     patches: Vec<PlanPatch>,
     patch_names: Names,
-    /// How many functions the last patch has.
+    /// How many functions the last patch has, over all of its targets.
     functions: usize,
 }
 
@@ -48,7 +49,7 @@ impl Model for Draft {
     ghost invariant = { λ d. IsKept d.objects.items d.object_names d.symbols d.patches.items d.patch_names d.functions };
 }
 
-/// Adds a symbol to the last object.
+/// Adds a symbol to the last object, which an `object` line opened.
 fn push_symbol(objects: &mut Vec<ObjectText>, symbol: SymbolText) -> Result<(), AllocError>
     requires { 0 < vec_len objects.old }
     ensures ok { OnOk result (objects.new.items ≡ on_last (with_symbol symbol) objects.old.items) }
@@ -60,7 +61,7 @@ fn push_symbol(objects: &mut Vec<ObjectText>, symbol: SymbolText) -> Result<(), 
     Ok(())
 }
 
-/// Adds an object to the last patch.
+/// Adds an object to the last patch. Where memory runs out, nothing changes.
 fn push_target(alloc: Global, patches: &mut Vec<PlanPatch>, object: ObjId) -> Result<(), AllocError>
     requires { 0 < vec_len patches.old }
     ensures ok { OnOk result (patches.new.items ≡ on_last (with_target (Some object)) patches.old.items) }
@@ -70,7 +71,7 @@ fn push_target(alloc: Global, patches: &mut Vec<PlanPatch>, object: ObjId) -> Re
     patches[last].push_target(alloc, object)
 }
 
-/// Adds a function to the last target of the last patch.
+/// Adds a function to the last target of the last patch. Where memory runs out, nothing changes.
 fn push_function(patches: &mut Vec<PlanPatch>, function: PlanFunction) -> Result<(), AllocError>
     requires { 0 < length (targets_of (last_of patches.old.items)) }
     ensures ok { OnOk result (patches.new.items ≡ on_last (with_function_in function) patches.old.items) }
@@ -80,7 +81,7 @@ fn push_function(patches: &mut Vec<PlanPatch>, function: PlanFunction) -> Result
     patches[last].push_function(function)
 }
 
-/// Adds a callback to the last target of the last patch.
+/// Adds a callback to the last target of the last patch. Where memory runs out, nothing changes.
 fn push_callback(patches: &mut Vec<PlanPatch>, callback: PlanCallback) -> Result<(), AllocError>
     requires { 0 < length (targets_of (last_of patches.old.items)) }
     ensures ok { OnOk result (patches.new.items ≡ on_last (with_callback_in callback) patches.old.items) }
@@ -90,7 +91,7 @@ fn push_callback(patches: &mut Vec<PlanPatch>, callback: PlanCallback) -> Result
     patches[last].push_callback(callback)
 }
 
-/// Adds a system state to the last patch.
+/// Adds a system state to the last patch, whichever target is open.
 fn push_state(patches: &mut Vec<PlanPatch>, state: SystemState) -> Result<(), AllocError>
     requires { 0 < vec_len patches.old }
     ensures ok { OnOk result (patches.new.items ≡ on_last (with_state state) patches.old.items) }
@@ -118,7 +119,7 @@ fn names_state(states: &[SystemState], id: u64) -> bool
     states.iter().any(|state| state.id == id)
 }
 
-/// The callbacks of the last target.
+/// The callbacks of the last target, which is the open one: a kind may be there once.
 fn last_callbacks(targets: &[PlanTarget]) -> &[PlanCallback]
     ensures { result.now ≡ callbacks_of (last_of targets.now) }
 {
@@ -128,7 +129,8 @@ fn last_callbacks(targets: &[PlanTarget]) -> &[PlanCallback]
     }
 }
 
-/// The system states of the last patch.
+/// The system states of the last patch; none where there is no patch, so that the caller needs no case for
+/// it.
 fn open_states(patches: &[PlanPatch]) -> &[SystemState]
     ensures { result.now ≡ states_of (last_of patches.now) }
 {
@@ -138,7 +140,8 @@ fn open_states(patches: &[PlanPatch]) -> &[SystemState]
     }
 }
 
-/// The targets of the last patch.
+/// The targets of the last patch; none where there is no patch. They are empty exactly where no target is
+/// open.
 fn open_targets(patches: &[PlanPatch]) -> &[PlanTarget]
     ensures { result.now ≡ targets_of (last_of patches.now) }
 {
@@ -163,7 +166,8 @@ impl Draft {
         }
     }
 
-    /// The name of the object of the open target, if a target is open.
+    /// The name of the object of the open target, if one is open. It is asked for before a line is read,
+    /// since the spelling of a symbol has to agree with it (docs/DECISIONS.md, "The open target").
     pub(crate) fn open_object(&self) -> Option<&str>
         ensures { option_copied result ≡ open_object self.now }
     {
@@ -192,6 +196,8 @@ impl Draft {
         if !self.patches.is_empty() {
             return Err(TextFaultKind::OutOfPlace);
         }
+        // So that an image made from a plan has no duplicates; it comes before the limit
+        // (docs/DECISIONS.md, "Names given twice").
         if self.object_names.number(name.as_str()).is_some() {
             return Err(TextFaultKind::Twice);
         }
@@ -300,6 +306,8 @@ impl Draft {
         Ok(())
     }
 
+    /// A system state is about the patch, so it may be behind any of its targets, and closes none
+    /// (docs/DECISIONS.md, "`state` lines").
     fn place_state(&mut self, state: SystemState) -> Result<(), TextFaultKind>
         ensures { Becomes result self.new (placed self.old (Line.State state)) }
     {
@@ -317,10 +325,12 @@ impl Draft {
         Ok(())
     }
 
-    /// Adds one line of the text, without the bytes that end it.
+    /// Adds one line of the text, without the bytes that end it. An empty line adds nothing.
     pub(crate) fn read_line(&mut self, alloc: Global, text: &[u8]) -> Result<(), TextFaultKind>
         ensures { Becomes result self.new (with_line self.old text.now) }
     {
+        // Only the very first byte makes a comment, so that a word may begin with `#` (docs/DECISIONS.md,
+        // "Comments").
         if let [b'#', ..] = text {
             return Ok(());
         }
@@ -328,11 +338,13 @@ impl Draft {
         let Some(first) = words.next() else {
             return Ok(());
         };
+        // The words are checked before the place, so a line that is spelled wrong is told so wherever it is
+        // (docs/DECISIONS.md, "Words before the place of a line").
         let line = Line::read(alloc, self.open_object(), text, first, &mut words)?;
         self.place(alloc, line)
     }
 
-    /// Adds what a line says, where it may stand here.
+    /// Adds what a line says, where it may be here: each kind of line knows its own place.
     pub(crate) fn place(&mut self, alloc: Global, line: Line) -> Result<(), TextFaultKind>
         ensures { Becomes result self.new (placed self.old line) }
     {
@@ -348,7 +360,7 @@ impl Draft {
         }
     }
 
-    /// The plan of a whole text.
+    /// The plan of a whole text. What only the whole can lack, a handler or an object, is found here.
     pub(crate) fn finish(self) -> Result<Plan, TextFaultKind>
         ensures plan { result ≡ finished_with self.handler self }
         ensures targets { IfOk result (λ plan. AreTargetsWithin (length plan.objects) plan.patches) }

@@ -4,7 +4,8 @@ use indexmap::IndexSet;
 use std::alloc::{AllocError, Global};
 use std::marker::Model;
 
-/// Names in the order in which they came, each once. A name is found by its hash.
+/// Names in the order in which they came, each once. A name is found by its hash, so a text is read in time
+/// that is linear in its length.
 #[derive(Drop)]
 pub struct Names {
     set: IndexSet<String>,
@@ -27,14 +28,14 @@ impl Names {
         }
     }
 
-    /// The place of the name, from 0.
+    /// The place of the name, from 0, which is the number of the object or the patch.
     pub fn number(&self, name: &str) -> Option<usize>
         ensures { result ≡ position (bytes_eq name.now) self.now }
     {
         self.set.get_index_of(name)
     }
 
-    /// The name at a place.
+    /// The name at a place: the same table serves both ways.
     pub fn name(&self, number: usize) -> Option<&str>
         ensures { option_map (λ name. name.now) result ≡ slice_get self.now number }
     {
@@ -42,7 +43,7 @@ impl Names {
         Some(name.as_str())
     }
 
-    /// Adds a name that isn't there.
+    /// Adds a name that isn't there, as the last. It is copied, since the object or patch keeps its own.
     pub(crate) fn add(&mut self, alloc: Global, name: &str) -> Result<(), AllocError>
         requires { position (bytes_eq name.now) self.old ≡ None }
         ensures ok { OnOk result (self.new ≡ self.old ++ name.now ∷ []) }

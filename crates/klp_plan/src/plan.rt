@@ -12,7 +12,8 @@ use std::alloc::{AllocError, Global};
 use std::marker::Model;
 use std::mem;
 
-/// A callback of a patch for an object (callbacks).
+/// A callback of a patch for an object (callbacks): here it is a script, and the caller of the catalog
+/// makes callbacks of it.
 #[derive(Debug, Drop)]
 pub struct PlanCallback {
     pub which: Which,
@@ -27,12 +28,14 @@ impl Model for PlanCallback {
     ghost view = { λ c. record { which = c.which; script = c.script } };
 }
 
-/// An object that a patch changes, the new functions in it, and the callbacks for it.
+/// An object that a patch changes, the new functions in it, and the callbacks for it. The object is a
+/// number, so that no later look-up of its name can fail (docs/DECISIONS.md, "Objects of targets by
+/// number").
 #[derive(Debug, Drop)]
 pub struct PlanTarget {
     pub object: ObjId,
     pub functions: Vec<PlanFunction>,
-    /// In the order of the text, each kind at most once.
+    /// In the order of the text, each kind at most once, since a kernel's object has one of each.
     pub callbacks: Vec<PlanCallback>,
 }
 
@@ -45,7 +48,7 @@ impl Model for PlanTarget {
 }
 
 impl PlanTarget {
-    /// Adds a function behind the others.
+    /// Adds a function behind the others, so that functions are numbered in the order of the text.
     pub(crate) fn push(&mut self, function: PlanFunction) -> Result<(), AllocError>
         ensures ok { OnOk result (self.new ≡ with_function function self.old) }
         ensures err { OnErr result (self.new ≡ self.old) }
@@ -54,7 +57,8 @@ impl PlanTarget {
         Ok(())
     }
 
-    /// Adds a callback behind the others.
+    /// Adds a callback behind the others: the order of the text is that in which callbacks are handed to a
+    /// catalog.
     pub(crate) fn push_callback(&mut self, callback: PlanCallback) -> Result<(), AllocError>
         ensures ok { OnOk result (self.new ≡ with_callback callback self.old) }
         ensures err { OnErr result (self.new ≡ self.old) }
@@ -64,14 +68,14 @@ impl PlanTarget {
     }
 }
 
-/// A patch.
+/// A patch, as the lines behind its own give it.
 #[derive(Debug, Drop)]
 pub struct PlanPatch {
     pub name: String,
     /// Whether the patch is a cumulative one, which replaces all older ones.
     pub replace: bool,
     pub targets: Vec<PlanTarget>,
-    /// The system states that the patch names.
+    /// The system states that the patch names, in the order of the text, each id once.
     pub states: Vec<SystemState>,
 }
 
@@ -85,7 +89,7 @@ impl Model for PlanPatch {
 }
 
 impl PlanPatch {
-    /// Adds an object without functions behind the others.
+    /// Adds an object without functions behind the others: it is the open target from now on.
     pub(crate) fn push_target(&mut self, alloc: Global, object: ObjId) -> Result<(), AllocError>
         ensures ok { OnOk result (self.new ≡ with_target (Some object) self.old) }
         ensures err { OnErr result (self.new ≡ self.old) }
@@ -98,7 +102,7 @@ impl PlanPatch {
         Ok(())
     }
 
-    /// Adds a function to the last object.
+    /// Adds a function to the last object, which is the open target.
     pub(crate) fn push_function(&mut self, function: PlanFunction) -> Result<(), AllocError>
         requires { 0 < length self.old.targets }
         ensures ok { OnOk result (self.new ≡ with_function_in function self.old) }
@@ -108,7 +112,7 @@ impl PlanPatch {
         self.targets[last].push(function)
     }
 
-    /// Adds a callback to the last object.
+    /// Adds a callback to the last object, which is the open target.
     pub(crate) fn push_callback(&mut self, callback: PlanCallback) -> Result<(), AllocError>
         requires { 0 < length self.old.targets }
         ensures ok { OnOk result (self.new ≡ with_callback_in callback self.old) }
@@ -118,7 +122,7 @@ impl PlanPatch {
         self.targets[last].push_callback(callback)
     }
 
-    /// Adds a system state behind the others.
+    /// Adds a system state behind the others. It belongs to the patch, and to no target.
     pub(crate) fn push_state(&mut self, state: SystemState) -> Result<(), AllocError>
         ensures ok { OnOk result (self.new ≡ with_state state self.old) }
         ensures err { OnErr result (self.new ≡ self.old) }
@@ -135,7 +139,7 @@ pub struct Plan {
     pub(crate) handler: u64,
     pub(crate) objects: Vec<ObjectText>,
     pub(crate) patches: Vec<PlanPatch>,
-    /// The names of the patches, by which they are found.
+    /// The names of the patches once more, by which they are found.
     pub(crate) patch_names: Names,
 }
 
@@ -152,15 +156,16 @@ impl Model for Plan {
 }
 
 impl Plan {
-    /// The address that a hooked entry site calls.
+    /// The address that a hooked entry site calls, which has to be in reach of each symbol.
     pub fn handler(&self) -> u64
         ensures { result ≡ self.now.handler }
     {
         self.handler
     }
 
-    /// The script of a callback, by its place over all patches, their objects and their callbacks
-    /// in the order of the text, from 0. Takes a look at each object before it.
+    /// The script of a callback, by its place over all patches, their objects and their callbacks in the
+    /// order of the text, from 0: so a caller can make one callback after another. Takes a look at each
+    /// object before it.
     pub fn script(&self, number: usize) -> Option<&Script>
         ensures { option_map (λ script. script.now) result ≡ slice_get (scripts_of self.now.patches) number }
     {
@@ -176,7 +181,8 @@ impl Plan {
         None
     }
 
-    /// The objects with their symbols, as the image takes them. The plan has none afterwards.
+    /// The objects with their symbols, as the image takes them. The plan has none afterwards, since bodies
+    /// aren't copied on the way.
     pub fn take_objects(&mut self) -> Vec<ObjectText>
         ensures objects { result.items ≡ self.old.objects }
         ensures rest { self.new ≡ record self.old { objects = [] } }
@@ -185,7 +191,7 @@ impl Plan {
         mem::replace(&mut self.objects, Vec::new(alloc))
     }
 
-    /// The patches, and their names by which they are found.
+    /// The patches, and their names by which they are found: the catalog takes both over as they are.
     pub fn into_patches(self) -> (Vec<PlanPatch>, Names)
         ensures patches { result.0.items ≡ self.patches }
         ensures names { result.1 ≡ patch_names_of self.patches }

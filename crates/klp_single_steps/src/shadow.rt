@@ -1,8 +1,9 @@
 //! The events that change shadow variables (shadow-vars, Implementation details).
 //!
-//! An event that is accepted empties the log, and notes there each variable that it changes, as it was.
-//! One that is refused changes nothing. A function of its own tells why an event is refused, or `None` where
-//! nothing refuses it; the removals have none, since nothing refuses them.
+//! An event that is accepted empties the log, and logs each variable that it changes, as it was. One that
+//! is refused changes nothing. A function of its own tells why an event is refused, or `None` where nothing
+//! refuses it, because a full journal has to know without taking it; the removals have none, since nothing
+//! refuses them.
 ghost use Rattle.std.specs.Prelude.{◌≡◌, ◌<◌, ℕ, None, IfNone};
 ghost use Rattle.std.specs.FinMap as finite;
 ghost use Rattle.klp_types.specs.declared.limits.TheConstants.{MAX_VARIABLES};
@@ -24,7 +25,8 @@ use klp_steps::laws::{
 use klp_types::{MAX_VARIABLES, ShadowKey, ShadowValue};
 use klp_world::laws::{freed_and_left_are_all, what_is_noted_is_of_the_world};
 
-/// A variable that isn't there is added.
+/// A variable that isn't there is added. One that is there is a refusal, where the kernel warns and gives
+/// nothing (`klp_shadow_alloc`).
 pub fn shadow_alloc(
     parts: &mut Parts,
     catalog: &Catalog,
@@ -47,7 +49,7 @@ pub fn shadow_alloc(
     Ok(Reply::Done)
 }
 
-/// Why a variable isn't added, whatever its value.
+/// Why a variable isn't added, whatever its value: that it is there comes before want of room.
 pub fn shadow_alloc_refusal(parts: &Parts, key: ShadowKey) -> Option<Refusal>
     ensures refusal { (catalog : AnyCatalog) (value : ℕ) → result ≡ refusal (setting_of (managed_of parts.now catalog)) (managed_of parts.now catalog).state (ShadowAlloc key value) }
     ensures room { IfNone result (finite.len parts.now.world.shadow < MAX_VARIABLES) }
@@ -61,7 +63,8 @@ pub fn shadow_alloc_refusal(parts: &Parts, key: ShadowKey) -> Option<Refusal>
     }
 }
 
-/// The value of a variable, which is added where it isn't there.
+/// The value of a variable, which is added where it isn't there (`klp_shadow_get_or_alloc`). Where it is,
+/// nothing changes, and the event is accepted all the same.
 pub fn shadow_get_or_alloc(
     parts: &mut Parts,
     catalog: &Catalog,
@@ -84,7 +87,7 @@ pub fn shadow_get_or_alloc(
     Ok(Reply::Value(there))
 }
 
-/// Why a variable that isn't there isn't added, whatever its value.
+/// Why a variable that isn't there isn't added, whatever its value. One that is there needs no room.
 pub fn shadow_get_or_alloc_refusal(parts: &Parts, key: ShadowKey) -> Option<Refusal>
     ensures refusal { (catalog : AnyCatalog) (value : ℕ) → result ≡ refusal (setting_of (managed_of parts.now catalog)) (managed_of parts.now catalog).state (ShadowGetOrAlloc key value) }
     ensures room { IfNone result (variable parts.now.world key ≡ None → finite.len parts.now.world.shadow < MAX_VARIABLES) }
@@ -96,7 +99,8 @@ pub fn shadow_get_or_alloc_refusal(parts: &Parts, key: ShadowKey) -> Option<Refu
     }
 }
 
-/// A variable is removed, where it is there.
+/// A variable is removed, where it is there (`klp_shadow_free`). To remove what isn't there is no fault, as
+/// in the kernel.
 pub fn shadow_free(parts: &mut Parts, catalog: &Catalog, key: ShadowKey) -> Result<Reply, Refusal>
     requires { Invariant parts.old catalog.now }
     ensures taken { PartsTake parts.old parts.new catalog.now catalog.now (ShadowFree key) result }
@@ -111,7 +115,8 @@ pub fn shadow_free(parts: &mut Parts, catalog: &Catalog, key: ShadowKey) -> Resu
     Ok(Reply::Freed(u16::from(was_there)))
 }
 
-/// All variables of the id are removed. It walks over all variables.
+/// All variables of the id are removed (`klp_shadow_free_all`), whatever their parent objects. It walks
+/// over all variables.
 pub fn shadow_free_all(parts: &mut Parts, catalog: &Catalog, id: u64) -> Result<Reply, Refusal>
     requires { Invariant parts.old catalog.now }
     ensures taken { PartsTake parts.old parts.new catalog.now catalog.now (ShadowFreeAll id) result }
@@ -127,7 +132,7 @@ pub fn shadow_free_all(parts: &mut Parts, catalog: &Catalog, id: u64) -> Result<
     Ok(Reply::Freed(freed))
 }
 
-/// Whether no shadow variable can be added.
+/// Whether no shadow variable can be added. The limit is our own: it is what memory is in a kernel.
 fn is_full(parts: &Parts) -> bool
     ensures { result ≡ is_full parts.now.world }
 {

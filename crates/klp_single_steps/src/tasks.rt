@@ -1,8 +1,8 @@
 //! The events of tasks (livepatch, Consistency model). Each costs the same whatever is installed.
 //!
-//! An event that is accepted changes one task's row, and the log holds that row alone afterwards, as it
-//! was. One that is refused changes nothing. A function of its own tells why an event is refused, or `None`
-//! where nothing refuses it.
+//! An event that is accepted changes one task's row, and the log has that row alone afterwards, as it was.
+//! One that is refused changes nothing. A function of its own tells why an event is refused, or `None`
+//! where nothing refuses it, because a full journal has to know without taking it.
 ghost use Rattle.std.specs.Prelude.{◌≡◌, ◌<◌, not, true, false, ℕ, List, [], ◌∷◌, length, is_some, option_map, IfOk, IfNone};
 ghost use Rattle.std.specs.List.{list_any};
 ghost use Rattle.klp_types.specs.declared.limits.TheConstants.{MAX_RECORDS, MAX_TASKS};
@@ -29,7 +29,7 @@ use klp_steps::laws::{
 use klp_tasks::laws::rows_change_as_the_step_says;
 use klp_types::{Frames, MAX_TASKS, Mode, Move, Record, TaskId, Version};
 
-/// A task begins, in user space.
+/// A task begins, in user space, at the target of whatever moves, since it has run nothing yet.
 pub fn new_task(parts: &mut Parts, task: TaskId) -> Result<Reply, Refusal>
     requires room { parts.old.log.room ≡ MAX_RECORDS }
     ensures taken { PartsTakeAlone parts.old parts.new (NewTask task) result }
@@ -47,7 +47,7 @@ pub fn new_task(parts: &mut Parts, task: TaskId) -> Result<Reply, Refusal>
     Ok(Reply::Done)
 }
 
-/// Why a task doesn't begin.
+/// Why a task doesn't begin, if it doesn't: there can't be such a number, or the task is there.
 pub fn new_task_refusal(parts: &Parts, task: TaskId) -> Option<Refusal>
     ensures refusal { (catalog : AnyCatalog) → result ≡ refusal (setting_of (managed_of parts.now catalog)) (managed_of parts.now catalog).state (NewTask task) }
     ensures number { IfNone result (task < MAX_TASKS) }
@@ -62,7 +62,8 @@ pub fn new_task_refusal(parts: &Parts, task: TaskId) -> Option<Refusal>
     }
 }
 
-/// A task in the kernel, the first one, makes another.
+/// A task in the kernel, the first one, makes another, with its own state: both are in the middle of the
+/// same functions (the kernel's `klp_copy_process`).
 pub fn fork(parts: &mut Parts, parent: TaskId, child: TaskId) -> Result<Reply, Refusal>
     requires room { parts.old.log.room ≡ MAX_RECORDS }
     ensures taken { PartsTakeAlone parts.old parts.new (Fork parent child) result }
@@ -80,7 +81,8 @@ pub fn fork(parts: &mut Parts, parent: TaskId, child: TaskId) -> Result<Reply, R
     Ok(Reply::Done)
 }
 
-/// Why a task doesn't make another.
+/// Why a task doesn't make another, if it doesn't. Both numbers are looked at before the mode, as for other
+/// events.
 pub fn fork_refusal(parts: &Parts, parent: TaskId, child: TaskId) -> Option<Refusal>
     ensures refusal { (catalog : AnyCatalog) → result ≡ refusal (setting_of (managed_of parts.now catalog)) (managed_of parts.now catalog).state (Fork parent child) }
     ensures there { IfNone result (is_some (task_at parts.now.tasks parent) ≡ true) }
@@ -98,7 +100,7 @@ pub fn fork_refusal(parts: &Parts, parent: TaskId, child: TaskId) -> Option<Refu
     }
 }
 
-/// A task that isn't asleep ends.
+/// A task that isn't asleep ends. A sleeper has to wake up first, since it is inside of functions.
 pub fn end_task(parts: &mut Parts, task: TaskId) -> Result<Reply, Refusal>
     requires room { parts.old.log.room ≡ MAX_RECORDS }
     ensures taken { PartsTakeAlone parts.old parts.new (EndTask task) result }
@@ -116,7 +118,7 @@ pub fn end_task(parts: &mut Parts, task: TaskId) -> Result<Reply, Refusal>
     Ok(Reply::Done)
 }
 
-/// Why a task doesn't end.
+/// Why a task doesn't end, if it doesn't: it isn't there, or asleep.
 pub fn end_task_refusal(parts: &Parts, task: TaskId) -> Option<Refusal>
     ensures refusal { (catalog : AnyCatalog) → result ≡ refusal (setting_of (managed_of parts.now catalog)) (managed_of parts.now catalog).state (EndTask task) }
     ensures there { IfNone result (is_some (task_at parts.now.tasks task) ≡ true) }
@@ -130,7 +132,7 @@ pub fn end_task_refusal(parts: &Parts, task: TaskId) -> Option<Refusal>
     }
 }
 
-/// A task enters the kernel.
+/// A task enters the kernel. Its state stays as it is: it switches when it leaves.
 pub fn enter_kernel(parts: &mut Parts, task: TaskId) -> Result<Reply, Refusal>
     requires room { parts.old.log.room ≡ MAX_RECORDS }
     ensures taken { PartsTakeAlone parts.old parts.new (EnterKernel task) result }
@@ -149,7 +151,7 @@ pub fn enter_kernel(parts: &mut Parts, task: TaskId) -> Result<Reply, Refusal>
     Ok(Reply::Done)
 }
 
-/// Why a task doesn't enter the kernel.
+/// Why a task doesn't enter the kernel, if it doesn't: it isn't there, or is in the kernel already.
 pub fn enter_kernel_refusal(parts: &Parts, task: TaskId) -> Option<Refusal>
     ensures refusal { (catalog : AnyCatalog) → result ≡ refusal (setting_of (managed_of parts.now catalog)) (managed_of parts.now catalog).state (EnterKernel task) }
     ensures there { IfNone result (is_some (task_at parts.now.tasks task) ≡ true) }
@@ -157,7 +159,8 @@ pub fn enter_kernel_refusal(parts: &Parts, task: TaskId) -> Option<Refusal>
     refusal_unless_in(parts, task, Mode::User)
 }
 
-/// A task goes back to user space. It is brought to the target of whatever moves.
+/// A task goes back to user space. It is brought to the target of whatever moves, because it is inside of
+/// no function any more.
 pub fn exit_to_user(parts: &mut Parts, task: TaskId) -> Result<Reply, Refusal>
     requires room { parts.old.log.room ≡ MAX_RECORDS }
     ensures taken { PartsTakeAlone parts.old parts.new (ExitToUser task) result }
@@ -176,7 +179,7 @@ pub fn exit_to_user(parts: &mut Parts, task: TaskId) -> Result<Reply, Refusal>
     Ok(Reply::Done)
 }
 
-/// Why a task doesn't go back to user space.
+/// Why a task doesn't go back to user space, if it doesn't: a sleeper has to wake up first.
 pub fn exit_to_user_refusal(parts: &Parts, task: TaskId) -> Option<Refusal>
     ensures refusal { (catalog : AnyCatalog) → result ≡ refusal (setting_of (managed_of parts.now catalog)) (managed_of parts.now catalog).state (ExitToUser task) }
     ensures there { IfNone result (is_some (task_at parts.now.tasks task) ≡ true) }
@@ -184,7 +187,8 @@ pub fn exit_to_user_refusal(parts: &Parts, task: TaskId) -> Option<Refusal>
     refusal_unless_in(parts, task, Mode::Kernel)
 }
 
-/// A task falls asleep inside of these functions. It looks at each of them.
+/// A task falls asleep inside of these functions, which are believed: that a task is in them is a premise
+/// of the consistency laws. It looks at each of them.
 pub fn sleep(
     parts: &mut Parts,
     catalog: &Catalog,
@@ -208,7 +212,8 @@ pub fn sleep(
     Ok(Reply::Done)
 }
 
-/// Why a task doesn't fall asleep inside of these functions. It looks at each of them.
+/// Why a task doesn't fall asleep inside of these functions, if it doesn't. The functions are looked at
+/// last, since they cost most.
 pub fn sleep_refusal(
     parts: &Parts,
     catalog: &Catalog,
@@ -230,7 +235,7 @@ pub fn sleep_refusal(
     }
 }
 
-/// A task wakes up in the kernel.
+/// A task wakes up in the kernel. The reply has what it was inside of, since afterwards nobody knows.
 pub fn wake(parts: &mut Parts, task: TaskId) -> Result<Reply, Refusal>
     requires room { parts.old.log.room ≡ MAX_RECORDS }
     ensures taken { PartsTakeAlone parts.old parts.new (Wake task) result }
@@ -250,7 +255,7 @@ pub fn wake(parts: &mut Parts, task: TaskId) -> Result<Reply, Refusal>
     Ok(Reply::Woken(frames))
 }
 
-/// Why a task doesn't wake up.
+/// Why a task doesn't wake up, if it doesn't: only a sleeper does.
 pub fn wake_refusal(parts: &Parts, task: TaskId) -> Option<Refusal>
     ensures refusal { (catalog : AnyCatalog) → result ≡ refusal (setting_of (managed_of parts.now catalog)) (managed_of parts.now catalog).state (Wake task) }
     ensures there { IfNone result (is_some (task_at parts.now.tasks task) ≡ true) }
@@ -258,7 +263,7 @@ pub fn wake_refusal(parts: &Parts, task: TaskId) -> Option<Refusal>
     refusal_unless_in(parts, task, Mode::Asleep)
 }
 
-/// Why a task isn't there in this mode.
+/// Why a task isn't there in this mode: that it isn't there comes first.
 fn refusal_unless_in(parts: &Parts, task: TaskId, mode: Mode) -> Option<Refusal>
     ensures refusal { result ≡ first_of ((not (is_some (task_at parts.now.tasks task)), NoTask) ∷ (not (is_in mode (task_at parts.now.tasks task)), WrongMode) ∷ []) }
     ensures there { IfNone result (is_some (task_at parts.now.tasks task) ≡ true) }
@@ -272,7 +277,7 @@ fn refusal_unless_in(parts: &Parts, task: TaskId, mode: Mode) -> Option<Refusal>
     }
 }
 
-/// The log holds the row alone.
+/// The log has the row alone: an event of a task is one record.
 fn note_alone(parts: &mut Parts, row: Record)
     requires { parts.old.log.room ≡ MAX_RECORDS }
     ensures { parts.new ≡ record parts.old { log = record parts.old.log { noted = row ∷ [] } } }
@@ -281,7 +286,7 @@ fn note_alone(parts: &mut Parts, row: Record)
     parts.log.note(row);
 }
 
-/// The state of a task that is brought to whatever moves.
+/// The state of a task that is brought to whatever moves: -1 where nothing does.
 fn state_wanted(moving: Option<Move>) -> i8
     ensures { result ≡ state_wanted moving }
 {
@@ -291,7 +296,7 @@ fn state_wanted(moving: Option<Move>) -> i8
     }
 }
 
-/// Whether there is a task of this number.
+/// Whether there is a task of this number, of which there are 64 at most.
 fn is_there(parts: &Parts, task: TaskId) -> bool
     ensures { result ≡ is_some (task_at parts.now.tasks task) }
 {
@@ -308,7 +313,7 @@ fn is_in(parts: &Parts, task: TaskId, mode: Mode) -> bool
     }
 }
 
-/// What a task is inside of.
+/// What a task is inside of, copied before it wakes; nothing where it isn't there.
 fn frames_of(parts: &Parts, task: TaskId) -> Frames
     ensures { result ≡ frames_of (task_at parts.now.tasks task) }
 {
@@ -318,7 +323,7 @@ fn frames_of(parts: &Parts, task: TaskId) -> Frames
     }
 }
 
-/// Whether image or catalog don't have a version.
+/// Whether image or catalog don't have a version. Whether its object is loaded isn't asked.
 fn is_bad(parts: &Parts, catalog: &Catalog, version: Version) -> bool
     requires { Invariant parts.now catalog.now }
     ensures { result ≡ is_bad (setting_of (managed_of parts.now catalog.now)) version }
@@ -329,7 +334,7 @@ fn is_bad(parts: &Parts, catalog: &Catalog, version: Version) -> bool
     }
 }
 
-/// Whether they don't have one of these.
+/// Whether image or catalog don't have one of these versions.
 fn has_bad(parts: &Parts, catalog: &Catalog, frames: &Frames) -> bool
     requires { Invariant parts.now catalog.now }
     ensures { result ≡ list_any (is_bad (setting_of (managed_of parts.now catalog.now))) frames.now }

@@ -42,14 +42,15 @@ use klp_types::laws::entries_are_of_their_patches;
 use klp_types::{MAX_FUNCTIONS, MAX_PATCHES, MAX_SITES, MAX_VARIABLES, Move, PatchId, Which};
 use klp_world::laws::what_is_noted_is_of_the_world;
 
-/// The kind of callback that runs at the end of a transition to this target.
+/// The kind of callback that runs at the end of a transition to this target: post-patch where the patch is
+/// in, post-unpatch where it is out.
 fn end_of(target: bool) -> Which
     ensures { result ≡ end_of target }
 {
     if target { Which::Post } else { Which::PostUn }
 }
 
-/// Whether a patch is a cumulative one.
+/// Whether a patch is a cumulative one, which decides whether older patches leave with its transition.
 fn replaces(catalog: &Catalog, patch: PatchId) -> bool
     ensures { result ≡ is_cumulative catalog.now patch }
 {
@@ -57,8 +58,10 @@ fn replaces(catalog: &Catalog, patch: PatchId) -> bool
 }
 
 impl Parts {
-    /// The transition is tried once more: sleepers that are inside of nothing blocked are brought to
-    /// the target, and where no task lags it is completed.
+    /// The transition is tried once more: sleepers that are inside of nothing blocked are brought to the
+    /// target, and where no task lags it is completed. Nothing completes by itself, while a kernel tries
+    /// every second; where there are no tasks the first try completes it (docs/DECISIONS.md, "When
+    /// transitions complete").
     pub fn poll(&mut self, catalog: &mut Catalog) -> Result<Reply, Refusal>
         requires { Invariant self.old catalog.old }
         ensures taken { PartsTake self.old self.new catalog.old catalog.new Poll result }
@@ -70,7 +73,8 @@ impl Parts {
         }
     }
 
-    /// Why the transition isn't tried.
+    /// Why the transition isn't tried, if it isn't: the first reason that holds. Room is asked for also
+    /// where a task will lag, since nobody knows before.
     pub fn poll_refusal(&self, catalog: &Catalog) -> Option<Refusal>
         requires { Invariant self.now catalog.now }
         ensures refusal { result ≡ refusal (setting_of (managed_of self.now catalog.now)) (managed_of self.now catalog.now).state Poll }
@@ -79,6 +83,8 @@ impl Parts {
         let Some(moving) = self.moving else {
             return Some(Refusal::NotMoving);
         };
+        // The sum over all callbacks of the end decides, before any of them runs (docs/DECISIONS.md,
+        // "`Full` at the end of a transition").
         let end = allocs(catalog, &self.modules, moving.patch, end_of(moving.target));
         if usize::from(self.world.count()) + end > MAX_VARIABLES {
             return Some(Refusal::Full);
@@ -86,7 +92,7 @@ impl Parts {
         None
     }
 
-    /// A transition that nothing refuses is tried.
+    /// A transition that nothing refuses is tried. A task that lags leaves all else as it was.
     fn try_once_more(&mut self, catalog: &mut Catalog) -> Reply
         requires kept { Invariant self.old catalog.old }
         requires free { refusal (setting_of (managed_of self.old catalog.old)) (managed_of self.old catalog.old).state Poll ≡ None }
@@ -96,6 +102,7 @@ impl Parts {
     {
         steps_keep();
         let Some(moving) = self.moving else {
+            // Can't be: where nothing moves, the poll is refused.
             return Reply::Completed(false);
         };
         let left = self.try_tasks(catalog, &moving);
@@ -106,8 +113,8 @@ impl Parts {
         Reply::Completed(moving.target)
     }
 
-    /// Brings sleepers to the target that are inside of nothing blocked, and answers how many tasks
-    /// lag then. What was noted before is forgotten.
+    /// Brings sleepers to the target that are inside of nothing blocked, and answers how many tasks lag
+    /// then. What was logged before is forgotten, since an event begins here.
     fn try_tasks(&mut self, catalog: &Catalog, moving: &Move) -> u8
         requires kept { Invariant self.old catalog.now }
         requires moving { self.old.moving ≡ Some moving.now }
@@ -130,7 +137,8 @@ impl Parts {
         self.tasks.lagging(moving.target)
     }
 
-    /// Brings sleepers to the target that are inside of nothing blocked.
+    /// Brings sleepers to the target that are inside of nothing blocked. The set of what is blocked is made
+    /// anew, because entries and modules may have come or gone since the last try.
     fn switch_sleepers(&mut self, catalog: &Catalog, moving: &Move)
         requires state { Allowed (setting_of (managed_of self.old catalog.now)) (managed_of self.old catalog.now).state }
         requires limits { IsWithinLimits self.old.sites.image.objects }
@@ -156,7 +164,9 @@ impl Parts {
             .try_all(&self.blocked, moving.target, &mut self.log);
     }
 
-    /// Every task is at the target: the transition is complete.
+    /// Every task is at the target: the transition is complete. As in the kernel
+    /// (`klp_complete_transition`) the entries go before the callbacks run, and these still find the
+    /// patches that leave.
     fn complete(&mut self, catalog: &mut Catalog, moving: &Move)
         requires kept { Invariant self.old catalog.old }
         requires moving { self.old.moving ≡ Some moving.now }
@@ -179,7 +189,7 @@ impl Parts {
         self.rest();
     }
 
-    /// Nothing moves any more.
+    /// Nothing moves any more: each task has the state -1, as `/proc/<pid>/patch_state` shows it at rest.
     fn rest(&mut self)
         requires tasks { length self.old.tasks ≡ MAX_TASKS }
         requires records { length self.old.log.noted ≤ 4000 }
@@ -193,7 +203,8 @@ impl Parts {
         self.set_moving(None);
     }
 
-    /// Leaves at the sites the entries of the patches that stay.
+    /// Leaves at the sites the entries of the patches that stay. A patch that came in without replacing
+    /// anything changes no site now.
     fn settle_sites(&mut self, catalog: &Catalog, moving: &Move)
         requires kept { Invariant self.old catalog.now }
         requires moving { self.old.moving ≡ Some moving.now }
@@ -219,7 +230,8 @@ impl Parts {
         }
     }
 
-    /// Takes the entries of the older patches away, and the nops of the patch that replaces them.
+    /// Takes the entries of the older patches away, and the nops of the patch that replaces them, which
+    /// stood for nothing but these.
     fn replace_sites(&mut self, catalog: &Catalog, moving: &Move)
         requires kept { Invariant self.old catalog.now }
         requires moving { self.old.moving ≡ Some moving.now }
@@ -245,7 +257,7 @@ impl Parts {
         drop_nops(&mut self.sites, moving.patch, &mut self.log);
     }
 
-    /// Leaves the patches that stay in the list.
+    /// Leaves the patches that stay in the list, and the values of their states with them.
     fn settle_list(&mut self, catalog: &Catalog, moving: &Move)
         requires records { length self.old.log.noted ≤ 3500 }
         requires log { self.old.log.room ≡ MAX_RECORDS }

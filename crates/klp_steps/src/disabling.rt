@@ -21,8 +21,9 @@ use klp_tasks::laws::records_are_few;
 use klp_types::{MAX_VARIABLES, Move, PatchId, Which};
 
 impl Parts {
-    /// A value is written to the `enabled` file of an installed patch. A transition of the patch turns
-    /// round, and nothing runs; else the patch starts to be disabled, object by object with pre-unpatch.
+    /// A value is written to the `enabled` file of an installed patch (the kernel's `enabled_store`). A
+    /// transition of the patch turns round, and nothing runs, since what was set up is still there; else
+    /// the patch starts to be disabled, object by object with pre-unpatch.
     pub fn set_enabled(
         &mut self,
         catalog: &mut Catalog,
@@ -39,7 +40,9 @@ impl Parts {
         }
     }
 
-    /// Why the value isn't written.
+    /// Why the value isn't written, if it isn't: the first reason that holds. Room is computed before them,
+    /// though it is the last, since its proof bounds the records too (docs/DECISIONS.md, "Room computed
+    /// before the refusals").
     pub fn set_refusal(&self, catalog: &Catalog, patch: PatchId, value: bool) -> Option<Refusal>
         requires { Invariant self.now catalog.now }
         ensures refusal { result ≡ refusal (setting_of (managed_of self.now catalog.now)) (managed_of self.now catalog.now).state (SetEnabled patch value) }
@@ -61,7 +64,8 @@ impl Parts {
         }
     }
 
-    /// What the `enabled` file of an installed patch reads.
+    /// What the `enabled` file of an installed patch reads: 0 as soon as the patch is on its way out, and 1
+    /// as soon as it is on its way in.
     pub(crate) fn enabled_value(&self, patch: PatchId) -> bool
         ensures { result ≡ not (moves_out self.now.moving patch) }
     {
@@ -71,7 +75,8 @@ impl Parts {
         }
     }
 
-    /// Whether there is no room for what the callbacks add.
+    /// Whether there is no room for what the callbacks add. A patch that moves runs none, since its
+    /// transition turns round.
     fn lacks_room_to_set(&self, catalog: &Catalog, patch: PatchId, value: bool) -> bool
         requires { Invariant self.now catalog.now }
         ensures room { result ≡ lacks_room (setting_of (managed_of self.now catalog.now)) (managed_of self.now catalog.now).state (SetEnabled patch value) }
@@ -85,7 +90,7 @@ impl Parts {
         usize::from(self.world.count()) + pre_un > MAX_VARIABLES
     }
 
-    /// A transition turns round, or a disabling starts.
+    /// A transition turns round, or a disabling starts, by whether the patch moves.
     fn turn(&mut self, catalog: &mut Catalog, patch: PatchId, value: bool) -> Reply
         requires kept { Invariant self.old catalog.old }
         requires free { refusal (setting_of (managed_of self.old catalog.old)) (managed_of self.old catalog.old).state (SetEnabled patch value) ≡ None }
@@ -105,7 +110,8 @@ impl Parts {
         self.disable(catalog, patch, value)
     }
 
-    /// A disabling starts.
+    /// A disabling starts. The tasks are at 1, because all of them run the patch, and the entries stay
+    /// until the end.
     fn disable(&mut self, catalog: &mut Catalog, patch: PatchId, value: bool) -> Reply
         requires kept { Invariant self.old catalog.old }
         requires free { refusal (setting_of (managed_of self.old catalog.old)) (managed_of self.old catalog.old).state (SetEnabled patch value) ≡ None }

@@ -40,14 +40,17 @@ use klp_types::{
 };
 use klp_world::laws::what_is_noted_is_of_the_world;
 
-/// Whether the function is for a loaded object and names no site.
+/// Whether the function is for a loaded object and names no site. One for an object that isn't loaded may,
+/// since it is looked at when the module comes (docs/DECISIONS.md, "Symbols of objects that aren't
+/// loaded").
 fn lacks_site(modules: &Modules, function: &CatalogFunction) -> bool
     ensures { result ≡ (slice_index_or modules.now.loaded function.now.object false && is_none function.now.site) }
 {
     modules.is_loaded(function.object()) && function.site().is_none()
 }
 
-/// Whether one of these functions is.
+/// Whether one of these functions is for a loaded object and names no site: the patch has nothing to hook
+/// then.
 fn lack_symbol(modules: &Modules, functions: &[CatalogFunction]) -> bool
     ensures { result ≡ list_any (λ (f : FunctionOf). slice_index_or modules.now.loaded f.object false && is_none f.site) functions.now }
 {
@@ -56,7 +59,8 @@ fn lack_symbol(modules: &Modules, functions: &[CatalogFunction]) -> bool
         .any(|function| lacks_site(modules, function))
 }
 
-/// The reply where a pre-patch callback of the patch refused: for this object, with this status.
+/// The reply where a pre-patch callback of the patch refused: for this object, with this status. It is no
+/// refusal, since callbacks ran and were counted.
 fn pre_failed(patch: PatchId, refused: &(ObjId, i32)) -> Reply
     ensures { result ≡ PreFailed patch refused.now.0 refused.now.1 }
 {
@@ -65,9 +69,9 @@ fn pre_failed(patch: PatchId, refused: &(ObjId, i32)) -> Reply
 }
 
 impl Parts {
-    /// A patch that isn't installed is put last and starts to move to the target 1: pre-patch runs
-    /// object by object, and its entries come to the sites of loaded objects. Where pre-patch refuses,
-    /// the objects before get post-unpatch, and the patch is gone again.
+    /// A patch that isn't installed is put last and starts to move to the target 1: pre-patch runs object
+    /// by object, and its entries come to the sites of loaded objects. Where pre-patch refuses, the objects
+    /// before get post-unpatch, and the patch is gone again.
     pub fn enable(&mut self, catalog: &mut Catalog, patch: PatchId) -> Result<Reply, Refusal>
         requires { Invariant self.old catalog.old }
         ensures taken { PartsTake self.old self.new catalog.old catalog.new (Enable patch) result }
@@ -79,12 +83,15 @@ impl Parts {
         }
     }
 
-    /// Why the patch isn't enabled.
+    /// Why the patch isn't enabled, if it isn't: the first reason that holds. It may be asked without
+    /// enabling, as a full journal does.
     pub fn enable_refusal(&self, catalog: &Catalog, patch: PatchId) -> Option<Refusal>
         requires { Invariant self.now catalog.now }
         ensures refusal { result ≡ refusal (setting_of (managed_of self.now catalog.now)) (managed_of self.now catalog.now).state (Enable patch) }
         ensures records { records_of (may_run (setting_of (managed_of self.now catalog.now)) (managed_of self.now catalog.now).state (Enable patch)) ≤ 512 }
     {
+        // Computed before the refusals, though it comes last, since its proof bounds the records on every
+        // way out (docs/DECISIONS.md, "Room computed before the refusals").
         let lacks_room = self.lacks_room_to_enable(catalog, patch);
         if patch.0 >= catalog.patches() {
             Some(Refusal::NoPatch)
@@ -105,7 +112,8 @@ impl Parts {
         }
     }
 
-    /// Whether the patch can live with the system states of all installed ones.
+    /// Whether the patch can live with the system states of all installed ones, also those that it would
+    /// replace, since it takes their states over.
     fn is_compatible(&self, catalog: &Catalog, patch: PatchId) -> bool
         requires kept { Invariant self.now catalog.now }
         requires patch { patch < length catalog.now.patches }
@@ -128,13 +136,15 @@ impl Parts {
         ensures room { result ≡ lacks_room (setting_of (managed_of self.now catalog.now)) (managed_of self.now catalog.now).state (Enable patch) }
         ensures records { records_of (may_run (setting_of (managed_of self.now catalog.now)) (managed_of self.now catalog.now).state (Enable patch)) ≤ 512 }
     {
+        // Both kinds count, whatever the statuses are, so that one can add it up from the catalog
+        // (docs/DECISIONS.md, "Room for the callbacks that may run").
         let pre = allocs(catalog, &self.modules, patch, Which::Pre);
         let post_un = allocs(catalog, &self.modules, patch, Which::PostUn);
         usize::from(self.world.count()) + pre + post_un > MAX_VARIABLES
     }
 
-    /// A patch that nothing refuses is put last, and starts to move where no pre-patch callback
-    /// refuses.
+    /// A patch that nothing refuses is put last, and starts to move where no pre-patch callback refuses. It
+    /// is in the list before they run, so that they can set its states.
     fn install(&mut self, catalog: &mut Catalog, patch: PatchId) -> Reply
         requires kept { Invariant self.old catalog.old }
         requires free { refusal (setting_of (managed_of self.old catalog.old)) (managed_of self.old catalog.old).state (Enable patch) ≡ None }
@@ -150,6 +160,8 @@ impl Parts {
         prove!(usize::from(catalog.patches()) <= MAX_PATCHES);
         prove!(self.sites.sites() <= MAX_SITES);
         self.put_last(catalog, patch);
+        // For all objects before the first site is hooked, since a refused patch mustn't touch the text
+        // (docs/DECISIONS.md, "Pre-patch before the first hook").
         match run_pre_patch(
             catalog,
             &self.modules,
@@ -168,7 +180,8 @@ impl Parts {
         }
     }
 
-    /// Puts a patch last, with its system states at 0. What was noted before is forgotten.
+    /// Puts a patch last, with its system states at 0. What was logged before is forgotten, since an event
+    /// begins here.
     fn put_last(&mut self, catalog: &Catalog, patch: PatchId)
         requires fresh { is_among patch self.old.world.installed ≡ false }
         requires room { length self.old.world.installed < MAX_PATCHES }
@@ -184,7 +197,7 @@ impl Parts {
         self.world.add_states(patch, &ids, &mut self.log);
     }
 
-    /// Takes a patch out again.
+    /// Takes a patch out again after a refusal, with its states and the values that callbacks gave these.
     fn take_out(&mut self, patch: PatchId)
         requires { length self.old.log.noted + 17 ≤ self.old.log.room }
         ensures parts { self.new ≡ record self.old { world = without_patch self.old.world patch; log = self.new.log } }
@@ -196,7 +209,8 @@ impl Parts {
         self.world.drop_states(patch, &mut self.log);
     }
 
-    /// A patch that is put last starts to move to the target 1.
+    /// A patch that is put last starts to move to the target 1. Its entries are there before any task is at
+    /// 1: a task of state 0 passes over them, so nothing changes for it yet.
     fn start(&mut self, catalog: &Catalog, patch: PatchId)
         requires number { patch < MAX_PATCHES }
         requires sites { site_count self.old.sites.image ≤ MAX_SITES }

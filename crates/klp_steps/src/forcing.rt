@@ -17,7 +17,7 @@ use klp_machine::{Refusal, Reply};
 use klp_tasks::laws::records_are_few;
 use klp_types::{MAX_PATCHES, Move, PatchId};
 
-/// The state of a task that is brought to this target.
+/// The state of a task that is brought to this target: 1 to run the patch, 0 to leave it.
 pub(crate) fn target_state(target: bool) -> i8
     ensures { result ≡ at_target target }
 {
@@ -25,8 +25,10 @@ pub(crate) fn target_state(target: bool) -> i8
 }
 
 impl Parts {
-    /// Every task is brought to the target of the patch in transition. Pinned are the patch itself where
-    /// it moves out, and all other installed ones where it replaces them. It looks at all tasks.
+    /// Every task is brought to the target of the patch in transition, whatever it is inside of. Pinned are
+    /// the patch itself where it moves out, and all other installed ones where it replaces them, since a
+    /// task may still be in their functions. The transition is completed by the next poll. It looks at all
+    /// tasks.
     pub fn force(&mut self, catalog: &Catalog, patch: PatchId) -> Result<Reply, Refusal>
         requires { Invariant self.old catalog.now }
         ensures taken { PartsTake self.old self.new catalog.now catalog.now (Force patch) result }
@@ -47,7 +49,8 @@ impl Parts {
         Ok(Reply::Done)
     }
 
-    /// Why a patch isn't forced.
+    /// Why a patch isn't forced, if it isn't: the first reason that holds. There is never want of room,
+    /// since no callback runs.
     pub fn force_refusal(&self, catalog: &Catalog, patch: PatchId) -> Option<Refusal>
         ensures { result ≡ refusal (setting_of (managed_of self.now catalog.now)) (managed_of self.now catalog.now).state (Force patch) }
     {
@@ -72,7 +75,8 @@ impl Parts {
         }
     }
 
-    /// Pins the patches that a forced transition leaves tasks inside of.
+    /// Pins the patches that a forced transition leaves tasks inside of (the kernel's `forced` flag, by
+    /// which their modules are never freed).
     fn pin(&mut self, catalog: &Catalog, moving: Move)
         requires { length self.old.log.noted + MAX_PATCHES ≤ self.old.log.room }
         ensures parts { self.new ≡ record self.old {

@@ -12,7 +12,7 @@ use crate::parts::Parts;
 use klp_catalog::Catalog;
 use klp_types::{Frames, MAX_TASKS, Mode, ObjId, PatchId, Site, TaskId, Version};
 
-/// The object of a patch's function.
+/// The object of a patch's function. It is the catalog's, since a function may have no site to ask.
 fn object_of_function(catalog: &Catalog, patch: PatchId, number: u16) -> Option<ObjId>
     ensures { result ≡ option_map (λ (f : FunctionOf). f.object) (slice_get (catalog_functions catalog.now patch) number) }
 {
@@ -21,8 +21,8 @@ fn object_of_function(catalog: &Catalog, patch: PatchId, number: u16) -> Option<
 }
 
 impl Parts {
-    /// Whether a task sleeps inside of the module: in a function of its own, or in a new one for it.
-    /// It looks at each frame of each task.
+    /// Whether a task sleeps inside of the module: in a function of its own, or in a new one for it, which
+    /// goes with the module's entries. It looks at each frame of each task.
     pub(crate) fn is_in_use(&self, catalog: &Catalog, object: ObjId) -> bool
         requires { Invariant self.now catalog.now }
         ensures { result ≡ list_any (is_inside (setting_of (managed_of self.now catalog.now)) object) self.now.tasks }
@@ -35,7 +35,7 @@ impl Parts {
         false
     }
 
-    /// Whether this task does.
+    /// Whether this task sleeps inside of the module. One that doesn't sleep has no frames to be asked for.
     fn is_inside(&self, catalog: &Catalog, object: ObjId, task: TaskId) -> bool
         requires { Invariant self.now catalog.now }
         ensures value { result ≡ is_inside (setting_of (managed_of self.now catalog.now)) object (task_at self.now.tasks task) }
@@ -49,7 +49,7 @@ impl Parts {
         }
     }
 
-    /// Whether one of these frames lies in the object.
+    /// Whether one of these frames is in the object.
     fn has_inside(&self, catalog: &Catalog, object: ObjId, frames: &Frames) -> bool
         requires { Invariant self.now catalog.now }
         ensures { result ≡ list_any (λ v. is_object object (object_of_version (setting_of (managed_of self.now catalog.now)) v)) frames.now }
@@ -63,7 +63,7 @@ impl Parts {
         false
     }
 
-    /// Whether a version lies in the object.
+    /// Whether a version is in the object; one that image or catalog don't have is in none.
     fn lies_in(&self, catalog: &Catalog, object: ObjId, version: Version) -> bool
         requires { Invariant self.now catalog.now }
         ensures { result ≡ is_object object (object_of_version (setting_of (managed_of self.now catalog.now)) version) }
@@ -74,7 +74,7 @@ impl Parts {
         }
     }
 
-    /// The object that a version lies in: that of its site, or that of the function of a patch.
+    /// The object that a version is in: that of its site, or that of the function of a patch.
     pub fn object_of(&self, catalog: &Catalog, version: Version) -> Option<ObjId>
         requires { Invariant self.now catalog.now }
         ensures { result ≡ object_of_version (setting_of (managed_of self.now catalog.now)) version }
@@ -85,7 +85,7 @@ impl Parts {
         }
     }
 
-    /// The object of a site.
+    /// The object of a site, by the names, which have a table for it.
     fn object_of_site(&self, site: Site) -> Option<ObjId>
         ensures { result ≡ option_map (λ (s : Named). s.object) (symbol_at_site self.now.modules.names site) }
     {

@@ -22,15 +22,15 @@ ghost use Rattle.klp_steps.specs.Managed.{Managed, setting_of};
 use klp_catalog::laws::runs_add_up;
 use klp_machine::laws::{installed_patches_have_their_states, states_stay_allowed};
 
-/// The patch whose state a callback takes over is the one that the catalog tells: the newest of the
-/// patches installed before that names the state. It holds where each installed patch has the states
-/// that the catalog tells of it, which the parts keep.
+/// The patch whose state a callback takes over is the one that the catalog says: the newest of the patches
+/// installed before that names the state. The world answers it from its rows, and this is why the two
+/// agree: each installed patch has the states that the catalog gives it, which the parts keep.
 pub fn previous_states_agree()
     ensures { (managed : Managed) (patch id : ℕ) → IsStated (setting_of managed) managed.state
         → previous_patch managed.state.world patch id ≡ previous_state managed.catalog patch id (installed_patches managed.state) }
 {}
 
-/// What each step keeps.
+/// What each step keeps. It is one law, so that each event's function calls one instead of three.
 pub fn steps_keep()
     ensures { StepLaws }
 {
@@ -40,14 +40,15 @@ pub fn steps_keep()
 }
 
 /// An event that nothing refuses, that runs no callback and changes one kind of rows alone, is taken by
-/// that change.
+/// that change. The events of tasks and of shadow variables are proved by this.
 #[tactic(auto, using(crate::proofs::StepLemmas::tasks_taken, crate::proofs::StepLemmas::world_taken))]
 pub fn changes_of_one_kind_are_taken()
     ensures tasks { AreTasksTaken }
     ensures world { IsWorldTaken }
 {}
 
-/// What is noted of a change, put back, gives the rows before, whatever is noted of other rows.
+/// What is logged of a change, put back, gives the rows before, whatever is logged of other rows: so each
+/// part is proved by itself.
 #[tactic(auto, using(crate::proofs::RowLemmas::world_back, crate::proofs::RowLemmas::tasks_back))]
 pub fn what_is_noted_gives_the_rows_back()
     ensures world { (before after : World) (log_before log_after : RecordList) (rows : List Record)

@@ -25,7 +25,7 @@ use klp_machine::laws::at_most_two_patches_replace;
 use klp_machine::{Refusal, Reply};
 use klp_types::{MAX_PATCHES, MAX_VARIABLES, ObjId, PatchId};
 
-/// A list of patches, to be kept while the world changes.
+/// A list of patches, to be kept while the world changes: the world lends its own, and callbacks change it.
 fn copy_of(patches: &[PatchId]) -> ArrayVec<PatchId, MAX_PATCHES>
     requires { length patches.now ≤ MAX_PATCHES }
     ensures { result.items ≡ patches.now }
@@ -42,7 +42,7 @@ fn lacks_site(function: &CatalogFunction, object: ObjId) -> bool
     function.object() == object && function.site().is_none()
 }
 
-/// Whether a patch has such a function.
+/// Whether a patch has a function for this object that names no site of it.
 fn lacks_symbol(catalog: &Catalog, patch: PatchId, object: ObjId) -> bool
     ensures { result ≡ list_any (λ (f : FunctionOf). f.object == object && is_none f.site) (catalog_functions catalog.now patch) }
 {
@@ -52,7 +52,8 @@ fn lacks_symbol(catalog: &Catalog, patch: PatchId, object: ObjId) -> bool
         .any(|function| lacks_site(function, object))
 }
 
-/// Whether one of these patches does.
+/// Whether one of these patches has a function for this object that names no site of it. It was enabled
+/// while the module wasn't loaded, so nobody has asked before.
 fn some_lacks_symbol(catalog: &Catalog, patches: &[PatchId], object: ObjId) -> bool
     ensures { result ≡ list_any (λ patch. list_any (λ (f : FunctionOf). f.object == object && is_none f.site) (catalog_functions catalog.now patch)) patches.now }
 {
@@ -65,9 +66,9 @@ fn some_lacks_symbol(catalog: &Catalog, patches: &[PatchId], object: ObjId) -> b
 }
 
 impl Parts {
-    /// A module is loaded. Each installed patch that has it runs pre-patch for it, and post-patch if it
-    /// doesn't move, and puts its entries on the module's sites. Where a pre-patch refuses, the patches
-    /// before are cleaned up, and the module isn't loaded.
+    /// A module is loaded (the kernel's `klp_module_coming`). Each installed patch that has it runs
+    /// pre-patch for it, and post-patch if it doesn't move, and puts its entries on the module's sites.
+    /// Where a pre-patch refuses, the patches before are cleaned up, and the module isn't loaded.
     pub fn coming(&mut self, catalog: &mut Catalog, object: ObjId) -> Result<Reply, Refusal>
         requires { Invariant self.old catalog.old }
         ensures taken { PartsTake self.old self.new catalog.old catalog.new (Coming object) result }
@@ -79,8 +80,9 @@ impl Parts {
         }
     }
 
-    /// A module is unloaded. Each installed patch that has it runs pre-unpatch for it if it doesn't
-    /// move, and post-unpatch, and takes its entries out of the module's sites.
+    /// A module is unloaded (the kernel's `klp_module_going`). Each installed patch that has it runs
+    /// pre-unpatch for it if it doesn't move, and post-unpatch, and takes its entries out of the module's
+    /// sites.
     pub fn going(&mut self, catalog: &mut Catalog, object: ObjId) -> Result<Reply, Refusal>
         requires { Invariant self.old catalog.old }
         ensures taken { PartsTake self.old self.new catalog.old catalog.new (Going object) result }
@@ -92,7 +94,9 @@ impl Parts {
         }
     }
 
-    /// Why a module isn't loaded.
+    /// Why a module isn't loaded, if it isn't: the first reason that holds. Room is computed before the
+    /// refusals, since its proof bounds the records too (docs/DECISIONS.md, "Room computed before the
+    /// refusals").
     pub fn coming_refusal(&self, catalog: &Catalog, object: ObjId) -> Option<Refusal>
         requires { Invariant self.now catalog.now }
         ensures refusal { result ≡ refusal (setting_of (managed_of self.now catalog.now)) (managed_of self.now catalog.now).state (Coming object) }
@@ -113,7 +117,8 @@ impl Parts {
         }
     }
 
-    /// Why a module isn't unloaded.
+    /// Why a module isn't unloaded, if it isn't: the first reason that holds. A task inside of it is one,
+    /// since a kernel has the module's reference count for that.
     pub fn going_refusal(&self, catalog: &Catalog, object: ObjId) -> Option<Refusal>
         requires { Invariant self.now catalog.now }
         ensures refusal { result ≡ refusal (setting_of (managed_of self.now catalog.now)) (managed_of self.now catalog.now).state (Going object) }
@@ -132,7 +137,7 @@ impl Parts {
         }
     }
 
-    /// Whether the image has this object, and it isn't `vmlinux`.
+    /// Whether the image has this object, and it isn't `vmlinux`, which never comes or goes.
     fn is_module(&self, object: ObjId) -> bool
         ensures { result ≡ (not (object == 0) && nat_lt object (length self.now.sites.image.objects)) }
     {
@@ -146,7 +151,7 @@ impl Parts {
         some_lacks_symbol(catalog, self.world.installed(), object)
     }
 
-    /// Whether there is no room for what the callbacks add when the module comes.
+    /// Whether there is no room for what the callbacks add when the module comes, whether they run or not.
     fn lacks_room_to_come(&self, catalog: &Catalog, object: ObjId) -> bool
         ensures room { result ≡ lacks_room (setting_of (managed_of self.now catalog.now)) (managed_of self.now catalog.now).state (Coming object) }
         ensures records { records_of (may_run (setting_of (managed_of self.now catalog.now)) (managed_of self.now catalog.now).state (Coming object)) ≤ 1024 + allocs_of (may_run (setting_of (managed_of self.now catalog.now)) (managed_of self.now catalog.now).state (Coming object)) }
@@ -155,7 +160,7 @@ impl Parts {
         added > MAX_VARIABLES - usize::from(self.world.count())
     }
 
-    /// The same when it goes.
+    /// Whether there is no room for what the callbacks add when the module goes.
     fn lacks_room_to_go(&self, catalog: &Catalog, object: ObjId) -> bool
         ensures room { result ≡ lacks_room (setting_of (managed_of self.now catalog.now)) (managed_of self.now catalog.now).state (Going object) }
         ensures records { records_of (may_run (setting_of (managed_of self.now catalog.now)) (managed_of self.now catalog.now).state (Going object)) ≤ 512 + allocs_of (may_run (setting_of (managed_of self.now catalog.now)) (managed_of self.now catalog.now).state (Going object)) }
@@ -177,7 +182,9 @@ impl Parts {
         copy_of(self.world.installed())
     }
 
-    /// A module is loaded that nothing speaks against.
+    /// A module is loaded that nothing speaks against. Callbacks see no function stack, and an event is one
+    /// step, so they all run before the entries come, and a refused module costs no entry
+    /// (docs/DECISIONS.md, "Callbacks of a module before its entries").
     fn come(&mut self, catalog: &mut Catalog, object: ObjId) -> Reply
         requires kept { Invariant self.old catalog.old }
         requires free { refusal (setting_of (managed_of self.old catalog.old)) (managed_of self.old catalog.old).state (Coming object) ≡ None }
@@ -199,7 +206,7 @@ impl Parts {
             Some((patch, status)) => Reply::PreFailed(patch, object, status),
             None => {
                 self.log.note(self.sites.load(object));
-                // the one row is noted by the sites
+                // the one row is logged by the sites, and by its record both get their flag back
                 self.modules.set_loaded(object, true);
                 patch_object(&mut self.sites, catalog, &installed, object, &mut self.log);
                 Reply::Done
@@ -207,7 +214,8 @@ impl Parts {
         }
     }
 
-    /// A module is unloaded that nothing speaks against.
+    /// A module is unloaded that nothing speaks against. The callbacks run before the entries go, as when
+    /// one is loaded; the flag goes last, so that undo loads the module before its entries are back.
     fn go(&mut self, catalog: &mut Catalog, object: ObjId) -> Reply
         requires kept { Invariant self.old catalog.old }
         requires free { refusal (setting_of (managed_of self.old catalog.old)) (managed_of self.old catalog.old).state (Going object) ≡ None }

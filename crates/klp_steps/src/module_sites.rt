@@ -1,4 +1,5 @@
-//! The entries of all installed patches come to the sites of a module, and leave them.
+//! The entries of all installed patches come to the sites of a module, and leave them. What is proved here
+//! beside is how many records that logs at most.
 ghost use Rattle.std.specs.Prelude.{◌≡◌, ℕ, ◌+◌, ◌*◌, ◌∷◌, ◌<◌, ◌≤◌, true, [], length, reverse, Some, if◌then◌else◌};
 ghost use Rattle.std.specs.List.{All, count_by};
 ghost use Rattle.klp_types.specs.declared.limits.TheConstants.{MAX_FUNCTIONS, MAX_PATCHES, MAX_RECORDS, MAX_SITES};
@@ -19,7 +20,7 @@ use klp_sites::Sites;
 use klp_types::laws::{entries_are_of_their_patches, the_newest_entry_is_on_top};
 use klp_types::{MAX_PATCHES, ObjId, PatchId, Records};
 
-/// Each site has one stack.
+/// Each site has one stack. The call is made for its contract, which bounds their number.
 fn stacks_are_few(sites: &Sites)
     requires { site_count sites.now.image ≤ MAX_SITES }
     ensures stacks { length sites.now.stacks ≤ MAX_SITES }
@@ -28,7 +29,8 @@ fn stacks_are_few(sites: &Sites)
     let _sites = sites.sites();
 }
 
-/// A patch has few functions, and has nops only where it is a cumulative one.
+/// A patch has few functions, and has nops only where it is a cumulative one. The call is made for its
+/// contract.
 fn entries_are_few(sites: &Sites, catalog: &Catalog, patch: PatchId)
     requires { length sites.now.stacks ≤ MAX_SITES }
     ensures { most_entries catalog.now patch sites.now ≤ MAX_FUNCTIONS + MAX_SITES * count_by (is_cumulative catalog.now) (patch ∷ []) }
@@ -36,7 +38,8 @@ fn entries_are_few(sites: &Sites, catalog: &Catalog, patch: PatchId)
     let _functions = catalog.functions(patch);
 }
 
-/// Puts the entries of patches on the sites of one object, which have none, oldest first.
+/// Puts the entries of patches on the sites of one object, which have none, oldest first: so each stack has
+/// the order in which the patches were enabled.
 pub(crate) fn patch_object(
     sites: &mut Sites,
     catalog: &Catalog,
@@ -72,7 +75,8 @@ pub(crate) fn patch_object(
     }
 }
 
-/// Takes the entries of patches out of the sites of one object, which have those of no other.
+/// Takes the entries of patches out of the sites of one object, which have those of no other, so that none
+/// is left.
 pub(crate) fn unpatch_object(
     sites: &mut Sites,
     catalog: &Catalog,

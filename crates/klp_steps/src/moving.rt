@@ -1,4 +1,4 @@
-//! The patch in transition, as a row of the state.
+//! The patch in transition, as a row of the state, so that undo gives it back like any other.
 ghost use Rattle.std.specs.Prelude.{◌≡◌, ◌<◌, ◌∷◌, [], length};
 ghost use Rattle.klp_types.specs.Records.{spare_of};
 ghost use Rattle.klp_sites.specs.Changes.{noting};
@@ -7,7 +7,7 @@ ghost use Rattle.klp_steps.specs.Rows.{row_of_moving, rows_before, put_moving};
 use crate::parts::Parts;
 use klp_types::{Move, Record};
 
-/// What moves, as a record.
+/// What moves, as a record: with a patch or without one, which are two kinds.
 fn row_of_moving(moving: Option<Move>) -> Record
     ensures { result ≡ row_of_moving moving }
 {
@@ -17,7 +17,8 @@ fn row_of_moving(moving: Option<Move>) -> Record
     }
 }
 
-/// What moved before, as a record tells it. A row of another kind changes nothing.
+/// What moved before, as a record tells it. A row of another kind changes nothing, since each part is
+/// handed every record.
 pub(crate) fn moving_before(moving: Option<Move>, row: Record) -> Option<Move>
     ensures { result ≡ put_moving moving row }
 {
@@ -29,7 +30,8 @@ pub(crate) fn moving_before(moving: Option<Move>, row: Record) -> Option<Move>
 }
 
 impl Parts {
-    /// Something else moves, or nothing.
+    /// Something else moves, or nothing. What moved before is logged, so a transition that ended goes on
+    /// after undo.
     #[tactic(auto, using(crate::proofs::RowLemmas::moving_back))]
     pub(crate) fn set_moving(&mut self, moving: Option<Move>)
         requires { 0 < spare_of self.old.log }

@@ -7,8 +7,8 @@ use klp_types::{PatchId, Record, Records};
 use std::alloc::{AllocError, Global};
 use std::marker::Model;
 
-/// Which patches are pinned: a forced transition left functions behind that a task may still be inside
-/// of (livepatch, Force). All room is taken by [`Pins::new`].
+/// Which patches are pinned: a forced transition left functions behind that a task may still be inside of
+/// (livepatch, Force). A pin never goes but by undo. All room is taken by [`Pins::new`].
 #[derive(Debug, Drop)]
 pub struct Pins {
     flags: Vec<bool>,
@@ -23,7 +23,8 @@ impl Model for Pins {
 }
 
 impl Pins {
-    /// None of so many patches is pinned. An error is want of memory.
+    /// None of so many patches is pinned, with a flag for each patch of the catalog. An error is want of
+    /// memory.
     pub fn new(alloc: Global, patches: u8) -> Result<Self, AllocError>
         ensures { IfOk result (λ pins. pins ≡ replicate patches false) }
     {
@@ -32,7 +33,7 @@ impl Pins {
         })
     }
 
-    /// Whether a patch is pinned.
+    /// Whether a patch is pinned, which keeps it from being enabled again.
     pub fn is_pinned(&self, patch: PatchId) -> bool
         ensures { result ≡ slice_index_or self.now patch false }
     {
@@ -42,7 +43,8 @@ impl Pins {
             .unwrap_or(false)
     }
 
-    /// Pins a patch, where there is one of this number, and notes it where it wasn't pinned.
+    /// Pins a patch, where there is one of this number, and logs it where it wasn't pinned, since no record
+    /// is kept of an unchanged row.
     pub fn pin(&mut self, patch: PatchId, log: &mut Records)
         requires { 0 < spare_of log.old }
         ensures flags { self.new ≡ slice_set self.old patch true }
@@ -57,7 +59,7 @@ impl Pins {
         }
     }
 
-    /// Pins these patches but for this one.
+    /// Pins these patches but for this one: those that a forced cumulative patch replaces.
     pub fn pin_others(&mut self, patches: &[PatchId], patch: PatchId, log: &mut Records)
         requires { length patches.now ≤ spare_of log.old }
         ensures flags { self.new ≡ pin_all (filter (λ p. not (p == patch)) patches.now) self.old }
@@ -71,7 +73,8 @@ impl Pins {
         }
     }
 
-    /// Puts back whether a patch was pinned. A row of another kind changes nothing.
+    /// Puts back whether a patch was pinned. A row of another kind changes nothing, since each part is
+    /// handed every record.
     pub fn put_back(&mut self, row: Record)
         ensures { self.new ≡ put_pinned self.old row }
     {

@@ -22,7 +22,9 @@ use klp_types::{MAX_FUNCTIONS, MAX_SITES, PatchId, Records};
 use klp_world::World;
 use klp_world::laws::what_is_noted_is_of_the_world;
 
-/// Of these patches those before this one.
+/// Of these patches those before this one, all of them where it isn't among them. There may be none, and
+/// newer ones behind it, where a cumulative patch is enabled again after others: these stay
+/// (docs/DECISIONS.md, "Cumulative patches below newer ones").
 pub(crate) fn older_than(patch: PatchId, installed: &[PatchId]) -> &[PatchId]
     ensures { result.now ≡ installed_before patch installed.now }
 {
@@ -34,7 +36,8 @@ pub(crate) fn older_than(patch: PatchId, installed: &[PatchId]) -> &[PatchId]
     installed
 }
 
-/// Takes the entries of these patches out of the stacks of all loaded sites.
+/// Takes the entries of these patches out of the stacks of all loaded sites. The order makes no difference
+/// to what is left, but to the records.
 pub(crate) fn unpatch_each(
     sites: &mut Sites,
     catalog: &Catalog,
@@ -62,14 +65,15 @@ pub(crate) fn unpatch_each(
     }
 }
 
-/// The oldest installed patch, if there is one.
+/// The oldest installed patch, if there is one, as a copy, since the world is changed next.
 fn oldest(world: &World) -> Option<PatchId>
     ensures { result ≡ slice_get (map (λ (i : Installed). i.patch) world.now.installed) 0 }
 {
     world.installed().first().copied()
 }
 
-/// Takes the patches before this one out of the list, oldest first.
+/// Takes the patches before this one out of the list, oldest first, so that the one to go is always the
+/// first.
 pub(crate) fn drop_older(world: &mut World, patch: PatchId, log: &mut Records)
     requires records { length log.old.noted ≤ 3500 }
     requires log { log.old.room ≡ MAX_RECORDS }

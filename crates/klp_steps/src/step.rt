@@ -7,7 +7,8 @@ ghost use Rattle.klp_machine.specs.Stated.{IsStated};
 
 use klp_machine::laws::{installed_patches_have_their_states, the_opening_state_is_allowed};
 
-/// What the opening state has.
+/// What the opening state has, which boot has to show: it is allowed, and no patch lacks its states, as
+/// none is installed.
 pub(crate) fn opening_keeps()
     ensures allowed { (setting : Setting) → is_empty setting.image.objects ≡ false → Allowed setting (opening_state setting) }
     ensures stated { (setting : Setting) → IsStated setting (opening_state setting) }

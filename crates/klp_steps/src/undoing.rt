@@ -1,4 +1,4 @@
-//! What an event noted is put back.
+//! What an event logged is put back.
 ghost use Rattle.std.specs.Prelude.{◌≡◌, length};
 ghost use Rattle.klp_steps.specs.Rows.{rows_in, put_back, undone};
 
@@ -7,8 +7,9 @@ use crate::parts::Parts;
 use klp_types::Record;
 
 impl Parts {
-    /// Gives each row what its record tells, the newest record, which stands last, first. It costs as
-    /// much as there are records. No callback runs.
+    /// Gives each row what its record has, the newest record, which is last, first. It costs as much as
+    /// there are records. No callback runs. Stacks are rows like all others, so nothing is computed anew
+    /// (docs/DECISIONS.md, "Undo by rows").
     pub fn undo(&mut self, rows: &[Record])
         requires modules { self.old.modules.loaded ≡ self.old.sites.loaded }
         requires objects { length self.old.sites.loaded ≡ length self.old.sites.image.objects }
@@ -21,7 +22,8 @@ impl Parts {
         }
     }
 
-    /// Gives one row what its record tells.
+    /// Gives one row what its record has. Each part is handed the record, and changes nothing where it is
+    /// of another kind, so that no table of who has which is needed.
     fn put_back(&mut self, row: &Record)
         requires modules { self.old.modules.loaded ≡ self.old.sites.loaded }
         requires objects { length self.old.sites.loaded ≡ length self.old.sites.image.objects }
