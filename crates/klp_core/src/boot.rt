@@ -13,12 +13,14 @@ use klp_text::Image;
 use klp_types::ObjId;
 use std::alloc::Global;
 
-// Whether the three have the same number of symbols for each object. Behind the last object of the
-// image, the others have none either.
+// Whether the three have the same number of symbols for each object. Behind the last object of the image,
+// the others have none either. Nothing else is compared, since the caller knows the names
+// (docs/DECISIONS.md, "Image, modules and catalog as they came"). It borrows, and so its two ways out cost
+// nothing (docs/DECISIONS.md, "One way out for an owner").
 fn is_match(image: &Image, modules: &Modules, catalog: &Catalog) -> bool
     ensures matches { IsTrue result → IsMatch image.now.image modules.now catalog.now }
     ensures differs { result ≡ false → IsMatch image.now.image modules.now catalog.now → ⊥ }
-    // what every image has
+    // what every image has, so that numbers of objects have 8 bits
     ensures limits { IsWithinLimits image.now.image.objects }
 {
     let objects = image.objects();
@@ -32,7 +34,8 @@ fn is_match(image: &Image, modules: &Modules, catalog: &Catalog) -> bool
     true
 }
 
-/// The parts of a manager in its opening state, where the three match.
+/// The parts of a manager in its opening state, where the three match. The image and the modules go into
+/// them as they are.
 pub(crate) fn parts_over(
     alloc: Global,
     image: Image,

@@ -7,7 +7,8 @@ use thiserror::Error;
 /// Why a manager can't be booted. The numbers are this project's own, and stay.
 #[derive(Clone, Copy, Debug, PartialEq, Eq, Error)]
 pub enum BootFault {
-    /// Image, modules and catalog don't have the same number of symbols for each object.
+    /// Image, modules and catalog don't have the same number of symbols for each object, so they aren't of
+    /// one plan.
     #[error("Mismatch")]
     Mismatch = 1,
     /// Memory ran out.
@@ -23,7 +24,7 @@ impl From<AllocError> for BootFault {
     }
 }
 
-/// There are not so many standing events.
+/// There are not so many events in the journal. It is no refusal of an event, since `rewind` is none.
 #[derive(Clone, Copy, Debug, PartialEq, Eq, Error)]
 #[error("BadMark")]
 pub struct BadMark;

@@ -12,7 +12,8 @@ use klp_journal::Journal;
 use klp_machine::{Event, Refusal, Reply};
 use klp_steps::Parts;
 
-/// Appends an accepted event with its reply, and what it noted.
+/// Appends an accepted event with its reply and all that it logged. Which records these are no clause says,
+/// beyond what they undo and how many there are (docs/DECISIONS.md, "Which records an event leaves").
 fn append(journal: &mut Journal, event: &Event, reply: &Reply, parts: &Parts)
     requires room { has_room journal.old ≡ true }
     requires few { parts.now.log.room ≡ MAX_RECORDS }
@@ -23,8 +24,8 @@ fn append(journal: &mut Journal, event: &Event, reply: &Reply, parts: &Parts)
     journal.append(*event, *reply, parts.log.noted());
 }
 
-/// Takes an event, and appends it where it is accepted. A journal without room refuses what nothing
-/// else does.
+/// Takes an event, and appends it where it is accepted. A journal without room refuses what nothing else
+/// does.
 pub(crate) fn take_and_append(
     parts: &mut Parts,
     catalog: &mut Catalog,
@@ -35,6 +36,8 @@ pub(crate) fn take_and_append(
     ensures sound { IsSound parts.new catalog.new journal.new }
     ensures taken { IsTaken (journaled_of parts.old catalog.old journal.old) (journaled_of parts.new catalog.new journal.new) event.now result }
 {
+    // Asked first, so that the usual way costs one comparison: a full journal alone has to know why else
+    // the event would be refused (docs/DECISIONS.md, "Room in the journal").
     if !journal.has_room() {
         return Err(refused(parts, catalog, *event).unwrap_or(Refusal::JournalFull));
     }
@@ -43,7 +46,8 @@ pub(crate) fn take_and_append(
     Ok(reply)
 }
 
-/// Takes the newest event back.
+/// Takes the newest event back: first its rows, newest first, and then its group, since the records are
+/// lent from it.
 fn take_newest_back(parts: &mut Parts, catalog: &Catalog, journal: &mut Journal)
     requires sound { IsSound parts.old catalog.now journal.old }
     requires some { 0 < length journal.old }
@@ -59,7 +63,8 @@ fn take_newest_back(parts: &mut Parts, catalog: &Catalog, journal: &mut Journal)
     journal.pop();
 }
 
-/// Takes all events behind the first so many back, newest first.
+/// Takes all events behind the first so many back, newest first, so that each is undone in the state that
+/// it led to.
 pub(crate) fn rewind_to(parts: &mut Parts, catalog: &Catalog, journal: &mut Journal, mark: u32)
     requires sound { IsSound parts.old catalog.now journal.old }
     requires mark { mark ≤ length journal.old }

@@ -1,4 +1,5 @@
-//! What a manager shows of its state.
+//! What a manager shows of its state. Each answer is by one definition of the state, and no call changes
+//! anything.
 ghost use Rattle.std.specs.Prelude.{◌≡◌, ◌≤◌, ◌==◌, ◌&&◌, length, None, Some, is_some, option_map, option_and_then, if◌then◌else◌};
 ghost use Rattle.std.specs.List.{list_any};
 ghost use Rattle.klp_types.specs.declared.task.Task.{Task as AnyTask};
@@ -32,7 +33,8 @@ fn copy_of(patches: &[PatchId]) -> ArrayVec<PatchId, MAX_PATCHES>
 }
 
 impl Manager {
-    /// The text of an object, as a processor would run it: `None` where the object isn't loaded.
+    /// The text of an object, as a processor would run it: `None` where the object isn't loaded. It is
+    /// lent, since a text may have 64 KiB.
     pub fn text(&self, object: ObjId) -> Option<TextView<'_>>
         ensures { result ≡ text_of (setting_of self.now.managed) self.now.managed.state object }
     {
@@ -43,23 +45,23 @@ impl Manager {
         }
     }
 
-    /// The function stack of a site, newest first; empty where its object isn't loaded, and where there
-    /// is no such site.
+    /// The function stack of a site, newest first; empty where its object isn't loaded, and where there is
+    /// no such site. The entries of an object that isn't loaded are gone, so the two are one case.
     pub fn stack(&self, site: Site) -> ArrayVec<Entry, MAX_PATCHES>
         ensures { result.items ≡ entries_of (setting_of self.now.managed) self.now.managed.state site }
     {
         self.parts.sites.entries(site)
     }
 
-    /// The installed patches, oldest first.
+    /// The installed patches, oldest first, as a copy, so that one may go over them while events are taken.
     pub fn installed(&self) -> ArrayVec<PatchId, MAX_PATCHES>
         ensures { result.items ≡ installed_patches self.now.managed.state }
     {
         copy_of(self.parts.world.installed())
     }
 
-    /// What the `enabled` file of a patch reads: no for one that moves out. `None` where the patch isn't
-    /// installed.
+    /// What the `enabled` file of a patch reads: no for one that moves out, as soon as it does. `None`
+    /// where the patch isn't installed, since the file isn't there then.
     pub fn enabled(&self, patch: PatchId) -> Option<bool>
         ensures { result ≡ (if is_installed self.now.managed.state patch then Some (enabled_value self.now.managed.state patch) else None) }
     {
@@ -72,7 +74,7 @@ impl Manager {
         }
     }
 
-    /// Whether the patch is in transition. `None` where it isn't installed.
+    /// Whether the patch is in transition, as its `transition` file reads. `None` where it isn't installed.
     pub fn transition(&self, patch: PatchId) -> Option<bool>
         ensures { result ≡ (if is_installed self.now.managed.state patch then Some (moves self.now.managed.state.moving patch) else None) }
     {
@@ -85,7 +87,7 @@ impl Manager {
         }
     }
 
-    /// The state of a task, -1 where nothing moves, if the task is there.
+    /// The state of a task, -1 where nothing moves, if the task is there (`/proc/<pid>/patch_state`).
     pub fn patch_state(&self, task: TaskId) -> Option<i8>
         ensures { result ≡ option_map (λ (t : AnyTask). t.state) (task_at self.now.managed.state.tasks task) }
     {
@@ -93,7 +95,8 @@ impl Manager {
         Some(row.state)
     }
 
-    /// The value of a shadow variable, if it is there.
+    /// The value of a shadow variable, if it is there (`klp_shadow_get`). To look at it is no event, as
+    /// nothing changes.
     pub fn shadow_get(&self, key: ShadowKey) -> Option<ShadowValue>
         ensures { result ≡ variable self.now.managed.state.world key }
     {
@@ -104,15 +107,15 @@ impl Manager {
     /// doesn't name the state.
     pub fn state_of(&self, patch: PatchId, id: u64) -> Option<u64>
         ensures value { result ≡ state_value self.now.managed.state.world patch id }
-        // exactly the states that the catalog tells of installed patches are there
+        // exactly the states that the catalog gives installed patches are there
         ensures there { is_some result ≡ (is_installed self.now.managed.state patch && list_any (λ own. own == id) (state_ids (setting_of self.now.managed) patch)) }
     {
         installed_patches_have_their_states();
         self.parts.world.value(patch, id)
     }
 
-    /// How often a callback ran: that of a patch for an object, of a kind. `None` where the patch
-    /// has none. The greatest number stays.
+    /// How often a callback ran: that of a patch for an object, of a kind. `None` where the patch has none.
+    /// The greatest number stays, and `rewind` leaves the count, since what ran did run.
     pub fn callback_runs(&self, patch: PatchId, object: ObjId, which: Which) -> Option<u64>
         ensures runs { result ≡ callback_runs self.now.managed.catalog patch object which }
         ensures there { is_some result ≡ is_some (option_and_then (λ place. script_at self.now.managed.catalog patch place which) (place_of object (objects_at self.now.managed.catalog patch))) }

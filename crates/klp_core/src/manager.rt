@@ -27,9 +27,9 @@ use klp_text::Image;
 use std::alloc::Global;
 use std::marker::Model;
 
-/// The live patching manager: the image with its text, the catalog with its patches, which of them
-/// are installed and in transition, the tasks, the shadow variables, and a journal of the events that
-/// were accepted, by which they can be taken back.
+/// The live patching manager: the image with its text, the catalog with its patches, which of them are
+/// installed and in transition, the tasks, the shadow variables, and a journal of the events that were
+/// accepted, by which they can be taken back.
 #[derive(Drop)]
 pub struct Manager {
     pub(crate) parts: Parts,
@@ -54,13 +54,13 @@ impl Model for Manager {
 }
 
 impl Manager {
-    /// Boots a manager over an image, its modules and a catalog, all as they were made: `vmlinux`
-    /// alone is loaded, nothing is installed, there is no task and no shadow variable, and no event
-    /// stands. The three are kept as they come. All room that events need is taken here.
+    /// Boots a manager over an image, its modules and a catalog, all as they were made: `vmlinux` alone is
+    /// loaded, nothing is installed, there is no task and no shadow variable, and no event to take back.
+    /// The three are kept as they come. All room that events need is taken here, so no later call can fail
+    /// for want of memory (docs/DECISIONS.md, "Memory after boot").
     ///
-    /// They don't match where they differ in how many objects there are or in how many symbols one
-    /// of them has; that their names are the same too is the caller's to know. The three are dropped
-    /// on a fault.
+    /// They don't match where they differ in how many objects there are or in how many symbols one of them
+    /// has; that their names are the same too is the caller's to know. The three are dropped on a fault.
     pub fn boot(
         alloc: Global,
         image: Image,
@@ -101,7 +101,7 @@ impl Manager {
     pub fn apply(&mut self, event: Event) -> Result<Reply, Refusal>
         ensures taken { IsTaken self.old self.new event result }
         ensures counts { IfOk result (λ reply. AreCounted self.old.managed.catalog self.new.managed.catalog (callbacks_of (setting_of self.old.managed) self.old.managed.state event)) }
-        // runs of callbacks change no more than their counts
+        // runs of callbacks change no more than their counts, so what is proved of a setting goes on
         ensures setting { setting_of self.new.managed ≡ setting_of self.old.managed }
         ensures stands { Stands self.new }
     {
@@ -114,8 +114,9 @@ impl Manager {
         )
     }
 
-    /// Takes events in order, and answers how many of them were accepted and how many refused. A
-    /// refused event leaves everything as it was, and the next one is taken.
+    /// Takes events in order, and answers how many of them were accepted and how many refused. A refused
+    /// event leaves everything as it was, and the next one is taken. It is more than a loop over `apply`,
+    /// since its clauses are of the whole list.
     pub fn run(&mut self, events: &[Event]) -> (u64, u64)
         ensures taken { AreTaken self.old self.new events.now result }
         ensures withdrawn { LeavesNoTrace self.old self.new }
@@ -138,8 +139,8 @@ impl Manager {
         (accepted, refused)
     }
 
-    /// How many accepted events stand: those since the manager was booted or sealed that weren't taken
-    /// back. The cost is constant.
+    /// How many accepted events are in the journal: those since the manager was booted or sealed that
+    /// weren't taken back. It is what `rewind` is given to come back to this state. The cost is constant.
     pub fn mark(&self) -> u32
         ensures mark { result ≡ length self.now.groups }
         ensures limit { result ≤ MAX_GROUPS }
@@ -148,9 +149,10 @@ impl Manager {
         self.journal.mark()
     }
 
-    /// Takes all standing events back but for the first so many, newest first: text, hooks, function
-    /// stacks, system states, shadow variables and tasks are again what they were when those had been
-    /// accepted. No callback runs, and their counts stay. It costs as much as the rows that it puts back.
+    /// Takes all events back but for the first so many, newest first: text, hooks, function stacks, system
+    /// states, shadow variables and tasks are again what they were when those had been accepted. No
+    /// callback runs, since what callbacks did is rows like all else, and their counts stay. It costs as
+    /// much as the rows that it puts back.
     pub fn rewind(&mut self, mark: u32) -> Result<(), BadMark>
         ensures rewound { IfOk result (λ _. (mark ≤ length self.old.groups) × IsRewound self.old self.new mark) }
         ensures bad_mark { IfErr result (λ _. length self.old.groups < mark) }
@@ -165,8 +167,9 @@ impl Manager {
         Ok(())
     }
 
-    /// Empties the journal: no event can be taken back any more, and what is now is what events are
-    /// taken back to. It costs at most as much as the records that are let go.
+    /// Empties the journal: no event can be taken back any more, and what is now is what events are taken
+    /// back to. It is the way on where the journal is full. It costs at most as much as the records that
+    /// are let go.
     pub fn seal(&mut self)
         ensures sealed { self.new ≡ record { managed = self.old.managed; base = self.old.managed.state; groups = [] } }
         ensures stands { Stands self.new }
@@ -174,8 +177,8 @@ impl Manager {
         self.journal.clear();
     }
 
-    /// How many more records the journal has room for, at a constant cost. An event that changes rows
-    /// needs as many as one event may note.
+    /// How many more records the journal has room for, at a constant cost. An event needs as many as one
+    /// event may log, whatever it changes.
     pub fn records_free(&self) -> u32
         ensures value { result ≡ records_free self.now.groups }
         ensures limit { records_in self.now.groups ≤ MAX_JOURNAL_RECORDS }

@@ -15,7 +15,7 @@ use klp_types::{
     ENTRY_SITE_END, Entry, Move, PatchId, Site, SiteRow, SiteWord, Target, TaskId, Version,
 };
 
-/// The version of an entry, or the original where there is none.
+/// The version of an entry, or the original where there is none; a nop is the original too.
 fn version_of(site: Site, entry: Option<Entry>) -> Version
     ensures { result ≡ newest_version site (option_to_list entry) }
 {
@@ -28,7 +28,7 @@ fn version_of(site: Site, entry: Option<Entry>) -> Version
     }
 }
 
-/// The patch in transition.
+/// The patch in transition, without its target: a call passes over its entry by the task's state alone.
 fn patch_of(moving: Option<Move>) -> Option<PatchId>
     ensures { result ≡ moving_patch moving }
 {
@@ -39,8 +39,8 @@ fn patch_of(moving: Option<Move>) -> Option<PatchId>
 }
 
 impl Manager {
-    /// The two newest entries of a site with their addresses. `None` where the site isn't one of a
-    /// loaded object.
+    /// The two newest entries of a site with their addresses: what a handler would have at hand, so that no
+    /// call walks over the stack. `None` where the site isn't one of a loaded object.
     pub fn row(&self, site: Site) -> Option<SiteRow>
         ensures { result ≡ row_of (setting_of self.now.managed) self.now.managed.state site }
     {
@@ -56,8 +56,8 @@ impl Manager {
         })
     }
 
-    /// What a task runs when it enters a site's function: the version and where it begins. `None` where
-    /// the task isn't there, or the site isn't one of a loaded object.
+    /// What a task runs when it calls a site's function: the version and where it begins. `None` where the
+    /// task isn't there, or the site isn't one of a loaded object, since nothing can be called there.
     pub fn pick(&self, task: TaskId, site: Site) -> Option<Target>
         ensures { result ≡ pick (setting_of self.now.managed) self.now.managed.state task site }
     {
@@ -71,7 +71,7 @@ impl Manager {
         Some(Target { version, address })
     }
 
-    /// Whether a site is one of a loaded object.
+    /// Whether a site is one of a loaded object. A site that isn't there is in no object, so it isn't.
     fn is_site_loaded(&self, site: Site) -> bool
         ensures { result ≡ is_site_loaded (setting_of self.now.managed) self.now.managed.state site }
     {
@@ -81,7 +81,7 @@ impl Manager {
         }
     }
 
-    /// The two newest entries of a site.
+    /// The two newest entries of a site, and whether the newest one's patch moves.
     fn word(&self, site: Site) -> SiteWord
         ensures { result ≡ word_of (moving_patch self.now.managed.state.moving) (entries_of (setting_of self.now.managed) self.now.managed.state site) }
     {
@@ -89,7 +89,8 @@ impl Manager {
         self.parts.sites.word(site, moving)
     }
 
-    /// Where a version begins, if there is such a version.
+    /// Where a version begins, if there is such a version: an original behind its entry site, so that it
+    /// doesn't call the handler again.
     fn begins_at(&self, version: &Version) -> Option<u64>
         ensures { result ≡ address_of (setting_of self.now.managed) version.now }
     {
@@ -107,7 +108,7 @@ impl Manager {
         }
     }
 
-    /// The same, and 0 where there is none.
+    /// Where a version begins, and 0 where there is none, which no row of a loaded site has.
     fn address(&self, version: Version) -> u64
         ensures { result ≡ unwrap_or (address_of (setting_of self.now.managed) version) 0 }
     {

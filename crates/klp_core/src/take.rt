@@ -11,7 +11,8 @@ use klp_machine::{Event, Refusal, Reply};
 use klp_single_steps::{shadow, tasks};
 use klp_steps::Parts;
 
-/// Each event goes to its own step.
+/// Each event goes to its own step. Those of tasks and shadow variables are functions, as they are of
+/// another crate than the parts.
 pub(crate) fn take(parts: &mut Parts, catalog: &mut Catalog, event: Event) -> Result<Reply, Refusal>
     requires { Invariant parts.old catalog.old }
     ensures taken { PartsTake parts.old parts.new catalog.old catalog.new event result }
@@ -41,7 +42,8 @@ pub(crate) fn take(parts: &mut Parts, catalog: &mut Catalog, event: Event) -> Re
     }
 }
 
-/// Why each event is refused, the journal aside.
+/// Why each event is refused, the journal aside, without taking it. To remove shadow variables is never
+/// refused.
 pub(crate) fn refused(parts: &Parts, catalog: &Catalog, event: Event) -> Option<Refusal>
     requires { Invariant parts.now catalog.now }
     ensures { result ≡ refusal (setting_of (managed_of parts.now catalog.now)) (managed_of parts.now catalog.now).state event }

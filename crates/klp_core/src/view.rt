@@ -5,8 +5,8 @@ use klp_text::Image;
 use klp_types::ObjId;
 use std::marker::Model;
 
-/// The text of one loaded object, lent by the manager: its symbols in order, each with the bytes
-/// that a processor would run.
+/// The text of one loaded object, lent by the manager: its symbols in order, each with the bytes that a
+/// processor would run. No event can be taken while it is lent, so the bytes are of one moment.
 #[derive(Debug, Drop)]
 pub struct TextView<'a> {
     image: &'a Image,
@@ -36,7 +36,8 @@ impl<'a> TextView<'a> {
         TextView { image, object }
     }
 
-    /// How many symbols the object has.
+    /// How many symbols the object has, in 16 bits as the image counts them (docs/DECISIONS.md, "Symbols of
+    /// a `TextView`").
     pub fn len(&self) -> u16
         ensures { result ≡ length self.now }
     {
@@ -46,7 +47,8 @@ impl<'a> TextView<'a> {
         }
     }
 
-    /// A symbol, counted from 0: its name, its address and its bytes.
+    /// A symbol, counted from 0: its name, its address and its bytes. By its number, since several may have
+    /// one name.
     pub fn get(&self, number: u16) -> Option<(&str, u64, &[u8])>
         ensures name { option_map (λ found. found.0.now) result ≡ option_map (λ (s : Symbol). s.name) (slice_get self.now number) }
         ensures address { option_map (λ found. found.1) result ≡ option_map (λ (s : Symbol). s.address) (slice_get self.now number) }

@@ -6,7 +6,7 @@ use klp_types::{MAX_GROUPS, MAX_JOURNAL_RECORDS, MAX_RECORDS, Record};
 use std::alloc::{AllocError, Global};
 use std::marker::Model;
 
-/// An accepted event, with how many records are its own.
+/// An accepted event, with how many records are its own: these are the last ones when it is the newest.
 #[derive(Clone, Copy, Debug)]
 struct Noted {
     event: Event,
@@ -18,12 +18,12 @@ struct Noted {
 /// changed.
 ///
 /// All room is taken by [`Journal::new`]: for [`MAX_GROUPS`] groups, and for [`MAX_JOURNAL_RECORDS`]
-/// records that they have together. To put the records of the newest group back, newest first, and to
-/// take the group out, undoes the newest event.
+/// records that they have together. To put the records of the newest group back, newest first, and to take
+/// the group out, undoes the newest event.
 #[derive(Debug, Drop)]
 pub struct Journal {
     groups: Vec<Noted>,
-    /// The records of all groups, one group after another.
+    /// The records of all groups, one group after another, in one list, since groups differ much in length.
     rows: Vec<Record>,
 }
 
@@ -42,7 +42,8 @@ impl Model for Journal {
 }
 
 impl Journal {
-    /// No events, with all the room that there will be. An error is want of memory.
+    /// No events, with all the room that there will be, since no event takes memory. An error is want of
+    /// memory.
     pub fn new(alloc: Global) -> Result<Self, AllocError>
         ensures { IfOk result (λ journal. journal ≡ []) }
     {
@@ -52,7 +53,7 @@ impl Journal {
         })
     }
 
-    /// How many events there are, at a constant cost.
+    /// How many events there are, at a constant cost. It is the mark to which a later `rewind` goes back.
     pub fn mark(&self) -> u32
         ensures value { result ≡ length self.now }
         ensures limit { result ≤ MAX_GROUPS }
@@ -60,7 +61,7 @@ impl Journal {
         self.groups.len() as u32
     }
 
-    /// How many more records there is room for, at a constant cost.
+    /// How many more records there is room for, at a constant cost, whichever events they are of.
     pub fn records_free(&self) -> u32
         ensures value { result ≡ records_free self.now }
         ensures limit { records_in self.now ≤ MAX_JOURNAL_RECORDS }
@@ -68,16 +69,18 @@ impl Journal {
         (MAX_JOURNAL_RECORDS - self.rows.len()) as u32
     }
 
-    /// Whether one more event can be noted, whatever it changes: a group is free, and
-    /// [`MAX_RECORDS`] records. The cost is constant.
+    /// Whether one more event can be appended, whatever it changes: a group is free, and [`MAX_RECORDS`]
+    /// records, as no event logs more. What the event logs isn't known before it is taken. The cost is
+    /// constant.
     pub fn has_room(&self) -> bool
         ensures { result ≡ has_room self.now }
     {
         (self.mark() as usize) < MAX_GROUPS && MAX_RECORDS <= self.records_free() as usize
     }
 
-    /// Notes an accepted event as the newest, with the records of the rows that it changed in the order
-    /// in which they were noted. The cost is that of these records, however long the journal is.
+    /// Appends an accepted event as the newest, with the records of the rows that it changed in the order
+    /// in which they were logged. They are copied, so the cost is that of these records, however long the
+    /// journal is.
     pub fn append(&mut self, event: Event, reply: Reply, rows: &[Record])
         requires groups { length self.old < MAX_GROUPS }
         requires records { length rows.now ≤ records_free self.old }
@@ -91,8 +94,8 @@ impl Journal {
         });
     }
 
-    /// The records of the newest event, in the order in which they were noted; `None` where there is no
-    /// event. The cost is constant.
+    /// The records of the newest event, in the order in which they were logged; `None` where there is no
+    /// event. They are lent, since undoing reads them before the group goes. The cost is constant.
     pub fn newest(&self) -> Option<&[Record]>
         ensures there { is_some result ≡ nat_lt 0 (length self.now) }
         ensures parted { IfSome result (λ rows. (newest : Group) × (self.now ≡ take (length self.now - 1) self.now ++ newest ∷ []) × (rows.now ≡ newest.rows)) }
@@ -103,8 +106,8 @@ impl Journal {
         Some(&self.rows[self.rows.len() - newest.rows..])
     }
 
-    /// Takes the newest event out with its records; nothing where there is no event. The cost is at most
-    /// that of its records.
+    /// Takes the newest event out with its records; nothing where there is no event. It doesn't undo it:
+    /// the records have to be put back before. The cost is at most that of its records.
     pub fn pop(&mut self)
         ensures value { self.new ≡ take (length self.old - 1) self.old }
         ensures mark { length self.new ≡ length self.old - 1 }
@@ -115,7 +118,8 @@ impl Journal {
         }
     }
 
-    /// Takes all events out, and keeps the room. The cost is at most that of their records.
+    /// Takes all events out, and keeps the room, so the next ones find it. The cost is at most that of
+    /// their records.
     pub fn clear(&mut self)
         ensures { self.new ≡ [] }
     {

@@ -6,12 +6,13 @@ use arrayvec::ArrayVec;
 use klp_types::MAX_CONSOLE_LINE;
 use std::marker::Model;
 
-/// That a line is longer than [`MAX_CONSOLE_LINE`].
+/// That a line is longer than [`MAX_CONSOLE_LINE`]. There is no more to tell, since the line isn't kept.
 #[derive(Debug, Clone, Copy, PartialEq, Eq)]
 pub struct TooLong;
 
 /// The bytes of one line, as far as they were heard: contracts see them as a list. A line feed ends the
-/// line and is no byte of it. It holds room for [`MAX_CONSOLE_LINE`] bytes in itself, and takes no memory.
+/// line and is no byte of it. It has room for [`MAX_CONSOLE_LINE`] bytes in itself, since serving takes no
+/// memory.
 #[derive(Drop)]
 pub struct Line {
     bytes: ArrayVec<u8, MAX_CONSOLE_LINE>,
@@ -25,18 +26,19 @@ impl Model for Line {
 
     ghost view = { λ l. l.bytes.items };
 
-    // no byte is a line feed
+    // no byte is a line feed, so what was heard is one line
     ghost invariant = { λ l. lines_and_rest l.bytes.items ≡ l.bytes.items ∷ [] };
 }
 
-/// Where the first line feed is.
+/// Where the first line feed is, from 0.
 fn line_feed(bytes: &[u8]) -> Option<usize>
     ensures { result ≡ position is_line_feed bytes.now }
 {
     bytes.iter().position(|b| *b == b'\n')
 }
 
-/// What stands before the first line feed, and what stands after it, where there is one.
+/// What is before the first line feed, and what is after it, where there is one. A piece that ends with it
+/// has an empty rest, which isn't the same as none: the line is finished.
 fn cut(piece: &[u8]) -> (&[u8], Option<&[u8]>)
     ensures front { lines_and_rest result.0.now ≡ result.0.now ∷ [] }
     ensures whole { IfNone result.1 (result.0.now ≡ piece.now) }
@@ -50,7 +52,7 @@ fn cut(piece: &[u8]) -> (&[u8], Option<&[u8]>)
 }
 
 impl Line {
-    /// Nothing is heard of the line yet.
+    /// Nothing is heard of the line yet: its next byte is the first.
     pub fn new() -> Line
         ensures { result ≡ [] }
     {
@@ -59,7 +61,7 @@ impl Line {
         }
     }
 
-    /// The bytes of the line, none of which is a line feed.
+    /// The bytes of the line as far as they were heard, none of which is a line feed.
     pub fn bytes(&self) -> &[u8]
         ensures bytes { result.now ≡ self.now }
         ensures limit { length result.now ≤ MAX_CONSOLE_LINE }
@@ -68,7 +70,7 @@ impl Line {
         self.bytes.as_slice()
     }
 
-    /// Forgets the line, so that the next one can be heard.
+    /// Forgets the line, so that the next one can be heard in the same room.
     pub fn clear(&mut self)
         ensures { self.new ≡ [] }
     {

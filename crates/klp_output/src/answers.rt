@@ -12,14 +12,16 @@ use itoa::Buffer;
 use klp_types::ANSWER_ROOM;
 use std::marker::Model;
 
-/// How many bytes are turned into digits at a time.
+/// How many bytes are turned into digits at a time, so that their room is small however long a body is.
 const PIECE: usize = 32;
 
-/// What was said and isn't written yet. What is said goes to the same sink each time.
+/// What was said and isn't written yet. What is said goes to the same sink each time, which is handed in
+/// again and not kept, so that a console may lend it out.
 #[derive(Drop)]
 pub struct Answers {
     bytes: ArrayVec<u8, ANSWER_ROOM>,
-    /// Whether the sink has failed.
+    /// Whether the sink has failed. It is kept here, so that whoever says ten words needs to ask once
+    /// (docs/DECISIONS.md, "A failed sink").
     has_failed: bool,
 }
 
@@ -31,7 +33,8 @@ impl Model for Answers {
     ghost view = { λ a. record { bytes = a.bytes.items; has_failed = a.has_failed } };
 }
 
-/// Writes all bytes, in as many writes as it takes.
+/// Writes all bytes, in as many writes as it takes. A write that takes none is a failure, since to try
+/// again might never end.
 fn write_all<W: Sink>(writer: &mut W, bytes: &[u8]) -> Result<(), Failed>
     ensures ok { OnOk result (Appends (W.written writer.old).taken (W.written writer.new).taken bytes.now × IsWell (W.written writer.old) (W.written writer.new)) }
     ensures err { OnErr result ((gone rest : List ℕ) × Moves (W.written writer.old) (W.written writer.new) bytes.now gone rest × IsToBlame (W.written writer.old) (W.written writer.new) × (0 < length rest)) }
@@ -51,19 +54,19 @@ fn write_all<W: Sink>(writer: &mut W, bytes: &[u8]) -> Result<(), Failed>
     Ok(())
 }
 
-/// The digits of a piece, in room for those of the longest.
+/// The digits of a piece, in room for those of the longest, which is lent so that nothing is allocated.
 fn in_hex<'a>(piece: &[u8], digits: &'a mut [u8; 2 * PIECE]) -> &'a [u8]
     requires { length piece.now ≤ PIECE }
     ensures { result.now ≡ encode_lower piece.now }
 {
     let digits = &mut digits[..2 * piece.len()];
-    // the room is as long as the digits
+    // the room is as long as the digits, so this can't fail
     let _ = hex::encode_to_slice(piece, digits);
     digits
 }
 
 impl Answers {
-    /// Nothing is said yet.
+    /// Nothing is said yet, and the sink hasn't failed.
     pub fn new() -> Answers
         ensures { result ≡ record { bytes = []; has_failed = false } }
     {
@@ -73,14 +76,15 @@ impl Answers {
         }
     }
 
-    /// Whether the sink has failed. From then on nothing is said.
+    /// Whether the sink has failed. From then on nothing is said: what is lost is the end of all answers,
+    /// and no piece in between.
     pub fn has_failed(&self) -> bool
         ensures { result ≡ self.now.has_failed }
     {
         self.has_failed
     }
 
-    /// Writes all that was gathered.
+    /// Writes all that was gathered. After a failure it does nothing, so it may be called without asking.
     #[tactic(auto, unfolding(crate::specs::Says::Speaks))]
     pub fn flush<W: Sink>(&mut self, writer: &mut W)
         ensures says { Says (self.old, W.written writer.old) (self.new, W.written writer.new) [] }
@@ -95,7 +99,8 @@ impl Answers {
         }
     }
 
-    /// Writes what was gathered, where there is no room behind it.
+    /// Writes what was gathered, where there is no room behind it, so that texts are written in their
+    /// order.
     #[tactic(auto, unfolding(crate::specs::Says::Speaks))]
     fn make_room<W: Sink>(&mut self, writer: &mut W, len: usize)
         ensures says { Says (self.old, W.written writer.old) (self.new, W.written writer.new) [] }
@@ -106,8 +111,8 @@ impl Answers {
         }
     }
 
-    /// Says a text for which there is room, or before which nothing is gathered: a longer one is
-    /// written at once.
+    /// Says a text for which there is room, or before which nothing is gathered: a longer one is written at
+    /// once, since it would never fit.
     #[tactic(auto, unfolding(crate::specs::Says::Speaks))]
     fn take<W: Sink>(&mut self, writer: &mut W, text: &[u8])
         requires { (length self.old.bytes + length text.now ≤ ANSWER_ROOM) ⊎ (self.old.has_failed ≡ false → self.old.bytes ≡ []) }
@@ -127,7 +132,7 @@ impl Answers {
         self.take(writer, text);
     }
 
-    /// Says a number in decimal digits.
+    /// Says a number in decimal digits, without zeros in front.
     pub fn number<W: Sink>(&mut self, writer: &mut W, number: u64)
         ensures { Says (self.old, W.written writer.old) (self.new, W.written writer.new) (decimal number) }
     {
@@ -141,7 +146,7 @@ impl Answers {
         self.say(writer, Buffer::new().format(value).as_bytes());
     }
 
-    /// Says bytes as pairs of lower-case hexadecimal digits.
+    /// Says bytes as pairs of lower-case hexadecimal digits, in the order of the bytes.
     pub fn hex<W: Sink>(&mut self, writer: &mut W, bytes: &[u8])
         ensures { Says (self.old, W.written writer.old) (self.new, W.written writer.new) (encode_lower bytes.now) }
     {
@@ -154,7 +159,8 @@ impl Answers {
         }
     }
 
-    /// Says an address as 16 lower-case hexadecimal digits.
+    /// Says an address as 16 lower-case hexadecimal digits, zeros in front among them, so that addresses
+    /// align.
     pub fn address<W: Sink>(&mut self, writer: &mut W, address: u64)
         ensures { Says (self.old, W.written writer.old) (self.new, W.written writer.new) (address_text address) }
     {

@@ -3,11 +3,11 @@ ghost use Rattle.std.specs.Prelude.{◌≡◌, ◌+◌, ◌<◌, ◌≤◌, leng
 ghost use Rattle.std.specs.Io.KnownBytes.{Appends, Keeps};
 ghost use Rattle.klp_output.specs.Written.{Written};
 
-/// That a write failed.
+/// That a write failed. What went wrong isn't said, since the console can only stop.
 #[derive(Debug, Clone, Copy, PartialEq, Eq)]
 pub struct Failed;
 
-/// What takes bytes, perhaps fewer than it is given.
+/// What takes bytes, perhaps fewer than it is given, as a pipe does.
 pub trait Sink {
     /// What was written to it so far, where that is known, and what went wrong.
     ghost written: { Self → Written };

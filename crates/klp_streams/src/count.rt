@@ -4,8 +4,9 @@ ghost use Rattle.std.specs.Prelude.{◌≡◌, ◌+◌, ◌≤◌};
 use std::marker::Model;
 use std::sync::ledger::{Blank, Book, Ledger, Share};
 
-/// A whole number that has no greatest value, for contracts alone: it takes no bytes, and nothing is
-/// done where it grows. What it counts stands in the book beside it.
+/// A whole number that has no greatest value, for contracts alone: it takes no bytes, and nothing is done
+/// where it grows. A number of 64 bits would have an end, at which no clause could say one more
+/// (docs/DECISIONS.md, "Counts in a ledger"). What it counts is in the book beside it.
 #[derive(Drop)]
 pub struct Count<L: Ledger> {
     share: Share<L>,
@@ -22,7 +23,7 @@ impl<L: Ledger> Model for Count<L> {
 }
 
 impl<L: Ledger> Count<L> {
-    /// One more.
+    /// One more. The book is handed in, since two counts share it.
     pub fn add(&mut self, book: &mut Book<L>)
         ensures { self.new ≡ self.old + 1 }
     {
@@ -30,7 +31,8 @@ impl<L: Ledger> Count<L> {
     }
 }
 
-/// Two counts in one book, both at 0.
+/// Two counts in one book, both at 0. A stream needs two, and whoever makes one hands in one blank for
+/// both.
 pub fn two_counts<L: Ledger>(blank: Blank) -> (Book<L>, Count<L>, Count<L>)
     requires name { blank.name ≡ L.name }
     requires parts { blank.parts ≡ L.parts }

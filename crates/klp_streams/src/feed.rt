@@ -8,13 +8,13 @@ use klp_output::Failed;
 use std::marker::Model;
 use std::sync::ledger::{Blank, Book, Ledger};
 
-/// Bytes in memory, of which one read gives so many at most. One read may fail, told by its number.
-/// A feed ends only where no byte is left.
+/// Bytes in memory, of which one read gives so many at most, so that an input can be cut as finely as one
+/// wants. One read may fail, told by its number. A feed ends only where no byte is left.
 #[derive(Drop)]
 pub struct Feed<'a, L: Ledger> {
     left: &'a [u8],
     most: usize,
-    /// How many reads come before the one that fails.
+    /// How many reads come before the one that fails. None fails where there is no number.
     fails_in: Option<u32>,
     has_ended: bool,
     book: Book<L>,
@@ -34,8 +34,9 @@ impl<'a, L: Ledger> Model for Feed<'a, L> {
 }
 
 impl<'a, L: Ledger> Feed<'a, L> {
-    /// Feeds `bytes`, at most `most` of them in one read. The read of the number `fails_at` fails,
-    /// counted from 0. The blank is for the two counts, and has two parts.
+    /// Feeds `bytes`, at most `most` of them in one read, which isn't 0, or the feed would end at once. The
+    /// read of the number `fails_at` fails, counted from 0. The blank is for the two counts, and has two
+    /// parts.
     pub fn new(bytes: &'a [u8], most: usize, fails_at: Option<u32>, blank: Blank) -> Self
         requires most { 0 < most }
         requires name { blank.name ≡ L.name }
@@ -55,7 +56,7 @@ impl<'a, L: Ledger> Feed<'a, L> {
         }
     }
 
-    /// The bytes that are still to be read.
+    /// The bytes that are still to be read: a test sees by them how far serving came.
     pub fn left(&self) -> &'a [u8]
         ensures { result.now ≡ self.now.left }
     {
@@ -71,7 +72,7 @@ impl<'a, L: Ledger> Source for Feed<'a, L> {
     ghost supply = { supply_of };
 
     /// Gives as many bytes as it may, as there are and as there is room for, unless it is the read that
-    /// fails.
+    /// fails, which gives none. A read into no room is no end.
     fn read(&mut self, buf: &mut [u8]) -> Result<usize, Failed>
         ensures ok { IfOk result (λ n. Gives (supply_of self.old) (supply_of self.new) buf.new n) }
         ensures err { OnErr result (Fails (supply_of self.old) (supply_of self.new)) }

@@ -8,7 +8,8 @@ use std::io::Read;
 use std::marker::Model;
 use std::sync::ledger::{Blank, Book, Ledger};
 
-/// A reader of std. Contracts know what it has left where they know it of the reader.
+/// A reader of std. Contracts know what it has left where they know it of the reader: of a slice they do,
+/// of standard input they don't.
 #[derive(Drop)]
 pub struct OverRead<R: Read, L: Ledger> {
     reader: R,
@@ -44,7 +45,7 @@ impl<R: Read, L: Ledger> OverRead<R, L> {
         }
     }
 
-    /// The reader.
+    /// The reader again, with what it has left.
     pub fn into_inner(self) -> R
         ensures { R.remaining result ≡ self.left }
     {
@@ -73,6 +74,8 @@ impl<R: Read, L: Ledger> Source for OverRead<R, L> {
                 }
                 Ok(count)
             }
+            // That this was a failure of the reader no clause says, since std's readers count none
+            // (docs/DECISIONS.md, "Failures of std").
             Err(_) => {
                 self.reads.add(&mut self.book);
                 self.failures.add(&mut self.book);

@@ -7,7 +7,8 @@ use std::io::Write;
 use std::marker::Model;
 use std::sync::ledger::{Blank, Book, Ledger};
 
-/// A writer of std. Contracts know what it took where they know it of the writer.
+/// A writer of std. Contracts know what it took where they know it of the writer: of a list they do, of
+/// standard output they don't.
 #[derive(Drop)]
 pub struct OverWrite<W: Write, L: Ledger> {
     writer: W,
@@ -41,7 +42,7 @@ impl<W: Write, L: Ledger> OverWrite<W, L> {
         }
     }
 
-    /// The writer.
+    /// The writer again, with what it took.
     pub fn into_inner(self) -> W
         ensures { W.contents result ≡ self.taken }
     {

@@ -4,13 +4,14 @@ ghost use Rattle.klp_streams.specs.Supply.{Supply, Gives, Fails};
 
 use klp_output::Failed;
 
-/// What gives bytes, perhaps fewer than there is room for.
+/// What gives bytes, perhaps fewer than there is room for, as a terminal gives a line.
 pub trait Source {
     /// What is still to be read, where that is known, and what went wrong.
     ghost supply: { Self → Supply };
 
-    /// Reads some bytes to the front of `buf`, and answers how many. None into some room is the end,
-    /// and an `Err` a failure, which takes nothing. A read into no room counts only where it fails.
+    /// Reads some bytes to the front of `buf`, and answers how many. None into some room is the end, and an
+    /// `Err` a failure, which takes nothing. A read into no room counts only where it fails, since it can't
+    /// find the end.
     fn read(&mut self, buf: &mut [u8]) -> Result<usize, Failed>
         ensures ok { IfOk result (λ n. Gives (supply self.old) (supply self.new) buf.new n) }
         ensures err { OnErr result (Fails (supply self.old) (supply self.new)) };

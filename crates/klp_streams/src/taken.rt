@@ -8,13 +8,14 @@ use klp_output::{Failed, Sink};
 use std::marker::Model;
 use std::sync::ledger::{Blank, Book, Ledger};
 
-/// Room in memory, into which one write puts so many bytes at most. One write may fail, told by its
-/// number. Where no room is left a write takes nothing.
+/// Room in memory, into which one write puts so many bytes at most. One write may fail, told by its number.
+/// Where no room is left a write takes nothing, which is how a sink stalls. The room is in the type, so
+/// that a test can hand it around (docs/DECISIONS.md, "The room of `Taken`").
 #[derive(Drop)]
 pub struct Taken<const ROOM: usize, L: Ledger> {
     bytes: ArrayVec<u8, ROOM>,
     most: usize,
-    /// How many writes come before the one that fails.
+    /// How many writes come before the one that fails. None fails where there is no number.
     fails_in: Option<u32>,
     book: Book<L>,
     failures: Count<L>,
@@ -33,8 +34,8 @@ impl<const ROOM: usize, L: Ledger> Model for Taken<ROOM, L> {
 }
 
 impl<const ROOM: usize, L: Ledger> Taken<ROOM, L> {
-    /// Room for `ROOM` bytes, into which one write puts `most` at most. The write of the number
-    /// `fails_at` fails, counted from 0. The blank is for the two counts, and has two parts.
+    /// Room for `ROOM` bytes, into which one write puts `most` at most. The write of the number `fails_at`
+    /// fails, counted from 0. The blank is for the two counts, and has two parts.
     pub fn new(most: usize, fails_at: Option<u32>, blank: Blank) -> Self
         requires most { 0 < most }
         requires name { blank.name ≡ L.name }
@@ -53,7 +54,7 @@ impl<const ROOM: usize, L: Ledger> Taken<ROOM, L> {
         }
     }
 
-    /// The bytes taken so far.
+    /// The bytes taken so far, of all writes together.
     pub fn bytes(&self) -> &[u8]
         ensures { result.now ≡ self.now.bytes }
     {
@@ -69,7 +70,7 @@ impl<const ROOM: usize, L: Ledger> Sink for Taken<ROOM, L> {
     ghost written = { written_of };
 
     /// Takes as many bytes as it may, as there are and as there is room for, unless it is the write that
-    /// fails.
+    /// fails, which takes none.
     fn write(&mut self, bytes: &[u8]) -> Result<usize, Failed>
         ensures bound { IfOk result (λ n. n ≤ length bytes.now) }
         ensures ok { IfOk result (λ n. Appends (written_of self.old).taken (written_of self.new).taken (take n bytes.now)
