@@ -9,7 +9,8 @@ use klp_modules::Modules;
 use klp_output::{Answers, Sink, what_is_said_adds_up};
 use klp_types::{ObjId, PatchId};
 
-/// The name of a patch of a catalog. One that isn't there has the empty name. Takes no look-up.
+/// The name of a patch of a catalog. One that isn't there has the empty name, which is never said of a
+/// manager's own. Takes no look-up.
 pub fn patch_name(catalog: &Catalog, patch: PatchId) -> &str
     ensures { result.now ≡ patch_name catalog.now patch }
 {
@@ -23,14 +24,14 @@ pub fn object_name(modules: &Modules, object: ObjId) -> &str
     modules.object_name(object).unwrap_or("")
 }
 
-/// Says a name.
+/// Says a name as its bytes, which is what definitions have of it.
 pub(crate) fn say_name<W: Sink>(answers: &mut Answers, writer: &mut W, name: &str)
     ensures { Says (answers.old, W.written writer.old) (answers.new, W.written writer.new) name.now }
 {
     answers.say(writer, name.as_bytes());
 }
 
-/// Says the name of a patch, that of a new function, and where this begins.
+/// Says the name of a patch, that of a new function, and where this begins, in a line of its own.
 fn say_function<W: Sink>(
     answers: &mut Answers,
     writer: &mut W,

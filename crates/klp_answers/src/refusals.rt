@@ -7,7 +7,8 @@ use klp_command::LineFault;
 use klp_machine::Refusal;
 use klp_output::{Answers, Sink};
 
-/// A number is that of an error of Linux with a like meaning.
+/// The whole line of a refusal, with a number for what reads it by machine: that of an error of Linux with
+/// a like meaning (docs/DECISIONS.md, "Error numbers").
 fn refusal_line(refusal: Refusal) -> &'static [u8]
     ensures { result.now ≡ refusal_text refusal }
 {
@@ -33,9 +34,9 @@ fn refusal_line(refusal: Refusal) -> &'static [u8]
     }
 }
 
-/// Says why an event was refused, as `error NUMBER NAME`. The number is that of an error of Linux with
-/// a like meaning: 2 is `ENOENT`, 12 `ENOMEM`, 16 `EBUSY` and 22 `EINVAL`. Which number a refusal has is
-/// this project's own choice. Says one text, of at most 22 bytes.
+/// Says why an event was refused, as `error NUMBER NAME`. The number is that of an error of Linux with a
+/// like meaning: 2 is `ENOENT`, 12 `ENOMEM`, 16 `EBUSY` and 22 `EINVAL`. Which number a refusal has is this
+/// project's own choice. Says one text, of at most 22 bytes, so it is gathered in one go.
 pub fn say_refusal<W: Sink>(answers: &mut Answers, writer: &mut W, refusal: Refusal)
     ensures { Says (answers.old, W.written writer.old) (answers.new, W.written writer.new) (refusal_text refusal) }
 {
@@ -54,7 +55,7 @@ pub fn say_fault<W: Sink>(answers: &mut Answers, writer: &mut W, fault: &LineFau
     }
 }
 
-/// Says that there are not so many standing events to go back to, as `error 22 BadMark`.
+/// Says that there are not so many events in the journal to go back to, as `error 22 BadMark`.
 pub fn say_bad_mark<W: Sink>(answers: &mut Answers, writer: &mut W)
     ensures { Says (answers.old, W.written writer.old) (answers.new, W.written writer.new) bad_mark_text }
 {

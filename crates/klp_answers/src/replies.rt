@@ -13,14 +13,15 @@ use klp_modules::Modules;
 use klp_output::{Answers, Sink, what_is_said_adds_up};
 use klp_types::{Frames, ObjId, PatchId, Site, Version};
 
-/// Says that a line was done which has no more to tell, as `ok`.
+/// Says that a line was done which has no more to tell, as `ok`, so that each line with words has an
+/// answer.
 pub fn say_done<W: Sink>(answers: &mut Answers, writer: &mut W)
     ensures { Says (answers.old, W.written writer.old) (answers.new, W.written writer.new) done_text }
 {
     answers.say(writer, b"ok\n");
 }
 
-/// Says a word, with the space behind it, and a number.
+/// Says a word, with the space behind it, and a number, in a line of its own.
 fn say_number<W: Sink>(answers: &mut Answers, writer: &mut W, word: &[u8], number: u64)
     ensures { Says (answers.old, W.written writer.old) (answers.new, W.written writer.new) (word.now ++ decimal number ++ codes "\n") }
 {
@@ -30,7 +31,8 @@ fn say_number<W: Sink>(answers: &mut Answers, writer: &mut W, word: &[u8], numbe
     answers.say(writer, b"\n");
 }
 
-/// Says that the callback of a patch for an object answered a status.
+/// Says that the callback of a patch for an object answered a status. It is no error, since the event was
+/// accepted.
 fn say_pre_failed<W: Sink>(
     answers: &mut Answers,
     writer: &mut W,
@@ -51,7 +53,8 @@ fn say_pre_failed<W: Sink>(
     answers.say(writer, b"\n");
 }
 
-/// Says a symbol of an object and its position among those of its name, from 1.
+/// Says a symbol of an object and its position among those of its name, from 1, in the spelling in which a
+/// line can name it again.
 fn say_symbol<W: Sink>(
     answers: &mut Answers,
     writer: &mut W,
@@ -71,7 +74,7 @@ fn say_symbol<W: Sink>(
     answers.number(writer, position);
 }
 
-/// Says the original function of a site. Nothing where the site isn't there.
+/// Says the original function of a site. Nothing where the site isn't there, as the definition has it.
 fn say_original<W: Sink>(answers: &mut Answers, writer: &mut W, modules: &Modules, site: Site)
     ensures { Says (answers.old, W.written writer.old) (answers.new, W.written writer.new)
         (original_text modules.now.names (symbol_at_site modules.now.names site)) }
@@ -88,7 +91,7 @@ fn say_original<W: Sink>(answers: &mut Answers, writer: &mut W, modules: &Module
     }
 }
 
-/// Says a new function by its patch and its place in it.
+/// Says a new function by its patch and its place in it, since its name needn't be the only one.
 fn say_new<W: Sink>(answers: &mut Answers, writer: &mut W, patch: &str, function: u64)
     ensures { Says (answers.old, W.written writer.old) (answers.new, W.written writer.new) (codes " " ++ patch.now ++ codes ":" ++ decimal function) }
 {
@@ -99,7 +102,7 @@ fn say_new<W: Sink>(answers: &mut Answers, writer: &mut W, patch: &str, function
     answers.number(writer, function);
 }
 
-/// Says a function that a task was inside of.
+/// Says a function that a task was inside of, in a form in which a line can name it again.
 fn say_frame<W: Sink>(
     answers: &mut Answers,
     writer: &mut W,
@@ -119,7 +122,7 @@ fn say_frame<W: Sink>(
     }
 }
 
-/// Says the functions that a task was inside of, outermost first.
+/// Says the functions that a task was inside of, outermost first, as a line tells them.
 fn say_frames<W: Sink>(
     answers: &mut Answers,
     writer: &mut W,
@@ -137,7 +140,7 @@ fn say_frames<W: Sink>(
     }
 }
 
-/// Says what a task that woke up was inside of.
+/// Says what a task that woke up was inside of, in one line; the word alone where it was inside of nothing.
 fn say_woken<W: Sink>(
     answers: &mut Answers,
     writer: &mut W,
@@ -154,7 +157,7 @@ fn say_woken<W: Sink>(
     answers.say(writer, b"\n");
 }
 
-/// Says what an accepted event answers.
+/// Says what an accepted event answers: one line, whichever reply it is.
 fn say_reply<W: Sink>(
     answers: &mut Answers,
     writer: &mut W,
@@ -196,7 +199,7 @@ pub fn say_answer<W: Sink>(
     modules: &Modules,
     answer: &Result<Reply, Refusal>,
 )
-    // a manager's catalog is one over the objects that it manages
+    // a manager's catalog is one over the objects that it manages, so the names agree
     requires { catalog.now.names ≡ modules.now.names }
     ensures { Says (answers.old, W.written writer.old) (answers.new, W.written writer.new) (answer_text catalog.now answer.now) }
 {

@@ -11,16 +11,18 @@ use klp_line::cut;
 use klp_machine::Event;
 use klp_types::MAX_TASK_NUMBER;
 
-/// Where the directories of the patches stand (livepatch, Sysfs).
+/// Where the directories of the patches are (livepatch, Sysfs). To list it is to ask for the installed
+/// patches.
 const PATCHES: &[u8] = b"/sys/kernel/livepatch";
 
-/// What the files of a patch begin with.
+/// What the files of a patch begin with, so that what is behind it begins with the patch's name.
 const BELOW_PATCHES: &[u8] = b"/sys/kernel/livepatch/";
 
-/// What the files of a task begin with.
+/// What the files of a task begin with: the task's number is behind it, as in a kernel's `/proc`.
 const PROC: &[u8] = b"/proc/";
 
-/// The value that is written to a file.
+/// The value that is written to a file: the word `0` or `1`, and no other spelling of these, since it is
+/// compared and not read.
 fn switch(value: &[u8]) -> Result<bool, LineFault>
     ensures { result ≡ switch value.now }
 {
@@ -52,7 +54,8 @@ fn force_line(value: &[u8], patch: &[u8], known: &Known<'_>) -> Result<Asked, Li
     }
 }
 
-/// What is asked by writing a value to the file of a patch.
+/// What is asked by writing a value to the file of a patch. That it has such a file is looked at before the
+/// value is.
 fn echo_file(value: &[u8], file: &[u8], known: &Known<'_>) -> Result<Asked, LineFault>
     ensures { result ≡ echo_file known.now value.now file.now }
 {
@@ -69,7 +72,8 @@ fn echo_file(value: &[u8], file: &[u8], known: &Known<'_>) -> Result<Asked, Line
     }
 }
 
-/// The words after `echo`: a value, an arrow and a file.
+/// The words after `echo`: a value, an arrow and a file. There has to be a space on both sides of the
+/// arrow, since only spaces separate words.
 pub(crate) fn echo_line(words: &mut Words<'_>, known: &Known<'_>) -> Result<Asked, LineFault>
     ensures { result ≡ echo_line known.now words.old }
 {
@@ -86,7 +90,7 @@ pub(crate) fn echo_line(words: &mut Words<'_>, known: &Known<'_>) -> Result<Aske
     }
 }
 
-/// The file of a task.
+/// The file of a task: `patch_state`, the only one that has a meaning here.
 fn proc_look(file: &[u8]) -> Result<Asked, LineFault>
     ensures { result ≡ proc_look file.now }
 {
@@ -98,7 +102,7 @@ fn proc_look(file: &[u8]) -> Result<Asked, LineFault>
     Ok(Asked::See(Look::PatchState(task(number)?)))
 }
 
-/// The file of a patch.
+/// The file of a patch: those two that can be read and have a meaning here.
 fn patch_look(file: &[u8], known: &Known<'_>) -> Result<Asked, LineFault>
     ensures { result ≡ patch_look known.now file.now }
 {
@@ -127,7 +131,7 @@ fn cat_file(file: &[u8], known: &Known<'_>) -> Result<Asked, LineFault>
     }
 }
 
-/// The word after `cat`.
+/// The word after `cat`: a file of a task or of a patch.
 pub(crate) fn cat_line(words: &mut Words<'_>, known: &Known<'_>) -> Result<Asked, LineFault>
     ensures { result ≡ cat_line known.now words.old }
 {
@@ -136,7 +140,7 @@ pub(crate) fn cat_line(words: &mut Words<'_>, known: &Known<'_>) -> Result<Asked
     cat_file(file, known)
 }
 
-/// The directory of a patch, or of an object in it.
+/// The directory of a patch, or of an object in it. A name has no `/`, so the two can't be mixed up.
 fn directory_look(directory: &[u8], known: &Known<'_>) -> Result<Asked, LineFault>
     ensures { result ≡ directory_look known.now directory.now }
 {
@@ -163,7 +167,7 @@ fn list_look(directory: &[u8], known: &Known<'_>) -> Result<Asked, LineFault>
     }
 }
 
-/// The word after `ls`.
+/// The word after `ls`: the directory of all patches, of one, or of an object in one.
 pub(crate) fn list_line(words: &mut Words<'_>, known: &Known<'_>) -> Result<Asked, LineFault>
     ensures { result ≡ list_line known.now words.old }
 {

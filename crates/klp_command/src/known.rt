@@ -12,8 +12,9 @@ use klp_modules::Modules;
 use klp_types::{MAX_INDEX, MAX_TASKS, ObjId, PatchId, Site, TaskId, Version};
 use std::marker::Model;
 
-/// The names that a line may use: those of a catalog's patches, and of the objects and symbols of a
-/// kernel.
+/// The names that a line may use: those of a catalog's patches, and of the objects and symbols of a kernel.
+/// The manager isn't among them, so that what a line means doesn't depend on its state (docs/DECISIONS.md,
+/// "Names outside of the manager").
 #[derive(Drop)]
 pub(crate) struct Known<'a> {
     pub(crate) catalog: &'a Catalog,
@@ -53,7 +54,7 @@ impl<'a> Known<'a> {
         }
     }
 
-    /// The symbol of a spelling, its object loaded or not.
+    /// The symbol of a spelling, its object loaded or not: whether it is loaded the manager asks.
     pub(crate) fn site(&self, spelling: &Spelling<'_>) -> Result<Site, LineFault>
         ensures { result ≡ site_of self.now spelling.now }
     {
@@ -70,7 +71,8 @@ impl<'a> Known<'a> {
         }
     }
 
-    /// The new function that `PATCH:INDEX` spells, whether the patch has it or not.
+    /// The new function that `PATCH:INDEX` spells, whether the patch has it or not: one that isn't there is
+    /// a `BadFrame` of the event, and no fault of the line.
     fn new_function(&self, word: &[u8]) -> Result<Version, LineFault>
         ensures { result ≡ new_function_of self.now word.now }
     {
@@ -82,7 +84,8 @@ impl<'a> Known<'a> {
         Ok(Version::New(self.patch(patch)?, index))
     }
 
-    /// The function that a frame spells: an original one, or a new one.
+    /// The function that a frame spells: an original one as a symbol, or a new one as `PATCH:INDEX`. No
+    /// word is both, since a symbol has no `:`.
     pub(crate) fn version(&self, word: &[u8]) -> Result<Version, LineFault>
         ensures { result ≡ version_of self.now word.now }
     {
@@ -93,7 +96,8 @@ impl<'a> Known<'a> {
     }
 }
 
-/// The task of a number, whether it is there or not.
+/// The task of a number, whether it is there or not. Up to 65,535 a number that no task can have is refused
+/// here; above, the line is bad.
 pub(crate) fn task(number: u64) -> Result<TaskId, LineFault>
     ensures { result ≡ task_of number }
 {

@@ -9,7 +9,7 @@ use crate::words::{Words, number};
 use klp_machine::Event;
 use klp_types::{ShadowKey, ShadowValue};
 
-/// The two words that are a key.
+/// The two words that are a key, and nothing behind them: the words are counted before numbers are read.
 fn key(words: &mut Words<'_>) -> Result<ShadowKey, LineFault>
     ensures { result ≡ key_of words.old }
 {
@@ -21,7 +21,7 @@ fn key(words: &mut Words<'_>) -> Result<ShadowKey, LineFault>
     Ok(ShadowKey { obj, id })
 }
 
-/// The three words that are a key and a value.
+/// The three words that are a key and a value, and nothing behind them.
 fn variable(words: &mut Words<'_>) -> Result<(ShadowKey, ShadowValue), LineFault>
     ensures { result ≡ variable_of words.old }
 {
@@ -69,7 +69,8 @@ fn get_line(words: &mut Words<'_>) -> Result<Asked, LineFault>
     Ok(Asked::See(Look::Variable(key(words)?)))
 }
 
-/// The words after `shadow`: a verb, and numbers.
+/// The words after `shadow`: a verb, and numbers. A key is two of them, since it has a parent object and an
+/// id.
 pub(crate) fn shadow_line(words: &mut Words<'_>) -> Result<Asked, LineFault>
     ensures { result ≡ shadow_line words.old }
 {

@@ -24,7 +24,9 @@ fn is_frame(word: &[u8]) -> bool
     is_name(patch) && number_to(MAX_INDEX, index).is_ok()
 }
 
-/// Whether each word spells a function, and there are no more than a task can be inside of.
+/// Whether each word spells a function, and there are no more than a task can be inside of. The words are
+/// read once more for their names, so that no list of half-read frames is kept (docs/DECISIONS.md, "Frames
+/// read twice").
 fn are_frames(text: &[u8]) -> bool
     ensures { result ≡ are_frames (words_of text.now) }
 {
@@ -39,7 +41,8 @@ fn are_frames(text: &[u8]) -> bool
     true
 }
 
-/// The functions that the words spell.
+/// The functions that the words spell, of which there aren't too many: so each finds its place, and the
+/// answer of `push` is dropped.
 fn frames(text: &[u8], known: &Known<'_>) -> Result<Frames, LineFault>
     requires { length (words_of text.now) ≤ MAX_FRAMES }
     ensures { result ≡ versions_of known.now (words_of text.now) }
@@ -52,7 +55,8 @@ fn frames(text: &[u8], known: &Known<'_>) -> Result<Frames, LineFault>
     Ok(frames)
 }
 
-/// The words after the task that falls asleep: the functions that it is inside of, innermost last.
+/// The words after the task that falls asleep: the functions that it is inside of, innermost last. There
+/// may be none.
 fn sleep_line(number: u64, words: &mut Words<'_>, known: &Known<'_>) -> Result<Asked, LineFault>
     ensures { result ≡ sleep_line known.now number words.old }
 {
@@ -64,7 +68,7 @@ fn sleep_line(number: u64, words: &mut Words<'_>, known: &Known<'_>) -> Result<A
     Ok(Asked::Take(Event::Sleep(task, frames(text, known)?)))
 }
 
-/// The word after the task that forks: the one that it makes.
+/// The word after the task that forks: the one that it makes. Its shape is looked at before either task.
 fn fork_line(number: u64, words: &mut Words<'_>) -> Result<Asked, LineFault>
     ensures { result ≡ fork_line number words.old }
 {
@@ -75,7 +79,8 @@ fn fork_line(number: u64, words: &mut Words<'_>) -> Result<Asked, LineFault>
     Ok(Asked::Take(Event::Fork(parent, task(child)?)))
 }
 
-/// What a task does, where the verb needs no more words.
+/// What a task does, where the verb needs no more words. An unknown verb is a bad line, whatever its task
+/// is.
 fn plain_event(verb: &[u8], number: u64) -> Result<Asked, LineFault>
     ensures { result ≡ plain_event verb.now number }
 {

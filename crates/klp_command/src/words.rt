@@ -10,7 +10,8 @@ use klp_line::{Separators, first_word, number64};
 use std::marker::Model;
 use std::str;
 
-/// The words of a line that are still to be read. Spaces alone separate them.
+/// The words of a line that are still to be read. Spaces alone separate them, so a tab or a carriage return
+/// is a byte of its word, and no name has one (docs/DECISIONS.md, "Words and bytes of names").
 #[derive(Drop)]
 pub(crate) struct Words<'a> {
     rest: &'a [u8],
@@ -33,7 +34,7 @@ impl<'a> Words<'a> {
         Words { rest: line }
     }
 
-    /// The bytes that are still to be read.
+    /// The bytes that are still to be read, for words that are gone over twice.
     pub(crate) fn rest(&self) -> &'a [u8]
         ensures { words_of result.now ≡ self.now }
     {
@@ -49,7 +50,7 @@ impl<'a> Words<'a> {
         Some(word)
     }
 
-    /// The next word, or `BadLine` where there is none.
+    /// The next word, or `BadLine` where there is none: a line with too few words matches no form.
     pub(crate) fn word(&mut self) -> Result<&'a [u8], LineFault>
         ensures { MatchResult result (λ word. self.old ≡ word.now ∷ self.new)
             (λ fault. (fault ≡ LineFault.BadLine) × (self.old ≡ [])) }
@@ -57,7 +58,7 @@ impl<'a> Words<'a> {
         self.next().ok_or(LineFault::BadLine)
     }
 
-    /// `BadLine` where a word is left.
+    /// `BadLine` where a word is left: a line with too many words matches no form either.
     pub(crate) fn end(&mut self) -> Result<(), LineFault>
         ensures { MatchResult result (λ _. self.old ≡ [])
             (λ fault. (fault ≡ LineFault.BadLine) × (word : List ℕ) × (words : List (List ℕ)) × (self.old ≡ word ∷ words)) }
@@ -81,7 +82,8 @@ fn has_only_name_bytes(word: &[u8]) -> bool
     word.iter().all(|b| is_name_byte(*b))
 }
 
-/// Whether the word may name a patch or an object.
+/// Whether the word may name a patch or an object: it has neither `/` nor `:`, which separate names.
+/// Whether there is such a name isn't asked.
 #[tactic(auto, using(crate::proofs::WordLemmas::length_test))]
 pub(crate) fn is_name(word: &[u8]) -> bool
     ensures { result ≡ is_name word.now }
@@ -92,7 +94,7 @@ pub(crate) fn is_name(word: &[u8]) -> bool
     has_only_name_bytes(word)
 }
 
-/// The rest of the word after this prefix, if it has the prefix.
+/// The rest of the word after this prefix, if it has the prefix. The rest may be empty.
 pub(crate) fn after_prefix<'a>(word: &'a [u8], prefix: &[u8]) -> Option<&'a [u8]>
     ensures { MatchOption result (starts_with nat_eq word.now prefix.now ≡ false)
         (λ rest. (starts_with nat_eq word.now prefix.now ≡ true) × (rest.now ≡ drop (length prefix.now) word.now)) }
@@ -100,7 +102,7 @@ pub(crate) fn after_prefix<'a>(word: &'a [u8], prefix: &[u8]) -> Option<&'a [u8]
     word.strip_prefix(prefix)
 }
 
-/// The word as UTF-8.
+/// The word as UTF-8, which names are kept in. One that isn't UTF-8 is the name of nothing.
 pub(crate) fn text(word: &[u8]) -> Option<&str>
     ensures { MatchOption result (is_utf8 word.now ≡ false) (λ text. (text.now ≡ word.now) × (is_utf8 word.now ≡ true)) }
 {
@@ -110,14 +112,14 @@ pub(crate) fn text(word: &[u8]) -> Option<&str>
     }
 }
 
-/// A decimal number of 64 bits.
+/// A decimal number of 64 bits, as in a catalog's text: one out of range matches no form.
 pub(crate) fn number(word: &[u8]) -> Result<u64, LineFault>
     ensures { result ≡ number_of word.now }
 {
     number64(word).ok_or(LineFault::BadLine)
 }
 
-/// A decimal number up to `most`.
+/// A decimal number up to `most`, so that it fits into what an event has for it.
 pub(crate) fn number_to(most: u64, word: &[u8]) -> Result<u64, LineFault>
     ensures number { result ≡ number_to most word.now }
     ensures limit { IfOk result (λ number. number ≤ most) }

@@ -13,7 +13,7 @@ use klp_looks::{say_force_nothing, say_look};
 use klp_machine::Event;
 use klp_output::{Answers, Sink, what_is_said_adds_up};
 
-/// The manager takes an event. Answers whether it was refused.
+/// The manager takes an event. Answers whether it was refused, by which the line is counted.
 fn apply<W: Sink>(
     manager: &mut Manager,
     event: Event,
@@ -29,7 +29,7 @@ fn apply<W: Sink>(
     reply.is_err()
 }
 
-/// The events behind the mark are undone. Answers whether there are fewer.
+/// The events behind the mark are undone. Answers whether there are fewer than it, so that nothing was.
 fn rewind<W: Sink>(manager: &mut Manager, mark: u32, answers: &mut Answers, writer: &mut W) -> bool
     requires { answers.old.has_failed ≡ false }
     ensures { IsSaid (IsRewoundAs manager.old manager.new mark) (answers.old, W.written writer.old) (answers.new, W.written writer.new) result }
@@ -46,7 +46,7 @@ fn rewind<W: Sink>(manager: &mut Manager, mark: u32, answers: &mut Answers, writ
     }
 }
 
-/// Does what is asked. Answers whether it was refused.
+/// Does what is asked. Answers whether it was refused; what was refused changed nothing.
 fn done<W: Sink>(
     manager: &mut Manager,
     asked: &Asked,
@@ -69,8 +69,8 @@ fn done<W: Sink>(
     }
 }
 
-/// The same of what a line asks for: one without words is passed over, and one that asks for nothing is
-/// refused.
+/// Does what a line asks for, and answers whether it was refused. A line without words is passed over, so
+/// that a script may have empty lines, and one that asks for nothing is refused.
 fn done_if<W: Sink>(
     manager: &mut Manager,
     asked: &Option<Result<Asked, LineFault>>,
@@ -91,14 +91,14 @@ fn done_if<W: Sink>(
     }
 }
 
-/// What a line asks for.
+/// What a line asks for, by the names of the manager's own catalog and modules.
 fn asked_by(manager: &Manager, line: &[u8]) -> Option<Result<Asked, LineFault>>
     ensures { result ≡ asked_of (known_in manager.now) line.now }
 {
     asked_of(line, manager.catalog(), manager.modules())
 }
 
-/// Answers a line, and counts it.
+/// Answers a line, and counts it, also where the sink fails meanwhile: what the line asked for is done.
 pub(crate) fn answer_line<W: Sink>(
     manager: &mut Manager,
     line: &[u8],

@@ -16,7 +16,8 @@ use klp_output::{Answers, Failed, Sink, what_is_said_adds_up};
 use klp_streams::Source;
 use klp_types::{MAX_READS, READ_ROOM};
 
-/// Hears a piece, and writes all that its lines are answered.
+/// Hears a piece, and writes all that its lines are answered. One write has the answers of a whole read, so
+/// a file of many lines costs no write a line (docs/DECISIONS.md, "Gathered answers").
 fn hear<W: Sink>(
     manager: &mut Manager,
     line: &mut Line,
@@ -45,7 +46,8 @@ fn hear<W: Sink>(
     heard
 }
 
-/// Answers the last line where no line feed ends it, and writes the answer.
+/// Answers the last line where no line feed ends it, and writes the answer. An empty one is none, since it
+/// is what is behind the last line feed.
 fn end<W: Sink>(
     manager: &mut Manager,
     line: &Line,
@@ -77,9 +79,11 @@ fn end<W: Sink>(
 
 /// Serves lines from `reader` until it ends, and writes their answers to `writer`.
 ///
-/// A line ends with a line feed, or with the input, and has at most [`MAX_CONSOLE_LINE`](klp_types::MAX_CONSOLE_LINE) bytes.
-/// Each answer is written before the next read, so that who types sees it at once.
-/// A line costs as much as its words and what it asks for. No memory is taken.
+/// A line ends with a line feed, or with the input, and has at most
+/// [`MAX_CONSOLE_LINE`](klp_types::MAX_CONSOLE_LINE) bytes. Each answer is written before the next read, so
+/// that who types sees it at once: it follows from the contract, since any read may be the one that fails
+/// (docs/DECISIONS.md, "Answers before the next read"). A line costs as much as its words and what it asks
+/// for. No memory is taken.
 pub fn serve<R: Source, W: Sink>(
     reader: &mut R,
     writer: &mut W,
@@ -113,5 +117,6 @@ pub fn serve<R: Source, W: Sink>(
             return Err(fault);
         }
     }
+    // Not the end: so many reads were made, and an input that never ends has to stop somewhere.
     Err(ServeFault::Read)
 }

@@ -33,6 +33,8 @@ pub(crate) fn hear_lines<W: Sink>(
     let mut rest = piece;
     while !rest.is_empty() {
         match line.hear(rest) {
+            // The clause finds a long line by the bytes of the source, which standard input doesn't tell;
+            // but this is one function for all sources (docs/DECISIONS.md, "Long lines of standard input").
             Err(TooLong) => return Err(ServeFault::LineTooLong),
             Ok(None) => return Ok(()),
             Ok(Some(after)) => {
@@ -41,11 +43,13 @@ pub(crate) fn hear_lines<W: Sink>(
                 rest = after;
             }
         }
+        // Asked after each line, so that no line is done whose answer is lost already. The clause allows
+        // more (docs/DECISIONS.md, "Lines ahead of their answers").
         if answers.has_failed() {
             return Err(ServeFault::Write);
         }
     }
-    // nothing is left of the piece, and the line has no line feed
+    // nothing is left of the piece, and the line has no line feed: the call is made for its contract
     let _rest = line.bytes();
     Ok(())
 }

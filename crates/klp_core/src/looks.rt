@@ -123,7 +123,8 @@ impl Manager {
         self.catalog.callback_runs(patch, object, which)
     }
 
-    /// The catalog that the manager was booted with. Its callbacks have run since.
+    /// The catalog that the manager was booted with. Its callbacks have run since, so their counts are
+    /// those of now. It is lent for reading, since a callback that ran without an event couldn't be undone.
     pub fn catalog(&self) -> &Catalog
         ensures catalog { result.now ≡ self.now.managed.catalog }
         // so its sites are those of the image
@@ -132,7 +133,8 @@ impl Manager {
         &self.catalog
     }
 
-    /// The names of the image's objects and symbols, and which objects are loaded.
+    /// The names of the image's objects and symbols, and which objects are loaded: what a line's names are
+    /// resolved by.
     pub fn modules(&self) -> &Modules
         ensures { result.now ≡ record { names = names_of self.now.managed.image.objects; loaded = self.now.managed.state.loaded } }
     {

@@ -1,4 +1,5 @@
-//! The files of patches and of tasks.
+//! The files of patches and of tasks. The directory of a patch is there while it is installed, as in a
+//! kernel.
 ghost use Rattle.std.specs.Prelude.{◌≡◌, ◌==◌, ◌++◌, [], codes, filter, Ok};
 ghost use Rattle.std.specs.Fmt.{decimal};
 ghost use Rattle.std.specs.Result.{result_and, result_unwrap_or};
@@ -19,21 +20,21 @@ use klp_machine::Refusal;
 use klp_output::{Answers, Sink, what_is_said_adds_up};
 use klp_types::{ObjId, PatchId, TaskId};
 
-/// Whether a patch is installed.
+/// Whether a patch is installed: its files are there then.
 pub(crate) fn is_installed(manager: &Manager, patch: PatchId) -> bool
     ensures { result ≡ is_installed manager.now.managed.state patch }
 {
     manager.enabled(patch).is_some()
 }
 
-/// Whether a patch changes an object.
+/// Whether a patch changes an object, loaded or not.
 pub(crate) fn has_object(catalog: &Catalog, patch: PatchId, object: ObjId) -> bool
     ensures { result ≡ has_object catalog.now patch object }
 {
     catalog.place(patch, object).is_some()
 }
 
-/// Says a name alone in its line.
+/// Says a name alone in its line, as `ls` prints one.
 fn say_line<W: Sink>(answers: &mut Answers, writer: &mut W, name: &str)
     ensures { Says (answers.old, W.written writer.old) (answers.new, W.written writer.new) (name.now ++ codes "\n") }
 {
@@ -42,7 +43,7 @@ fn say_line<W: Sink>(answers: &mut Answers, writer: &mut W, name: &str)
     answers.say(writer, b"\n");
 }
 
-/// Says 1 for yes and 0 for no.
+/// Says 1 for yes and 0 for no, as the kernel's files read.
 fn say_switch<W: Sink>(answers: &mut Answers, writer: &mut W, value: bool)
     ensures { Says (answers.old, W.written writer.old) (answers.new, W.written writer.new) (switch_text value) }
 {
@@ -53,7 +54,7 @@ fn say_switch<W: Sink>(answers: &mut Answers, writer: &mut W, value: bool)
     }
 }
 
-/// Says what the `enabled` file of a patch reads.
+/// Says what the `enabled` file of a patch reads, or nothing where the file isn't there.
 pub(crate) fn say_enabled<W: Sink>(
     answers: &mut Answers,
     writer: &mut W,
@@ -70,7 +71,7 @@ pub(crate) fn say_enabled<W: Sink>(
     Ok(())
 }
 
-/// Says what the `transition` file of a patch reads.
+/// Says what the `transition` file of a patch reads, or nothing where the file isn't there.
 pub(crate) fn say_transition<W: Sink>(
     answers: &mut Answers,
     writer: &mut W,
@@ -87,7 +88,7 @@ pub(crate) fn say_transition<W: Sink>(
     Ok(())
 }
 
-/// Says what the `patch_state` file of a task reads.
+/// Says what the `patch_state` file of a task reads, with its sign, since at rest that is -1.
 pub(crate) fn say_patch_state<W: Sink>(
     answers: &mut Answers,
     writer: &mut W,
@@ -120,7 +121,7 @@ fn say_patch_lines<W: Sink>(
     }
 }
 
-/// Says the installed patches, oldest first.
+/// Says the installed patches, oldest first, which is the order in which they were enabled.
 pub(crate) fn say_patches<W: Sink>(answers: &mut Answers, writer: &mut W, manager: &Manager)
     ensures { Says (answers.old, W.written writer.old) (answers.new, W.written writer.new) (lines_of (patch_line manager.now.managed.catalog) (installed_patches manager.now.managed.state)) }
 {
@@ -128,7 +129,7 @@ pub(crate) fn say_patches<W: Sink>(answers: &mut Answers, writer: &mut W, manage
     say_patch_lines(answers, writer, manager.catalog(), patches.as_slice());
 }
 
-/// Says the objects that a patch changes, each in its line.
+/// Says the objects that a patch changes, each in its line, in the order of the text.
 fn say_object_lines<W: Sink>(
     answers: &mut Answers,
     writer: &mut W,
@@ -146,7 +147,7 @@ fn say_object_lines<W: Sink>(
     }
 }
 
-/// Says the files of a patch, and a directory for each object that it changes.
+/// Says the files of a patch, and a directory for each object that it changes, loaded or not.
 fn say_files<W: Sink>(answers: &mut Answers, writer: &mut W, manager: &Manager, patch: PatchId)
     ensures { Says (answers.old, W.written writer.old) (answers.new, W.written writer.new) (directory_text manager.now.managed.catalog patch) }
 {
@@ -155,7 +156,7 @@ fn say_files<W: Sink>(answers: &mut Answers, writer: &mut W, manager: &Manager, 
     say_object_lines(answers, writer, manager, patch);
 }
 
-/// Says what the directory of a patch has.
+/// Says what the directory of a patch has, or nothing where the patch isn't installed.
 pub(crate) fn say_directory<W: Sink>(
     answers: &mut Answers,
     writer: &mut W,
@@ -174,7 +175,7 @@ pub(crate) fn say_directory<W: Sink>(
     Ok(())
 }
 
-/// Says a symbol and which of those of its name it is.
+/// Says a symbol and which of those of its name it is, with the comma between that a kernel has.
 fn say_position<W: Sink>(answers: &mut Answers, writer: &mut W, symbol: &str, position: u64)
     ensures { Says (answers.old, W.written writer.old) (answers.new, W.written writer.new) (symbol.now ++ codes "," ++ decimal position ++ codes "\n") }
 {
@@ -189,12 +190,12 @@ fn say_position<W: Sink>(answers: &mut Answers, writer: &mut W, symbol: &str, po
 fn say_function<W: Sink>(answers: &mut Answers, writer: &mut W, function: &CatalogFunction)
     ensures { Says (answers.old, W.written writer.old) (answers.new, W.written writer.new) (position_text function.now) }
 {
-    // the only symbol of its name is the first
+    // the only symbol of its name is the first, and the kernel's directory has `name,1` for it
     let position = u64::from(function.sympos().max(1));
     say_position(answers, writer, function.symbol(), position);
 }
 
-/// Says those of the functions that are an object's.
+/// Says those of the functions that are an object's. A patch's functions are one list, so each is asked.
 fn say_positions<W: Sink>(
     answers: &mut Answers,
     writer: &mut W,
@@ -211,7 +212,8 @@ fn say_positions<W: Sink>(
     }
 }
 
-/// Says the functions that a patch changes in an object, with their positions.
+/// Says the functions that a patch changes in an object, with their positions, or nothing where there is no
+/// such directory.
 pub(crate) fn say_functions<W: Sink>(
     answers: &mut Answers,
     writer: &mut W,

@@ -1,8 +1,10 @@
-//! What a console line shows that changes nothing: the files of patches and tasks, what stands on the
-//! sites of a kernel, and what callbacks did.
+//! What a console line shows that changes nothing: the files of patches and tasks, the text and the entries
+//! of sites, and what callbacks did.
 //!
-//! A look is said to [`klp_output::Answers`], line by line, and so is why one is refused. Nothing here
-//! takes memory.
+//! [`say_look`] writes exactly the text of the definition for a manager and a query (`specs/Looks`), or its
+//! refusal, and answers that; [`say_force_nothing`] does so for a `0` that is written to a `force` file,
+//! which changes nothing either. A look is said to [`klp_output::Answers`], line by line, and so is why one
+//! is refused. Nothing here takes memory.
 #![tactic(auto)]
 
 mod files;

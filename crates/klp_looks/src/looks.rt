@@ -17,7 +17,8 @@ use klp_machine::Refusal;
 use klp_output::{Answers, Sink, what_is_said_adds_up};
 use klp_types::PatchId;
 
-/// Says what a look shows. Says nothing where it is refused.
+/// Says what a look shows. Says nothing where it is refused, so that an answer is all of one or all of the
+/// other.
 fn show<W: Sink>(
     answers: &mut Answers,
     writer: &mut W,
@@ -79,9 +80,9 @@ pub fn say_look<W: Sink>(
     result
 }
 
-/// Says what is answered to a 0 that is written to the `force` file of a patch: that it is done,
-/// though it does nothing, or `NotFound` where the patch isn't installed. A refusal is said, and
-/// answered too.
+/// Says what is answered to a 0 that is written to the `force` file of a patch: that it is done, though it
+/// does nothing, as in the kernel (`force_store`), or `NotFound` where the patch isn't installed. A refusal
+/// is said, and answered too.
 pub fn say_force_nothing<W: Sink>(
     answers: &mut Answers,
     writer: &mut W,

@@ -15,10 +15,11 @@ use klp_machine::Refusal;
 use klp_output::{Answers, Sink, what_is_said_adds_up};
 use klp_types::{ObjId, PatchId, ShadowKey, Which};
 
-/// The kinds of callbacks, in the order in which their counts are said.
+/// The kinds of callbacks, in the order in which their counts are said: that of a patch that comes and
+/// goes.
 const KINDS: [Which; 4] = [Which::Pre, Which::Post, Which::PreUn, Which::PostUn];
 
-/// Says the value of a shadow variable.
+/// Says the value of a shadow variable. Where it isn't there that is an answer too, and no refusal.
 pub(crate) fn say_variable<W: Sink>(
     answers: &mut Answers,
     writer: &mut W,
@@ -38,7 +39,8 @@ pub(crate) fn say_variable<W: Sink>(
     }
 }
 
-/// Says how often a callback ran, if it is there.
+/// Says how often a callback ran, and a dash where there is none, so that each kind has its place in the
+/// line.
 fn say_count<W: Sink>(answers: &mut Answers, writer: &mut W, count: Option<u64>)
     ensures { Says (answers.old, W.written writer.old) (answers.new, W.written writer.new) (count_text count) }
 {
@@ -52,7 +54,7 @@ fn say_count<W: Sink>(answers: &mut Answers, writer: &mut W, count: Option<u64>)
     }
 }
 
-/// Says how often the callbacks of some kinds ran.
+/// Says how often the callbacks of some kinds ran, in the order of these.
 fn say_counts<W: Sink>(
     answers: &mut Answers,
     writer: &mut W,
@@ -73,7 +75,7 @@ fn say_counts<W: Sink>(
     }
 }
 
-/// Says how often each callback of a patch for an object ran.
+/// Says how often each callback of a patch for an object ran, in one line.
 fn say_all_counts<W: Sink>(
     answers: &mut Answers,
     writer: &mut W,
@@ -89,7 +91,8 @@ fn say_all_counts<W: Sink>(
     answers.say(writer, b"\n");
 }
 
-/// Says how often the callbacks of a patch for an object ran, where the patch changes the object.
+/// Says how often the callbacks of a patch for an object ran, where the patch changes the object. It
+/// needn't be installed, since counts stay when it goes.
 pub(crate) fn say_runs<W: Sink>(
     answers: &mut Answers,
     writer: &mut W,
@@ -109,7 +112,7 @@ pub(crate) fn say_runs<W: Sink>(
     Ok(())
 }
 
-/// Says how many accepted events stand.
+/// Says how many accepted events are in the journal, as the number that `rewind` takes.
 pub(crate) fn say_mark<W: Sink>(answers: &mut Answers, writer: &mut W, manager: &Manager)
     ensures { Says (answers.old, W.written writer.old) (answers.new, W.written writer.new) (decimal (length manager.now.groups) ++ codes "\n") }
 {

@@ -1,4 +1,4 @@
-//! The text of an object, and what stands on a site.
+//! The text of an object, and the entries of a site.
 ghost use Rattle.std.specs.Prelude.{◌≡◌, ◌++◌, [], codes, Ok};
 ghost use Rattle.std.specs.Result.{result_and, result_unwrap_or};
 ghost use Rattle.klp_machine.specs.Entries.{entries_of};
@@ -15,7 +15,7 @@ use klp_machine::Refusal;
 use klp_output::{Answers, Sink, what_is_said_adds_up};
 use klp_types::{Entry, ObjId, Site, Target, TaskId, Version};
 
-/// Says a symbol's name, address and bytes.
+/// Says a symbol's name, address and bytes, in a line of its own.
 fn say_symbol<W: Sink>(answers: &mut Answers, writer: &mut W, name: &str, address: u64, body: &[u8])
     ensures { Says (answers.old, W.written writer.old) (answers.new, W.written writer.new) (symbol_text (record { name = name.now; address = address; body = body.now })) }
 {
@@ -28,7 +28,7 @@ fn say_symbol<W: Sink>(answers: &mut Answers, writer: &mut W, name: &str, addres
     answers.say(writer, b"\n");
 }
 
-/// Says the symbols of an object.
+/// Says the symbols of an object, in the image's order.
 fn say_symbols<W: Sink>(answers: &mut Answers, writer: &mut W, text: &TextView<'_>)
     ensures { Says (answers.old, W.written writer.old) (answers.new, W.written writer.new) (lines_of symbol_text text.now) }
 {
@@ -40,7 +40,7 @@ fn say_symbols<W: Sink>(answers: &mut Answers, writer: &mut W, text: &TextView<'
     }
 }
 
-/// Says the text of an object.
+/// Says the text of an object, or nothing where it isn't loaded.
 pub(crate) fn say_text<W: Sink>(
     answers: &mut Answers,
     writer: &mut W,
@@ -57,7 +57,7 @@ pub(crate) fn say_text<W: Sink>(
     Ok(())
 }
 
-/// Says an entry of a function stack.
+/// Says an entry of a function stack. A nop has no function whose name and address could be said.
 fn say_entry<W: Sink>(answers: &mut Answers, writer: &mut W, catalog: &Catalog, entry: &Entry)
     ensures { Says (answers.old, W.written writer.old) (answers.new, W.written writer.new) (entry_text catalog.now entry.now) }
 {
@@ -71,7 +71,7 @@ fn say_entry<W: Sink>(answers: &mut Answers, writer: &mut W, catalog: &Catalog, 
     }
 }
 
-/// Says entries of a function stack.
+/// Says entries of a function stack, each in its line.
 fn say_entries<W: Sink>(answers: &mut Answers, writer: &mut W, catalog: &Catalog, entries: &[Entry])
     ensures { Says (answers.old, W.written writer.old) (answers.new, W.written writer.new) (lines_of (entry_text catalog.now) entries.now) }
 {
@@ -81,7 +81,7 @@ fn say_entries<W: Sink>(answers: &mut Answers, writer: &mut W, catalog: &Catalog
     }
 }
 
-/// Says the entries of a site's function stack, newest first.
+/// Says the entries of a site's function stack, newest first, or `empty`, so that there is always a line.
 pub(crate) fn say_stack<W: Sink>(
     answers: &mut Answers,
     writer: &mut W,
@@ -98,7 +98,8 @@ pub(crate) fn say_stack<W: Sink>(
     }
 }
 
-/// Says a version and where it begins.
+/// Says a version and where it begins. An original is that of the site that was asked for, so it has no
+/// name here.
 fn say_version<W: Sink>(answers: &mut Answers, writer: &mut W, catalog: &Catalog, target: &Target)
     ensures { Says (answers.old, W.written writer.old) (answers.new, W.written writer.new) (version_text catalog.now target.now.version target.now.address) }
 {
@@ -115,7 +116,7 @@ fn say_version<W: Sink>(answers: &mut Answers, writer: &mut W, catalog: &Catalog
     }
 }
 
-/// Says what a task runs at a site.
+/// Says what a task runs at a site. That the task isn't there is refused first, since it is named first.
 pub(crate) fn say_pick<W: Sink>(
     answers: &mut Answers,
     writer: &mut W,
