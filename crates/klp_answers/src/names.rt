@@ -1,4 +1,4 @@
-//! The names that answers have.
+//! The names that answers have: what an event answers are numbers, which nobody should have to look up.
 ghost use Rattle.std.specs.Prelude.{◌≡◌, ◌++◌, codes};
 ghost use Rattle.klp_output.specs.Says.{Says};
 ghost use Rattle.klp_output.specs.Texts.{address_text};
@@ -17,14 +17,15 @@ pub fn patch_name(catalog: &Catalog, patch: PatchId) -> &str
     catalog.patch_name(patch).unwrap_or("")
 }
 
-/// The name of an object, loaded or not. One that isn't there has the empty name. Takes no look-up.
+/// The name of an object, loaded or not. One that isn't there has the empty name, so that no caller has a
+/// case for it. Takes no look-up.
 pub fn object_name(modules: &Modules, object: ObjId) -> &str
     ensures { result.now ≡ object_name modules.now.names object }
 {
     modules.object_name(object).unwrap_or("")
 }
 
-/// Says a name as its bytes, which is what definitions have of it.
+/// Says a name as its bytes, as an administrator spelled it.
 pub(crate) fn say_name<W: Sink>(answers: &mut Answers, writer: &mut W, name: &str)
     ensures { Says (answers.old, W.written writer.old) (answers.new, W.written writer.new) name.now }
 {

@@ -1,4 +1,4 @@
-//! How a line is answered that wasn't done.
+//! How a line is answered that wasn't done: in one line that begins with `error`, so that scripts find it.
 ghost use Rattle.std.specs.Prelude.{◌≡◌};
 ghost use Rattle.klp_output.specs.Says.{Says};
 ghost use Rattle.klp_answers.specs.Refusals.{refusal_text, fault_text, bad_mark_text};

@@ -1,4 +1,4 @@
-//! How an event is answered.
+//! How an event is answered: in words and names, as a line has them.
 ghost use Rattle.std.specs.Prelude.{◌≡◌, ◌++◌, codes};
 ghost use Rattle.std.specs.Fmt.{decimal, signed_decimal};
 ghost use Rattle.klp_modules.specs.Names.{symbol_at_site};

@@ -111,7 +111,8 @@ pub fn run_callbacks(
     run_first(catalog, modules, patch, which, end, world, log);
 }
 
-/// Runs pre-patch for one object, where the object is loaded, and answers its status if it refuses.
+/// Runs pre-patch for one object, where the object is loaded, and answers its status if it refuses, as 0 is
+/// no refusal.
 fn run_pre(
     catalog: &mut Catalog,
     modules: &Modules,

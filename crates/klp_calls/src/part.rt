@@ -125,7 +125,8 @@ fn run_still(
     }
 }
 
-/// Runs pre-patch for the object at this place, and answers its status where it refuses.
+/// Runs pre-patch for the object at this place, and answers its status where it refuses, as 0 is no
+/// refusal.
 fn run_pre_at(
     catalog: &mut Catalog,
     patch: PatchId,

@@ -1,4 +1,5 @@
-//! The callbacks of a module that comes or goes, patch by patch, oldest first.
+//! The callbacks of a module that comes or goes, patch by patch, oldest first, as the kernel walks over
+//! `klp_patches`.
 ghost use Rattle.std.specs.Prelude.{◌≡◌, ℕ, ◌+◌, ◌≤◌, find, length, take, None, Some, option_map, MatchOption};
 ghost use Rattle.std.specs.List.{flat_map};
 ghost use Rattle.klp_types.specs.declared.callback.Which.TheVariants.{Pre};
@@ -55,8 +56,9 @@ pub fn allocs_of_going(
     sum
 }
 
-/// For each of these patches that has the module, pre-unpatch if the patch doesn't move, and
-/// post-unpatch.
+/// For each of these patches that has the module, pre-unpatch if the patch doesn't move, and post-unpatch.
+/// It is the going of a module, and also the cleaning up of one that was refused, since both undo what
+/// came.
 fn let_go_each(
     catalog: &mut Catalog,
     installed: &[PatchId],

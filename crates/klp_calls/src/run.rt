@@ -1,4 +1,5 @@
-//! One callback.
+//! One callback: the only place where a catalog's callback is run, so that all that holds of a run is
+//! proved once.
 ghost use Rattle.std.specs.Prelude.{◌≡◌};
 ghost use Rattle.klp_machine.specs.Callbacks.{status_of};
 ghost use Rattle.klp_catalog.specs.Runs.{script_at};

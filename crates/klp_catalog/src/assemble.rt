@@ -1,4 +1,4 @@
-//! From a plan to the patches of a catalog.
+//! From a plan to the patches of a catalog: functions get their sites, and callbacks their numbers.
 
 ghost use Rattle.std.specs.Prelude.{◌≡◌, ◌+◌, ◌≤◌, ◌++◌, false, length, take, map, OnOk, IfOk, IfErr};
 ghost use Rattle.std.specs.List.{list_any};

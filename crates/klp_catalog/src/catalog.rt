@@ -143,9 +143,9 @@ impl Catalog {
         patch::is_compatible(&self.patches, patch, installed)
     }
 
-    /// The newest of the patches installed before this one that names the state, where the
-    /// installed ones are given oldest first. Where the patch isn't among them, all of them count
-    /// as before it. (The rule is this project's own.)
+    /// The newest of the patches installed before this one that names the state, where the installed ones
+    /// are given oldest first. Where the patch isn't among them, all of them count as before it, since it
+    /// would be the newest. (The rule is this project's own.)
     pub fn previous_state(&self, patch: PatchId, id: u64, installed: &[PatchId]) -> Option<PatchId>
         requires patch { patch < length self.now.patches }
         requires installed { All (λ other. other < length self.now.patches) installed.now }
@@ -271,7 +271,8 @@ impl Catalog {
         Some(self.callbacks[number].runs())
     }
 
-    /// The new functions of a patch, over its objects in order. A patch that isn't there has none.
+    /// The new functions of a patch, over its objects in order: their places are the numbers in versions
+    /// and entries. A patch that isn't there has none.
     pub fn functions(&self, patch: PatchId) -> &[CatalogFunction]
         ensures functions { result.now ≡ catalog_functions self.now patch }
         // what the manager reads of them when it puts their entries on sites

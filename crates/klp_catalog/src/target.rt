@@ -7,7 +7,7 @@ use klp_types::{ObjId, Which};
 use std::marker::Model;
 use std::snapshot::Snapshot;
 
-/// An object that a patch changes, with the kinds of its callbacks.
+/// An object that a patch changes. Its callbacks are the catalog's; here is only which of them are its own.
 #[derive(Drop)]
 pub(crate) struct CatalogTarget {
     pub(crate) object: ObjId,

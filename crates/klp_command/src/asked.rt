@@ -1,4 +1,5 @@
-//! What a line asks for, with its names resolved.
+//! What a line asks for: numbers in place of names, so that the two halves of a console meet in plain
+//! values.
 
 use klp_machine::Event;
 use klp_types::{ObjId, PatchId, ShadowKey, Site, TaskId};
@@ -6,7 +7,7 @@ use klp_types::{ObjId, PatchId, ShadowKey, Site, TaskId};
 /// What a line asks for. It has numbers and no names, so that the manager needs to know none.
 #[derive(Clone, Copy, Debug, PartialEq, Eq)]
 pub enum Asked {
-    /// To take an event.
+    /// To take an event, which may still be refused.
     Take(Event),
     /// To write 0 to the `force` file of a patch, which does nothing. It isn't dropped, since the file may
     /// not be there.
@@ -15,7 +16,7 @@ pub enum Asked {
     Rewind(u32),
     /// To empty the journal, so that nothing before can be undone any more.
     Seal,
-    /// To see something; nothing changes.
+    /// To see something; nothing changes, so it costs no room in the journal.
     See(Look),
 }
 

@@ -1,4 +1,4 @@
-//! Why a line asks for nothing.
+//! Why a line asks for nothing. The manager is never asked then, so nothing can have changed.
 
 use klp_machine::Refusal;
 
@@ -12,7 +12,7 @@ pub enum LineFault {
     /// A value other than `0` or `1` is written to the `enabled` or `force` file of a patch. `01` is one
     /// too.
     BadValue,
-    /// A name isn't known: `NoPatch`, `NoModule`, `NoSymbol`, or `NoTask` for a number that no task
-    /// has.
+    /// A name isn't known: `NoPatch`, `NoModule`, `NoSymbol`, or `NoTask` for a number that no task has.
+    /// These are the manager's own refusals, so that one fault has one error, whoever finds it.
     Refused(Refusal),
 }

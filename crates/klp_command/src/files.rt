@@ -1,4 +1,4 @@
-//! The lines that name files.
+//! The lines that name files, which are those of a kernel, so that its habits work here too.
 
 ghost use Rattle.std.specs.Prelude.{◌≡◌};
 ghost use Rattle.klp_command.specs.Lines.{switch, enabled_line, force_line, echo_file, echo_line, proc_look, patch_look, cat_file, cat_line, directory_look, list_look, list_line};

@@ -54,7 +54,8 @@ impl<'a> Known<'a> {
         }
     }
 
-    /// The symbol of a spelling, its object loaded or not: whether it is loaded the manager asks.
+    /// The symbol of a spelling. Its object needn't be loaded, since sites keep their numbers while modules
+    /// come and go.
     pub(crate) fn site(&self, spelling: &Spelling<'_>) -> Result<Site, LineFault>
         ensures { result ≡ site_of self.now spelling.now }
     {

@@ -1,4 +1,4 @@
-//! The lines of the shadow variables.
+//! The lines of the shadow variables. All their words are numbers, so no name can be unknown here.
 
 ghost use Rattle.std.specs.Prelude.{◌≡◌};
 ghost use Rattle.klp_command.specs.Lines.{key_of, variable_of, alloc_line, get_or_alloc_line, free_line, free_all_line, get_line, shadow_line};

@@ -1,4 +1,4 @@
-//! The lines of what tasks do.
+//! The lines of what tasks do, which in a kernel nobody types: here they stand for its scheduler.
 
 ghost use Rattle.std.specs.Prelude.{◌≡◌, ◌≤◌, length};
 ghost use Rattle.klp_command.specs.Words.{words_of};
@@ -13,7 +13,7 @@ use klp_line::{cut, spelling_of};
 use klp_machine::Event;
 use klp_types::{Frames, MAX_FRAMES, MAX_INDEX, MAX_TASK_NUMBER};
 
-/// Whether a word spells a function that a task may be inside of, known or not.
+/// Whether a word spells a function that a task may be inside of, known or not: shapes come before names.
 fn is_frame(word: &[u8]) -> bool
     ensures { result ≡ is_frame word.now }
 {

@@ -27,7 +27,7 @@ impl<'a> Model for Words<'a> {
 }
 
 impl<'a> Words<'a> {
-    /// All words of the line, which may have any bytes.
+    /// All words of the line, which may have any bytes, since nobody has looked at them yet.
     pub(crate) fn new(line: &'a [u8]) -> Words<'a>
         ensures { result ≡ words_of line.now }
     {

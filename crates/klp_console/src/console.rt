@@ -1,4 +1,4 @@
-//! A whole input is served.
+//! A whole input is served: reads in room of a fixed size, and the end.
 ghost use Rattle.std.specs.Prelude.{◌≡◌, ◌+◌, ◌<◌, ◌≤◌, ◌^◌, true, false, [], ◌∷◌, ◌++◌, length, IfOk, IfErr};
 ghost use Rattle.klp_types.specs.declared.limits.TheConstants.{MAX_CONSOLE_LINE};
 ghost use Rattle.klp_lines.specs.Lines.{lines_and_rest};

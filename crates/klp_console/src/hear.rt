@@ -1,4 +1,5 @@
-//! Pieces of the input are cut into lines, and the lines are answered.
+//! Pieces of the input are cut into lines, and the lines are answered. It borrows all that it changes, so
+//! that its ways out are cheap to prove (docs/DECISIONS.md, "One way out for an owner").
 ghost use Rattle.std.specs.Prelude.{◌≡◌, ◌+◌, ◌<◌, ◌≤◌, ◌^◌, false, [], ◌∷◌, ◌++◌, length, IfOk};
 ghost use Rattle.klp_types.specs.declared.limits.TheConstants.{MAX_CONSOLE_LINE};
 ghost use Rattle.klp_lines.specs.Lines.{lines_and_rest};

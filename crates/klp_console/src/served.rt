@@ -1,4 +1,4 @@
-//! What serving comes to.
+//! What serving comes to: counts where the input ended, and a fault where serving did.
 
 use thiserror::Error;
 
@@ -8,7 +8,7 @@ use thiserror::Error;
 pub struct Served {
     /// All lines, empty ones too, so that the count is the number of the last line.
     pub lines: u64,
-    /// The lines that were answered with an error.
+    /// The lines that were answered with an error, so that a script which should have none can be checked.
     pub refused: u64,
 }
 
@@ -21,7 +21,8 @@ pub enum ServeFault {
     /// A write failed, or took nothing, after which answers would be lost.
     #[error("Write")]
     Write,
-    /// A line is longer than [`MAX_CONSOLE_LINE`](klp_types::MAX_CONSOLE_LINE) bytes.
+    /// A line is longer than [`MAX_CONSOLE_LINE`](klp_types::MAX_CONSOLE_LINE) bytes. Serving ends, since
+    /// where the next line begins would be a guess.
     #[error("LineTooLong")]
     LineTooLong,
 }

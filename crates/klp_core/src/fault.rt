@@ -11,7 +11,7 @@ pub enum BootFault {
     /// one plan.
     #[error("Mismatch")]
     Mismatch = 1,
-    /// Memory ran out.
+    /// Memory ran out, which can't happen again once a manager is booted.
     #[error("NoMemory")]
     NoMemory = 2,
 }

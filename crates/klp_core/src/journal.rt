@@ -1,4 +1,5 @@
-//! Accepted events are appended to the journal, and taken back.
+//! Accepted events are appended to the journal, and taken back. Both are here, since each has to leave the
+//! journal and the parts in step.
 ghost use Rattle.std.specs.Prelude.{◌≡◌, ◌-◌, ◌<◌, ◌≤◌, ◌++◌, ◌∷◌, [], true, length, take};
 ghost use Rattle.klp_types.specs.declared.limits.TheConstants.{MAX_RECORDS};
 ghost use Rattle.klp_journal.specs.Journal.{has_room};

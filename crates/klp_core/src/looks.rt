@@ -103,8 +103,8 @@ impl Manager {
         self.parts.world.get(key)
     }
 
-    /// The value of a system state of an installed patch. `None` where the patch isn't installed or
-    /// doesn't name the state.
+    /// The value of a system state of an installed patch. `None` where the patch isn't installed or doesn't
+    /// name the state: a kernel gives no data then either (`klp_get_state`).
     pub fn state_of(&self, patch: PatchId, id: u64) -> Option<u64>
         ensures value { result ≡ state_value self.now.managed.state.world patch id }
         // exactly the states that the catalog gives installed patches are there

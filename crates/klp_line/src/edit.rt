@@ -1,4 +1,4 @@
-//! The edits of a callback, and its script.
+//! The edits of a callback, and its script: words with parts, which no other line has.
 
 ghost use Rattle.std.specs.Prelude.{◌≡◌, ℕ, ◌<◌, ◌≤◌, ◌==◌, List, [], ◌∷◌, length, MatchOption, MatchResult};
 ghost use Rattle.klp_line.specs.Gives.{Gives};

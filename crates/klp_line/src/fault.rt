@@ -15,7 +15,7 @@ pub enum TextFaultKind {
     /// A byte of a line that isn't a comment is no ASCII.
     #[error("NotAscii")]
     NotAscii = 1,
-    /// The line has more than [`MAX_LINE`](klp_types::MAX_LINE) bytes.
+    /// The line has more than [`MAX_LINE`](klp_types::MAX_LINE) bytes. A comment may have any number.
     #[error("LineTooLong")]
     LineTooLong = 2,
     /// No line begins with this word, or another word than `replace` stands behind the name of a
@@ -31,7 +31,8 @@ pub enum TextFaultKind {
     /// An address isn't 1 to 16 hexadecimal digits, or a body isn't pairs of them.
     #[error("BadHex")]
     BadHex = 6,
-    /// A name has another byte than names have, or is too long.
+    /// A name has another byte than names have, or is too long. Which bytes it may have depends on what it
+    /// names, since a symbol's are the compiler's.
     #[error("BadName")]
     BadName = 7,
     /// The symbol of a function isn't spelled `.klp.sym.objname.symbol_name,sympos`, or its object
@@ -47,7 +48,7 @@ pub enum TextFaultKind {
     /// The same was said before: a name, a target, a state or a kind of callback that may be there once.
     #[error("Twice")]
     Twice = 11,
-    /// A target names no object of the text.
+    /// A target names no object of the text up to here, so it could have no site.
     #[error("UnknownObject")]
     UnknownObject = 12,
     /// A limit is reached (`klp_types::limits`), which this line would exceed.

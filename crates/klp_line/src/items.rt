@@ -1,4 +1,4 @@
-//! What a line is made of beside numbers.
+//! What a line is made of beside numbers: what a plan keeps of it as it is.
 
 use std::marker::Model;
 
@@ -19,7 +19,7 @@ impl Model for Name {
 /// resolved.
 #[derive(Debug, Drop)]
 pub struct PlanFunction {
-    /// The name of the symbol that it stands in for.
+    /// The name of the symbol that it replaces, in the object of its target.
     pub symbol: String,
     /// Which of the symbols of that name in the object is meant, from 1. With 0 the name is to be
     /// unique in the object.

@@ -1,4 +1,5 @@
-//! The words of a line, each read by its own rule.
+//! The words of a line, each read by its own rule. A word is checked before it is copied, so that only want
+//! of memory can come behind.
 
 ghost use Rattle.std.specs.Prelude.{◌≡◌, ◌==◌, Some, None, Ok, Err, option_copied};
 ghost use Rattle.std.specs.Char.{is_ascii_hexdigit};
@@ -175,7 +176,7 @@ fn spelling_behind_prefix(text: &[u8]) -> Option<Spelling<'_>>
 }
 
 /// What `.klp.sym.objname.symbol_name,sympos` spells (livepatch module ELF format, livepatch symbols).
-/// `None` for any other word.
+/// `None` for any other word. Nothing is copied: the parts are lent from the word.
 pub fn spelling_of(word: &[u8]) -> Option<Spelling<'_>>
     ensures { result ≡ spelling_of word.now }
 {

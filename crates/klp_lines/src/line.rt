@@ -1,4 +1,4 @@
-//! A line that is heard in pieces.
+//! A line that is heard in pieces, as reads have no regard for lines.
 ghost use Rattle.std.specs.Prelude.{◌≡◌, ℕ, ◌<◌, ◌≤◌, position, List, [], ◌∷◌, ◌++◌, length, IfOk, IfSome, IfNone, OnOk, OnErr};
 ghost use Rattle.klp_lines.specs.Lines.{is_line_feed, lines_and_rest};
 

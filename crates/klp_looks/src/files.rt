@@ -106,7 +106,7 @@ pub(crate) fn say_patch_state<W: Sink>(
     Ok(())
 }
 
-/// Says the names of patches, each in its line.
+/// Says the names of patches, each in its line, as a directory lists them.
 fn say_patch_lines<W: Sink>(
     answers: &mut Answers,
     writer: &mut W,
@@ -186,7 +186,7 @@ fn say_position<W: Sink>(answers: &mut Answers, writer: &mut W, symbol: &str, po
     answers.say(writer, b"\n");
 }
 
-/// Says a function that a patch changes, with its position.
+/// Says a function that a patch changes, with its position, as the kernel names its directory.
 fn say_function<W: Sink>(answers: &mut Answers, writer: &mut W, function: &CatalogFunction)
     ensures { Says (answers.old, W.written writer.old) (answers.new, W.written writer.new) (position_text function.now) }
 {

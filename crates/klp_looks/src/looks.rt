@@ -1,4 +1,5 @@
-//! What is asked to be seen.
+//! What is asked to be seen: each kind of look goes to its own file, and its refusals are said in one
+//! place.
 ghost use Rattle.std.specs.Prelude.{◌≡◌, [], Ok};
 ghost use Rattle.std.specs.Result.{result_and, result_unwrap_or};
 ghost use Rattle.klp_output.specs.Says.{Says};

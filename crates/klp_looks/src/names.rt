@@ -1,4 +1,3 @@
-//! A name.
 ghost use Rattle.klp_output.specs.Says.{Says};
 
 use klp_output::{Answers, Sink};

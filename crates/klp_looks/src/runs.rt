@@ -1,4 +1,4 @@
-//! Numbers: shadow variables, runs of callbacks and the standing events.
+//! What is shown as numbers: shadow variables, runs of callbacks, and how many events are in the journal.
 ghost use Rattle.std.specs.Prelude.{◌≡◌, ◌++◌, [], codes, length, Option, Ok};
 ghost use Rattle.std.specs.Fmt.{decimal};
 ghost use Rattle.std.specs.Result.{result_and, result_unwrap_or};

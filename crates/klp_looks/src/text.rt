@@ -98,8 +98,8 @@ pub(crate) fn say_stack<W: Sink>(
     }
 }
 
-/// Says a version and where it begins. An original is that of the site that was asked for, so it has no
-/// name here.
+/// Says a version and where it begins. An original has no name here, since it is that of the site that was
+/// asked for.
 fn say_version<W: Sink>(answers: &mut Answers, writer: &mut W, catalog: &Catalog, target: &Target)
     ensures { Says (answers.old, W.written writer.old) (answers.new, W.written writer.new) (version_text catalog.now target.now.version target.now.address) }
 {

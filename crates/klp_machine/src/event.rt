@@ -5,7 +5,8 @@ use thiserror::Error;
 /// event are never seen apart.
 #[derive(Clone, Copy, Debug, PartialEq, Eq)]
 pub enum Event {
-    /// The patch is loaded and enabled: its transition starts.
+    /// The patch is loaded and enabled: its transition starts (the kernel's `klp_enable_patch`). In a
+    /// kernel the two are one too, since a patch module enables its patch when it is loaded.
     Enable(PatchId),
     /// The value is written to the `enabled` file of an installed patch: its transition is reversed, or it
     /// is disabled (the kernel's `enabled_store`).
@@ -52,38 +53,41 @@ pub enum Event {
 pub enum Reply {
     /// The event did what it says, and there is no more to tell.
     Done,
-    /// A transition started.
+    /// A transition started: polls will complete it.
     Started,
     /// The transition turned round: no callback runs, and the tasks keep the states that they have.
     Reversed,
-    /// So many tasks aren't at the target.
+    /// So many tasks aren't at the target, so the transition goes on.
     Pending(u8),
-    /// The transition to this target is complete.
+    /// The transition to this target is complete: the patch is in, or it is gone.
     Completed(bool),
     /// The pre-patch callback of this patch for this object answered the status, which isn't 0: the
     /// patch isn't installed, or the module isn't loaded.
     PreFailed(PatchId, ObjId, i32),
     /// The value of the shadow variable: the one that was there, or the one that was added.
     Value(ShadowValue),
-    /// How many shadow variables were removed.
+    /// How many shadow variables were removed: 0 where there were none, which is no fault.
     Freed(u16),
-    /// The functions that the task was inside of, innermost last.
+    /// The functions that the task was inside of, innermost last: they aren't known any more afterwards.
     Woken(Frames),
 }
 
 /// Why an event is refused. The numbers are this project's own, and stay, so that scripts may rely on them.
 #[derive(Clone, Copy, Debug, PartialEq, Eq, Error)]
 pub enum Refusal {
-    /// The catalog has no such patch.
+    /// The catalog has no such patch. It is asked first of all, since nothing else is known of such a
+    /// number.
     #[error("NoPatch")]
     NoPatch = 1,
-    /// Another patch is in transition.
+    /// Another patch is in transition. There is one at most, since a task's state says only whether it is
+    /// at its target.
     #[error("Busy")]
     Busy = 2,
     /// The patch is installed already, or the module is loaded already.
     #[error("AlreadyThere")]
     AlreadyThere = 3,
-    /// The patch is pinned: it was forced out, or it was installed when a cumulative patch was forced in.
+    /// The patch is pinned: it was forced out, or it was installed when a cumulative patch was forced in. A
+    /// task may still be inside of its functions, so it can't come again.
     #[error("Pinned")]
     Pinned = 4,
     /// The patch isn't compatible with the system states of the installed ones.
@@ -96,13 +100,13 @@ pub enum Refusal {
     /// There is no such module, or it isn't loaded.
     #[error("NoModule")]
     NoModule = 7,
-    /// A sleeping task is inside of the module.
+    /// A sleeping task is inside of the module, which it would be woken up in once the module is gone.
     #[error("InUse")]
     InUse = 8,
     /// There is no such task, or its number is above 63, which no task can have.
     #[error("NoTask")]
     NoTask = 9,
-    /// The task is there already.
+    /// The task is there already: a number is one task's until that ends.
     #[error("TaskThere")]
     TaskThere = 10,
     /// The task isn't where the event wants it: only a task in the kernel falls asleep, and only a sleeper
@@ -117,16 +121,16 @@ pub enum Refusal {
     /// may run add. This is asked before the first of them, since an event isn't left half done.
     #[error("Full")]
     Full = 13,
-    /// The journal has no room for another event.
+    /// The journal has no room for another event, which so couldn't be undone.
     #[error("JournalFull")]
     JournalFull = 14,
     /// No patch is in transition, or not this one.
     #[error("NotMoving")]
     NotMoving = 15,
-    /// The shadow variable is there already.
+    /// The shadow variable is there already, and keeps its value.
     #[error("Exists")]
     Exists = 16,
-    /// The patch isn't installed.
+    /// The patch isn't installed, so it has no files and nothing to be forced.
     #[error("NotFound")]
     NotFound = 17,
     /// The `enabled` file has this value already, which the kernel refuses too (`enabled_store`).

@@ -53,7 +53,8 @@ pub fn objects_before_the_one_that_refuses_get_post_unpatch()
 {}
 
 /// When a cumulative patch is complete the older patches leave the list, with the nops over their
-/// functions; a newer patch stays. Where it is withdrawn, it alone leaves.
+/// functions, since nothing is left below these; a newer patch stays. Where it is withdrawn, it alone
+/// leaves.
 pub fn a_replacement_takes_the_older_patches_out()
     ensures older { installed_patches (accepted small_kernel (state_with true (0 ∷ 1 ∷ []) (move_of 1 true) []) Poll).1 ≡ 1 ∷ [] }
     ensures nop { entries_of small_kernel (state_with true (0 ∷ 1 ∷ []) (move_of 1 true) []) 1
@@ -82,8 +83,9 @@ pub fn a_poll_waits_for_tasks()
         ≡ (Completed false, state_with true (0 ∷ []) None (in_kernel (negsuc 0) ∷ [])) }
 {}
 
-/// Towards the patch a sleeping task is held by what stands below the patch's entries; away from it, by
-/// the patch's own versions. This is so under a newer patch too, and a nop stands for the original.
+/// Towards the patch a sleeping task is held by what is below the patch's entries; away from it, by the
+/// patch's own versions: by what it couldn't be inside of once it is switched. This is so under a newer
+/// patch too, and a nop is the original.
 pub fn tasks_are_held_by_what_they_would_leave()
     ensures to_the_patch { blocked small_kernel (state_with false (0 ∷ []) (move_of 0 true) []) (record { patch = 0; target = true }) ≡ Original 0 ∷ Original 1 ∷ [] }
     ensures from_the_patch { blocked small_kernel (state_with false (0 ∷ []) (move_of 0 false) []) (record { patch = 0; target = false }) ≡ New 0 0 ∷ New 0 1 ∷ [] }
@@ -92,8 +94,8 @@ pub fn tasks_are_held_by_what_they_would_leave()
     ensures nops { blocked small_kernel (state_with true (0 ∷ 1 ∷ []) (move_of 1 false) []) (record { patch = 1; target = false }) ≡ New 1 0 ∷ Original 1 ∷ Original 2 ∷ [] }
 {}
 
-/// A task of state 0 runs what stands below the moving patch, any other the newest version, which is the
-/// original where that is a nop.
+/// A task of state 0 runs what is below the moving patch, since it isn't at the patch yet or any more; any
+/// other runs the newest version, which is the original where that is a nop.
 pub fn tasks_pick_by_their_state()
     ensures below { pick small_kernel (state_with true (0 ∷ 2 ∷ []) (move_of 2 true) (in_kernel (pos 0) ∷ [])) 0 0 ≡ Some (record { version = New 0 0; address = 0 }) }
     ensures newest { pick small_kernel (state_with true (0 ∷ 2 ∷ []) (move_of 2 true) (in_kernel (pos 1) ∷ [])) 0 0 ≡ Some (record { version = New 2 0; address = 0 }) }
@@ -223,7 +225,7 @@ pub fn refusals_come_in_order()
     ensures at_rest { refusal small_kernel (state_with true (0 ∷ []) None []) Poll ≡ Some NotMoving }
 {}
 
-/// What modules and tasks are refused for.
+/// What modules and tasks are refused for, reason by reason: where several hold, the first is told.
 pub fn modules_and_tasks_are_refused()
     ensures kernel { refusal small_kernel (state_with true [] None []) (Coming 0) ≡ Some NoModule }
     ensures no_module { refusal small_kernel (state_with true [] None []) (Coming 2) ≡ Some NoModule }

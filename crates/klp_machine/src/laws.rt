@@ -50,15 +50,16 @@ pub fn states_stay_allowed()
     ensures run { (setting : Setting) (state : State) (events : List AnyEvent) → Allowed setting state → Allowed setting (run setting state events) }
 {}
 
-/// What an accepted event does to a shadow variable is what the shadow event, or the callbacks that
-/// it runs, do to it.
+/// What an accepted event does to a shadow variable is what the shadow event, or the callbacks that it
+/// runs, do to it: so a variable can be followed through a run without its states.
 pub fn callbacks_make_the_changes()
     ensures { (setting : Setting) (state : State) (event : AnyEvent) (key : ShadowKey)
         → variable (accepted setting state event).1.world key ≡ variable (after_calls (shadow_changed state.world event) (calls setting state event)) key }
 {}
 
-/// What a task runs, by the installed patches alone: one of state 0 runs what it would run if the
-/// moving patch weren't installed, any other, and every task where nothing moves, the newest version.
+/// What a task runs, by the installed patches alone: one of state 0 runs what it would run if the moving
+/// patch weren't installed, any other, and every task where nothing moves, the newest version. So no task
+/// runs a part of a patch.
 pub fn tasks_run_whole_lists_of_patches()
     ensures patched { (setting : Setting) (state : State) (own : ℤ) (site : ℕ) → is_site_loaded setting state site ≡ true → is_unpatched own ≡ false
         → pick_in setting state own site ≡ target_of setting (version_in setting site (reverse (installed_patches state))) }
@@ -75,8 +76,9 @@ pub fn a_patch_leaves_the_entries_of_the_others()
         → entries_of setting (with_world state (without_patch state.world patch)) site ≡ filter (λ (e : Entry). not (e.patch == patch)) (entries_of setting state site) }
 {}
 
-/// Of an event that is accepted none of the cases holds in which it would be refused, and it leads to
-/// the state that its step tells. A refused event leaves the state.
+/// Of an event that is accepted none of the cases holds in which it would be refused, and it leads to the
+/// state that its step gives. A refused event leaves the state. So the list of cases is all there is to
+/// know of a refusal.
 pub fn events_are_accepted_where_no_case_holds()
     ensures none { (cases : List (Bool × Refusal)) → is_none (first_of cases) ≡ true → NoneHolds cases }
     ensures next { (setting : Setting) (state : State) (event : AnyEvent) → accepts setting state event ≡ true
@@ -84,9 +86,9 @@ pub fn events_are_accepted_where_no_case_holds()
     ensures stays { (setting : Setting) (state : State) (event : AnyEvent) → accepts setting state event ≡ false → next setting state event ≡ state }
 {}
 
-/// A history grows by an event that is accepted after it; what stands at its front is a history of
-/// the base, and what stands behind that one of the state that it leads to. Replies follow from the
-/// events.
+/// A history grows by an event that is accepted after it; its front is a history of the base, and what is
+/// behind that is one of the state that the front leads to. Replies follow from the events. Undo rests on
+/// this, since it cuts histories at their end.
 pub fn histories_grow_and_are_cut_at_their_end()
     ensures grown { (setting : Setting) (base : State) (history : History) (event : AnyEvent) (reply : AnyReply)
         → IsLegal setting base history → answer setting (state_after_history setting base history) event ≡ Ok reply
@@ -168,8 +170,9 @@ pub fn reads_nop_without_entry()
         → symbol_in (text_of setting state object) number ≡ option_map resting (given_symbol setting.image object number) }
 {}
 
-/// The text depends on no more than what is loaded and for which sites there are functions: not on
-/// the order of patches, nor on what moves, what is pinned and what tasks do.
+/// The text depends on no more than what is loaded and for which sites there are functions: not on the
+/// order of patches, nor on what moves, what is pinned and what tasks do. So a patch that is gone has left
+/// no byte.
 pub fn same_functions_same_text()
     ensures { (setting : Setting) (a : State) (b : State) (object : ℕ)
         → a.loaded ≡ b.loaded

@@ -1,4 +1,5 @@
-//! What is said: gathered first, and written where the room is full.
+//! What is said: gathered first, and written where the room is full, since a write for each word would be a
+//! call of the kernel each.
 ghost use Rattle.std.specs.Prelude.{◌≡◌, ℕ, ◌+◌, ◌<◌, ◌≤◌, ◌⊎◌, false, List, [], length, OnOk, OnErr};
 ghost use Rattle.std.specs.Fmt.{decimal, signed_decimal};
 ghost use Rattle.std.specs.Io.KnownBytes.{Appends};
@@ -123,8 +124,8 @@ impl Answers {
         }
     }
 
-    /// Says a text: it is gathered, and what was gathered is written first where there is no room for
-    /// both. A text that is longer than the room is written at once.
+    /// Says a text: it is gathered, and what was gathered is written first where there is no room for both.
+    /// A text that is longer than the room is written at once, so any length may be said.
     pub fn say<W: Sink>(&mut self, writer: &mut W, text: &[u8])
         ensures { Says (self.old, W.written writer.old) (self.new, W.written writer.new) text.now }
     {

@@ -1,4 +1,5 @@
-//! What answers are written to.
+//! What answers are written to. It is a trait of its own beside std's `Write`, since its contract counts
+//! what fails.
 ghost use Rattle.std.specs.Prelude.{◌≡◌, ◌+◌, ◌<◌, ◌≤◌, length, take, IfOk, OnErr};
 ghost use Rattle.std.specs.Io.KnownBytes.{Appends, Keeps};
 ghost use Rattle.klp_output.specs.Written.{Written};

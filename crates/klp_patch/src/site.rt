@@ -1,4 +1,5 @@
-//! The entry of a patch comes to the stack of one site, or leaves it.
+//! The entry of a patch comes to the stack of one site, or leaves it. A change of many sites is made of
+//! these, and so is its proof.
 ghost use Rattle.std.specs.Prelude.{◌≡◌, ℕ, ◌+◌, ◌<◌, ◌≤◌, ◌==◌, false, ◌∷◌, length};
 ghost use Rattle.klp_types.specs.Records.{spare_of};
 ghost use Rattle.klp_stack.specs.Stack.{entries_at, has_entry, entries_of_others};

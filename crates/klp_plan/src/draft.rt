@@ -1,4 +1,5 @@
-//! The plan as far as the lines up to here give it.
+//! The plan as far as the lines up to here give it. Each kind of line has its own function, which says
+//! where it may be.
 
 ghost use Rattle.std.specs.Prelude.{◌≡◌, ◌<◌, ◌==◌, vec_len, length, IsTrue, OnOk, OnErr, IfOk, option_copied};
 ghost use Rattle.std.specs.List.{list_any};

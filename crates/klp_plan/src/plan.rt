@@ -72,7 +72,8 @@ impl PlanTarget {
 #[derive(Debug, Drop)]
 pub struct PlanPatch {
     pub name: String,
-    /// Whether the patch is a cumulative one, which replaces all older ones.
+    /// Whether the patch is a cumulative one, which replaces all older ones when its transition is
+    /// complete.
     pub replace: bool,
     pub targets: Vec<PlanTarget>,
     /// The system states that the patch names, in the order of the text, each id once.

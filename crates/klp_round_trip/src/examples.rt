@@ -12,8 +12,9 @@ ghost use Rattle.klp_machine.specs.Allowed.{Allowed};
 ghost use Rattle.klp_round_trip.specs.Company.{taking_part, company_keys, EachUndoes, IsFairCompany};
 ghost use Rattle.klp_round_trip.specs.Examples.{key_of, adding, bare, with_a_sleeper, every_stage, own_variable_first, refusing_behind, both_loaded, sharing, with_five, there_and_back};
 
-/// A cumulative patch is enabled, held by a sleeper, turned round twice, complete, disabled, waited for
-/// and gone, and a variable of somebody else is added between: a fair company.
+/// A cumulative patch is enabled, held by a sleeper, turned round twice, complete, disabled, waited for and
+/// gone, and a variable of somebody else is added between: a fair company, so the laws speak of all of
+/// these.
 pub fn a_fair_company_goes_through_every_stage()
     ensures allowed { Allowed adding with_a_sleeper }
     ensures fair { IsFairCompany adding 0 with_a_sleeper every_stage }
@@ -43,7 +44,7 @@ pub fn objects_that_share_a_variable_leave_a_trace()
 {}
 
 /// A patch whose second object refuses is gone at once, and its enabling is a fair company: the first
-/// object takes part, the second one refuses.
+/// object takes part, since it was set up and cleaned up, and the second one refuses.
 pub fn a_refused_patch_is_a_fair_company()
     ensures fair { IsFairCompany refusing_behind 0 both_loaded (Enable 0 ∷ []) }
     ensures refuses { is_some (find refuses (loaded_objects refusing_behind both_loaded 0)) ≡ true }

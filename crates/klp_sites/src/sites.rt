@@ -188,7 +188,7 @@ impl Sites {
         &self.image
     }
 
-    /// Whether an object is loaded. An object that isn't there isn't.
+    /// Whether an object is loaded. An object that isn't there isn't, so that every number has an answer.
     pub fn is_loaded(&self, object: ObjId) -> bool
         ensures { result ≡ slice_index_or self.now.loaded object false }
     {
@@ -220,8 +220,8 @@ impl Sites {
         self.stacks.sites()
     }
 
-    /// The entry of a patch on a site's stack, if it has one there. The cost is at most the stack's
-    /// height.
+    /// The entry of a patch on a site's stack, if it has one there: by it one sees whether a sleeper may be
+    /// held at the site. The cost is at most the stack's height.
     pub fn entry(&self, site: Site, patch: PatchId) -> Option<Entry>
         ensures value { result ≡ find (λ (e : AnyEntry). e.patch == patch) (entries_at self.now.stacks site) }
         // what each stack keeps to, so that callers needn't prove it again

@@ -1,4 +1,5 @@
-//! What a call at a site runs (the kernel's `klp_ftrace_handler`).
+//! What a call at a site runs (the kernel's `klp_ftrace_handler`). It works on the two newest entries
+//! alone, as it would run at each call.
 
 ghost use Rattle.std.specs.Prelude.{◌≡◌};
 ghost use Rattle.std.specs.Option.{option_to_list};

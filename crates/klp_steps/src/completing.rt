@@ -1,4 +1,6 @@
-//! A transition is tried and completed (livepatch, Consistency model; cumulative-patches).
+//! A transition is tried and completed (livepatch, Consistency model; cumulative-patches). Entries leave
+//! before the callbacks run, as in the kernel, and the list changes after them, so that they find the
+//! patches that leave.
 ghost use Rattle.std.specs.Prelude.{◌≡◌, ℕ, ◌+◌, ◌*◌, ◌≤◌, true, [], None, Some, ◌==◌, length};
 ghost use Rattle.std.specs.FinMap as finite;
 ghost use Rattle.klp_types.specs.declared.limits.TheConstants.{MAX_SITES, MAX_RECORDS, MAX_TASKS, MAX_VARIABLES};

@@ -122,7 +122,8 @@ impl Parts {
         catalog.is_compatible(patch, self.world.installed())
     }
 
-    /// Whether a function of the patch for a loaded object names no site.
+    /// Whether a function of the patch for a loaded object names no site, so that the patch couldn't be put
+    /// in whole.
     fn lacks_symbol(&self, catalog: &Catalog, patch: PatchId) -> bool
         requires { Invariant self.now catalog.now }
         ensures { result ≡ lacks_symbol (setting_of (managed_of self.now catalog.now)) self.now.sites.loaded patch }
@@ -130,7 +131,8 @@ impl Parts {
         lack_symbol(&self.modules, catalog.functions(patch))
     }
 
-    /// Whether there is no room for what the callbacks that may run add.
+    /// Whether there is no room for what the callbacks that may run add. It is asked once, so that none
+    /// fails for want of room.
     fn lacks_room_to_enable(&self, catalog: &Catalog, patch: PatchId) -> bool
         requires { Invariant self.now catalog.now }
         ensures room { result ≡ lacks_room (setting_of (managed_of self.now catalog.now)) (managed_of self.now catalog.now).state (Enable patch) }

@@ -65,7 +65,7 @@ impl Parts {
         }
     }
 
-    /// Whether this is the patch in transition.
+    /// Whether this is the patch in transition, of which there is one at most.
     pub(crate) fn moves(&self, patch: PatchId) -> bool
         ensures { result ≡ moves self.now.moving patch }
     {

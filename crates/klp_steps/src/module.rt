@@ -35,7 +35,7 @@ fn copy_of(patches: &[PatchId]) -> ArrayVec<PatchId, MAX_PATCHES>
     copy
 }
 
-/// Whether a function is for this object and names no site of it.
+/// Whether a function is for this object and names no site of it, so that it couldn't be put in.
 fn lacks_site(function: &CatalogFunction, object: ObjId) -> bool
     ensures { result ≡ (function.now.object == object && is_none function.now.site) }
 {
@@ -169,7 +169,8 @@ impl Parts {
         added > MAX_VARIABLES - usize::from(self.world.count())
     }
 
-    /// The installed patches, oldest first, in a list that stays while the world changes.
+    /// The installed patches, oldest first, in a list that stays while the world changes: callbacks are
+    /// handed the world, and so the world's own list can't be lent meanwhile.
     fn installed_patches(&self, catalog: &Catalog) -> ArrayVec<PatchId, MAX_PATCHES>
         requires { Invariant self.now catalog.now }
         ensures value { result.items ≡ installed_patches (managed_of self.now catalog.now).state }

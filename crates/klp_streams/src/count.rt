@@ -1,4 +1,4 @@
-//! Counts for contracts alone.
+//! Counts for contracts alone: no code reads them, so they cost nothing.
 ghost use Rattle.std.specs.Prelude.{◌≡◌, ◌+◌, ◌≤◌};
 
 use std::marker::Model;

@@ -1,4 +1,4 @@
-//! Bytes in memory as a source.
+//! Bytes in memory as a source, so that tests can cut an input as they want.
 ghost use Rattle.std.specs.Prelude.{◌≡◌, ◌<◌, ◌≤◌, ◌↔◌, false, length, Some, IsErr, IfOk, OnErr};
 
 use crate::count::{Count, two_counts};

@@ -1,4 +1,4 @@
-//! A reader of std as a source.
+//! A reader of std as a source: the standard input of the program, and readers in tests.
 ghost use Rattle.std.specs.Prelude.{◌≡◌, ◌≤◌, false};
 
 use crate::count::{Count, two_counts};

@@ -1,4 +1,4 @@
-//! A writer of std as a sink.
+//! A writer of std as a sink: the standard output of the program, and writers in tests.
 ghost use Rattle.std.specs.Prelude.{◌≡◌, ◌≤◌};
 
 use crate::count::{Count, two_counts};

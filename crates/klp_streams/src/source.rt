@@ -1,4 +1,5 @@
-//! What lines are read from.
+//! What lines are read from. It is a trait of its own beside std's `Read`, since its contract counts what
+//! fails.
 ghost use Rattle.std.specs.Prelude.{IfOk, OnErr};
 ghost use Rattle.klp_streams.specs.Supply.{Supply, Gives, Fails};
 

@@ -1,4 +1,4 @@
-//! Room in memory as a sink.
+//! Room in memory as a sink, so that tests can see what was written, and let writes fail.
 ghost use Rattle.std.specs.Prelude.{◌≡◌, ◌+◌, ◌<◌, ◌≤◌, ◌↔◌, [], length, take, Some, IsErr, IfOk, OnErr};
 
 use crate::count::{Count, two_counts};

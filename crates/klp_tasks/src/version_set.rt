@@ -73,7 +73,8 @@ impl VersionSet {
         *self = Self::new();
     }
 
-    /// Whether the version is in the set. One of a site, patch or function that there can't be isn't.
+    /// Whether the version is in the set. One of a site, patch or function that there can't be isn't, so
+    /// that frames needn't be checked first.
     pub fn contains(&self, version: Version) -> bool
         ensures { result ≡ has self.now version }
     {

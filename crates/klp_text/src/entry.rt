@@ -9,7 +9,7 @@ use klp_types::{ENTRY_SITE_END, ENTRY_SITE_LEN};
 /// that no task can be in the middle of what a call is written over.
 pub const NOP: [u8; ENTRY_SITE_LEN] = [0x0f, 0x1f, 0x44, 0x00, 0x00];
 
-/// The opcode of a near call.
+/// The opcode of a near call, behind which its displacement is.
 const CALL: u8 = 0xe8;
 
 /// How far the handler is from the instruction behind the call in the body at this address, as the

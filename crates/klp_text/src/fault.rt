@@ -20,7 +20,8 @@ pub enum ImageFault {
     /// Two objects have one name, by which targets and modules are found.
     #[error("DuplicateObject")]
     DuplicateObject = 4,
-    /// There are too many objects or sites, or a body is too long.
+    /// There are too many objects or sites, or a body is too long: it is looked at first, since it bounds
+    /// the cost of all other checks.
     #[error("TooMany")]
     TooMany = 5,
     /// There is no memory for the image.

@@ -157,7 +157,7 @@ impl Image {
         Some(self.sites[site].body.as_slice())
     }
 
-    /// The address of an entry site, which is that of its symbol.
+    /// The address of an entry site, which is that of its symbol, since a body begins with it.
     pub fn address(&self, site: Site) -> u64
         requires { site < site_count self.now.image }
         ensures value { option_map (λ (s : Symbol). s.address) (symbol_of self.now.image site) ≡ Some result }
@@ -168,7 +168,7 @@ impl Image {
         self.sites[usize::from(site.0)].address
     }
 
-    /// How many objects there are, loaded or not.
+    /// How many objects there are, loaded or not: each keeps its number while it comes and goes.
     pub fn objects(&self) -> u8
         ensures count { result ≡ length self.now.image.objects }
         // what every image has, so that tables above need no check of their own

@@ -11,8 +11,8 @@ pub enum Edit {
     Free(ShadowKey),
     /// Removes the shadow variables of this id, whatever their parent objects.
     FreeAll(u64),
-    /// Gives the patch's own system state of this id the value; nothing where the patch doesn't
-    /// name the state.
+    /// Gives the patch's own system state of this id the value; nothing where the patch doesn't name the
+    /// state, since a script isn't compared with its patch beforehand.
     SetData(u64, u64),
     /// Gives the patch's own system state of this id the value that it has in the newest patch
     /// installed before that names it; nothing where there is none.

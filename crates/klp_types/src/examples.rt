@@ -8,8 +8,8 @@ ghost use Rattle.klp_types.specs.Pick.{entries_for, newest_version, target_of};
 ghost use Rattle.klp_types.specs.Callbacks.{calls_of, enable_calls, end_of};
 ghost use Rattle.klp_types.specs.Examples.{patched_kernel, objects_refusing_in, ran};
 
-/// A cumulative patch puts a nop on a site for which it has no function and an older patch has one,
-/// and nothing where no older patch has one.
+/// A cumulative patch puts a nop on a site for which it has no function and an older patch has one, because
+/// it takes the older one's function back; and nothing where no older patch has one.
 pub fn a_nop_stands_over_an_older_patch()
     ensures nop { entries_from patched_kernel 1 (1 ∷ 0 ∷ []) ≡ record { patch = 1; func = None } ∷ record { patch = 0; func = Some 1 } ∷ [] }
     ensures own { entries_from patched_kernel 0 (1 ∷ 0 ∷ []) ≡ record { patch = 1; func = Some 0 } ∷ record { patch = 0; func = Some 0 } ∷ [] }
@@ -26,8 +26,8 @@ pub fn tasks_pass_over_the_moving_entry()
     ensures nop { newest_version 1 (entries_for (Some (record { patch = 1; target = true })) (pos 1) (entries_from patched_kernel 1 (1 ∷ 0 ∷ []))) ≡ Original 1 }
 {}
 
-/// A new function begins at its own address, an original behind its entry site. What isn't there
-/// begins nowhere.
+/// A new function begins at its own address, an original behind its entry site, so that it doesn't call the
+/// handler again. What isn't there begins nowhere.
 pub fn versions_begin_where_their_code_does()
     ensures new { target_of patched_kernel (New 0 1) ≡ Some (record { version = New 0 1; address = 0xffff_ffff_c000_1100 }) }
     ensures original { target_of patched_kernel (Original 1) ≡ Some (record { version = Original 1; address = 0xffff_ffff_8100_2005 }) }

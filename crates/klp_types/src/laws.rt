@@ -61,7 +61,8 @@ pub fn edits_go_key_by_key()
     ensures all { (patch : ℕ) (world : World) (edits : List Edit) (key : ShadowKey) → variable (edited_by patch world edits) key ≡ made_of key (variable world key) edits }
 {}
 
-/// A shadow variable that no edit touches stays as it is, and one that a script doesn't touch.
+/// A shadow variable that no edit touches stays as it is, and one that a script doesn't touch. So what a
+/// patch's callbacks can have changed is known from their scripts.
 pub fn untouched_variables_stay()
     ensures edits { (edits : List Edit) (key : ShadowKey) (was : Option ShadowValue) → list_any (edit_touches key) edits ≡ false → made_of key was edits ≡ was }
     ensures script { (patch : ℕ) (world : World) (script : Script) (key : ShadowKey) → touches script key ≡ false → variable (effect patch world script) key ≡ variable world key }
@@ -112,7 +113,8 @@ pub fn variables_go_by_variables_alone()
     ensures after { (a b : World) (calls : List Call) → a.shadow ≡ b.shadow → (after_calls a calls).shadow ≡ (after_calls b calls).shadow }
 {}
 
-/// The sites of an image are the symbols of its objects, one object after another.
+/// The sites of an image are the symbols of its objects, one object after another: so an object's sites are
+/// known from its first one.
 pub fn sites_go_object_by_object()
     ensures both { (first others : List Object) → symbols_of (first ++ others) ≡ symbols_of first ++ symbols_of others }
     ensures one_more { (objects : List Object) (index : ℕ) (at : Object) → index < length objects
@@ -121,7 +123,8 @@ pub fn sites_go_object_by_object()
         → symbols_of (drop index objects) ≡ (get_or objects index at).symbols ++ symbols_of (drop (index + 1) objects) }
 {}
 
-/// The sites of an object stand together, from its first site on.
+/// The sites of an object are next to each other, from its first site on, so that a walk over them is a
+/// count.
 pub fn sites_of_an_object_stand_together()
     ensures symbols { (objects : List Object) (index place : ℕ) (object : Object) → slice_get objects index ≡ Some object → place < length object.symbols
         → slice_get (symbols_of objects) (first_site objects index + place) ≡ slice_get object.symbols place }
@@ -129,7 +132,7 @@ pub fn sites_of_an_object_stand_together()
         → first_site objects index + length object.symbols ≤ length (symbols_of objects) }
 {}
 
-/// Patches put an entry on a site exactly where one of them has a function for it.
+/// Patches put an entry on a site exactly where one of them has a function for it: nops alone hook nothing.
 pub fn entries_stand_where_functions_are()
     ensures { (setting : Setting) (site : ℕ) (patches : List ℕ) → not (is_empty (entries_from setting site patches)) ≡ list_any (patches_site setting site) patches }
 {}
@@ -155,7 +158,8 @@ pub fn entries_are_of_their_patches()
         → All (λ (e : Entry). IfSome e.func (λ f. f < length (functions_of setting e.patch))) (entries_from setting site patches) }
 {}
 
-/// How much there may be of everything, and where an entry site stands.
+/// How much there may be of everything, and where an entry site is. Definitions and code name the limits
+/// apart, and this is where a changed one is found.
 pub fn limits_are_these()
     ensures objects { MAX_OBJECTS ≡ 17 }
     ensures sites { MAX_SITES ≡ 256 }

@@ -16,8 +16,8 @@ pub const ENTRY_SITE_LEN: usize = 5;
 /// Where in a body its entry site begins: at its first byte, as with `-mfentry`.
 pub const ENTRY_SITE_OFFSET: usize = 0;
 
-/// Where in a body its entry site ends: what stands behind it is as it was built. No body may be
-/// shorter.
+/// Where in a body its entry site ends: what is behind it is as it was built. No body may be shorter, since
+/// hooking one would write over its neighbour.
 pub const ENTRY_SITE_END: usize = ENTRY_SITE_OFFSET + ENTRY_SITE_LEN;
 
 /// How many bytes the body of a symbol may have. The image keeps two copies of each.
@@ -67,7 +67,8 @@ pub const MAX_JOURNAL_RECORDS: usize = 16384;
 /// body of 256 bytes and 16 edits with the greatest numbers each fit into a line.
 pub const MAX_LINE: usize = 2048;
 
-/// How many bytes the name of an object, a patch or a new function may have.
+/// How many bytes the name of an object, a patch or a new function may have: 56 with the 0 at its end,
+/// which is the kernel's `MODULE_NAME_LEN` with 64 bits.
 pub const MAX_NAME: usize = 55;
 
 /// How many bytes the name of a symbol may have: 128 with the 0 at its end, as in the kernel until its

@@ -17,13 +17,15 @@ pub enum Record {
         key: ShadowKey,
         was: Option<ShadowValue>,
     },
-    /// The value of a system state of an installed patch.
+    /// The value of a system state of an installed patch. The row itself was there before and stays, so
+    /// there is no `None`.
     StateValue {
         patch: PatchId,
         id: u64,
         was: u64,
     },
-    /// A system state of an installed patch: its value, or `None` where the patch had no such row.
+    /// A system state of an installed patch, which comes and goes with the patch: its value, or `None`
+    /// where the patch had no such row.
     StateRow {
         patch: PatchId,
         id: u64,
@@ -59,7 +61,7 @@ pub enum Record {
         task: TaskId,
         was: Task,
     },
-    /// A number that no task had.
+    /// A number that no task had, so to put this back ends the task that has it.
     NoTaskRow {
         task: TaskId,
     },

@@ -15,7 +15,7 @@ pub struct SiteWord {
 #[derive(Clone, Copy, Debug, PartialEq, Eq)]
 pub struct SiteRow {
     pub word: SiteWord,
-    /// The address behind the entry site.
+    /// The address behind the entry site, where the original goes on once the handler has run.
     pub original: u64,
     pub top: u64,
     pub below: u64,

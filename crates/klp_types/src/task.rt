@@ -23,11 +23,11 @@ impl Model for TaskId {
 /// by its frames, the others when they next leave the kernel.
 #[derive(Clone, Copy, Debug, PartialEq, Eq)]
 pub enum Mode {
-    /// In user space: it runs no function of the kernel.
+    /// In user space: it runs no function of the kernel, so nothing can hold it.
     User,
-    /// It runs in the kernel.
+    /// It runs in the kernel. What it is inside of isn't known, so it is switched only when it leaves.
     Kernel,
-    /// It sleeps in the kernel, inside of functions.
+    /// It sleeps in the kernel, inside of functions that are known, so it can be switched while it sleeps.
     Asleep,
 }
 
@@ -73,7 +73,7 @@ impl Frames {
         self.count
     }
 
-    /// The frames, outermost first.
+    /// The frames, outermost first, without the places that aren't used.
     pub fn as_slice(&self) -> &[Version]
         ensures { result.now ≡ self.now }
     {
@@ -106,6 +106,6 @@ pub struct Task {
     /// patch in transition, and 0 where it doesn't.
     pub state: i8,
     pub mode: Mode,
-    /// What a sleeping task is inside of. Any other has none.
+    /// What a sleeping task is inside of. Any other has none, since its frames change all the time.
     pub frames: Frames,
 }

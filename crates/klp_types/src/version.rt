@@ -3,7 +3,8 @@ use crate::number::{PatchId, Site};
 /// Which code answers a call of a function. It names code, and no entry: a nop is the original.
 #[derive(Clone, Copy, Debug, PartialEq, Eq)]
 pub enum Version {
-    /// The function that the site was built with.
+    /// The function that the site was built with. It is named by the site, so that each frame tells where
+    /// it was called.
     Original(Site),
     /// A new function of a patch, by its place among all functions of the patch from 0.
     New(PatchId, u16),
@@ -31,6 +32,7 @@ pub struct Entry {
 #[derive(Clone, Copy, Debug, PartialEq, Eq)]
 pub struct Move {
     pub patch: PatchId,
-    /// The state that tasks are brought to: `true` to run the patch, `false` to leave it.
+    /// The state that tasks are brought to: `true` to run the patch, `false` to leave it. A reversal turns
+    /// this round and nothing else.
     pub target: bool,
 }

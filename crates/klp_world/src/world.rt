@@ -95,7 +95,8 @@ impl World {
         })
     }
 
-    /// The value of a shadow variable, if it is there (`klp_shadow_get`).
+    /// The value of a shadow variable, if it is there (`klp_shadow_get`). No callback asks for one, since
+    /// scripts have no conditions.
     pub fn get(&self, key: ShadowKey) -> Option<ShadowValue>
         ensures { result ≡ variable self.now key }
     {
@@ -265,7 +266,7 @@ impl World {
     }
 
     /// Gives a system state of an installed patch the value. Nothing changes where the patch isn't
-    /// installed or doesn't name the state.
+    /// installed or doesn't name the state, since to name a state is what makes it the patch's.
     pub fn set_value(&mut self, patch: PatchId, id: u64, value: u64, log: &mut Records)
         requires { length (rows_of_set self.old patch id value) ≤ spare_of log.old }
         ensures changes { Changes self.old self.new log.old log.new (with_value self.old patch id value) (rows_of_set self.old patch id value) }
