@@ -21,8 +21,8 @@ pub enum ServeFault {
     /// A write failed, or took nothing, after which answers would be lost.
     #[error("Write")]
     Write,
-    /// A line is longer than [`MAX_CONSOLE_LINE`](klp_types::MAX_CONSOLE_LINE) bytes. Serving ends, since
-    /// where the next line begins would be a guess.
+    /// A line is longer than [`MAX_CONSOLE_LINE`](klp_types::MAX_CONSOLE_LINE) bytes. Serving ends,
+    /// and no part of the line is done.
     #[error("LineTooLong")]
     LineTooLong,
 }

@@ -29,7 +29,9 @@ use std::marker::Model;
 
 /// The live patching manager: the image with its text, the catalog with its patches, which of them are
 /// installed and in transition, the tasks, the shadow variables, and a journal of the events that were
-/// accepted, by which they can be taken back.
+/// accepted, by which they can be taken back. Contracts see the image, the catalog and the state; the
+/// setting of the definitions is computed from these, so it can't disagree with them (docs/DECISIONS.md,
+/// "The model of a manager").
 #[derive(Drop)]
 pub struct Manager {
     pub(crate) parts: Parts,

@@ -20,7 +20,7 @@ use klp_machine::Refusal;
 use klp_output::{Answers, Sink, what_is_said_adds_up};
 use klp_types::{ObjId, PatchId, TaskId};
 
-/// Whether a patch is installed: its files are there then.
+/// Whether a patch is installed, since its files are there only then.
 pub(crate) fn is_installed(manager: &Manager, patch: PatchId) -> bool
     ensures { result ≡ is_installed manager.now.managed.state patch }
 {

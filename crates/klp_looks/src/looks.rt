@@ -18,8 +18,7 @@ use klp_machine::Refusal;
 use klp_output::{Answers, Sink, what_is_said_adds_up};
 use klp_types::PatchId;
 
-/// Says what a look shows. Says nothing where it is refused, so that an answer is all of one or all of the
-/// other.
+/// Says what a look shows. Says nothing where it is refused, so that the refusal is the whole answer.
 fn show<W: Sink>(
     answers: &mut Answers,
     writer: &mut W,

@@ -121,7 +121,7 @@ pub enum Refusal {
     /// may run add. This is asked before the first of them, since an event isn't left half done.
     #[error("Full")]
     Full = 13,
-    /// The journal has no room for another event, which so couldn't be undone.
+    /// The journal has no room for another event, and one that couldn't be undone isn't taken.
     #[error("JournalFull")]
     JournalFull = 14,
     /// No patch is in transition, or not this one.

@@ -1,5 +1,6 @@
 //! Worked examples of the definitions, by computation. A function here does nothing: its contract is the
-//! example. They pin down what laws say only in general, so that a wrong definition has nowhere to hide.
+//! example. They are here and not in tests, since a test proves no definition (docs/DECISIONS.md, "Tests
+//! above what they test").
 ghost use Rattle.std.specs.Prelude.{◌≡◌, pos, negsuc, true, false, [], ◌∷◌, Some, None};
 ghost use Rattle.klp_types.specs.declared.callback.Which.TheVariants.{Pre, Post, PreUn, PostUn};
 ghost use Rattle.klp_types.specs.declared.version.Version.TheVariants.{Original, New};

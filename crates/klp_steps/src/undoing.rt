@@ -23,7 +23,8 @@ impl Parts {
     }
 
     /// Gives one row what its record has. Each part is handed the record, and changes nothing where it is
-    /// of another kind, so that no table of who has which is needed.
+    /// of another kind, so that no table of who has which is needed (docs/DECISIONS.md, "Records of another
+    /// kind").
     fn put_back(&mut self, row: &Record)
         requires modules { self.old.modules.loaded ≡ self.old.sites.loaded }
         requires objects { length self.old.sites.loaded ≡ length self.old.sites.image.objects }

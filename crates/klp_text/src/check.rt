@@ -88,7 +88,8 @@ fn has_name(objects: &[ObjectText], name: &str) -> bool
     objects.iter().any(|object| object.name.as_str() == name)
 }
 
-/// The fault of the first symbol that has one, in the image's order, as an administrator reads it.
+/// The fault of the first symbol that has one, in the image's order, so that the first line to mend is
+/// told.
 fn symbols_fault(handler: u64, objects: &[ObjectText]) -> Option<ImageFault>
     ensures { result ≡ faults.first_fault (faults.symbols_tests handler [] (symbols_of objects.now)) }
 {
@@ -100,7 +101,8 @@ fn symbols_fault(handler: u64, objects: &[ObjectText]) -> Option<ImageFault>
     None
 }
 
-/// The fault of the first symbol of one object that has one, where these other objects come before it.
+/// The fault of the first symbol of one object that has one. The objects before it are asked for, since a
+/// symbol may lie on one of theirs.
 fn object_fault(handler: u64, earlier: &[ObjectText], symbols: &[SymbolText]) -> Option<ImageFault>
     ensures { result ≡ faults.first_fault (faults.symbols_tests handler (symbols_of earlier.now) symbols.now) }
 {

@@ -110,8 +110,7 @@ impl Model for Records {
 }
 
 impl Records {
-    /// An empty list with room for `room` records, which is never left or grown. An error is want of
-    /// memory.
+    /// An empty list with room for `room` records, which never grows. An error is want of memory.
     pub fn new(alloc: Global, room: usize) -> Result<Self, AllocError>
         ensures { IfOk result (λ records. records ≡ record { noted = []; room = room }) }
     {

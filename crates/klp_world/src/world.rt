@@ -214,8 +214,8 @@ impl World {
         (before - self.shadow.len()) as u16
     }
 
-    /// Puts a patch last, since it is the newest, with these system states at 0: a fresh state has the
-    /// value of none before it until a callback takes one over.
+    /// Puts a patch last, since it is the newest, with these system states at 0, since nothing is taken
+    /// over before a callback does so.
     pub fn add_states(&mut self, patch: PatchId, ids: &[u64], log: &mut Records)
         requires fresh { list_any (λ (i : Installed). i.patch == patch) self.old.installed ≡ false }
         requires room { length self.old.installed < MAX_PATCHES }
