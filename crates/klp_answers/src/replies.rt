@@ -13,7 +13,7 @@ use klp_modules::Modules;
 use klp_output::{Answers, Sink, what_is_said_adds_up};
 use klp_types::{Frames, ObjId, PatchId, Site, Version};
 
-/// Says that a line was done which has no more to tell, as `ok`, so that each line with words has an
+/// Says that a line was done which has no more to report, as `ok`, so that each line with words has an
 /// answer.
 pub fn say_done<W: Sink>(answers: &mut Answers, writer: &mut W)
     ensures { Says (answers.old, W.written writer.old) (answers.new, W.written writer.new) done_text }
@@ -122,7 +122,7 @@ fn say_frame<W: Sink>(
     }
 }
 
-/// Says the functions that a task was inside of, outermost first, as a line tells them.
+/// Says the functions that a task was inside of, outermost first, in the order in which a line has them.
 fn say_frames<W: Sink>(
     answers: &mut Answers,
     writer: &mut W,

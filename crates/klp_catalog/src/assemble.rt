@@ -31,7 +31,7 @@ pub enum AssembleFault {
     /// A patch has two functions for one site, of which only one could run.
     #[error("SameSite")]
     SameSite = 2,
-    /// Memory ran out. This may stand in place of the other faults.
+    /// Memory ran out. This may come in place of the other faults.
     #[error("NoMemory")]
     NoMemory = 3,
 }
@@ -218,8 +218,8 @@ fn assemble_patch(
 /// The patches in order, each with its functions resolved and the numbers of its callbacks, of which there
 /// are so many.
 ///
-/// That two functions are for one site is told only once all numbers are given out, since a wrong number of
-/// callbacks is looked at first.
+/// That two functions are for one site is reported only once all numbers are given out, since a wrong
+/// number of callbacks is looked at first.
 pub(crate) fn assemble_patches(
     alloc: Global,
     modules: &Modules,

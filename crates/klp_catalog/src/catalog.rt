@@ -69,9 +69,9 @@ impl Model for Catalog {
 impl Catalog {
     /// Reads a whole text, in time that is linear in its length.
     ///
-    /// A fault is that of the first faulty line. A text without a faulty line that has no handler
-    /// or no object is `Missing`, at line 0. `NoMemory` may stand in place of any of these, at the
-    /// line where memory ran out.
+    /// A fault is that of the first faulty line. A text without a faulty line that has no handler or no
+    /// object is `Missing`, at line 0. `NoMemory` may come in place of any of these, at the line where
+    /// memory ran out.
     pub fn read(alloc: Global, text: &[u8]) -> Result<Plan, TextFault>
         ensures plan { IfOk result (λ plan. plan_of text.now ≡ Ok plan) }
         // so a plan's targets are objects of the image that its objects make, as `assemble` wants, though
@@ -294,9 +294,9 @@ impl Catalog {
         Some((function.site(), function.new_name(), function.address()))
     }
 
-    /// The symbol that a new function of a patch stands in for, by the function's place over the
-    /// patch's objects from 0: its object, its name and its position among the symbols of that
-    /// name, from 1, where 0 asks that the name is unique in the object (livepatch, Metadata).
+    /// The symbol that a new function of a patch replaces, by the function's place over the patch's objects
+    /// from 0: its object, its name and its position among the symbols of that name, from 1, where 0 asks
+    /// that the name is unique in the object (livepatch, Metadata).
     pub fn function_name(&self, patch: PatchId, number: u16) -> Option<(ObjId, &str, u32)>
         ensures { option_map {U = ℕ × List ℕ × ℕ} (λ f. (f.0, f.1.now, f.2)) result
             ≡ option_map (λ (f : FunctionValue). (f.object, f.symbol, f.sympos)) (slice_get (catalog_functions self.now patch) number) }

@@ -32,7 +32,7 @@ pub fn counts_grow_by_runs()
 {}
 
 /// Runs that follow one another grow the counts as all of them together, and no run changes nothing: so a
-/// walk over callbacks can be told as one list.
+/// walk over callbacks can be described as one list.
 pub fn runs_add_up()
     ensures { RunsAddUp }
 {}

@@ -1,4 +1,4 @@
-//! The lines of what tasks do, which in a kernel nobody types: here they stand for its scheduler.
+//! The lines of what tasks do, which in a kernel nobody types: here they are in place of its scheduler.
 
 ghost use Rattle.std.specs.Prelude.{◌≡◌, ◌≤◌, length};
 ghost use Rattle.klp_command.specs.Words.{words_of};

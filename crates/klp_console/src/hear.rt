@@ -34,7 +34,7 @@ pub(crate) fn hear_lines<W: Sink>(
     let mut rest = piece;
     while !rest.is_empty() {
         match line.hear(rest) {
-            // The clause finds a long line by the bytes of the source, which standard input doesn't tell;
+            // The clause finds a long line by the bytes of the source, which standard input doesn't give;
             // but this is one function for all sources (docs/DECISIONS.md, "Long lines of standard input").
             Err(TooLong) => return Err(ServeFault::LineTooLong),
             Ok(None) => return Ok(()),

@@ -2,7 +2,7 @@
 
 use thiserror::Error;
 
-/// How many lines were served, and how many of them were refused: what a caller can tell without reading
+/// How many lines were served, and how many of them were refused: what a caller can know without reading
 /// answers.
 #[derive(Clone, Copy, Debug, Default, PartialEq, Eq)]
 pub struct Served {

@@ -6,7 +6,7 @@ ghost use Rattle.klp_steps.specs.Managed.{Managed, setting_of};
 
 use klp_catalog::laws::sites_lie_in_their_objects;
 
-/// Where the catalog was assembled over the names of the image, as `Manager::catalog` tells of every
+/// Where the catalog was assembled over the names of the image, as `Manager::catalog` promises of every
 /// manager, each function of a patch that names a site is in the object of that site. The laws of what
 /// tasks run (`klp_machine`) ask for it, since nothing else gives it (docs/DECISIONS.md, "The object of a
 /// function").

@@ -7,7 +7,7 @@ use thiserror::Error;
 /// What is wrong with a line of a catalog's text. The numbers are this project's own, and stay, since
 /// scripts may ask for them.
 ///
-/// In a line that has more than one fault, the first of these is told: `NotAscii`, `LineTooLong`,
+/// In a line that has more than one fault, the first of these is reported: `NotAscii`, `LineTooLong`,
 /// `UnknownWord`, `WrongCount`, then the words from left to right (`BadNumber` to `BadEdit`), then
 /// `OutOfPlace`, `UnknownObject`, `Twice` and `TooMany`.
 #[derive(Clone, Copy, Debug, PartialEq, Eq, Error)]
@@ -18,11 +18,10 @@ pub enum TextFaultKind {
     /// The line has more than [`MAX_LINE`](klp_types::MAX_LINE) bytes. A comment may have any number.
     #[error("LineTooLong")]
     LineTooLong = 2,
-    /// No line begins with this word, or another word than `replace` stands behind the name of a
-    /// patch.
+    /// No line begins with this word, or another word than `replace` is behind the name of a patch.
     #[error("UnknownWord")]
     UnknownWord = 3,
-    /// The line has too few words or too many, or edits stand behind a status other than 0.
+    /// The line has too few words or too many, or edits are behind a status other than 0.
     #[error("WrongCount")]
     WrongCount = 4,
     /// A status, or the id or version of a system state, is no decimal number, or out of range.
@@ -58,7 +57,7 @@ pub enum TextFaultKind {
     /// is at fault.
     #[error("Missing")]
     Missing = 14,
-    /// Memory ran out. This may stand in place of any fault of this line or a later one.
+    /// Memory ran out. This may come in place of any fault of this line or a later one.
     #[error("NoMemory")]
     NoMemory = 15,
 }

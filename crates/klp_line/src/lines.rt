@@ -106,7 +106,7 @@ impl<'a> Words<'a> {
     }
 
     /// The end of a line that has too many words with one more. It is asked for before any word's own fault
-    /// is told.
+    /// is reported.
     pub(crate) fn end(&mut self) -> Result<(), TextFaultKind>
         ensures { MatchResult result (λ _. self.old ≡ [])
             (λ kind. (kind ≡ TextFaultKind.WrongCount) × (word : List ℕ) × (words : List (List ℕ)) × (self.old ≡ word ∷ words)) }

@@ -11,8 +11,8 @@ pub enum Separators {
     SpacesAndTabs,
 }
 
-/// The first word, which is never empty, and what stands behind it, in time that is linear in the
-/// word's length and that of what separates it from the front.
+/// The first word, which is never empty, and what is behind it, in time that is linear in the word's length
+/// and that of what separates it from the front.
 pub fn first_word(line: &[u8], separators: Separators) -> Option<(&[u8], &[u8])>
     ensures { MatchOption result (words_between (separates separators) line.now ≡ [])
         (λ found. words_between (separates separators) line.now ≡ found.0.now ∷ words_between (separates separators) found.1.now) }

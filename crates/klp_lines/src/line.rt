@@ -6,7 +6,7 @@ use arrayvec::ArrayVec;
 use klp_types::MAX_CONSOLE_LINE;
 use std::marker::Model;
 
-/// That a line is longer than [`MAX_CONSOLE_LINE`]. There is no more to tell, since the line isn't kept.
+/// That a line is longer than [`MAX_CONSOLE_LINE`]. There is no more to report, since the line isn't kept.
 #[derive(Debug, Clone, Copy, PartialEq, Eq)]
 pub struct TooLong;
 

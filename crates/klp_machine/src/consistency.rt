@@ -38,7 +38,7 @@ pub fn none_is_mixed()
         → NoneMixed setting (seen_from setting start first) }
 {}
 
-/// A frame's version names the site of the call: a table of versions is enough to tell the frames.
+/// A frame's version names the site of the call: a table of versions is enough to know the frames.
 pub fn versions_name_their_sites()
     ensures { (setting : Setting) (start : State) (first second : List Seen)
         → IsInPlace setting → IsHonestRun setting start (first ++ second)
@@ -68,8 +68,8 @@ pub fn a_sleeper_holds_the_transition()
     ensures held { is_held (blocked kernel (state_of false (0 ∷ []) towards_1 (one_task Asleep (pos 0) in_original)) (record { patch = 0; target = true })) in_original ≡ true }
 {}
 
-/// What isn't honest: to fall asleep and tell no frames, to leave the kernel inside of a function,
-/// to unload a module from under a task that runs in it, to call from outside of the kernel.
+/// What isn't honest: to fall asleep and give no frames, to leave the kernel inside of a function, to
+/// unload a module from under a task that runs in it, to call from outside of the kernel.
 pub fn these_are_dishonest()
     ensures sleep { IsHonestItem kernel (watched (state_of false [] None (one_task Kernel (negsuc 0) [])) (inside 0 (Original 0))) (Happens (Sleep 1 [])) → ⊥ }
     ensures exit { IsHonestItem kernel late (Happens (ExitToUser 1)) → ⊥ }
@@ -77,8 +77,8 @@ pub fn these_are_dishonest()
     ensures call { IsHonestItem kernel (watched start no_frames) (Calls 1 0) → ⊥ }
 {}
 
-/// Where a function stands with another object than that of its site, an honest run leaves a task in
-/// a function that no site has: the module has gone from under it.
+/// Where a function is of another object than its site, an honest run leaves a task in a function that no
+/// site has: the module has gone from under it.
 pub fn a_stray_function_outlives_its_site()
     ensures honest { IsHonestRun stray_kernel start stray_run }
     ensures end { seen_from stray_kernel start stray_run ≡ watched (state_of false (0 ∷ []) towards_1 (one_task Kernel (pos 1) [])) (inside 2 (New 0 0)) }

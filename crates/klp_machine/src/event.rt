@@ -32,7 +32,8 @@ pub enum Event {
     EnterKernel(TaskId),
     /// A task goes back to user space, where it is switched (the kernel's `klp_update_patch_state`).
     ExitToUser(TaskId),
-    /// A task falls asleep inside of these functions, which are told because a sleeper is switched by them.
+    /// A task falls asleep inside of these functions, which the event has because a sleeper is switched by
+    /// them.
     Sleep(TaskId, Frames),
     /// A task wakes up, and runs in the kernel again, where no frames are known of it.
     Wake(TaskId),
@@ -51,7 +52,7 @@ pub enum Event {
 /// What an accepted event answers. An event that is accepted may still have failed: see `PreFailed`.
 #[derive(Clone, Copy, Debug, PartialEq, Eq)]
 pub enum Reply {
-    /// The event did what it says, and there is no more to tell.
+    /// The event did what it says, and there is no more to report.
     Done,
     /// A transition started: polls will complete it.
     Started,

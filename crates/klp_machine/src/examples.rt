@@ -174,9 +174,9 @@ pub fn who_is_forced_away_is_pinned()
     ensures to_the_patch { (accepted small_kernel (state_with true (0 ∷ 2 ∷ []) (move_of 2 true) []) (Force 2)).1.pinned ≡ false ∷ false ∷ false ∷ false ∷ [] }
 {}
 
-/// A new task is in user space, and at the target where a patch moves; a forked one is in the kernel
-/// with its parent's state. A task that leaves the kernel is brought to the target, and one that wakes
-/// is in the kernel again and tells what it was inside of.
+/// A new task is in user space, and at the target where a patch moves; a forked one is in the kernel with
+/// its parent's state. A task that leaves the kernel is brought to the target, and one that wakes is in the
+/// kernel again and the reply has what it was inside of.
 pub fn tasks_come_and_go()
     ensures new { accepted small_kernel (state_with true (0 ∷ []) (move_of 0 true) (None ∷ [])) (NewTask 0)
         ≡ (Done, state_with true (0 ∷ []) (move_of 0 true) (in_user (pos 1) ∷ [])) }
@@ -212,7 +212,7 @@ pub fn room_is_asked_for_all_that_may_run()
 {}
 
 /// What enabling, writing and forcing are refused for, in their order: where two reasons hold, the first is
-/// told.
+/// reported.
 pub fn refusals_come_in_order()
     ensures no_patch { refusal small_kernel (state_with true (0 ∷ []) (move_of 0 true) []) (Enable 4) ≡ Some NoPatch }
     ensures there_first { refusal small_kernel (state_with true (0 ∷ []) (move_of 0 true) []) (Enable 0) ≡ Some AlreadyThere }
@@ -226,7 +226,7 @@ pub fn refusals_come_in_order()
     ensures at_rest { refusal small_kernel (state_with true (0 ∷ []) None []) Poll ≡ Some NotMoving }
 {}
 
-/// What modules and tasks are refused for, reason by reason: where several hold, the first is told.
+/// What modules and tasks are refused for, reason by reason: where several hold, the first is reported.
 pub fn modules_and_tasks_are_refused()
     ensures kernel { refusal small_kernel (state_with true [] None []) (Coming 0) ≡ Some NoModule }
     ensures no_module { refusal small_kernel (state_with true [] None []) (Coming 2) ≡ Some NoModule }

@@ -1,7 +1,7 @@
 use thiserror::Error;
 
-/// Why a name and a position pick no symbol of an object, as the kernel's `klp_find_object_symbol` tells
-/// them apart. The numbers are this project's own, and stay.
+/// Why a name and a position pick no symbol of an object, as the kernel's `klp_find_object_symbol` does.
+/// The numbers are this project's own, and stay.
 #[derive(Clone, Copy, Debug, PartialEq, Eq, Error)]
 pub enum SymbolFault {
     /// No symbol of the object has the name.

@@ -158,7 +158,7 @@ pub fn unpatch_sites(
 }
 
 /// Takes the nops of a patch out of all stacks, at the cost of all sites: once no older entry is left, the
-/// original needs none to stand for it.
+/// original needs none in its place.
 pub fn drop_nops(sites: &mut Sites, patch: PatchId, log: &mut Records)
     requires sites { length sites.old.stacks ≤ MAX_SITES }
     requires records { length sites.old.stacks + MAX_SITES ≤ spare_of log.old }

@@ -8,8 +8,7 @@ ghost use Rattle.klp_patch.specs.Changes.{AreMade, Notes, with_nop, without_nop,
 use klp_sites::Sites;
 use klp_types::{Entry, MAX_PATCHES, MAX_SITES, PatchId, Records, Site};
 
-/// Puts an entry on top of a site's stack. Its records are told in the form that those of all sites add up
-/// to.
+/// Puts an entry on top of a site's stack. Its clauses count records as those of all sites are added up.
 #[tactic(auto, using(crate::proofs::SiteLemmas::push_of_sites))]
 pub(crate) fn put(sites: &mut Sites, site: Site, entry: Entry, log: &mut Records)
     requires there { site < length sites.old.stacks }

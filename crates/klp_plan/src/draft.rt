@@ -339,8 +339,8 @@ impl Draft {
         let Some(first) = words.next() else {
             return Ok(());
         };
-        // The words are checked before the place, so a line that is spelled wrong is told so wherever it is
-        // (docs/DECISIONS.md, "Words before the place of a line").
+        // The words are checked before the place, so a line that is spelled wrong is reported as such
+        // wherever it is (docs/DECISIONS.md, "Words before the place of a line").
         let line = Line::read(alloc, self.open_object(), text, first, &mut words)?;
         self.place(alloc, line)
     }

@@ -1,8 +1,8 @@
 use klp_line::TextFaultKind;
 use thiserror::Error;
 
-/// The first faulty line of a catalog's text, printed as `line 3: BadHex`. No more are told, since what is
-/// behind a faulty line may mean something else.
+/// The first faulty line of a catalog's text, printed as `line 3: BadHex`. No more are reported, since what
+/// is behind a faulty line may mean something else.
 #[derive(Clone, Copy, Debug, PartialEq, Eq, Error)]
 #[error("line {line}: {kind}")]
 pub struct TextFault {

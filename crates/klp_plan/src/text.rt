@@ -10,9 +10,8 @@ use std::alloc::Global;
 
 /// Reads the whole text of a catalog, in time that is linear in its length.
 ///
-/// A fault is that of the first faulty line. A text without a faulty line that has no handler
-/// or no object is `Missing`, at line 0. `NoMemory` may stand in place of any of these, at the
-/// line where memory ran out.
+/// A fault is that of the first faulty line. A text without a faulty line that has no handler or no object
+/// is `Missing`, at line 0. `NoMemory` may come in place of any of these, at the line where memory ran out.
 pub fn read(alloc: Global, text: &[u8]) -> Result<Plan, TextFault>
     ensures plan { IfOk result (λ plan. plan_of text.now ≡ Ok plan) }
     // so a plan's targets are objects of the image that its objects make

@@ -1,9 +1,9 @@
 //! The events that change shadow variables (shadow-vars, Implementation details).
 //!
 //! An event that is accepted empties the log, and logs each variable that it changes, as it was. One that
-//! is refused changes nothing. A function of its own tells why an event is refused, or `None` where nothing
-//! refuses it, because a full journal has to know without taking it; the removals have none, since nothing
-//! refuses them.
+//! is refused changes nothing. A function of its own answers why an event is refused, or `None` where
+//! nothing refuses it, because a full journal has to know without taking it; the removals have none, since
+//! nothing refuses them.
 ghost use Rattle.std.specs.Prelude.{◌≡◌, ◌<◌, ℕ, None, IfNone};
 ghost use Rattle.std.specs.FinMap as finite;
 ghost use Rattle.klp_types.specs.declared.limits.TheConstants.{MAX_VARIABLES};

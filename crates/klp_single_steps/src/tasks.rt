@@ -1,7 +1,7 @@
 //! The events of tasks (livepatch, Consistency model). Each costs the same whatever is installed.
 //!
 //! An event that is accepted changes one task's row, and the log has that row alone afterwards, as it was.
-//! One that is refused changes nothing. A function of its own tells why an event is refused, or `None`
+//! One that is refused changes nothing. A function of its own answers why an event is refused, or `None`
 //! where nothing refuses it, because a full journal has to know without taking it.
 ghost use Rattle.std.specs.Prelude.{◌≡◌, ◌<◌, not, true, false, ℕ, List, [], ◌∷◌, length, is_some, option_map, IfOk, IfNone};
 ghost use Rattle.std.specs.List.{list_any};

@@ -122,7 +122,7 @@ impl Sites {
         self.set_loaded(object, false)
     }
 
-    /// Gives one row what the record tells: an entry, with which the hook of its site comes or goes, or
+    /// Gives one row what the record has: an entry, with which the hook of its site comes or goes, or
     /// whether an object is loaded. Nothing changes where there is no such site or object, and by a record
     /// of another kind: a hook's own record is one, since the entry's has brought the hook back
     /// (docs/DECISIONS.md, "Hooks in undo"). The cost is at most the stack's height.

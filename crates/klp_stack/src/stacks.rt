@@ -75,7 +75,7 @@ impl Stacks {
         Record::StackEntry { site, patch, was }
     }
 
-    /// Gives one entry what the record tells; a record of another kind changes nothing. An entry that can't
+    /// Gives one entry what the record has; a record of another kind changes nothing. An entry that can't
     /// have its place stays away, because a row that doesn't fit must do no harm; none is met where the
     /// records of changes are put back newest first. The cost is at most the stack's height.
     pub fn put_back(&mut self, row: Record)

@@ -233,7 +233,7 @@ impl Parts {
     }
 
     /// Takes the entries of the older patches away, and the nops of the patch that replaces them, which
-    /// stood for nothing but these.
+    /// were there for nothing but these.
     fn replace_sites(&mut self, catalog: &Catalog, moving: &Move)
         requires kept { Invariant self.old catalog.now }
         requires moving { self.old.moving ≡ Some moving.now }

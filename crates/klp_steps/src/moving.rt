@@ -17,8 +17,8 @@ fn row_of_moving(moving: Option<Move>) -> Record
     }
 }
 
-/// What moved before, as a record tells it. A row of another kind changes nothing, since each part is
-/// handed every record.
+/// What moved before, as a record has it. A row of another kind changes nothing, since each part is handed
+/// every record.
 pub(crate) fn moving_before(moving: Option<Move>, row: Record) -> Option<Move>
     ensures { result ≡ put_moving moving row }
 {

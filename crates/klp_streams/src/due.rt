@@ -3,8 +3,8 @@
 ghost use Rattle.std.specs.Prelude.{◌≡◌, IsTrue, ◌↔◌, Some};
 ghost use Rattle.klp_streams.specs.Due.{one_sooner};
 
-/// Whether this is the call that fails, told by how many come before it. Each call asks once, since it
-/// counts down; afterwards none fails.
+/// Whether this is the call that fails, by how many come before it. Each call asks once, since it counts
+/// down; afterwards none fails.
 pub fn is_due(fails_in: &mut Option<u32>) -> bool
     ensures due { IsTrue result ↔ (fails_in.old ≡ Some 0) }
     ensures sooner { fails_in.new ≡ one_sooner fails_in.old }

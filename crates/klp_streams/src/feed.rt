@@ -9,7 +9,7 @@ use std::marker::Model;
 use std::sync::ledger::{Blank, Book, Ledger};
 
 /// Bytes in memory, of which one read gives so many at most, so that an input can be cut as finely as one
-/// wants. One read may fail, told by its number. A feed ends only where no byte is left.
+/// wants. One read may fail, by its number. A feed ends only where no byte is left.
 #[derive(Drop)]
 pub struct Feed<'a, L: Ledger> {
     left: &'a [u8],

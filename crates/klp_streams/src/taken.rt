@@ -8,7 +8,7 @@ use klp_output::{Failed, Sink};
 use std::marker::Model;
 use std::sync::ledger::{Blank, Book, Ledger};
 
-/// Room in memory, into which one write puts so many bytes at most. One write may fail, told by its number.
+/// Room in memory, into which one write puts so many bytes at most. One write may fail, by its number.
 /// Where no room is left a write takes nothing, which is how a sink stalls. The room is in the type, so
 /// that a test can hand it around (docs/DECISIONS.md, "The room of `Taken`").
 #[derive(Drop)]

@@ -133,7 +133,7 @@ impl Tasks {
         self.rows.iter().filter(|row| lags(*row, target)).count() as u8
     }
 
-    /// Whether a task sleeps inside of one of the versions, as those of a module that is to go. It looks at
+    /// Whether a task sleeps inside of one of the versions, asked without switching anybody. It looks at
     /// all rows and their frames.
     pub fn sleeps_in(&self, versions: &VersionSet) -> bool
         ensures { (test : AnyVersion → Bool) → ArePassing versions.now test → result ≡ list_any (sleeps_where test) self.now }
@@ -290,7 +290,7 @@ impl Tasks {
         }
     }
 
-    /// Gives one row what the record tells. A record of a number that no task can have, or of a row that
+    /// Gives one row what the record has. A record of a number that no task can have, or of a row that
     /// isn't the tasks', changes nothing, so that all parts can be handed each record.
     pub fn put_back(&mut self, row: Record)
         ensures { self.new ≡ put_back self.old row }
@@ -302,8 +302,8 @@ impl Tasks {
         }
     }
 
-    /// Whether a task sleeps inside of one of the versions, told of the set itself; `sleeps_in` tells it of
-    /// any test that the set stands for.
+    /// Whether a task sleeps inside of one of the versions, by the set itself; `sleeps_in` promises it by
+    /// any test that the set passes.
     fn holds_sleeper(&self, versions: &VersionSet) -> bool
         ensures { result ≡ list_any (sleeps_where (has versions.now)) self.now }
     {

@@ -89,7 +89,7 @@ fn has_name(objects: &[ObjectText], name: &str) -> bool
 }
 
 /// The fault of the first symbol that has one, in the image's order, so that the first line to mend is
-/// told.
+/// reported.
 fn symbols_fault(handler: u64, objects: &[ObjectText]) -> Option<ImageFault>
     ensures { result ≡ faults.first_fault (faults.symbols_tests handler [] (symbols_of objects.now)) }
 {
@@ -102,7 +102,7 @@ fn symbols_fault(handler: u64, objects: &[ObjectText]) -> Option<ImageFault>
 }
 
 /// The fault of the first symbol of one object that has one. The objects before it are asked for, since a
-/// symbol may lie on one of theirs.
+/// symbol may share an address with one of theirs.
 fn object_fault(handler: u64, earlier: &[ObjectText], symbols: &[SymbolText]) -> Option<ImageFault>
     ensures { result ≡ faults.first_fault (faults.symbols_tests handler (symbols_of earlier.now) symbols.now) }
 {
@@ -115,7 +115,7 @@ fn object_fault(handler: u64, earlier: &[ObjectText], symbols: &[SymbolText]) ->
 }
 
 /// The fault of one symbol. The objects and the symbols of its own object that come before it are asked
-/// for, since a symbol may lie on any of them.
+/// for, since a symbol may share an address with any of them.
 fn symbol_fault(
     handler: u64,
     objects: &[ObjectText],
@@ -135,7 +135,7 @@ fn symbol_fault(
     }
 }
 
-/// Whether a symbol ends beyond the last address, or lies on one of these others.
+/// Whether a symbol ends beyond the last address, or shares an address with one of these others.
 ///
 /// Each symbol is compared with all before it, and not sorted: at most 256 * 255 / 2 times for an image.
 /// The fault is that of the first symbol in the image's order, which a sort by address would lose, and a

@@ -7,8 +7,8 @@ use thiserror::Error;
 /// Why objects make no image. The numbers are this project's own, and stay.
 #[derive(Clone, Copy, Debug, PartialEq, Eq, Error)]
 pub enum ImageFault {
-    /// A symbol lies on an address of an earlier one of any object, or its last byte is at the last address
-    /// of 64 bits or beyond it, so that there is no address behind it.
+    /// A symbol has an address of an earlier one of any object, or its last byte is at the last address of
+    /// 64 bits or beyond it, so that there is no address behind it.
     #[error("Overlap")]
     Overlap = 1,
     /// A body is shorter than an entry site, so a call would be written over its neighbour.

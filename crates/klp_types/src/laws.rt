@@ -55,7 +55,7 @@ pub fn no_more_variables_are_left()
 {}
 
 /// An edit changes each shadow variable by itself, and so do edits one after another. What a script does to
-/// one variable can so be told without all others.
+/// one variable so follows without all others.
 pub fn edits_go_key_by_key()
     ensures each { (patch : ℕ) (world : World) (edit : Edit) (key : ShadowKey) → variable (edited patch world edit) key ≡ edited_at key (variable world key) edit }
     ensures all { (patch : ℕ) (world : World) (edits : List Edit) (key : ShadowKey) → variable (edited_by patch world edits) key ≡ made_of key (variable world key) edits }
@@ -137,8 +137,8 @@ pub fn entries_stand_where_functions_are()
     ensures { (setting : Setting) (site : ℕ) (patches : List ℕ) → not (is_empty (entries_from setting site patches)) ≡ list_any (patches_site setting site) patches }
 {}
 
-/// A patch that is put last gets its entry on top of those of the older patches: its function, or a
-/// nop where it replaces and there is an entry to stand over.
+/// A patch that is put last gets its entry on top of those of the older patches: its function, or a nop
+/// where it replaces and there is an entry below it.
 pub fn the_newest_entry_is_on_top()
     ensures { (setting : Setting) (site patch : ℕ) (older : List ℕ)
         → entries_from setting site (patch ∷ older)

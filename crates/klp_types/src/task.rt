@@ -19,8 +19,8 @@ impl Model for TaskId {
     ghost inverse = { λ n. record { 0 = n } };
 }
 
-/// Where a task is. The three are told apart because a transition switches each in its own way: a sleeper
-/// by its frames, the others when they next leave the kernel.
+/// Where a task is. There are three because a transition switches each in its own way: a sleeper by its
+/// frames, the others when they next leave the kernel.
 #[derive(Clone, Copy, Debug, PartialEq, Eq)]
 pub enum Mode {
     /// In user space: it runs no function of the kernel, so nothing can hold it.

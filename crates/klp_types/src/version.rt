@@ -3,8 +3,8 @@ use crate::number::{PatchId, Site};
 /// Which code answers a call of a function. It names code, and no entry: a nop is the original.
 #[derive(Clone, Copy, Debug, PartialEq, Eq)]
 pub enum Version {
-    /// The function that the site was built with. It is named by the site, so that each frame tells where
-    /// it was called.
+    /// The function that the site was built with. It is named by the site, so that each frame has where it
+    /// was called.
     Original(Site),
     /// A new function of a patch, by its place among all functions of the patch from 0.
     New(PatchId, u16),
@@ -23,8 +23,8 @@ pub struct Target {
 #[derive(Clone, Copy, Debug, Default, PartialEq, Eq)]
 pub struct Entry {
     pub patch: PatchId,
-    /// The function of the patch that stands in for the site's own. `None` is a nop: a cumulative
-    /// patch that gives the original back.
+    /// The function of the patch that replaces the site's own. `None` is a nop: a cumulative patch that
+    /// gives the original back.
     pub func: Option<u16>,
 }
 

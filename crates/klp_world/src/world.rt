@@ -279,7 +279,7 @@ impl World {
         }
     }
 
-    /// Gives one row what the record tells; a row that isn't the world's changes nothing. A row for which
+    /// Gives one row what the record has; a row that isn't the world's changes nothing. A row for which
     /// there is no room stays away, so that the limits hold whatever comes; none is met where the records
     /// of changes are put back newest first.
     pub fn put_back(&mut self, row: Record)
