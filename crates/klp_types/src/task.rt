@@ -23,9 +23,9 @@ impl Model for TaskId {
 /// frames, the others when they next leave the kernel.
 #[derive(Clone, Copy, Debug, PartialEq, Eq)]
 pub enum Mode {
-    /// In user space: it runs no function of the kernel, so nothing can hold it.
+    /// In user space: it runs no function of the kernel, and switches when it next leaves the kernel.
     User,
-    /// It runs in the kernel. What it is inside of isn't known, so it is switched only when it leaves.
+    /// It runs in the kernel. What it is inside of isn't known, so no poll switches it.
     Kernel,
     /// It sleeps in the kernel, inside of functions that are known, so it can be switched while it sleeps.
     Asleep,

@@ -19,8 +19,8 @@ pub fn records_are_few()
         → length (rows_of_script patch world script) + finite.len (effect patch world script).shadow ≤ finite.len world.shadow + length script.edits + alloc_count script.edits }
 {}
 
-/// The shadow variables of an id, each of which a removal logs, and those that are left are all. So the
-/// records of a removal are paid by the room that it gives back.
+/// The shadow variables of an id, each of which a removal logs, and those that are left are all. So a
+/// removal logs no more than it takes out.
 pub fn freed_and_left_are_all()
     ensures { (world : World) (id : ℕ) → length (rows_of_free_all world id) + finite.len (without_id world id).shadow ≡ finite.len world.shadow }
 {}
