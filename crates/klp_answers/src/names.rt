@@ -25,7 +25,7 @@ pub fn object_name(modules: &Modules, object: ObjId) -> &str
     modules.object_name(object).unwrap_or("")
 }
 
-/// Says a name as its bytes, as an administrator spelled it.
+/// Says a name as it was spelled. A name is text, and answers are bytes, so it goes by its bytes.
 pub(crate) fn say_name<W: Sink>(answers: &mut Answers, writer: &mut W, name: &str)
     ensures { Says (answers.old, W.written writer.old) (answers.new, W.written writer.new) name.now }
 {

@@ -21,7 +21,7 @@ impl Model for Quiet {
 }
 
 impl Quiet {
-    /// A callback that never ran: its count is 0.
+    /// A callback that never ran: its count is 0, and its script is empty.
     pub fn new() -> Self
         ensures { result ≡ 0 }
     {

@@ -22,7 +22,8 @@ impl Model for Scripted {
 }
 
 impl Scripted {
-    /// A callback that never ran, for this script.
+    /// A callback that never ran. The script is its own from now on, since what a callback means mustn't
+    /// change.
     pub fn new(script: Script) -> Self
         ensures { result ≡ record { script = script; runs = 0 } }
     {

@@ -170,7 +170,7 @@ impl Catalog {
         Some(PatchId(number as u8))
     }
 
-    /// The name of a patch, as its line of the text has it.
+    /// The name of a patch, as its line of the text has it. `None` where there is no such patch.
     pub fn patch_name(&self, patch: PatchId) -> Option<&str>
         ensures { option_map (λ name. name.now) result ≡ slice_get (patch_names_of self.now.patches) patch }
     {

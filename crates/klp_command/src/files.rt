@@ -131,7 +131,8 @@ fn cat_file(file: &[u8], known: &Known<'_>) -> Result<Asked, LineFault>
     }
 }
 
-/// The word after `cat`: a file of a task or of a patch.
+/// The word after `cat`. There is no name of a file by itself, since files are those below a patch or a
+/// task.
 pub(crate) fn cat_line(words: &mut Words<'_>, known: &Known<'_>) -> Result<Asked, LineFault>
     ensures { result ≡ cat_line known.now words.old }
 {

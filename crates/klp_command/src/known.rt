@@ -1,4 +1,5 @@
-//! What the names of a line mean.
+//! What the names of a line mean. A name is looked up only once the line has a shape, since a bad line has
+//! no names.
 
 ghost use Rattle.std.specs.Prelude.{◌≡◌};
 ghost use Rattle.klp_command.specs.Known.{patch_of, object_of, task_of, site_of, new_function_of, version_of, symbol_found};

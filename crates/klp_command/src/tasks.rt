@@ -106,7 +106,8 @@ fn plain_line(verb: &[u8], number: u64, words: &mut Words<'_>) -> Result<Asked, 
     plain_event(verb, number)
 }
 
-/// The words after `task`: a verb, a task and what the verb needs.
+/// The words after `task`: a verb, a task and what the verb needs. The task's number is read before the
+/// verb is known, since every verb has one.
 pub(crate) fn task_line(words: &mut Words<'_>, known: &Known<'_>) -> Result<Asked, LineFault>
     ensures { result ≡ task_line known.now words.old }
 {

@@ -1,4 +1,4 @@
-//! The words of a line, and what a word is by itself.
+//! The words of a line, and what a word is by itself, which needs no names.
 
 ghost use Rattle.std.specs.Prelude.{◌≡◌, ℕ, ◌≤◌, true, false, List, ◌∷◌, [], length, drop, nat_eq, IfOk, MatchOption, MatchResult};
 ghost use Rattle.std.specs.List.{list_all, starts_with};
@@ -41,7 +41,7 @@ impl<'a> Words<'a> {
         self.rest
     }
 
-    /// The next word, which is never empty.
+    /// The next word, which is never empty, since any number of spaces separates two.
     pub(crate) fn next(&mut self) -> Option<&'a [u8]>
         ensures { MatchOption result (self.old ≡ []) (λ word. self.old ≡ word.now ∷ self.new) }
     {

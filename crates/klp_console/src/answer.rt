@@ -1,4 +1,5 @@
-//! One line is done and answered.
+//! One line is done and answered: what it asks for is read first, so that the manager can be borrowed for
+//! it alone.
 ghost use Rattle.std.specs.Prelude.{◌≡◌, ◌+◌, ◌<◌, ◌≤◌, ◌^◌, false, [], ◌∷◌, length};
 ghost use Rattle.klp_types.specs.declared.limits.TheConstants.{MAX_CONSOLE_LINE};
 ghost use Rattle.klp_command.specs.Lines.{asked_of};

@@ -59,7 +59,7 @@ impl<'a> Parts<'a> {
         Ok(part)
     }
 
-    /// The end of an edit that has too many parts with one more.
+    /// The end of an edit that has too many parts with one more, which is a `BadEdit` too.
     fn end(&mut self) -> Result<(), TextFaultKind>
         ensures { MatchResult result (λ _. self.old ≡ [])
             (λ kind. (kind ≡ TextFaultKind.BadEdit) × (part : List ℕ) × (parts : List (List ℕ)) × (self.old ≡ part ∷ parts)) }

@@ -12,7 +12,8 @@ use thiserror::Error;
 /// `OutOfPlace`, `UnknownObject`, `Twice` and `TooMany`.
 #[derive(Clone, Copy, Debug, PartialEq, Eq, Error)]
 pub enum TextFaultKind {
-    /// A byte of a line that isn't a comment is no ASCII.
+    /// A byte of a line that isn't a comment is no ASCII. It is looked at first, so that every word behind
+    /// is text.
     #[error("NotAscii")]
     NotAscii = 1,
     /// The line has more than [`MAX_LINE`](klp_types::MAX_LINE) bytes. A comment may have any number.

@@ -55,7 +55,7 @@ fn separates(separators: Separators, byte: u8) -> bool
     }
 }
 
-/// Where the first byte `at` is, from 0.
+/// Where the first byte `at` is, from 0; nothing where there is none.
 pub(crate) fn position_of(bytes: &[u8], at: u8) -> Option<usize>
     ensures { result ≡ position (λ b. b == at) bytes.now }
 {

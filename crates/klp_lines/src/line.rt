@@ -30,7 +30,7 @@ impl Model for Line {
     ghost invariant = { λ l. lines_and_rest l.bytes.items ≡ l.bytes.items ∷ [] };
 }
 
-/// Where the first line feed is, from 0.
+/// Where the first line feed is, from 0; nothing where the piece is in one line.
 fn line_feed(bytes: &[u8]) -> Option<usize>
     ensures { result ≡ position is_line_feed bytes.now }
 {

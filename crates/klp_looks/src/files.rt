@@ -27,7 +27,7 @@ pub(crate) fn is_installed(manager: &Manager, patch: PatchId) -> bool
     manager.enabled(patch).is_some()
 }
 
-/// Whether a patch changes an object, loaded or not.
+/// Whether a patch changes an object, loaded or not, since its directory is there in both cases.
 pub(crate) fn has_object(catalog: &Catalog, patch: PatchId, object: ObjId) -> bool
     ensures { result ≡ has_object catalog.now patch object }
 {

@@ -15,7 +15,8 @@ use klp_machine::Refusal;
 use klp_output::{Answers, Sink, what_is_said_adds_up};
 use klp_types::{Entry, ObjId, Site, Target, TaskId, Version};
 
-/// Says a symbol's name, address and bytes, in a line of its own.
+/// Says a symbol's name, address and bytes, in a line of its own. The bytes are those of now, so that one
+/// sees the hook.
 fn say_symbol<W: Sink>(answers: &mut Answers, writer: &mut W, name: &str, address: u64, body: &[u8])
     ensures { Says (answers.old, W.written writer.old) (answers.new, W.written writer.new) (symbol_text (record { name = name.now; address = address; body = body.now })) }
 {
@@ -28,7 +29,7 @@ fn say_symbol<W: Sink>(answers: &mut Answers, writer: &mut W, name: &str, addres
     answers.say(writer, b"\n");
 }
 
-/// Says the symbols of an object, in the image's order.
+/// Says the symbols of an object, in the image's order, so that the n-th line is the n-th symbol.
 fn say_symbols<W: Sink>(answers: &mut Answers, writer: &mut W, text: &TextView<'_>)
     ensures { Says (answers.old, W.written writer.old) (answers.new, W.written writer.new) (lines_of symbol_text text.now) }
 {

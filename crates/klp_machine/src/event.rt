@@ -26,7 +26,7 @@ pub enum Event {
     /// A task in the kernel, the first one, makes another, which gets its state (the kernel's
     /// `klp_copy_process`).
     Fork(TaskId, TaskId),
-    /// A task ends: it holds up no transition any more.
+    /// A task ends, so it holds up no transition any more.
     EndTask(TaskId),
     /// A task enters the kernel. Its state stays, so what it runs there is what it ran before.
     EnterKernel(TaskId),
@@ -98,7 +98,7 @@ pub enum Refusal {
     /// names no symbol of it, or not one alone.
     #[error("NoSymbol")]
     NoSymbol = 6,
-    /// There is no such module, or it isn't loaded.
+    /// There is no such module, or it isn't loaded, so nothing can come or go. `vmlinux` is none.
     #[error("NoModule")]
     NoModule = 7,
     /// A sleeping task is inside of the module, which it would be woken up in once the module is gone.
@@ -128,7 +128,7 @@ pub enum Refusal {
     /// No patch is in transition, or not this one.
     #[error("NotMoving")]
     NotMoving = 15,
-    /// The shadow variable is there already, and keeps its value.
+    /// The shadow variable is there already, and keeps its value, since the event was to add it.
     #[error("Exists")]
     Exists = 16,
     /// The patch isn't installed, so it has no files and nothing to be forced.

@@ -4,7 +4,7 @@ use thiserror::Error;
 /// The numbers are this project's own, and stay.
 #[derive(Clone, Copy, Debug, PartialEq, Eq, Error)]
 pub enum SymbolFault {
-    /// No symbol of the object has the name.
+    /// No symbol of the object has the name, whatever the position.
     #[error("Missing")]
     Missing = 1,
     /// Several symbols have the name, and the position is 0, which asks for the only one.

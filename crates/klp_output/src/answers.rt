@@ -67,7 +67,7 @@ fn in_hex<'a>(piece: &[u8], digits: &'a mut [u8; 2 * PIECE]) -> &'a [u8]
 }
 
 impl Answers {
-    /// Nothing is said yet, and the sink hasn't failed.
+    /// Nothing is said yet, and no sink is known: it comes with the first call.
     pub fn new() -> Answers
         ensures { result ≡ record { bytes = []; has_failed = false } }
     {

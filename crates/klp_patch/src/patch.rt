@@ -14,7 +14,7 @@ use klp_catalog::Catalog;
 use klp_sites::Sites;
 use klp_types::{Entry, MAX_PATCHES, MAX_SITES, ObjId, PatchId, Records, Site};
 
-/// Whether a patch is a cumulative one; one that isn't there isn't.
+/// Whether a patch is a cumulative one, which alone has nops; one that isn't there isn't.
 pub(crate) fn replaces(catalog: &Catalog, patch: PatchId) -> bool
     ensures { result ≡ is_cumulative catalog.now patch }
 {

@@ -34,7 +34,8 @@ pub(crate) struct Draft {
     symbols: usize,
     patches: Vec<PlanPatch>,
     patch_names: Names,
-    /// How many functions the last patch has, over all of its targets.
+    /// How many functions the last patch has, over all of its targets, since the limit is one for all of
+    /// them.
     functions: usize,
 }
 

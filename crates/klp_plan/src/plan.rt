@@ -68,7 +68,7 @@ impl PlanTarget {
     }
 }
 
-/// A patch, as the lines behind its own give it.
+/// A patch, as the lines behind its own give it. It has no number, which is its place in the plan.
 #[derive(Debug, Drop)]
 pub struct PlanPatch {
     pub name: String,

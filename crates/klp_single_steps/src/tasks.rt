@@ -303,7 +303,7 @@ fn is_there(parts: &Parts, task: TaskId) -> bool
     parts.tasks.get(task).is_some()
 }
 
-/// Whether a task is there and in this mode.
+/// Whether a task is there and in this mode; one that isn't there is in none.
 fn is_in(parts: &Parts, task: TaskId, mode: Mode) -> bool
     ensures { result ≡ is_in mode (task_at parts.now.tasks task) }
 {
@@ -334,7 +334,7 @@ fn is_bad(parts: &Parts, catalog: &Catalog, version: Version) -> bool
     }
 }
 
-/// Whether image or catalog don't have one of these versions.
+/// Whether image or catalog don't have one of these versions: one is enough to refuse all.
 fn has_bad(parts: &Parts, catalog: &Catalog, frames: &Frames) -> bool
     requires { Invariant parts.now catalog.now }
     ensures { result ≡ list_any (is_bad (setting_of (managed_of parts.now catalog.now))) frames.now }

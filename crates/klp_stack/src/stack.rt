@@ -39,7 +39,7 @@ fn place_in(row: &[Entry], patch: PatchId) -> Option<usize>
 }
 
 impl Stack {
-    /// No entries: the state in which the site isn't hooked.
+    /// No entries: the site runs its original.
     pub(crate) fn new() -> Self
         ensures { result ≡ [] }
     {

@@ -49,7 +49,7 @@ impl Parts {
         }
     }
 
-    /// Whether one of these frames is in the object.
+    /// Whether one of these frames is in the object: a task may be inside of several objects at once.
     fn has_inside(&self, catalog: &Catalog, object: ObjId, frames: &Frames) -> bool
         requires { Invariant self.now catalog.now }
         ensures { result ≡ list_any (λ v. is_object object (object_of_version (setting_of (managed_of self.now catalog.now)) v)) frames.now }

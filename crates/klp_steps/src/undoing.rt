@@ -1,4 +1,4 @@
-//! What an event logged is put back.
+//! What an event logged is put back. No step is turned round, since the rows have all that there was.
 ghost use Rattle.std.specs.Prelude.{◌≡◌, length};
 ghost use Rattle.klp_steps.specs.Rows.{rows_in, put_back, undone};
 

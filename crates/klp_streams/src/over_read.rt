@@ -45,7 +45,7 @@ impl<R: Read, L: Ledger> OverRead<R, L> {
         }
     }
 
-    /// The reader again, with what it has left.
+    /// The reader again, with what it has left, so that its owner may go on.
     pub fn into_inner(self) -> R
         ensures { R.remaining result ≡ self.left }
     {

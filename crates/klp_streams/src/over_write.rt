@@ -42,7 +42,7 @@ impl<W: Write, L: Ledger> OverWrite<W, L> {
         }
     }
 
-    /// The writer again, with what it took.
+    /// The writer again, with what it took, so that its owner can look at that.
     pub fn into_inner(self) -> W
         ensures { W.contents result ≡ self.taken }
     {

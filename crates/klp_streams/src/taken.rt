@@ -54,7 +54,7 @@ impl<const ROOM: usize, L: Ledger> Taken<ROOM, L> {
         }
     }
 
-    /// The bytes taken so far, of all writes together.
+    /// The bytes taken so far, of all writes together, so that cutting makes no difference to a test.
     pub fn bytes(&self) -> &[u8]
         ensures { result.now ≡ self.now.bytes }
     {

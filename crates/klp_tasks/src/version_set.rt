@@ -12,9 +12,10 @@ use std::marker::Model;
 /// which `new` and `clear` write.
 #[derive(Debug, Drop)]
 pub struct VersionSet {
-    /// By site, whether its original is in the set.
+    /// By site, whether its original is in the set. All sites that there may be have a flag, so that none
+    /// is looked up.
     originals: [bool; MAX_SITES],
-    /// By patch and function, whether the new function is in the set.
+    /// By patch and function, whether the new function is in the set, whatever the catalog has.
     functions: [[bool; MAX_FUNCTIONS]; MAX_PATCHES],
 }
 

@@ -24,7 +24,7 @@ pub enum ImageFault {
     /// the cost of all other checks.
     #[error("TooMany")]
     TooMany = 5,
-    /// There is no memory for the image.
+    /// There is no memory for the image. Contracts let it come in place of any other fault.
     #[error("NoMemory")]
     NoMemory = 6,
     /// There is no object, or the first one isn't `vmlinux`, which is what is loaded from the start.

@@ -26,7 +26,7 @@ pub struct Image {
     /// As they were given, since contracts speak of the image that was handed in (docs/DECISIONS.md,
     /// "Bodies as they were given").
     objects: Vec<ObjectText>,
-    /// By object, whether it is loaded.
+    /// By object, whether it is loaded: `bytes` shows nothing of one that isn't.
     loaded: Vec<bool>,
     /// By object, the site of its first symbol, so that a symbol's bytes are found without counting.
     first_sites: Vec<u16>,

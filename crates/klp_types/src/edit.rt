@@ -7,7 +7,7 @@ use crate::shadow::{ShadowKey, ShadowValue};
 pub enum Edit {
     /// Adds a shadow variable with this value; nothing where it is there.
     Alloc(ShadowKey, ShadowValue),
-    /// Removes a shadow variable; nothing where it isn't there.
+    /// Removes a shadow variable; nothing where it isn't there, as `klp_shadow_free` does.
     Free(ShadowKey),
     /// Removes the shadow variables of this id, whatever their parent objects.
     FreeAll(u64),

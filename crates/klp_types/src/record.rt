@@ -12,7 +12,8 @@ use std::marker::Model;
 /// wasn't there has a kind of its own, or a `None`, since to undo its coming is to take it out.
 #[derive(Clone, Copy, Debug, PartialEq, Eq)]
 pub enum Record {
-    /// A shadow variable: its value, or `None` where it wasn't there.
+    /// A shadow variable: its value, or `None` where it wasn't there, so that to put it back is to remove
+    /// it.
     ShadowVariable {
         key: ShadowKey,
         was: Option<ShadowValue>,
@@ -84,7 +85,7 @@ pub struct Place {
     /// The place from the oldest entry, counted from 0, since the entries above it may have gone when it is
     /// put back.
     pub index: u8,
-    /// The function of the patch; `None` is a nop.
+    /// The function of the patch; `None` is a nop, which is put back as one.
     pub func: Option<u16>,
 }
 

@@ -66,7 +66,7 @@ impl Frames {
         }
     }
 
-    /// How many there are, at most [`MAX_FRAMES`].
+    /// How many there are, at most [`MAX_FRAMES`]: 0 for a task that doesn't sleep.
     pub fn len(&self) -> u8
         ensures { result ≡ length self.now }
     {

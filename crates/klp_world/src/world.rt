@@ -120,7 +120,8 @@ impl World {
         &self.installed
     }
 
-    /// Whether the patch is installed, also while it is in transition.
+    /// Whether the patch is installed, also while it is in transition, since it is in the list from its
+    /// start to its end.
     pub fn is_installed(&self, patch: PatchId) -> bool
         ensures { result ≡ list_any (λ (i : Installed). i.patch == patch) self.now.installed }
     {
