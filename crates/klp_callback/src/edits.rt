@@ -4,7 +4,6 @@ ghost use Rattle.klp_types.specs.Script.{alloc_count, is_alloc, edited, edited_b
 ghost use Rattle.klp_world.specs.Noted.{noting, rows_of_edit, rows_of_edits, rows_of_script};
 ghost use Rattle.klp_world.specs.Changes.{Changes, HasRoom};
 
-use arrayvec::ArrayVec;
 use klp_types::laws::edits_keep_to_their_room;
 use klp_types::{Edit, PatchId, Records};
 use klp_world::laws::scripts_are_undone;
@@ -86,18 +85,6 @@ fn count_allocs(edits: &[Edit]) -> usize
         .iter()
         .filter(|edit| matches!(edit, Edit::Alloc(..)))
         .count()
-}
-
-/// A script with the same edits and status, since an array of edits isn't copied by itself.
-pub(crate) fn copy_of(script: &Script) -> Script
-    ensures { result ≡ script.now }
-{
-    let mut edits = ArrayVec::new();
-    let _ = edits.try_extend_from_slice(&script.edits);
-    Script {
-        edits,
-        status: script.status,
-    }
 }
 
 /// Whether two scripts have the same edits and status. The unused places of their lists don't count.

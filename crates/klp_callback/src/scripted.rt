@@ -1,7 +1,7 @@
 ghost use Rattle.std.specs.Prelude.{◌≡◌};
 
 use crate::callback::Callback;
-use crate::edits::{allocs_of, copy_of, run_script};
+use crate::edits::{allocs_of, run_script};
 use klp_types::{PatchId, Records};
 use klp_world::{Script, World};
 use std::marker::Model;
@@ -50,6 +50,6 @@ impl Callback for Scripted {
     }
 
     fn script(&self) -> Script {
-        copy_of(&self.script)
+        self.script.copy()
     }
 }

@@ -8,11 +8,11 @@ use Rattle.klp_types.specs.Setting.{Callback}
 use Rattle.klp_types.specs.Script.{Script}
 use Rattle.klp_modules.specs.Names.{ObjectNames}
 use Rattle.klp_callback.specs.Told.{Told}
-use Rattle.klp_plan.specs.Plan.{PlanTarget, PlanPatch}
-use Rattle.klp_plan.specs.Parts.{function_count}
-use Rattle.klp_plan.specs.Limits.{IsSmall, HasOneEach, AreFew, has_same, callback_number, target_number, state_number}
-use Rattle.klp_plan.specs.Scripts.{scripts_of_callbacks, scripts_of_target, scripts_of_targets, scripts_of}
-use Rattle.klp_plan.specs.Draft.{patch_names_of}
+use Rattle.klp_catalog_text.specs.Plan.{PlanTarget, PlanPatch}
+use Rattle.klp_catalog_text.specs.PlanParts.{function_count}
+use Rattle.klp_catalog_text.specs.Limits.{IsSmall, HasOneEach, AreFew, has_same, callback_number, target_number, state_number}
+use Rattle.klp_catalog_text.specs.Scripts.{scripts_of_callbacks, scripts_of_target, scripts_of_targets, scripts_of}
+use Rattle.klp_catalog_text.specs.Draft.{patch_names_of}
 use Rattle.klp_catalog.specs.Catalog.{functions_of_target, functions_of_patch, has_same_site, some_same_site}
 use Rattle.klp_catalog.specs.Assembled.{without_script, target_without_scripts, without_scripts, scripts_told, counts_told, IsShort, IsAssembleFault}
 use Rattle.klp_catalog.specs.declared.assemble.AssembleFault.{AssembleFault}

@@ -12,8 +12,8 @@ use Rattle.klp_types.specs.Compatible.{SystemState, version_among, can_live_with
 use Rattle.klp_types.specs.Setting.{all_functions, patch_objects, patch_states, patch_replaces}
 use Rattle.klp_modules.specs.Names.{ObjectNames, first_site, symbol_names, sites_where, picked}
 use Rattle.klp_modules.specs.declared.fault.SymbolFault.TheVariants.{NoPosition}
-use Rattle.klp_plan.specs.Plan.{PlanFunction, PlanTarget, PlanPatch}
-use Rattle.klp_plan.specs.Parts.{function_count}
+use Rattle.klp_catalog_text.specs.Plan.{PlanFunction, PlanTarget, PlanPatch}
+use Rattle.klp_catalog_text.specs.PlanParts.{function_count}
 use Rattle.klp_catalog.specs.Catalog.{Catalog, site_of, resolved_function, functions_of_target, functions_of_patch, targets_of_patch, setting_function, patch_object, setting_patch, has_same_site, some_same_site}
 use Rattle.klp_catalog.specs.States as states
 use Rattle.klp_catalog.specs.Assembled.{IsInObject, LiesInObject}

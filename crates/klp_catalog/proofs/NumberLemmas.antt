@@ -11,10 +11,10 @@ use Rattle.klp_types.specs.declared.callback.Which.TheVariants.{Pre, Post, PreUn
 use Rattle.klp_types.specs.Setting.{Callback}
 use Rattle.klp_types.specs.Callbacks.{is_kind}
 use Rattle.klp_modules.specs.Names.{ObjectNames}
-use Rattle.klp_plan.specs.Plan.{PlanTarget, PlanPatch}
-use Rattle.klp_plan.specs.Parts.{which_number}
-use Rattle.klp_plan.specs.Limits.{has_same, callback_number}
-use Rattle.klp_plan.specs.Scripts.{scripts_of_target, scripts_of_targets, scripts_of}
+use Rattle.klp_catalog_text.specs.Plan.{PlanTarget, PlanPatch}
+use Rattle.klp_catalog_text.specs.PlanParts.{which_number}
+use Rattle.klp_catalog_text.specs.Limits.{has_same, callback_number}
+use Rattle.klp_catalog_text.specs.Scripts.{scripts_of_target, scripts_of_targets, scripts_of}
 use Rattle.klp_catalog.specs.Counts.{CallbackId, is_callback}
 use Rattle.klp_catalog.specs.Runs.{by_number, target_ids, patch_ids, callback_ids}
 use Rattle.klp_catalog.specs.Limits.{HasOneOfEach, IsWithin}

@@ -6,8 +6,8 @@ use Rattle.std.proofs.lemmas.List.Sums.{sum_by-cons}
 use Rattle.std.proofs.lemmas.Option.{slice_get-map}
 use Rattle.klp_types.specs.Setting.{PatchObject, patch_objects}
 use Rattle.klp_modules.specs.Names.{ObjectNames}
-use Rattle.klp_plan.specs.Plan.{PlanTarget, PlanPatch}
-use Rattle.klp_plan.specs.Limits.{has_same, target_number}
+use Rattle.klp_catalog_text.specs.Plan.{PlanTarget, PlanPatch}
+use Rattle.klp_catalog_text.specs.Limits.{has_same, target_number}
 use Rattle.klp_catalog.specs.Catalog.{targets_of_patch, patch_object, setting_patch}
 use Rattle.klp_catalog.specs.Limits.{IsWithin}
 use Rattle.klp_catalog.proofs.CatalogLemmas.{objects_in_patch}

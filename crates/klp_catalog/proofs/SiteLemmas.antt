@@ -4,7 +4,7 @@ use Rattle.std.proofs.lemmas.Bool.{lt-ltb, le-ltb}
 use Rattle.std.proofs.lemmas.List.{length-map}
 use Rattle.klp_types.specs.Image.{Symbol, Object, object_of}
 use Rattle.klp_modules.specs.Names.{names_of, first_site, symbol_names}
-use Rattle.klp_plan.specs.Plan.{PlanFunction}
+use Rattle.klp_catalog_text.specs.Plan.{PlanFunction}
 use Rattle.klp_catalog.specs.Catalog.{site_of}
 use Rattle.klp_catalog.proofs.CatalogLemmas.{site_in_object}
 

@@ -6,8 +6,8 @@ use Rattle.klp_catalog.specs.declared.assemble.AssembleFault.TheVariants.{WrongC
 use Rattle.klp_types.specs.Setting.{Callback}
 use Rattle.klp_types.specs.Script.{Script}
 use Rattle.klp_callback.specs.Told.{Told}
-use Rattle.klp_plan.specs.Plan.{PlanTarget, PlanPatch}
-use Rattle.klp_plan.specs.Scripts.{scripts_of}
+use Rattle.klp_catalog_text.specs.Plan.{PlanTarget, PlanPatch}
+use Rattle.klp_catalog_text.specs.Scripts.{scripts_of}
 use Rattle.klp_catalog.specs.Catalog.{CatalogFunction, some_same_site}
 
 -- a callback, an object and a patch without what the scripts say: with the empty script in place of each

@@ -4,7 +4,7 @@ use Rattle.std.specs.List.{list_any}
 use Rattle.std.specs.Result.{result_ok}
 use Rattle.klp_types.specs.Setting.{Function, PatchObject, Patch, is_at}
 use Rattle.klp_modules.specs.Names.{ObjectNames, resolved}
-use Rattle.klp_plan.specs.Plan.{PlanFunction, PlanTarget, PlanPatch}
+use Rattle.klp_catalog_text.specs.Plan.{PlanFunction, PlanTarget, PlanPatch}
 
 -- a new function of a catalog: the object it lies in, the symbol it stands in for, by name and position, the site that
 -- this symbol is, and its own name and address

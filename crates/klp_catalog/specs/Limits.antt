@@ -2,9 +2,9 @@
 use Rattle.std.specs.Prelude.{◌≡◌, ◌≤◌, false, List, length}
 use Rattle.std.specs.List.{AllByRecursion}
 use Rattle.klp_types.specs.declared.limits.TheConstants.{MAX_PATCHES, MAX_TARGETS, MAX_FUNCTIONS, MAX_STATES}
-use Rattle.klp_plan.specs.Plan.{PlanTarget, PlanPatch}
-use Rattle.klp_plan.specs.Parts.{function_count}
-use Rattle.klp_plan.specs.Limits.{has_same, callback_number, target_number, state_number}
+use Rattle.klp_catalog_text.specs.Plan.{PlanTarget, PlanPatch}
+use Rattle.klp_catalog_text.specs.PlanParts.{function_count}
+use Rattle.klp_catalog_text.specs.Limits.{has_same, callback_number, target_number, state_number}
 
 -- an object of a patch has at most one callback of each of the four kinds
 pub record HasOneOfEach (target : PlanTarget) : Type 0 where

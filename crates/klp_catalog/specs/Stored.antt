@@ -7,9 +7,9 @@ use Rattle.klp_types.specs.Callbacks.{is_kind}
 use Rattle.klp_types.specs.Script.{Script}
 use Rattle.klp_types.specs.Compatible.{SystemState, version_among, can_live_with}
 use Rattle.klp_modules.specs.Names.{ObjectNames}
-use Rattle.klp_plan.specs.Plan.{PlanFunction, PlanTarget, PlanPatch}
-use Rattle.klp_plan.specs.Scripts.{scripts_of_targets}
-use Rattle.klp_plan.specs.Draft.{patch_names_of}
+use Rattle.klp_catalog_text.specs.Plan.{PlanFunction, PlanTarget, PlanPatch}
+use Rattle.klp_catalog_text.specs.Scripts.{scripts_of_targets}
+use Rattle.klp_catalog_text.specs.Draft.{patch_names_of}
 use Rattle.klp_catalog.specs.Catalog.{CatalogFunction, functions_of_patch, some_same_site}
 use Rattle.klp_catalog.specs.Limits.{AreWithin}
 use Rattle.klp_catalog.specs.Runs.{HasCounts}

@@ -3,7 +3,7 @@
 ghost use Rattle.std.specs.Prelude.{◌≡◌, ◌+◌, ◌≤◌, ◌++◌, false, length, take, map, OnOk, IfOk, IfErr};
 ghost use Rattle.std.specs.List.{list_any};
 ghost use Rattle.klp_types.specs.Setting.{Callback as CallbackValue};
-ghost use Rattle.klp_plan.specs.Scripts.{scripts_of};
+ghost use Rattle.klp_catalog_text.specs.Scripts.{scripts_of};
 ghost use Rattle.klp_catalog.specs.Catalog as catalog;
 ghost use Rattle.klp_catalog.specs.Catalog.{CatalogFunction as FunctionValue, resolved_function, functions_of_target, some_same_site};
 ghost use Rattle.klp_catalog.specs.Assembled.{IsAssembleFault, IsShort};
@@ -14,8 +14,8 @@ use crate::function::CatalogFunction;
 use crate::numbers::Numbers;
 use crate::patch::CatalogPatch;
 use crate::target::CatalogTarget;
+use klp_catalog_text::{PlanCallback, PlanFunction, PlanPatch, PlanTarget};
 use klp_modules::Modules;
-use klp_plan::{PlanCallback, PlanFunction, PlanPatch, PlanTarget};
 use klp_types::{ObjId, Site, Which};
 use std::alloc::{AllocError, AllocFailed, Global};
 use std::snapshot::Snapshot;

@@ -7,15 +7,15 @@ ghost use Rattle.klp_types.specs.Callbacks.{call_of, after_calls};
 ghost use Rattle.klp_types.specs.Script.{Script as ScriptOfEdits, alloc_count};
 ghost use Rattle.klp_world.specs.Changes.{Changes, HasRoom};
 ghost use Rattle.klp_world.specs.Noted.{rows_of_script};
-ghost use Rattle.klp_plan.specs.Plan.{PlanPatch as PatchValue};
-ghost use Rattle.klp_plan.specs.Text.{plan_of, IsFaultOf};
-ghost use Rattle.klp_plan.specs.Within.{AreTargetsWithin};
-ghost use Rattle.klp_plan.specs.Draft.{patch_names_of};
+ghost use Rattle.klp_catalog_text.specs.Plan.{PlanPatch as PatchValue};
+ghost use Rattle.klp_catalog_text.specs.Text.{plan_of, IsFaultOf};
+ghost use Rattle.klp_catalog_text.specs.Within.{AreTargetsWithin};
+ghost use Rattle.klp_catalog_text.specs.Draft.{patch_names_of};
 ghost use Rattle.klp_catalog.specs.Catalog.{CatalogFunction as FunctionValue, catalog_functions, setting_function, patches_of, has_same_site, some_same_site};
 ghost use Rattle.klp_catalog.specs.States as states;
 ghost use Rattle.klp_catalog.specs.Runs.{HasCounts, objects_at, place_of, script_at, allocs_if, rows_if, after_runs, callback_runs};
 ghost use Rattle.klp_catalog.specs.Limits.{AreWithin};
-ghost use Rattle.klp_plan.specs.Scripts.{scripts_of};
+ghost use Rattle.klp_catalog_text.specs.Scripts.{scripts_of};
 ghost use Rattle.klp_catalog.specs.Assembled.{IsAssembleFault, LiesInObject, without_scripts, scripts_told, counts_told};
 
 use crate::assemble::{AssembleFault, assemble_patches, symbol_counts};
@@ -24,8 +24,8 @@ use crate::patch;
 use crate::patch::CatalogPatch;
 use arrayvec::ArrayVec;
 use klp_callback::Boxed;
+use klp_catalog_text::{Names, Plan, TextFault};
 use klp_modules::Modules;
-use klp_plan::{Names, Plan, TextFault};
 use klp_types::{
     MAX_EDITS, MAX_FUNCTIONS, MAX_PATCHES, MAX_STATES, MAX_TARGETS, ObjId, PatchId, Records, Site,
     Which,
@@ -79,7 +79,7 @@ impl Catalog {
         ensures targets { IfOk result (λ plan. AreTargetsWithin (length plan.objects) plan.patches) }
         ensures fault { IfErr result (λ fault. IsFaultOf text.now fault.line fault.kind) }
     {
-        klp_plan::read(alloc, text)
+        klp_catalog_text::read(alloc, text)
     }
 
     /// Makes a catalog of a plan, over the modules of the image that its objects make. The handler and the
@@ -183,6 +183,13 @@ impl Catalog {
     {
         let patch = self.patches.get(usize::from(patch.0))?;
         Some(patch.replace)
+    }
+
+    /// The same where a patch that isn't there counts as one that replaces nothing.
+    pub fn is_cumulative(&self, patch: PatchId) -> bool
+        ensures { result ≡ states.is_cumulative self.now patch }
+    {
+        self.replaces(patch).unwrap_or(false)
     }
 
     /// How many objects a patch changes, at most [`MAX_TARGETS`](klp_types::MAX_TARGETS). A patch that

@@ -5,7 +5,7 @@ ghost use Rattle.klp_types.specs.Image.{Object, object_of};
 ghost use Rattle.klp_types.specs.declared.callback.Which.{Which};
 ghost use Rattle.klp_types.specs.Callbacks.{Call};
 ghost use Rattle.klp_modules.specs.Names.{names_of};
-ghost use Rattle.klp_plan.specs.Plan.{PlanFunction};
+ghost use Rattle.klp_catalog_text.specs.Plan.{PlanFunction};
 ghost use Rattle.klp_catalog.specs.Catalog.{Catalog, site_of};
 ghost use Rattle.klp_catalog.specs.Runs.{objects_at, place_of, after_runs, runs_of, callback_runs, RunsAddUp};
 ghost use Rattle.klp_catalog.specs.Counts.{times, grown};

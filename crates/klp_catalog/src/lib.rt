@@ -1,6 +1,6 @@
 //! The catalog: the patches of an administrator's text over the objects of the kernel.
 //!
-//! `klp_plan` reads the text into a [`Plan`]. A plan becomes a [`Catalog`] over the objects of the kernel,
+//! `klp_catalog_text` reads the text into a [`Plan`]. A plan becomes a [`Catalog`] over the objects of the kernel,
 //! whose symbols its functions name (`specs/Assembled`). The model is the modules' names, the plan's
 //! patches with the scripts of the callbacks that were handed in, and how often each callback ran
 //! (`specs/Catalog`, `Counts`).
@@ -25,4 +25,4 @@ mod target;
 pub use assemble::AssembleFault;
 pub use catalog::Catalog;
 pub use function::CatalogFunction;
-pub use klp_plan::{Plan, TextFault, TextFaultKind};
+pub use klp_catalog_text::{Plan, TextFault, TextFaultKind};

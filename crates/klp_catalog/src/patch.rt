@@ -9,7 +9,7 @@ ghost use Rattle.klp_catalog.specs.States.{installed_before};
 use crate::function::CatalogFunction;
 use crate::target::CatalogTarget;
 use arrayvec::ArrayVec;
-use klp_plan::SystemState;
+use klp_catalog_text::SystemState;
 use klp_types::{MAX_STATES, ObjId, PatchId, Which};
 use std::marker::Model;
 use std::snapshot::Snapshot;

@@ -2,7 +2,7 @@ ghost use Rattle.std.specs.Prelude.{◌≡◌, position};
 ghost use Rattle.klp_types.specs.Callbacks as callbacks;
 ghost use Rattle.klp_catalog.specs.Stored.{number_in};
 
-use klp_plan::PlanFunction;
+use klp_catalog_text::PlanFunction;
 use klp_types::{ObjId, Which};
 use std::marker::Model;
 use std::snapshot::Snapshot;

@@ -9,15 +9,15 @@ use Rattle.std.specs.Prelude.{count_by, Option, Result, Ok, Err}
 use Rattle.std.specs.Io.KnownBytes.{Appends}
 use Rattle.std.proofs.KnownBytes.{Appends-trans}
 use Rattle.klp_core.specs.Journaled.{Journaled}
-use Rattle.klp_output.specs.Gathered.{Gathered}
-use Rattle.klp_output.specs.Written.{Written}
-use Rattle.klp_output.specs.Says.{IsWell, IsToBlame, Spoken, Says, Speaks}
-use Rattle.klp_command.specs.declared.asked.Asked.{Asked}
-use Rattle.klp_command.specs.declared.fault.LineFault.{LineFault}
-use Rattle.klp_command.specs.Lines.{asked_of}
+use Rattle.klp_console_io.specs.Gathered.{Gathered}
+use Rattle.klp_console_io.specs.Written.{Written}
+use Rattle.klp_console_io.specs.Says.{IsWell, IsToBlame, Spoken, Says, Speaks}
+use Rattle.klp_console_commands.specs.declared.request.Request.{Request}
+use Rattle.klp_console_commands.specs.declared.fault.LineFault.{LineFault}
+use Rattle.klp_console_commands.specs.Lines.{request_of}
 use Rattle.klp_types.specs.declared.limits.TheConstants.{MAX_CONSOLE_LINE, ANSWER_ROOM}
-use Rattle.klp_lines.specs.Lines.{is_line_feed, lines_and_rest}
-use Rattle.klp_console.specs.Answered.{Answer, IsDoneIf, known_in}
+use Rattle.klp_console_io.specs.Lines.{is_line_feed, lines_and_rest}
+use Rattle.klp_console.specs.Answered.{Answer, IsDoneIf, names_in}
 use Rattle.klp_console.specs.declared.served.Served.{Served}
 use Rattle.klp_console.specs.declared.served.ServeFault.{ServeFault}
 use Rattle.klp_console.specs.declared.served.ServeFault.TheVariants.{Read, Write, LineTooLong}
@@ -290,14 +290,14 @@ whole_line (b ∷ bs) some = refl
 
 -- one line is served
 pub serves_one : (a : Moment) (manager : Journaled) (said : Gathered × Written) (served : Served) (line : List ℕ) (refused : Bool)
-    → (asked : Option (Result Asked LineFault)) (told : Bool) → asked ≡ asked_of (known_in a.manager) line → told ≡ refused
-    → IsSaid (IsDoneIf a.manager manager asked) a.said said told → length line ≤ MAX_CONSOLE_LINE
+    → (request : Option (Result Request LineFault)) (told : Bool) → request ≡ request_of (names_in a.manager) line → told ≡ refused
+    → IsSaid (IsDoneIf a.manager manager request) a.said said told → length line ≤ MAX_CONSOLE_LINE
     → served.lines ≡ a.served.lines + 1 → served.refused ≡ a.served.refused + cond refused 1 0
     → Serves a (record { manager = manager; served = served; said = said }) (line ∷ [])
-serves_one a manager said served line refused asked told is_asked is_told spoken_of short lines refusals_are =
-    let is_answer = λ (question : Option (Result Asked LineFault)). IsDoneIf a.manager manager question in
+serves_one a manager said served line refused request told is_asked is_told spoken_of short lines refusals_are =
+    let is_answer = λ (question : Option (Result Request LineFault)). IsDoneIf a.manager manager question in
     let spoken_to = subst (λ question. IsSaid (is_answer question) a.said said told) is_asked spoken_of in
-    let spoken = subst (IsSaid (is_answer (asked_of (known_in a.manager) line)) a.said said) is_told spoken_to in
+    let spoken = subst (IsSaid (is_answer (request_of (names_in a.manager) line)) a.said said) is_told spoken_to in
     record {
       answers = record { text = spoken.0; is_refused = refused } ∷ [];
       answered = (manager, record { done = spoken.1 }, refl);

@@ -5,11 +5,11 @@ use Rattle.std.specs.Prelude.{Ok, Err}
 use Rattle.std.specs.Io.KnownBytes.{Appends, Consumes, Keeps, IsAtEnd}
 use Rattle.std.proofs.KnownBytes.{Appends-trans, Consumes-nil, Consumes-trans, Consumes-kept}
 use Rattle.klp_core.specs.Journaled.{Journaled}
-use Rattle.klp_output.specs.Gathered.{Gathered}
-use Rattle.klp_output.specs.Written.{Written}
-use Rattle.klp_output.specs.Says.{IsWell, Says}
-use Rattle.klp_streams.specs.Supply.{Supply}
-use Rattle.klp_lines.specs.Lines.{lines_and_rest}
+use Rattle.klp_console_io.specs.Gathered.{Gathered}
+use Rattle.klp_console_io.specs.Written.{Written}
+use Rattle.klp_console_io.specs.Says.{IsWell, Says}
+use Rattle.klp_console_io.specs.Supply.{Supply}
+use Rattle.klp_console_io.specs.Lines.{lines_and_rest}
 use Rattle.klp_console.specs.declared.served.ServeFault.{ServeFault}
 use Rattle.klp_console.specs.declared.served.ServeFault.TheVariants.{Read, Write, LineTooLong}
 use Rattle.klp_console.specs.Answered.{Answer}
@@ -199,7 +199,7 @@ pub served_all : AddUp → (source now next : Supply) (manager : Journaled) (wri
     → Consumes now.left next.left [] → next.failures ≡ now.failures → source.reads < next.reads → next.reads ≤ source.reads + MAX_READS → next.has_ended ≡ true → IsAtEnd next.left
     → Serves b c (whole (line ∷ [])) → c.said.0.has_failed ≡ false → c.said.0.bytes ≡ []
     → IsServed (console_of source (start_at manager written)) (console_of next c) c.served
-served_all add_up source now next manager written b c line so_far read same asked few ended at_end last still empty =
+served_all add_up source now next manager written b c line so_far read same request few ended at_end last still empty =
     let serves = serves_all add_up source now (start_at manager written) b c line so_far last in
     record {
       bytes = so_far.bytes;
@@ -207,7 +207,7 @@ served_all add_up source now next manager written b c line so_far read same aske
       reads = reads_of source next (start_at manager written) c so_far.bytes (lines_of so_far.bytes)
           (subst (Consumes source.left next.left) (append-nil so_far.bytes) (Consumes-trans source.left now.left next.left so_far.bytes [] so_far.read read)) few serves;
       writes = writes_of source next manager written c (lines_of so_far.bytes) serves still empty;
-      asked = asked;
+      request = request;
       ended = ended;
       at_end = at_end;
       no_failure = same ∙ so_far.no_failure;

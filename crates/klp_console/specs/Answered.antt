@@ -1,19 +1,19 @@
 -- What one line of the console is answered, and what becomes of the manager.
 use Rattle.std.specs.Prelude.{◌≡◌, ℕ, ◌<◌, ◌≤◌, Bool, true, false, List, [], length, ◌⊎◌, is_err, Option, Some, None, Result, Ok, Err}
-use Rattle.klp_machine.specs.declared.event.Event.{Event}
-use Rattle.klp_machine.specs.declared.event.Reply.{Reply}
-use Rattle.klp_machine.specs.declared.event.Refusal.{Refusal}
+use Rattle.klp_model.specs.declared.event.Event.{Event}
+use Rattle.klp_model.specs.declared.event.Reply.{Reply}
+use Rattle.klp_model.specs.declared.event.Refusal.{Refusal}
 use Rattle.klp_modules.specs.Names.{names_of}
-use Rattle.klp_plan.specs.Draft.{patch_names_of}
+use Rattle.klp_catalog_text.specs.Draft.{patch_names_of}
 use Rattle.klp_catalog.specs.Catalog.{Catalog}
-use Rattle.klp_command.specs.declared.asked.Asked.{Asked}
-use Rattle.klp_command.specs.declared.asked.Asked.TheVariants.{Take, ForceNothing, Rewind, Seal, See}
-use Rattle.klp_command.specs.declared.fault.LineFault.{LineFault}
-use Rattle.klp_command.specs.Known.{Known}
-use Rattle.klp_command.specs.Lines.{asked_of}
-use Rattle.klp_answers.specs.Refusals.{fault_text, bad_mark_text}
-use Rattle.klp_answers.specs.Replies.{done_text, answer_text}
-use Rattle.klp_looks.specs.Looks.{look_text, seen_text, force_nothing}
+use Rattle.klp_console_commands.specs.declared.request.Request.{Request}
+use Rattle.klp_console_commands.specs.declared.request.Request.TheVariants.{Take, ForceNothing, Rewind, Seal, See}
+use Rattle.klp_console_commands.specs.declared.fault.LineFault.{LineFault}
+use Rattle.klp_console_commands.specs.Names.{NameResolver}
+use Rattle.klp_console_commands.specs.Lines.{request_of}
+use Rattle.klp_console.specs.Refusals.{fault_text, bad_mark_text}
+use Rattle.klp_console.specs.Replies.{done_text, answer_text}
+use Rattle.klp_console.specs.Queries.{look_text, seen_text, force_nothing}
 use Rattle.klp_core.specs.Journaled.{Journaled}
 use Rattle.klp_core.specs.Taking.{IsTaken}
 use Rattle.klp_core.specs.Rewinding.{IsRewound}
@@ -42,8 +42,8 @@ abbrev pub replied : Catalog → Result Reply Refusal → Answer
 replied catalog reply = record { text = answer_text catalog reply; is_refused = is_err reply }
 
 -- the names that a line may use
-abbrev pub known_in : Journaled → Known
-known_in manager = record { patches = patch_names_of manager.managed.catalog.patches; objects = names_of manager.managed.image.objects }
+abbrev pub names_in : Journaled → NameResolver
+names_in manager = record { patches = patch_names_of manager.managed.catalog.patches; objects = names_of manager.managed.image.objects }
 
 -- the state is the base now, and nothing can be undone any more
 abbrev pub sealed : Journaled → Journaled
@@ -61,7 +61,7 @@ IsRewoundAs before after mark answer =
     ((mark ≤ length before.groups) × IsRewound before after mark × (answer ≡ done)) ⊎ ((length before.groups < mark) × (after ≡ before) × (answer ≡ refused_with bad_mark_text))
 
 -- what is asked for is done
-abbrev pub IsDone : Journaled → Journaled → Asked → Answer → Type 0
+abbrev pub IsDone : Journaled → Journaled → Request → Answer → Type 0
 IsDone before after (Take event) answer = IsTakenAs before after event answer
 IsDone before after (ForceNothing patch) answer = (after ≡ before) × (answer ≡ seen (force_nothing before patch))
 IsDone before after (Rewind mark) answer = IsRewoundAs before after mark answer
@@ -69,11 +69,11 @@ IsDone before after Seal answer = (after ≡ sealed before) × (answer ≡ done)
 IsDone before after (See look) answer = (after ≡ before) × (answer ≡ seen (look_text before look))
 
 -- a line without words and a line that asks for nothing change nothing
-abbrev pub IsDoneIf : Journaled → Journaled → Option (Result Asked LineFault) → Answer → Type 0
+abbrev pub IsDoneIf : Journaled → Journaled → Option (Result Request LineFault) → Answer → Type 0
 IsDoneIf before after None answer = (after ≡ before) × (answer ≡ nothing)
 IsDoneIf before after (Some (Err fault)) answer = (after ≡ before) × (answer ≡ refused_with (fault_text fault))
-IsDoneIf before after (Some (Ok asked)) answer = IsDone before after asked answer
+IsDoneIf before after (Some (Ok request)) answer = IsDone before after request answer
 
 -- a line is answered: this is its answer, and this is what it leaves of the manager
 pub record IsAnswered (before after : Journaled) (line : List ℕ) (answer : Answer) : Type 0 where
-  pub done : IsDoneIf before after (asked_of (known_in before) line) answer
+  pub done : IsDoneIf before after (request_of (names_in before) line) answer

@@ -3,7 +3,7 @@ use Rattle.std.specs.Prelude.{◌≡◌, ℕ, Bool, nat_le, List, [], ◌∷◌,
 use Rattle.std.specs.List.{list_all}
 use Rattle.klp_core.specs.Journaled.{Journaled}
 use Rattle.klp_types.specs.declared.limits.TheConstants.{MAX_CONSOLE_LINE}
-use Rattle.klp_lines.specs.Lines.{lines_and_rest}
+use Rattle.klp_console_io.specs.Lines.{lines_and_rest}
 use Rattle.klp_console.specs.Answered.{Answer, IsAnswered}
 
 -- the last line needs no line feed; where nothing stands behind the last line feed, there is no further line

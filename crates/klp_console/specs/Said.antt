@@ -2,9 +2,9 @@
 use Rattle.std.specs.Prelude.{◌≡◌, ℕ, ◌+◌, ◌<◌, ◌≤◌, Bool, true, false, List, [], ◌∷◌, ◌++◌, length, count_by, Result, Ok, Err}
 use Rattle.std.specs.Io.KnownBytes.{Appends}
 use Rattle.klp_core.specs.Journaled.{Journaled}
-use Rattle.klp_output.specs.Gathered.{Gathered}
-use Rattle.klp_output.specs.Written.{Written}
-use Rattle.klp_output.specs.Says.{IsToBlame, Says}
+use Rattle.klp_console_io.specs.Gathered.{Gathered}
+use Rattle.klp_console_io.specs.Written.{Written}
+use Rattle.klp_console_io.specs.Says.{IsToBlame, Says}
 use Rattle.klp_types.specs.declared.limits.TheConstants.{MAX_CONSOLE_LINE, ANSWER_ROOM}
 use Rattle.klp_console.specs.declared.served.Served.{Served}
 use Rattle.klp_console.specs.declared.served.ServeFault.{ServeFault}

@@ -2,11 +2,11 @@
 use Rattle.std.specs.Prelude.{◌≡◌, ℕ, ◌+◌, ◌<◌, ◌≤◌, true, List, [], ◌∷◌, ◌++◌, length, count_by, ◌⊎◌, Result, Ok, Err}
 use Rattle.std.specs.Io.KnownBytes.{Appends, Consumes, IsAtEnd}
 use Rattle.klp_core.specs.Journaled.{Journaled}
-use Rattle.klp_output.specs.Written.{Written}
-use Rattle.klp_output.specs.Says.{IsWell}
-use Rattle.klp_streams.specs.Supply.{Supply}
+use Rattle.klp_console_io.specs.Written.{Written}
+use Rattle.klp_console_io.specs.Says.{IsWell}
+use Rattle.klp_console_io.specs.Supply.{Supply}
 use Rattle.klp_types.specs.declared.limits.TheConstants.{MAX_CONSOLE_LINE, MAX_READS}
-use Rattle.klp_lines.specs.Lines.{lines_and_rest}
+use Rattle.klp_console_io.specs.Lines.{lines_and_rest}
 use Rattle.klp_console.specs.declared.served.Served.{Served}
 use Rattle.klp_console.specs.declared.served.ServeFault.{ServeFault}
 use Rattle.klp_console.specs.declared.served.ServeFault.TheVariants.{Read, Write, LineTooLong}
@@ -38,7 +38,7 @@ pub record IsServed (before after : Console) (served : Served) : Type 0 where
   pub answers : List Answer
   pub reads : Reads before after bytes (lines_of bytes) answers
   pub writes : Writes before after answers
-  pub asked : before.supply.reads < after.supply.reads
+  pub request : before.supply.reads < after.supply.reads
   pub ended : after.supply.has_ended ≡ true
   pub at_end : IsAtEnd after.supply.left
   pub no_failure : after.supply.failures ≡ before.supply.failures

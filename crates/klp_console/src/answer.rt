@@ -2,17 +2,18 @@
 //! it alone.
 ghost use Rattle.std.specs.Prelude.{◌≡◌, ◌+◌, ◌<◌, ◌≤◌, ◌^◌, false, [], ◌∷◌, length};
 ghost use Rattle.klp_types.specs.declared.limits.TheConstants.{MAX_CONSOLE_LINE};
-ghost use Rattle.klp_command.specs.Lines.{asked_of};
-ghost use Rattle.klp_console.specs.Answered.{IsTakenAs, IsRewoundAs, IsDone, IsDoneIf, known_in};
+ghost use Rattle.klp_console_commands.specs.Lines.{request_of};
+ghost use Rattle.klp_console.specs.Answered.{IsTakenAs, IsRewoundAs, IsDone, IsDoneIf, names_in};
 ghost use Rattle.klp_console.specs.Said.{IsSaid, Serves};
 
+use crate::queries::{say_force_nothing, say_query};
+use crate::refusals::{say_bad_mark, say_fault};
+use crate::replies::{say_answer, say_done};
 use crate::served::Served;
-use klp_answers::{say_answer, say_bad_mark, say_done, say_fault};
-use klp_command::{Asked, LineFault, asked_of};
+use klp_console_commands::{LineFault, Request, request_of};
+use klp_console_io::{Answers, Sink, what_is_said_adds_up};
 use klp_core::Manager;
-use klp_looks::{say_force_nothing, say_look};
-use klp_machine::Event;
-use klp_output::{Answers, Sink, what_is_said_adds_up};
+use klp_model::Event;
 
 /// The manager takes an event. Answers whether it was refused, by which the line is counted.
 fn apply<W: Sink>(
@@ -50,19 +51,19 @@ fn rewind<W: Sink>(manager: &mut Manager, mark: u32, answers: &mut Answers, writ
 /// Does what is asked. Answers whether it was refused; what was refused changed nothing.
 fn done<W: Sink>(
     manager: &mut Manager,
-    asked: &Asked,
+    request: &Request,
     answers: &mut Answers,
     writer: &mut W,
 ) -> bool
     requires { answers.old.has_failed ≡ false }
-    ensures { IsSaid (IsDone manager.old manager.new asked.now) (answers.old, W.written writer.old) (answers.new, W.written writer.new) result }
+    ensures { IsSaid (IsDone manager.old manager.new request.now) (answers.old, W.written writer.old) (answers.new, W.written writer.new) result }
 {
-    match *asked {
-        Asked::Take(event) => apply(manager, event, answers, writer),
-        Asked::Rewind(mark) => rewind(manager, mark, answers, writer),
-        Asked::ForceNothing(patch) => say_force_nothing(answers, writer, manager, patch).is_err(),
-        Asked::See(ref look) => say_look(answers, writer, manager, look).is_err(),
-        Asked::Seal => {
+    match *request {
+        Request::Take(event) => apply(manager, event, answers, writer),
+        Request::Rewind(mark) => rewind(manager, mark, answers, writer),
+        Request::ForceNothing(patch) => say_force_nothing(answers, writer, manager, patch).is_err(),
+        Request::See(ref look) => say_query(answers, writer, manager, look).is_err(),
+        Request::Seal => {
             manager.seal();
             say_done(answers, writer);
             false
@@ -74,17 +75,17 @@ fn done<W: Sink>(
 /// that a script may have empty lines, and one that asks for nothing is refused.
 fn done_if<W: Sink>(
     manager: &mut Manager,
-    asked: &Option<Result<Asked, LineFault>>,
+    request: &Option<Result<Request, LineFault>>,
     answers: &mut Answers,
     writer: &mut W,
 ) -> bool
     requires { answers.old.has_failed ≡ false }
-    ensures { IsSaid (IsDoneIf manager.old manager.new asked.now) (answers.old, W.written writer.old) (answers.new, W.written writer.new) result }
+    ensures { IsSaid (IsDoneIf manager.old manager.new request.now) (answers.old, W.written writer.old) (answers.new, W.written writer.new) result }
 {
     what_is_said_adds_up();
-    match asked {
+    match request {
         None => false,
-        Some(Ok(asked)) => done(manager, asked, answers, writer),
+        Some(Ok(request)) => done(manager, request, answers, writer),
         Some(Err(fault)) => {
             say_fault(answers, writer, fault);
             true
@@ -93,10 +94,10 @@ fn done_if<W: Sink>(
 }
 
 /// What a line asks for, by the names of the manager's own catalog and modules.
-fn asked_by(manager: &Manager, line: &[u8]) -> Option<Result<Asked, LineFault>>
-    ensures { result ≡ asked_of (known_in manager.now) line.now }
+fn request_by(manager: &Manager, line: &[u8]) -> Option<Result<Request, LineFault>>
+    ensures { result ≡ request_of (names_in manager.now) line.now }
 {
-    asked_of(line, manager.catalog(), manager.modules())
+    request_of(line, manager.catalog(), manager.modules())
 }
 
 /// Answers a line, and counts it, also where the sink fails meanwhile: what the line asked for is done.
@@ -115,8 +116,8 @@ pub(crate) fn answer_line<W: Sink>(
         (record { manager = manager.new; served = served.new; said = (answers.new, W.written writer.new) }) (line.now ∷ []) }
     ensures few { served.new.refused ≤ served.new.lines }
 {
-    let asked = asked_by(manager, line);
-    let is_refused = done_if(manager, &asked, answers, writer);
+    let request = request_by(manager, line);
+    let is_refused = done_if(manager, &request, answers, writer);
     served.lines += 1;
     if is_refused {
         served.refused += 1;

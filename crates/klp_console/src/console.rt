@@ -1,7 +1,7 @@
 //! A whole input is served: reads in room of a fixed size, and the end.
 ghost use Rattle.std.specs.Prelude.{◌≡◌, ◌+◌, ◌<◌, ◌≤◌, ◌^◌, true, false, [], ◌∷◌, ◌++◌, length, IfOk, IfErr};
 ghost use Rattle.klp_types.specs.declared.limits.TheConstants.{MAX_CONSOLE_LINE};
-ghost use Rattle.klp_lines.specs.Lines.{lines_and_rest};
+ghost use Rattle.klp_console_io.specs.Lines.{lines_and_rest};
 ghost use Rattle.klp_console.specs.declared.served.ServeFault.TheVariants.{Write};
 ghost use Rattle.klp_console.specs.Lines.{whole};
 ghost use Rattle.klp_console.specs.Said.{Hears, Serves};
@@ -10,17 +10,17 @@ ghost use Rattle.klp_console.specs.Served.{ComesTo};
 use crate::answer::answer_line;
 use crate::hear::hear_lines;
 use crate::served::{ServeFault, Served};
+use klp_console_io::{
+    Answers, Failed, LineBuffer, Sink, Source, lines_add_up, what_is_said_adds_up,
+};
 use klp_core::Manager;
-use klp_lines::{Line, lines_add_up};
-use klp_output::{Answers, Failed, Sink, what_is_said_adds_up};
-use klp_streams::Source;
 use klp_types::{MAX_READS, READ_ROOM};
 
 /// Hears a piece, and writes all that its lines are answered. One write has the answers of a whole read, so
 /// a file of many lines costs no write a line (docs/DECISIONS.md, "Gathered answers").
 fn hear<W: Sink>(
     manager: &mut Manager,
-    line: &mut Line,
+    line: &mut LineBuffer,
     piece: &[u8],
     served: &mut Served,
     answers: &mut Answers,
@@ -50,7 +50,7 @@ fn hear<W: Sink>(
 /// is what is behind the last line feed.
 fn end<W: Sink>(
     manager: &mut Manager,
-    line: &Line,
+    line: &LineBuffer,
     served: &mut Served,
     answers: &mut Answers,
     writer: &mut W,
@@ -94,7 +94,7 @@ pub fn serve<R: Source, W: Sink>(
 {
     what_is_said_adds_up();
     lines_add_up();
-    let mut line = Line::new();
+    let mut line = LineBuffer::new();
     let mut served = Served {
         lines: 0,
         refused: 0,

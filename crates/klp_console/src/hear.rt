@@ -2,19 +2,18 @@
 //! that its ways out are cheap to prove (docs/DECISIONS.md, "One way out for an owner").
 ghost use Rattle.std.specs.Prelude.{◌≡◌, ◌+◌, ◌<◌, ◌≤◌, ◌^◌, false, [], ◌∷◌, ◌++◌, length, IfOk};
 ghost use Rattle.klp_types.specs.declared.limits.TheConstants.{MAX_CONSOLE_LINE};
-ghost use Rattle.klp_lines.specs.Lines.{lines_and_rest};
+ghost use Rattle.klp_console_io.specs.Lines.{lines_and_rest};
 ghost use Rattle.klp_console.specs.Said.{Hears, Serves};
 
 use crate::answer::answer_line;
 use crate::served::{ServeFault, Served};
+use klp_console_io::{Answers, LineBuffer, Sink, TooLong, what_is_said_adds_up};
 use klp_core::Manager;
-use klp_lines::{Line, TooLong};
-use klp_output::{Answers, Sink, what_is_said_adds_up};
 
 /// Hears a piece, and answers each line that it ends. After a failure of the sink no further line is done.
 pub(crate) fn hear_lines<W: Sink>(
     manager: &mut Manager,
-    line: &mut Line,
+    line: &mut LineBuffer,
     piece: &[u8],
     served: &mut Served,
     answers: &mut Answers,

@@ -4,16 +4,28 @@
 //! order. An input means the same however reads cut it. It has one contract for every source and every
 //! sink, `ComesTo` (`specs/Served`), with four outcomes: the input was served, a read failed, a write
 //! failed, or a line was too long. Each says which lines were done, which manager is left, and what was
-//! written.
+//! written. `specs/Answered` has what one line comes to, and `specs/Lines` what the lines of an input do;
+//! both go by the bytes of all reads together.
 //!
-//! `specs/Answered` has what one line comes to, and `specs/Lines` what the lines of an input do; both go by
-//! the bytes of all reads together.
+//! An answer is one or more whole lines, and each call writes exactly the defined text. A refusal is its
+//! number and its name (`specs/Refusals`). A reply is what the event did, with the names of patch and
+//! object, and with a task's functions outermost first, by symbol and position or by patch and index
+//! (`specs/Replies`, `Names`). A query is answered with the text of the definition for a manager, line by
+//! line: the files of patches and tasks, the text and the entries of sites, and what callbacks did
+//! (`specs/Queries`); or with its refusal. Nothing here takes memory.
 #![tactic(auto)]
 
 mod answer;
 mod console;
+mod files;
 mod hear;
+mod names;
+mod queries;
+mod refusals;
+mod replies;
+mod runs;
 mod served;
+mod text;
 
 pub use console::serve;
 pub use served::{ServeFault, Served};

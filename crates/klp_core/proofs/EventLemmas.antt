@@ -2,19 +2,19 @@
 use Rattle.std.proofs.Common.{◌≡◌, ℕ, ◌+◌, ◌<◌, List, [], ◌∷◌, ◌++◌, take, length, get_or, Option, Some, None, refl, sym, ap, subst, ◌∙◌}
 use Rattle.std.specs.Prelude.{OnErr, Result, Ok, Err}
 use Rattle.std.proofs.lemmas.List.{take_more}
-use Rattle.klp_machine.specs.declared.event.Event.{Event}
-use Rattle.klp_machine.specs.declared.event.Reply.{Reply}
-use Rattle.klp_machine.specs.declared.event.Refusal.{Refusal}
-use Rattle.klp_machine.specs.State.{State}
+use Rattle.klp_model.specs.declared.event.Event.{Event}
+use Rattle.klp_model.specs.declared.event.Reply.{Reply}
+use Rattle.klp_model.specs.declared.event.Refusal.{Refusal}
+use Rattle.klp_model.specs.State.{State}
 use Rattle.klp_types.specs.FirstOf.{first_of, unless}
 use Rattle.klp_types.specs.Callbacks.{Call}
-use Rattle.klp_machine.specs.EventCalls.{calls}
-use Rattle.klp_machine.specs.Refusals.{refusals}
-use Rattle.klp_machine.specs.Step.{accepted, calls_unless}
-use Rattle.klp_machine.specs.Run.{answer_of, state_after}
+use Rattle.klp_model.specs.EventCalls.{calls}
+use Rattle.klp_model.specs.Refusals.{refusals}
+use Rattle.klp_model.specs.Step.{accepted, calls_unless}
+use Rattle.klp_model.specs.Run.{answer_of, state_after}
 use Rattle.klp_catalog.specs.Runs.{after_runs}
-use Rattle.klp_steps.specs.Managed.{Managed, setting_of}
-use Rattle.klp_steps.specs.Events.{Takes}
+use Rattle.klp_manager_state.specs.Managed.{Managed, setting_of}
+use Rattle.klp_manager_state.specs.Events.{Takes}
 
 pub next_event : {A : Type 0} (xs : List A) (i : ℕ) (x : A) → i < length xs → x ≡ get_or xs i x → take (i + 1) xs ≡ take i xs ++ x ∷ []
 next_event xs i x below is = take_more xs i x below ∙ ap (λ y. take i xs ++ y ∷ []) (sym is)

@@ -9,33 +9,33 @@ use Rattle.klp_types.specs.FirstOf.{unless}
 use Rattle.klp_types.specs.Image.{Image}
 use Rattle.klp_types.specs.Records.{RecordList}
 use Rattle.klp_types.specs.Setting.{Setting}
-use Rattle.klp_machine.specs.declared.event.Event.{Event}
-use Rattle.klp_machine.specs.declared.event.Reply.{Reply}
-use Rattle.klp_machine.specs.declared.event.Refusal.{Refusal}
-use Rattle.klp_machine.specs.declared.event.Refusal.TheVariants.{JournalFull}
-use Rattle.klp_machine.specs.Allowed.{Allowed}
-use Rattle.klp_machine.specs.Entries.{entries_of}
-use Rattle.klp_machine.specs.Stated.{IsStated}
-use Rattle.klp_machine.specs.Legal.{IsLegal, state_after_history}
-use Rattle.klp_machine.specs.Run.{answer, answer_of}
-use Rattle.klp_machine.specs.State.{State}
+use Rattle.klp_model.specs.declared.event.Event.{Event}
+use Rattle.klp_model.specs.declared.event.Reply.{Reply}
+use Rattle.klp_model.specs.declared.event.Refusal.{Refusal}
+use Rattle.klp_model.specs.declared.event.Refusal.TheVariants.{JournalFull}
+use Rattle.klp_model.specs.Allowed.{Allowed}
+use Rattle.klp_model.specs.Entries.{entries_of}
+use Rattle.klp_model.specs.Stated.{IsStated}
+use Rattle.klp_model.specs.Legal.{IsLegal, state_after_history}
+use Rattle.klp_model.specs.Run.{answer, answer_of}
+use Rattle.klp_model.specs.State.{State}
 use Rattle.klp_modules.specs.Names.{ModuleTable, names_of}
 use Rattle.klp_text.specs.TextImage.{IsWithinLimits}
 use Rattle.klp_catalog.specs.Catalog.{Catalog}
 use Rattle.klp_journal.specs.Journal.{Group, has_room}
-use Rattle.klp_steps.specs.declared.parts.Parts.{Parts}
-use Rattle.klp_steps.specs.Events.{PartsTake, after_event}
-use Rattle.klp_steps.specs.Invariant.{Invariant}
-use Rattle.klp_steps.specs.Managed.{Managed, setting_of, managed_of}
-use Rattle.klp_steps.specs.Rows.{Rows, rows_in, rows_before, undone}
+use Rattle.klp_manager_state.specs.declared.state.ManagerState.{ManagerState}
+use Rattle.klp_manager_state.specs.Events.{TakesEvent, after_event}
+use Rattle.klp_manager_state.specs.Invariant.{Invariant}
+use Rattle.klp_manager_state.specs.Managed.{Managed, setting_of, managed_of, setting_in}
+use Rattle.klp_manager_state.specs.Rows.{Rows, rows_in, rows_before, undone}
 use Rattle.klp_core.specs.Journaled.{Journaled, state_told, rows_before_all, journaled_of, AreKept, is_of_a_task, IsSmall, IsStepOf, AreSteps, IsSound, history_in, Stands}
 use Rattle.klp_types.specs.Callbacks.{Call}
 use Rattle.klp_core.specs.Events.{AreCounted}
 use Rattle.klp_core.specs.Rewinding.{IsRewound}
 use Rattle.klp_core.specs.Taking.{unless_full, answer_in, Appends, IsTaken}
 
-pub kept_in : (parts : Parts) (catalog : Catalog) → Invariant parts catalog → AreKept (setting_of (managed_of parts catalog)) (rows_in parts)
-kept_in parts catalog holds = record { image = refl; allowed = holds.allowed; stated = holds.stated; entries = holds.entries }
+pub kept_in : (state : ManagerState) (catalog : Catalog) → Invariant state catalog → AreKept (setting_in state catalog) (rows_in state)
+kept_in state catalog holds = record { image = refl; allowed = holds.allowed; stated = holds.stated; entries = holds.entries }
 
 -- a group is appended, or taken back
 
@@ -82,14 +82,14 @@ are_small : (setting : Setting) (rows : Rows) (groups : List Group) → AreSteps
 are_small setting rows [] steps = All-nil IsSmall
 are_small setting rows (first ∷ newer) steps = All-cons IsSmall first newer steps.0.small (are_small setting rows newer steps.1)
 
-pub sound_stands : (parts : Parts) (catalog : Catalog) (groups : List Group) → IsSound parts catalog groups → Stands (journaled_of parts catalog groups)
-sound_stands parts catalog groups sound =
-    let setting = setting_of (managed_of parts catalog) in
+pub sound_stands : (state : ManagerState) (catalog : Catalog) (groups : List Group) → IsSound state catalog groups → Stands (journaled_of state catalog groups)
+sound_stands state catalog groups sound =
+    let setting = setting_in state catalog in
     record {
-      allowed = (base_kept setting (rows_in parts) groups sound.steps).allowed;
-      legal = are_legal setting (rows_in parts) groups sound.steps;
-      state = lead_on setting (rows_in parts) groups sound.steps;
-      small = are_small setting (rows_in parts) groups sound.steps;
+      allowed = (base_kept setting (rows_in state) groups sound.steps).allowed;
+      legal = are_legal setting (rows_in state) groups sound.steps;
+      state = lead_on setting (rows_in state) groups sound.steps;
+      small = are_small setting (rows_in state) groups sound.steps;
     }
 
 -- an event was taken
@@ -97,9 +97,9 @@ sound_stands parts catalog groups sound =
 same_setting : (before after : Managed) (event : Event) → after ≡ after_event before event → setting_of after ≡ setting_of before
 same_setting before after event left = ap setting_of left
 
-is_step : (before after : Parts) (catalog now : Catalog) (event : Event) (reply : Reply) (rows : List Record) → Invariant before catalog → PartsTake before after catalog now event (Ok reply)
+is_step : (before after : ManagerState) (catalog now : Catalog) (event : Event) (reply : Reply) (rows : List Record) → Invariant before catalog → TakesEvent before after catalog now event (Ok reply)
     → length rows ≤ MAX_RECORDS → (is_of_a_task event ≡ true → length rows ≡ 1)
-    → IsStepOf (setting_of (managed_of before catalog)) (rows_in before) (rows_in after) (record { event = event; reply = reply; rows = rows })
+    → IsStepOf (setting_in before catalog) (rows_in before) (rows_in after) (record { event = event; reply = reply; rows = rows })
 is_step before after catalog now event reply rows holds taken few one = record {
   kept = kept_in before catalog holds;
   answered = sym taken.takes.answered;
@@ -107,8 +107,8 @@ is_step before after catalog now event reply rows holds taken few one = record {
   small = record { few = few; one = one };
 }
 
-pub appended_sound : (before after : Parts) (catalog now : Catalog) (groups : List Group) (event : Event) (reply : Reply) → IsSound before catalog groups
-    → PartsTake before after catalog now event (Ok reply) → rows_before after ≡ rows_in before → length after.log.noted ≤ MAX_RECORDS
+pub appended_sound : (before after : ManagerState) (catalog now : Catalog) (groups : List Group) (event : Event) (reply : Reply) → IsSound before catalog groups
+    → TakesEvent before after catalog now event (Ok reply) → rows_before after ≡ rows_in before → length after.log.noted ≤ MAX_RECORDS
     → (is_of_a_task event ≡ true → length after.log.noted ≡ 1)
     → IsSound after now (groups ++ record { event = event; reply = reply; rows = after.log.noted } ∷ [])
 appended_sound before after catalog now groups event reply sound taken undo few one =
@@ -116,13 +116,13 @@ appended_sound before after catalog now groups event reply sound taken undo few 
     record {
       holds = taken.kept;
       steps = subst (λ s. AreSteps s (rows_in after) (groups ++ record { event = event; reply = reply; rows = after.log.noted } ∷ [])) (sym same)
-          (step_appended (setting_of (managed_of before catalog)) (rows_in before) (rows_in after) groups _ undo sound.steps
+          (step_appended (setting_in before catalog) (rows_in before) (rows_in after) groups _ undo sound.steps
           (is_step before after catalog now event reply after.log.noted sound.holds taken few one)
           (subst (λ s. AreKept s (rows_in after)) same (kept_in after now taken.kept)));
     }
 
-pub appended : (before after : Parts) (catalog now : Catalog) (groups : List Group) (event : Event) (reply : Reply)
-    → PartsTake before after catalog now event (Ok reply) → rows_before after ≡ rows_in before → length after.log.noted ≤ MAX_RECORDS
+pub appended : (before after : ManagerState) (catalog now : Catalog) (groups : List Group) (event : Event) (reply : Reply)
+    → TakesEvent before after catalog now event (Ok reply) → rows_before after ≡ rows_in before → length after.log.noted ≤ MAX_RECORDS
     → (is_of_a_task event ≡ true → length after.log.noted ≡ 1)
     → Appends (journaled_of before catalog groups) (journaled_of after now (groups ++ record { event = event; reply = reply; rows = after.log.noted } ∷ [])) event reply
 appended before after catalog now groups event reply taken undo few one = record {
@@ -148,10 +148,10 @@ kept_now : (setting : Setting) (rows : Rows) (groups : List Group) → AreSteps 
 kept_now setting rows [] steps = steps
 kept_now setting rows (first ∷ newer) steps = kept_now setting rows newer steps.1
 
-invariant_again : (before after : Parts) (catalog : Catalog) → Invariant before catalog → AreKept (setting_of (managed_of before catalog)) (rows_in after)
+invariant_again : (before after : ManagerState) (catalog : Catalog) → Invariant before catalog → AreKept (setting_in before catalog) (rows_in after)
     → after.modules ≡ record before.modules { loaded = after.sites.loaded } → after.log ≡ before.log → Invariant after catalog
 invariant_again before after catalog holds kept modules log =
-    let same : setting_of (managed_of after catalog) ≡ setting_of (managed_of before catalog) = ap (λ (i : Image). setting_of (record (managed_of before catalog) { image = i })) kept.image in
+    let same : setting_in after catalog ≡ setting_in before catalog = ap (λ (i : Image). setting_of (record (managed_of before catalog) { image = i })) kept.image in
     record {
       allowed = subst (λ s. Allowed s (state_told (rows_in after))) (sym same) kept.allowed;
       stated = subst (λ s. IsStated s (state_told (rows_in after))) (sym same) kept.stated;
@@ -163,25 +163,25 @@ invariant_again before after catalog holds kept modules log =
       room = ap (λ (l : RecordList). l.room) log ∙ holds.room;
     }
 
--- what is known of the parts once the newest group is taken back
-pub record IsTakenBack (before after : Parts) (catalog : Catalog) (older : List Group) : Type 0 where
+-- what is known of the state once the newest group is taken back
+pub record IsTakenBack (before after : ManagerState) (catalog : Catalog) (older : List Group) : Type 0 where
   pub sound : IsSound after catalog older
   pub image : after.sites.image ≡ before.sites.image
 
-pub taken_back : (before after : Parts) (catalog : Catalog) (older : List Group) (newest : Group) → IsSound before catalog (older ++ newest ∷ [])
+pub taken_back : (before after : ManagerState) (catalog : Catalog) (older : List Group) (newest : Group) → IsSound before catalog (older ++ newest ∷ [])
     → rows_in after ≡ undone (rows_in before) newest.rows → after.modules ≡ record before.modules { loaded = after.sites.loaded } → after.log ≡ before.log
     → IsTakenBack before after catalog older
 taken_back before after catalog older newest sound rows modules log =
-    let setting = setting_of (managed_of before catalog) in
+    let setting = setting_in before catalog in
     let steps = subst (λ r. AreSteps setting r older) (sym rows) (step_taken_back setting (rows_in before) older newest sound.steps) in
     let kept = kept_now setting (rows_in after) older steps in
-    let same : setting ≡ setting_of (managed_of after catalog) = sym (ap (λ (i : Image). setting_of (record (managed_of before catalog) { image = i })) kept.image) in
+    let same : setting ≡ setting_in after catalog = sym (ap (λ (i : Image). setting_of (record (managed_of before catalog) { image = i })) kept.image) in
     record {
       sound = record { holds = invariant_again before after catalog sound.holds kept modules log; steps = subst (λ s. AreSteps s (rows_in after) older) same steps };
       image = kept.image;
     }
 
-pub rewound : (before after : Parts) (catalog : Catalog) (groups left : List Group) (mark : ℕ) → IsSound after catalog left → left ≡ take mark groups
+pub rewound : (before after : ManagerState) (catalog : Catalog) (groups left : List Group) (mark : ℕ) → IsSound after catalog left → left ≡ take mark groups
     → rows_before_all (rows_in after) left ≡ rows_before_all (rows_in before) groups → after.sites.image ≡ before.sites.image
     → IsRewound (journaled_of before catalog groups) (journaled_of after catalog left) mark
 rewound before after catalog groups left mark sound is base image =

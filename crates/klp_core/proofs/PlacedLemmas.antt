@@ -2,9 +2,9 @@
 use Rattle.std.proofs.Common.{◌≡◌, ℕ, List, [], ◌∷◌, map, Option, Some, None, refl}
 use Rattle.klp_types.specs.Image.{object_of}
 use Rattle.klp_types.specs.Setting.{Setting}
-use Rattle.klp_machine.specs.InPlace.{IsOfObject, AreOfObject, ObjectsInPlace, PatchesInPlace}
+use Rattle.klp_model.specs.InPlace.{IsOfObject, AreOfObject, ObjectsInPlace, PatchesInPlace}
 use Rattle.klp_modules.specs.Names.{ObjectNames}
-use Rattle.klp_plan.specs.Plan.{PlanFunction, PlanTarget, PlanPatch}
+use Rattle.klp_catalog_text.specs.Plan.{PlanFunction, PlanTarget, PlanPatch}
 use Rattle.klp_catalog.specs.Catalog.{site_of, resolved_function, setting_function, patch_object, setting_patch}
 
 -- where the site that a name and a position pick in an object always lies in that object

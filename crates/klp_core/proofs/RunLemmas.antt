@@ -6,24 +6,24 @@ use Rattle.std.proofs.Math.Seq.{drop-append_seam}
 use Rattle.std.proofs.lemmas.List.Sums.{sum_by-append}
 use Rattle.klp_types.specs.Setting.{Setting}
 use Rattle.klp_types.specs.Callbacks.{Call}
-use Rattle.klp_machine.specs.declared.event.Event.{Event}
-use Rattle.klp_machine.specs.declared.event.Reply.{Reply}
-use Rattle.klp_machine.specs.declared.event.Refusal.{Refusal}
-use Rattle.klp_machine.specs.State.{State}
-use Rattle.klp_machine.specs.Run.{next, run, callbacks_of_run}
-use Rattle.klp_machine.specs.Step.{callbacks_of}
+use Rattle.klp_model.specs.declared.event.Event.{Event}
+use Rattle.klp_model.specs.declared.event.Reply.{Reply}
+use Rattle.klp_model.specs.declared.event.Refusal.{Refusal}
+use Rattle.klp_model.specs.State.{State}
+use Rattle.klp_model.specs.Run.{next, run, callbacks_of_run}
+use Rattle.klp_model.specs.Step.{callbacks_of}
 use Rattle.klp_catalog.specs.Catalog.{Catalog}
 use Rattle.klp_catalog.specs.Runs.{after_runs, RunsAddUp}
 use Rattle.klp_types.specs.declared.shadow.ShadowKey.{ShadowKey}
 use Rattle.klp_types.specs.World.{variable}
-use Rattle.klp_machine.specs.State.{is_installed}
-use Rattle.klp_machine.specs.ShadowStep.{shadow_changes}
-use Rattle.klp_round_trip.specs.Company.{company_keys, IsFairCompany}
-use Rattle.klp_round_trip.specs.Footprint.{SameFootprint}
+use Rattle.klp_model.specs.State.{is_installed}
+use Rattle.klp_model.specs.ShadowStep.{shadow_changes}
+use Rattle.klp_model.specs.Company.{company_keys, IsFairCompany}
+use Rattle.klp_model.specs.Footprint.{SameFootprint}
 use Rattle.klp_core.specs.Withdrawal.{appended, LeavesNoTrace}
 use Rattle.klp_journal.specs.Journal.{Group}
-use Rattle.klp_steps.specs.Managed.{Managed, setting_of}
-use Rattle.klp_steps.specs.Events.{after_event}
+use Rattle.klp_manager_state.specs.Managed.{Managed, setting_of}
+use Rattle.klp_manager_state.specs.Events.{after_event}
 use Rattle.klp_core.specs.Events.{after_events}
 use Rattle.klp_core.specs.Journaled.{Journaled}
 use Rattle.klp_core.specs.Taking.{answer_in, IsNotedAs, IsTaken, Outcome, groups_left, IsOutcome, AreOutcomes, AreTaken}

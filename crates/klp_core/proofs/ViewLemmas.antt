@@ -3,10 +3,10 @@ use Rattle.std.proofs.Common.{◌≡◌, ℕ, zero, suc, ◌+◌, Bool, true, fa
 use Rattle.std.specs.Prelude.{slice_get, slice_index_or, option_map, option_and_then, if◌then◌else◌}
 use Rattle.klp_types.specs.Image.{Symbol, Object, first_site, given_symbol}
 use Rattle.klp_types.specs.Bytes.{patched, patched_from, text_where}
-use Rattle.klp_machine.specs.Bytes.{text_of}
+use Rattle.klp_model.specs.Bytes.{text_of}
 use Rattle.klp_types.specs.Setting.{Setting}
-use Rattle.klp_machine.specs.State.{State}
-use Rattle.klp_machine.specs.Entries.{is_hooked}
+use Rattle.klp_model.specs.State.{State}
+use Rattle.klp_model.specs.Entries.{is_hooked}
 use Rattle.klp_types.specs.declared.version.Entry.{Entry}
 use Rattle.klp_stack.specs.Stack.{entries_at}
 use Rattle.klp_sites.specs.Table.{is_stacked}

@@ -2,12 +2,12 @@
 use Rattle.std.specs.Prelude.{◌≡◌, ℕ, List, Some, option_map}
 use Rattle.klp_types.specs.declared.callback.Which.{Which}
 use Rattle.klp_types.specs.Callbacks.{Call}
-use Rattle.klp_machine.specs.declared.event.Event.{Event}
-use Rattle.klp_machine.specs.Run.{run, callbacks_of_run}
+use Rattle.klp_model.specs.declared.event.Event.{Event}
+use Rattle.klp_model.specs.Run.{run, callbacks_of_run}
 use Rattle.klp_catalog.specs.Catalog.{Catalog}
 use Rattle.klp_catalog.specs.Counts.{times, grown}
 use Rattle.klp_catalog.specs.Runs.{objects_at, place_of, after_runs, callback_runs}
-use Rattle.klp_steps.specs.Managed.{Managed, setting_of}
+use Rattle.klp_manager_state.specs.Managed.{Managed, setting_of}
 
 -- what events leave, one after another
 abbrev pub after_events : Managed → List Event → Managed

@@ -3,21 +3,21 @@ use Rattle.std.specs.Prelude.{◌≡◌, ℕ, ◌≤◌, Bool, true, false, List
 use Rattle.std.specs.List.{All}
 use Rattle.klp_types.specs.declared.limits.TheConstants.{MAX_RECORDS}
 use Rattle.klp_types.specs.Setting.{Setting}
-use Rattle.klp_machine.specs.declared.event.Event.{Event}
-use Rattle.klp_machine.specs.Allowed.{Allowed}
-use Rattle.klp_machine.specs.Entries.{entries_of}
-use Rattle.klp_machine.specs.declared.event.Event.TheVariants.{NewTask, Fork, EndTask, EnterKernel, ExitToUser, Sleep, Wake}
-use Rattle.klp_machine.specs.Legal.{History, IsLegal, state_after_history}
-use Rattle.klp_machine.specs.Run.{answer, next}
-use Rattle.klp_machine.specs.State.{State}
-use Rattle.klp_machine.specs.Stated.{IsStated}
+use Rattle.klp_model.specs.declared.event.Event.{Event}
+use Rattle.klp_model.specs.Allowed.{Allowed}
+use Rattle.klp_model.specs.Entries.{entries_of}
+use Rattle.klp_model.specs.declared.event.Event.TheVariants.{NewTask, Fork, EndTask, EnterKernel, ExitToUser, Sleep, Wake}
+use Rattle.klp_model.specs.Legal.{History, IsLegal, state_after_history}
+use Rattle.klp_model.specs.Run.{answer, next}
+use Rattle.klp_model.specs.State.{State}
+use Rattle.klp_model.specs.Stated.{IsStated}
 use Rattle.klp_catalog.specs.Catalog.{Catalog}
 use Rattle.klp_journal.specs.Journal.{Group}
 use Rattle.klp_stack.specs.Stack.{entries_at}
-use Rattle.klp_steps.specs.declared.parts.Parts.{Parts}
-use Rattle.klp_steps.specs.Managed.{Managed, setting_of, managed_of}
-use Rattle.klp_steps.specs.Invariant.{Invariant}
-use Rattle.klp_steps.specs.Rows.{Rows, rows_in, undone}
+use Rattle.klp_manager_state.specs.declared.state.ManagerState.{ManagerState}
+use Rattle.klp_manager_state.specs.Managed.{Managed, setting_of, managed_of, setting_in}
+use Rattle.klp_manager_state.specs.Invariant.{Invariant}
+use Rattle.klp_manager_state.specs.Rows.{Rows, rows_in, undone}
 
 -- image, catalog and state of a manager; the state that it was booted or sealed in; and what was accepted since, oldest first
 pub record Journaled : Type 0 where
@@ -34,9 +34,9 @@ abbrev pub rows_before_all : Rows → List Group → Rows
 rows_before_all rows [] = rows
 rows_before_all rows (group ∷ newer) = undone (rows_before_all rows newer) group.rows
 
--- what the parts of a manager, its catalog and its journal stand for
-abbrev pub journaled_of : Parts → Catalog → List Group → Journaled
-journaled_of parts catalog groups = record { managed = managed_of parts catalog; base = state_told (rows_before_all (rows_in parts) groups); groups = groups }
+-- what the state of a manager, its catalog and its journal stand for
+abbrev pub journaled_of : ManagerState → Catalog → List Group → Journaled
+journaled_of state catalog groups = record { managed = managed_of state catalog; base = state_told (rows_before_all (rows_in state) groups); groups = groups }
 
 -- rows that a manager may have: their state is one that events can lead to, and the stack of each site is the one that it tells
 pub record AreKept (setting : Setting) (rows : Rows) : Type 0 where
@@ -75,9 +75,9 @@ AreSteps setting rows (group ∷ newer) =
     IsStepOf setting (rows_before_all rows (group ∷ newer)) (rows_before_all rows newer) group × AreSteps setting rows newer
 
 -- what a manager keeps
-pub record IsSound (parts : Parts) (catalog : Catalog) (groups : List Group) : Type 0 where
-  pub holds : Invariant parts catalog
-  pub steps : AreSteps (setting_of (managed_of parts catalog)) (rows_in parts) groups
+pub record IsSound (state : ManagerState) (catalog : Catalog) (groups : List Group) : Type 0 where
+  pub holds : Invariant state catalog
+  pub steps : AreSteps (setting_in state catalog) (rows_in state) groups
 
 -- the events with their replies
 abbrev pub history_in : List Group → History

@@ -1,7 +1,7 @@
 -- What taking events back leaves.
 use Rattle.std.specs.Prelude.{◌≡◌, ℕ, take}
-use Rattle.klp_machine.specs.Legal.{state_after_history}
-use Rattle.klp_steps.specs.Managed.{setting_of}
+use Rattle.klp_model.specs.Legal.{state_after_history}
+use Rattle.klp_manager_state.specs.Managed.{setting_of}
 use Rattle.klp_core.specs.Journaled.{Journaled, history_in}
 
 -- the first so many events stand, and the state is the one that they lead to from the base. Image and catalog stay, and with the

@@ -1,15 +1,15 @@
 -- What events answer where the journal has room for them or not, and what they leave.
 use Rattle.std.specs.Prelude.{◌≡◌, ℕ, Bool, true, false, List, [], ◌∷◌, ◌++◌, map, count_by, is_ok, is_err, Result, Ok, Err, IfOk, OnErr}
 use Rattle.klp_types.specs.Setting.{Setting}
-use Rattle.klp_machine.specs.declared.event.Event.{Event}
-use Rattle.klp_machine.specs.declared.event.Reply.{Reply}
-use Rattle.klp_machine.specs.declared.event.Refusal.{Refusal}
-use Rattle.klp_machine.specs.declared.event.Refusal.TheVariants.{JournalFull}
-use Rattle.klp_machine.specs.Run.{answer, next}
-use Rattle.klp_machine.specs.State.{State}
+use Rattle.klp_model.specs.declared.event.Event.{Event}
+use Rattle.klp_model.specs.declared.event.Reply.{Reply}
+use Rattle.klp_model.specs.declared.event.Refusal.{Refusal}
+use Rattle.klp_model.specs.declared.event.Refusal.TheVariants.{JournalFull}
+use Rattle.klp_model.specs.Run.{answer, next}
+use Rattle.klp_model.specs.State.{State}
 use Rattle.klp_journal.specs.Journal.{Group, has_room}
-use Rattle.klp_steps.specs.Managed.{setting_of}
-use Rattle.klp_steps.specs.Events.{after_event}
+use Rattle.klp_manager_state.specs.Managed.{setting_of}
+use Rattle.klp_manager_state.specs.Events.{after_event}
 use Rattle.klp_core.specs.Events.{after_events}
 use Rattle.klp_core.specs.Journaled.{Journaled, IsSmall}
 

@@ -2,13 +2,13 @@
 use Rattle.std.specs.Prelude.{◌≡◌, ℕ, false, List, drop, length, map}
 use Rattle.klp_types.specs.declared.shadow.ShadowKey.{ShadowKey}
 use Rattle.klp_types.specs.World.{variable}
-use Rattle.klp_machine.specs.declared.event.Event.{Event}
-use Rattle.klp_machine.specs.ShadowStep.{shadow_changes}
-use Rattle.klp_machine.specs.State.{is_installed}
-use Rattle.klp_round_trip.specs.Company.{company_keys, IsFairCompany}
-use Rattle.klp_round_trip.specs.Footprint.{SameFootprint}
+use Rattle.klp_model.specs.declared.event.Event.{Event}
+use Rattle.klp_model.specs.ShadowStep.{shadow_changes}
+use Rattle.klp_model.specs.State.{is_installed}
+use Rattle.klp_model.specs.Company.{company_keys, IsFairCompany}
+use Rattle.klp_model.specs.Footprint.{SameFootprint}
 use Rattle.klp_journal.specs.Journal.{Group}
-use Rattle.klp_steps.specs.Managed.{setting_of}
+use Rattle.klp_manager_state.specs.Managed.{setting_of}
 use Rattle.klp_core.specs.Journaled.{Journaled}
 
 -- the events that were appended, in order

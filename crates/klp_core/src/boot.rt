@@ -1,14 +1,14 @@
 ghost use Rattle.std.specs.Prelude.{◌≡◌, IsTrue, IfOk, IfErr, false, true, length, slice_set, replicate};
 ghost use Rattle.klp_text.specs.TextImage.{IsWithinLimits, opening};
-ghost use Rattle.klp_machine.specs.Opening.{opening_state};
-ghost use Rattle.klp_steps.specs.Managed.{setting_of, managed_of};
-ghost use Rattle.klp_steps.specs.Invariant.{Invariant};
+ghost use Rattle.klp_model.specs.Opening.{opening_state};
+ghost use Rattle.klp_manager_state.specs.Managed.{managed_of, setting_in};
+ghost use Rattle.klp_manager_state.specs.Invariant.{Invariant};
 ghost use Rattle.klp_core.specs.Boot.{IsMatch, AreNamed, IsFaultOf};
 
 use crate::fault::BootFault;
 use klp_catalog::Catalog;
+use klp_manager_state::ManagerState;
 use klp_modules::Modules;
-use klp_steps::Parts;
 use klp_text::Image;
 use klp_types::ObjId;
 use std::alloc::Global;
@@ -34,29 +34,29 @@ fn is_match(image: &Image, modules: &Modules, catalog: &Catalog) -> bool
     true
 }
 
-/// The parts of a manager in its opening state, where the three match. The image and the modules go into
-/// them as they are.
-pub(crate) fn parts_over(
+/// The state of a manager when it opens, where the three match. The image and the modules go into
+/// it as they are.
+pub(crate) fn state_over(
     alloc: Global,
     image: Image,
     modules: Modules,
     catalog: &Catalog,
-) -> Result<Parts, BootFault>
+) -> Result<ManagerState, BootFault>
     requires image { image ≡ opening image.image.handler image.image.objects }
     requires modules { modules.loaded ≡ slice_set (replicate (length modules.names) false) 0 true }
     requires names { IsMatch image.image modules catalog.now → AreNamed image.image modules catalog.now }
-    ensures matches { IfOk result (λ parts. IsMatch image.image modules catalog.now) }
-    ensures kept { IfOk result (λ parts. Invariant parts catalog.now) }
-    ensures opening { IfOk result (λ parts. managed_of parts catalog.now ≡ record {
+    ensures matches { IfOk result (λ state. IsMatch image.image modules catalog.now) }
+    ensures kept { IfOk result (λ state. Invariant state catalog.now) }
+    ensures opening { IfOk result (λ state. managed_of state catalog.now ≡ record {
       image = image.image;
       catalog = catalog.now;
-      state = opening_state (setting_of (managed_of parts catalog.now));
+      state = opening_state (setting_in state catalog.now);
     }) }
     ensures fault { IfErr result (λ fault. IsFaultOf image.image modules catalog.now fault) }
 {
     if !is_match(&image, &modules, catalog) {
         return Err(BootFault::Mismatch);
     }
-    let parts = Parts::new(alloc, image, modules, catalog)?;
-    Ok(parts)
+    let state = ManagerState::new(alloc, image, modules, catalog)?;
+    Ok(state)
 }

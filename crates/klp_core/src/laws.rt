@@ -1,14 +1,14 @@
 //! What is proved of what a manager keeps. A function here does nothing: its contract is the law.
 ghost use Rattle.std.specs.Prelude.{◌≡◌};
-ghost use Rattle.klp_machine.specs.InPlace.{IsInPlace};
+ghost use Rattle.klp_model.specs.InPlace.{IsInPlace};
 ghost use Rattle.klp_modules.specs.Names.{names_of};
-ghost use Rattle.klp_steps.specs.Managed.{Managed, setting_of};
+ghost use Rattle.klp_manager_state.specs.Managed.{Managed, setting_of};
 
 use klp_catalog::laws::sites_lie_in_their_objects;
 
 /// Where the catalog was assembled over the names of the image, as `Manager::catalog` promises of every
 /// manager, each function of a patch that names a site is in the object of that site. The laws of what
-/// tasks run (`klp_machine`) ask for it, since nothing else gives it (docs/DECISIONS.md, "The object of a
+/// tasks run (`klp_model`) ask for it, since nothing else gives it (docs/DECISIONS.md, "The object of a
 /// function").
 pub fn functions_stand_with_their_objects()
     ensures { (managed : Managed) → managed.catalog.names ≡ names_of managed.image.objects → IsInPlace (setting_of managed) }

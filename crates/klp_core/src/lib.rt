@@ -1,6 +1,6 @@
 //! The live patching manager: events in, replies out, and back again.
 //!
-//! A [`Manager`] is the parts of `klp_steps`, a catalog and a journal; its model is a `Journaled`
+//! A [`Manager`] is a `ManagerState`, a catalog and a journal; its model is a `Journaled`
 //! (`specs/Journaled`). [`Manager::apply`] takes one event: the answer and the state are those of the
 //! definition, the journal has one group more, or nothing changes (`specs/Taking`). `run` takes a list of
 //! events, and a patch that isn't installed afterwards has left no trace, under premises

@@ -6,31 +6,22 @@ ghost use Rattle.klp_types.specs.declared.task.Task.{Task as AnyTask};
 ghost use Rattle.klp_types.specs.Setting.{state_ids};
 ghost use Rattle.klp_types.specs.World.{variable, state_value};
 ghost use Rattle.klp_types.specs.Pick.{moves};
-ghost use Rattle.klp_machine.specs.State.{is_installed, installed_patches};
-ghost use Rattle.klp_machine.specs.Task.{task_at};
-ghost use Rattle.klp_machine.specs.Bytes.{text_of};
-ghost use Rattle.klp_machine.specs.Entries.{entries_of};
-ghost use Rattle.klp_machine.specs.Refusals.{enabled_value};
+ghost use Rattle.klp_model.specs.State.{is_installed, installed_patches};
+ghost use Rattle.klp_model.specs.Task.{task_at};
+ghost use Rattle.klp_model.specs.Bytes.{text_of};
+ghost use Rattle.klp_model.specs.Entries.{entries_of};
+ghost use Rattle.klp_model.specs.Refusals.{enabled_value};
 ghost use Rattle.klp_modules.specs.Names.{names_of};
 ghost use Rattle.klp_catalog.specs.Runs.{objects_at, place_of, script_at, callback_runs};
-ghost use Rattle.klp_steps.specs.Managed.{setting_of};
+ghost use Rattle.klp_manager_state.specs.Managed.{setting_of};
 
 use crate::manager::Manager;
 use crate::view::TextView;
 use arrayvec::ArrayVec;
 use klp_catalog::Catalog;
-use klp_machine::laws::installed_patches_have_their_states;
+use klp_model::laws::installed_patches_have_their_states;
 use klp_modules::Modules;
 use klp_types::{Entry, MAX_PATCHES, ObjId, PatchId, ShadowKey, ShadowValue, Site, TaskId, Which};
-
-fn copy_of(patches: &[PatchId]) -> ArrayVec<PatchId, MAX_PATCHES>
-    requires { length patches.now ≤ MAX_PATCHES }
-    ensures { result.items ≡ patches.now }
-{
-    let mut copy = ArrayVec::new();
-    let _ = copy.try_extend_from_slice(patches);
-    copy
-}
 
 impl Manager {
     /// The text of an object, as a processor would run it: `None` where the object isn't loaded. It is
@@ -38,8 +29,8 @@ impl Manager {
     pub fn text(&self, object: ObjId) -> Option<TextView<'_>>
         ensures { result ≡ text_of (setting_of self.now.managed) self.now.managed.state object }
     {
-        if self.parts.modules.is_loaded(object) {
-            Some(TextView::new(self.parts.sites.image(), object))
+        if self.state.modules.is_loaded(object) {
+            Some(TextView::new(self.state.sites.image(), object))
         } else {
             None
         }
@@ -50,14 +41,14 @@ impl Manager {
     pub fn stack(&self, site: Site) -> ArrayVec<Entry, MAX_PATCHES>
         ensures { result.items ≡ entries_of (setting_of self.now.managed) self.now.managed.state site }
     {
-        self.parts.sites.entries(site)
+        self.state.sites.entries(site)
     }
 
     /// The installed patches, oldest first, as a copy, so that one may go over them while events are taken.
     pub fn installed(&self) -> ArrayVec<PatchId, MAX_PATCHES>
         ensures { result.items ≡ installed_patches self.now.managed.state }
     {
-        copy_of(self.parts.world.installed())
+        self.state.world.installed_list()
     }
 
     /// What the `enabled` file of a patch reads: no for one that moves out, as soon as it does. `None`
@@ -65,23 +56,20 @@ impl Manager {
     pub fn enabled(&self, patch: PatchId) -> Option<bool>
         ensures { result ≡ (if is_installed self.now.managed.state patch then Some (enabled_value self.now.managed.state patch) else None) }
     {
-        if !self.parts.world.is_installed(patch) {
+        if !self.state.world.is_installed(patch) {
             return None;
         }
-        match self.parts.moving {
-            Some(moving) => Some(moving.patch != patch || moving.target),
-            None => Some(true),
-        }
+        Some(self.state.enabled_value(patch))
     }
 
     /// Whether the patch is in transition, as its `transition` file reads. `None` where it isn't installed.
     pub fn transition(&self, patch: PatchId) -> Option<bool>
         ensures { result ≡ (if is_installed self.now.managed.state patch then Some (moves self.now.managed.state.moving patch) else None) }
     {
-        if !self.parts.world.is_installed(patch) {
+        if !self.state.world.is_installed(patch) {
             return None;
         }
-        match self.parts.moving {
+        match self.state.moving {
             Some(moving) => Some(moving.patch == patch),
             None => Some(false),
         }
@@ -91,7 +79,7 @@ impl Manager {
     pub fn patch_state(&self, task: TaskId) -> Option<i8>
         ensures { result ≡ option_map (λ (t : AnyTask). t.state) (task_at self.now.managed.state.tasks task) }
     {
-        let row = self.parts.tasks.get(task)?;
+        let row = self.state.tasks.get(task)?;
         Some(row.state)
     }
 
@@ -100,7 +88,7 @@ impl Manager {
     pub fn shadow_get(&self, key: ShadowKey) -> Option<ShadowValue>
         ensures { result ≡ variable self.now.managed.state.world key }
     {
-        self.parts.world.get(key)
+        self.state.world.get(key)
     }
 
     /// The value of a system state of an installed patch. `None` where the patch isn't installed or doesn't
@@ -111,7 +99,7 @@ impl Manager {
         ensures there { is_some result ≡ (is_installed self.now.managed.state patch && list_any (λ own. own == id) (state_ids (setting_of self.now.managed) patch)) }
     {
         installed_patches_have_their_states();
-        self.parts.world.value(patch, id)
+        self.state.world.value(patch, id)
     }
 
     /// How often a callback ran: that of a patch for an object, of a kind. `None` where the patch has none.
@@ -138,6 +126,6 @@ impl Manager {
     pub fn modules(&self) -> &Modules
         ensures { result.now ≡ record { names = names_of self.now.managed.image.objects; loaded = self.now.managed.state.loaded } }
     {
-        &self.parts.modules
+        &self.state.modules
     }
 }

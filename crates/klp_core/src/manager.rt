@@ -1,11 +1,11 @@
 ghost use Rattle.std.specs.Prelude.{◌≡◌, ◌<◌, ◌≤◌, true, false, [], IfOk, IfErr, OnErr, slice_set, replicate, length};
-ghost use Rattle.klp_machine.specs.Opening.{opening_state};
+ghost use Rattle.klp_model.specs.Opening.{opening_state};
 ghost use Rattle.klp_types.specs.declared.limits.TheConstants.{MAX_GROUPS, MAX_JOURNAL_RECORDS};
-ghost use Rattle.klp_machine.specs.Step.{callbacks_of};
+ghost use Rattle.klp_model.specs.Step.{callbacks_of};
 ghost use Rattle.klp_text.specs.TextImage.{opening};
 ghost use Rattle.klp_catalog.specs.Catalog.{patches_of};
 ghost use Rattle.klp_journal.specs.Journal.{records_free, records_in};
-ghost use Rattle.klp_steps.specs.Managed.{setting_of};
+ghost use Rattle.klp_manager_state.specs.Managed.{setting_of};
 ghost use Rattle.klp_core.specs.Boot.{IsMatch, AreNamed, IsFaultOf};
 ghost use Rattle.klp_core.specs.Events.{AreCounted};
 ghost use Rattle.klp_core.specs.Journaled.{Stands};
@@ -13,16 +13,16 @@ ghost use Rattle.klp_core.specs.Taking.{IsTaken, AreTaken};
 ghost use Rattle.klp_core.specs.Rewinding.{IsRewound};
 ghost use Rattle.klp_core.specs.Withdrawal.{LeavesNoTrace};
 
-use crate::boot::parts_over;
+use crate::boot::state_over;
 use crate::fault::{BadMark, BootFault};
 use crate::journal::{rewind_to, take_and_append};
 use klp_catalog::Catalog;
 use klp_catalog::laws::{counts_grow_by_runs, runs_add_up};
 use klp_journal::Journal;
-use klp_machine::{Event, Refusal, Reply};
+use klp_manager_state::ManagerState;
+use klp_model::round_trip::{gone_at_the_end, only_shadow_events_outside};
+use klp_model::{Event, Refusal, Reply};
 use klp_modules::Modules;
-use klp_round_trip::laws::{gone_at_the_end, only_shadow_events_outside};
-use klp_steps::Parts;
 use klp_text::Image;
 use std::alloc::Global;
 use std::marker::Model;
@@ -34,7 +34,7 @@ use std::marker::Model;
 /// "The model of a manager").
 #[derive(Drop)]
 pub struct Manager {
-    pub(crate) parts: Parts,
+    pub(crate) state: ManagerState,
     pub(crate) catalog: Catalog,
     pub(crate) journal: Journal,
 }
@@ -50,9 +50,9 @@ impl Model for Manager {
 
     ghost use Rattle.klp_core.specs.Journaled.{journaled_of, IsSound};
 
-    ghost view = { λ m. journaled_of m.parts m.catalog m.journal };
+    ghost view = { λ m. journaled_of m.state m.catalog m.journal };
 
-    ghost invariant = { λ m. IsSound m.parts m.catalog m.journal };
+    ghost invariant = { λ m. IsSound m.state m.catalog m.journal };
 }
 
 impl Manager {
@@ -84,10 +84,10 @@ impl Manager {
         ensures stands { IfOk result (λ manager. Stands manager) }
         ensures fault { IfErr result (λ fault. IsFaultOf image.image modules catalog fault) }
     {
-        let parts = parts_over(alloc, image, modules, &catalog)?;
+        let state = state_over(alloc, image, modules, &catalog)?;
         let journal = Journal::new(alloc)?;
         Ok(Manager {
-            parts,
+            state,
             catalog,
             journal,
         })
@@ -109,7 +109,7 @@ impl Manager {
     {
         counts_grow_by_runs();
         take_and_append(
-            &mut self.parts,
+            &mut self.state,
             &mut self.catalog,
             &mut self.journal,
             &event,
@@ -165,7 +165,7 @@ impl Manager {
         if mark > self.journal.mark() {
             return Err(BadMark);
         }
-        rewind_to(&mut self.parts, &self.catalog, &mut self.journal, mark);
+        rewind_to(&mut self.state, &self.catalog, &mut self.journal, mark);
         Ok(())
     }
 

@@ -3,33 +3,21 @@
 ghost use Rattle.std.specs.Prelude.{◌≡◌, option_map, unwrap_or};
 ghost use Rattle.std.specs.Option.{option_to_list};
 ghost use Rattle.klp_types.specs.Pick.{address_of, newest_version};
-ghost use Rattle.klp_machine.specs.Entries.{is_site_loaded};
-ghost use Rattle.klp_machine.specs.Pick.{pick};
-ghost use Rattle.klp_machine.specs.Rows.{row_of, word_of, moving_patch};
-ghost use Rattle.klp_machine.specs.Entries.{entries_of};
-ghost use Rattle.klp_steps.specs.Managed.{setting_of};
+ghost use Rattle.klp_model.specs.Entries.{is_site_loaded};
+ghost use Rattle.klp_model.specs.Pick.{pick};
+ghost use Rattle.klp_model.specs.Rows.{row_of, word_of, moving_patch};
+ghost use Rattle.klp_model.specs.Entries.{entries_of};
+ghost use Rattle.klp_manager_state.specs.Managed.{setting_of};
 
 use crate::manager::Manager;
 use klp_stack::laws::the_word_is_enough;
+use klp_stack::version_of;
 use klp_types::{
-    ENTRY_SITE_END, Entry, Move, PatchId, Site, SiteRow, SiteWord, Target, TaskId, Version,
+    ENTRY_SITE_END, Entry, PatchId, Site, SiteRow, SiteWord, Target, TaskId, Transition, Version,
 };
 
-/// The version of an entry, or the original where there is none; a nop is the original too.
-fn version_of(site: Site, entry: Option<Entry>) -> Version
-    ensures { result ≡ newest_version site (option_to_list entry) }
-{
-    let Some(Entry { patch, func }) = entry else {
-        return Version::Original(site);
-    };
-    match func {
-        Some(func) => Version::New(patch, func),
-        None => Version::Original(site),
-    }
-}
-
 /// The patch in transition, without its target: a call passes over its entry by the task's state alone.
-fn patch_of(moving: Option<Move>) -> Option<PatchId>
+fn patch_of(moving: Option<Transition>) -> Option<PatchId>
     ensures { result ≡ moving_patch moving }
 {
     match moving {
@@ -75,8 +63,8 @@ impl Manager {
     fn is_site_loaded(&self, site: Site) -> bool
         ensures { result ≡ is_site_loaded (setting_of self.now.managed) self.now.managed.state site }
     {
-        match self.parts.object_of(&self.catalog, Version::Original(site)) {
-            Some(object) => self.parts.sites.is_loaded(object),
+        match self.state.object_of(&self.catalog, Version::Original(site)) {
+            Some(object) => self.state.sites.is_loaded(object),
             None => false,
         }
     }
@@ -85,8 +73,8 @@ impl Manager {
     fn word(&self, site: Site) -> SiteWord
         ensures { result ≡ word_of (moving_patch self.now.managed.state.moving) (entries_of (setting_of self.now.managed) self.now.managed.state site) }
     {
-        let moving = patch_of(self.parts.moving);
-        self.parts.sites.word(site, moving)
+        let moving = patch_of(self.state.moving);
+        self.state.sites.word(site, moving)
     }
 
     /// Where a version begins, if there is such a version: an original behind its entry site, so that it
@@ -96,10 +84,10 @@ impl Manager {
     {
         match *version {
             Version::Original(site) => {
-                if usize::from(site.0) >= self.parts.sites.sites() {
+                if usize::from(site.0) >= self.state.sites.sites() {
                     return None;
                 }
-                Some(self.parts.sites.image().address(site) + ENTRY_SITE_END as u64)
+                Some(self.state.sites.image().address(site) + ENTRY_SITE_END as u64)
             }
             Version::New(patch, function) => {
                 let function = self.catalog.functions(patch).get(usize::from(function))?;

@@ -1,69 +1,75 @@
 ghost use Rattle.std.specs.Prelude.{◌≡◌, true, length, IfOk};
-ghost use Rattle.klp_machine.specs.Refusals.{refusal};
-ghost use Rattle.klp_steps.specs.Invariant.{Invariant};
-ghost use Rattle.klp_steps.specs.Managed.{setting_of, managed_of};
-ghost use Rattle.klp_steps.specs.Events.{PartsTake};
-ghost use Rattle.klp_steps.specs.Rows.{IsNoted};
+ghost use Rattle.klp_manager_state.specs.Invariant.{Invariant};
+ghost use Rattle.klp_manager_state.specs.Managed.{refused_in};
+ghost use Rattle.klp_manager_state.specs.Events.{TakesEvent};
+ghost use Rattle.klp_manager_state.specs.Rows.{IsNoted};
 ghost use Rattle.klp_core.specs.Journaled.{is_of_a_task};
 
 use klp_catalog::Catalog;
-use klp_machine::{Event, Refusal, Reply};
-use klp_single_steps::{shadow, tasks};
-use klp_steps::Parts;
+use klp_manager_state::ManagerState;
+use klp_model::{Event, Refusal, Reply};
+use klp_patch_events::{
+    coming, coming_refusal, enable, enable_refusal, force, force_refusal, going, going_refusal,
+    poll, poll_refusal, set_enabled, set_refusal,
+};
+use klp_task_events::{shadow, tasks};
 
-/// Each event goes to its own step. Those of tasks and shadow variables are functions, as they are of
-/// another crate than the parts.
-pub(crate) fn take(parts: &mut Parts, catalog: &mut Catalog, event: Event) -> Result<Reply, Refusal>
-    requires { Invariant parts.old catalog.old }
-    ensures taken { PartsTake parts.old parts.new catalog.old catalog.new event result }
-    ensures noted { IsNoted parts.old parts.new result }
-    ensures one { is_of_a_task event ≡ true → IfOk result (λ reply. length parts.new.log.noted ≡ 1) }
+/// Each event goes to its own step.
+pub(crate) fn take(
+    state: &mut ManagerState,
+    catalog: &mut Catalog,
+    event: Event,
+) -> Result<Reply, Refusal>
+    requires { Invariant state.old catalog.old }
+    ensures taken { TakesEvent state.old state.new catalog.old catalog.new event result }
+    ensures noted { IsNoted state.old state.new result }
+    ensures one { is_of_a_task event ≡ true → IfOk result (λ reply. length state.new.log.noted ≡ 1) }
 {
     match event {
-        Event::Enable(patch) => parts.enable(catalog, patch),
-        Event::SetEnabled(patch, value) => parts.set_enabled(catalog, patch, value),
-        Event::Force(patch) => parts.force(catalog, patch),
-        Event::Poll => parts.poll(catalog),
-        Event::Coming(object) => parts.coming(catalog, object),
-        Event::Going(object) => parts.going(catalog, object),
-        Event::NewTask(task) => tasks::new_task(parts, task),
-        Event::Fork(parent, child) => tasks::fork(parts, parent, child),
-        Event::EndTask(task) => tasks::end_task(parts, task),
-        Event::EnterKernel(task) => tasks::enter_kernel(parts, task),
-        Event::ExitToUser(task) => tasks::exit_to_user(parts, task),
-        Event::Sleep(task, frames) => tasks::sleep(parts, catalog, task, frames),
-        Event::Wake(task) => tasks::wake(parts, task),
-        Event::ShadowAlloc(key, value) => shadow::shadow_alloc(parts, catalog, key, value),
+        Event::Enable(patch) => enable(state, catalog, patch),
+        Event::SetEnabled(patch, value) => set_enabled(state, catalog, patch, value),
+        Event::Force(patch) => force(state, catalog, patch),
+        Event::Poll => poll(state, catalog),
+        Event::Coming(object) => coming(state, catalog, object),
+        Event::Going(object) => going(state, catalog, object),
+        Event::NewTask(task) => tasks::new_task(state, task),
+        Event::Fork(parent, child) => tasks::fork(state, parent, child),
+        Event::EndTask(task) => tasks::end_task(state, task),
+        Event::EnterKernel(task) => tasks::enter_kernel(state, task),
+        Event::ExitToUser(task) => tasks::exit_to_user(state, task),
+        Event::Sleep(task, frames) => tasks::sleep(state, catalog, task, frames),
+        Event::Wake(task) => tasks::wake(state, task),
+        Event::ShadowAlloc(key, value) => shadow::shadow_alloc(state, catalog, key, value),
         Event::ShadowGetOrAlloc(key, value) => {
-            shadow::shadow_get_or_alloc(parts, catalog, key, value)
+            shadow::shadow_get_or_alloc(state, catalog, key, value)
         }
-        Event::ShadowFree(key) => shadow::shadow_free(parts, catalog, key),
-        Event::ShadowFreeAll(id) => shadow::shadow_free_all(parts, catalog, id),
+        Event::ShadowFree(key) => shadow::shadow_free(state, catalog, key),
+        Event::ShadowFreeAll(id) => shadow::shadow_free_all(state, catalog, id),
     }
 }
 
 /// Why each event is refused, the journal aside, without taking it. To remove shadow variables is never
 /// refused.
-pub(crate) fn refused(parts: &Parts, catalog: &Catalog, event: Event) -> Option<Refusal>
-    requires { Invariant parts.now catalog.now }
-    ensures { result ≡ refusal (setting_of (managed_of parts.now catalog.now)) (managed_of parts.now catalog.now).state event }
+pub(crate) fn refused(state: &ManagerState, catalog: &Catalog, event: Event) -> Option<Refusal>
+    requires { Invariant state.now catalog.now }
+    ensures { result ≡ refused_in state.now catalog.now event }
 {
     match event {
-        Event::Enable(patch) => parts.enable_refusal(catalog, patch),
-        Event::SetEnabled(patch, value) => parts.set_refusal(catalog, patch, value),
-        Event::Force(patch) => parts.force_refusal(catalog, patch),
-        Event::Poll => parts.poll_refusal(catalog),
-        Event::Coming(object) => parts.coming_refusal(catalog, object),
-        Event::Going(object) => parts.going_refusal(catalog, object),
-        Event::NewTask(task) => tasks::new_task_refusal(parts, task),
-        Event::Fork(parent, child) => tasks::fork_refusal(parts, parent, child),
-        Event::EndTask(task) => tasks::end_task_refusal(parts, task),
-        Event::EnterKernel(task) => tasks::enter_kernel_refusal(parts, task),
-        Event::ExitToUser(task) => tasks::exit_to_user_refusal(parts, task),
-        Event::Sleep(task, frames) => tasks::sleep_refusal(parts, catalog, task, &frames),
-        Event::Wake(task) => tasks::wake_refusal(parts, task),
-        Event::ShadowAlloc(key, _) => shadow::shadow_alloc_refusal(parts, key),
-        Event::ShadowGetOrAlloc(key, _) => shadow::shadow_get_or_alloc_refusal(parts, key),
+        Event::Enable(patch) => enable_refusal(state, catalog, patch),
+        Event::SetEnabled(patch, value) => set_refusal(state, catalog, patch, value),
+        Event::Force(patch) => force_refusal(state, catalog, patch),
+        Event::Poll => poll_refusal(state, catalog),
+        Event::Coming(object) => coming_refusal(state, catalog, object),
+        Event::Going(object) => going_refusal(state, catalog, object),
+        Event::NewTask(task) => tasks::new_task_refusal(state, task),
+        Event::Fork(parent, child) => tasks::fork_refusal(state, parent, child),
+        Event::EndTask(task) => tasks::end_task_refusal(state, task),
+        Event::EnterKernel(task) => tasks::enter_kernel_refusal(state, task),
+        Event::ExitToUser(task) => tasks::exit_to_user_refusal(state, task),
+        Event::Sleep(task, frames) => tasks::sleep_refusal(state, catalog, task, &frames),
+        Event::Wake(task) => tasks::wake_refusal(state, task),
+        Event::ShadowAlloc(key, _) => shadow::shadow_alloc_refusal(state, key),
+        Event::ShadowGetOrAlloc(key, _) => shadow::shadow_get_or_alloc_refusal(state, key),
         Event::ShadowFree(_) | Event::ShadowFreeAll(_) => None,
     }
 }

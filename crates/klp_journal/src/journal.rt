@@ -1,7 +1,7 @@
 ghost use Rattle.std.specs.Prelude.{◌≡◌, ◌+◌, ◌-◌, ◌<◌, ◌≤◌, List, [], ◌∷◌, ◌++◌, length, take, nat_lt, Some, is_some, option_map, IfOk, IfSome, IfNone};
 ghost use Rattle.klp_journal.specs.Journal.{Group, records_in, records_free, has_room};
 
-use klp_machine::{Event, Reply};
+use klp_model::{Event, Reply};
 use klp_types::{MAX_GROUPS, MAX_JOURNAL_RECORDS, MAX_RECORDS, Record};
 use std::alloc::{AllocError, Global};
 use std::marker::Model;

@@ -10,13 +10,13 @@ use Rattle.std.proofs.lemmas.List.Folds.{list_any-append}
 use Rattle.klp_types.specs.declared.limits.TheConstants.{MAX_SITES, MAX_PATCHES, MAX_FUNCTIONS}
 use Rattle.klp_types.specs.declared.version.Version.{Version}
 use Rattle.klp_types.specs.declared.version.Entry.{Entry}
-use Rattle.klp_types.specs.declared.version.Move.{Move}
+use Rattle.klp_types.specs.declared.version.Transition.{Transition}
 use Rattle.klp_types.specs.Image.{Symbol}
 use Rattle.klp_types.specs.Pick.{version_of, newest_version}
 use Rattle.klp_types.specs.Setting.{Setting, function_for, is_at}
-use Rattle.klp_machine.specs.State.{State}
-use Rattle.klp_machine.specs.Entries.{entries_of}
-use Rattle.klp_machine.specs.Blocked.{held_version, blocked_among, blocked_from}
+use Rattle.klp_model.specs.State.{State}
+use Rattle.klp_model.specs.Entries.{entries_of}
+use Rattle.klp_model.specs.Blocked.{held_version, blocked_among, blocked_from}
 use Rattle.klp_catalog.specs.Catalog.{CatalogFunction, setting_function}
 use Rattle.klp_stack.specs.Stack.{entries_at, has_entry, IsStack}
 use Rattle.klp_tasks.specs.Members.{IsWithin}
@@ -24,7 +24,7 @@ use Rattle.klp_patch.specs.Blocked.{blocked_at, AreFunctions}
 use Rattle.klp_patch.proofs.SiteLemmas.{Entries}
 
 -- the stacks of a state, from this site on
-pub same_blocked : (setting : Setting) (state : State) (move : Move) (site : ℕ) (stacks : List Entries) (symbols : List Symbol) → length stacks ≡ length symbols
+pub same_blocked : (setting : Setting) (state : State) (move : Transition) (site : ℕ) (stacks : List Entries) (symbols : List Symbol) → length stacks ≡ length symbols
     → ((later : ℕ) → entries_at stacks later ≡ entries_of setting state (site + later)) → blocked_at site move stacks ≡ blocked_from setting state move site symbols
 same_blocked setting state move site [] [] count same = refl
 same_blocked setting state move site [] (symbol ∷ symbols) count same = absurd (omega arith)
@@ -52,7 +52,7 @@ held_within site false entry older there stack functions = newest_within site (e
 one_of : (v held : Version) → v ∷ [] ≡ held ∷ [] → v ≡ held
 one_of v held is = cc
 
-pub blocked_within : (site : ℕ) (move : Move) (v : Version) (entries : Entries) → site < MAX_SITES → IsStack entries → AreFunctions entries → v ∷ [] ≡ blocked_among site move entries → IsWithin v
+pub blocked_within : (site : ℕ) (move : Transition) (v : Version) (entries : Entries) → site < MAX_SITES → IsStack entries → AreFunctions entries → v ∷ [] ≡ blocked_among site move entries → IsWithin v
 blocked_within site move v [] there stack functions is = cc
 blocked_within site move v (entry ∷ older) there stack functions is = elim (eqb entry.patch move.patch) as
     (λ b. v ∷ [] ≡ cond b (held_version site move.target entry older ∷ []) (blocked_among site move older) → IsWithin v) [
@@ -60,14 +60,14 @@ blocked_within site move v (entry ∷ older) there stack functions is = elim (eq
       | false ↦ λ e. blocked_within site move v older there stack.2 (All-tail (λ (e : Entry). IfSome e.func (λ f. f < MAX_FUNCTIONS)) entry older functions) e
     ] is
 
-pub none_blocked : (site : ℕ) (move : Move) (entries : Entries) → has_entry move.patch entries ≡ false → blocked_among site move entries ≡ []
+pub none_blocked : (site : ℕ) (move : Transition) (entries : Entries) → has_entry move.patch entries ≡ false → blocked_among site move entries ≡ []
 none_blocked site move [] none = refl
 none_blocked site move (entry ∷ older) none =
     let parts = or_parts (eqb entry.patch move.patch) (has_entry move.patch older) none in
     cond-false _ _ _ parts.0 ∙ none_blocked site move older parts.1
 
 -- the sites up to one more
-pub blocked_more : (n : ℕ) (move : Move) (stacks : List Entries) (i : ℕ) → i < length stacks
+pub blocked_more : (n : ℕ) (move : Transition) (stacks : List Entries) (i : ℕ) → i < length stacks
     → blocked_at n move (take (suc i) stacks) ≡ blocked_at n move (take i stacks) ++ blocked_among (n + i) move (entries_at stacks i)
 blocked_more n move [] i below = absurd (omega arith)
 blocked_more n move (entries ∷ stacks) zero below =
@@ -79,7 +79,7 @@ blocked_more n move (entries ∷ stacks) (suc i) below =
     ∙ sym (append_assoc (blocked_among n move entries) (blocked_at (suc n) move (take i stacks)) (blocked_among (n + suc i) move (entries_at stacks i)))
 
 -- Some version that passes a test is blocked.
-module _ (test : Version → Bool) (move : Move) where
+module _ (test : Version → Bool) (move : Transition) where
   -- at a site, and so among all
   pub blocked_in : (n : ℕ) (stacks : List Entries) (k : ℕ) → list_any test (blocked_among (n + k) move (entries_at stacks k)) ≡ true → list_any test (blocked_at n move stacks) ≡ true
   blocked_in n [] k some = cc
@@ -110,15 +110,15 @@ module _ (test : Version → Bool) (move : Move) where
   ] refl
 
 -- what is blocked at the sites of functions
-abbrev pub blocked_if : Move → List Entries → Option ℕ → List Version
+abbrev pub blocked_if : Transition → List Entries → Option ℕ → List Version
 blocked_if move stacks None = []
 blocked_if move stacks (Some site) = blocked_among site move (entries_at stacks site)
 
-abbrev pub blocked_by : Move → List Entries → List CatalogFunction → List Version
+abbrev pub blocked_by : Transition → List Entries → List CatalogFunction → List Version
 blocked_by move stacks [] = []
 blocked_by move stacks (f ∷ functions) = blocked_if move stacks f.site ++ blocked_by move stacks functions
 
-pub blocked_by_more : (move : Move) (stacks : List Entries) (functions : List CatalogFunction) (i : ℕ) (d : CatalogFunction) → i < length functions
+pub blocked_by_more : (move : Transition) (stacks : List Entries) (functions : List CatalogFunction) (i : ℕ) (d : CatalogFunction) → i < length functions
     → blocked_by move stacks (take (suc i) functions) ≡ blocked_by move stacks (take i functions) ++ blocked_if move stacks (get_or functions i d).site
 blocked_by_more move stacks [] i d below = absurd (omega arith)
 blocked_by_more move stacks (f ∷ functions) zero d below = append-nil (blocked_if move stacks f.site)
@@ -131,7 +131,7 @@ same_bool true b there back = sym (there refl)
 same_bool false true there back = back refl
 same_bool false false there back = refl
 
-module _ (test : Version → Bool) (move : Move) (stacks : List Entries) where
+module _ (test : Version → Bool) (move : Transition) (stacks : List Entries) where
   site_in : (site : Option ℕ) → list_any test (blocked_if move stacks site) ≡ true → list_any test (blocked_at 0 move stacks) ≡ true
   site_in None some = cc
   site_in (Some site) some =

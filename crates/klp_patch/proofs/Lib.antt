@@ -2,6 +2,15 @@ pub mod CoverLemmas
 pub mod SiteLemmas
 pub mod MadeLemmas
 pub mod FunctionLemmas
-pub mod MeantLemmas
+pub mod ScopeLemmas
 pub mod PatchLemmas
 pub mod BlockLemmas
+pub mod CallLemmas
+pub mod LoopLemmas
+pub mod RanLemmas
+pub mod RunLemmas
+pub mod UndoLemmas
+pub mod RefusalLemmas
+pub mod ModuleShareLemmas
+pub mod ModuleSharesLemmas
+pub mod MayRunLemmas

@@ -14,7 +14,7 @@ use Rattle.klp_stack.specs.Undo.{put_entry}
 use Rattle.klp_sites.specs.Table.{SiteTable}
 use Rattle.klp_sites.specs.Changes.{noting}
 use Rattle.klp_sites.specs.Undo.{put_back, undone}
-use Rattle.klp_patch.specs.Covered.{is_covered, is_object_meant}
+use Rattle.klp_patch.specs.Covered.{is_covered, is_object_in_scope}
 use Rattle.klp_patch.specs.Changes.{AreMade, Notes, hooked_count}
 use Rattle.klp_patch.proofs.SiteLemmas.{Entries, OfSites}
 
@@ -99,7 +99,7 @@ made_also before after covers others make change made same = record { image = ma
 -- a change of the entries leaves what a change is about
 pub same_covered : (before after : SiteTable) (covers : ℕ → Bool) (make : ℕ → Entries → Entries) (only : Option ℕ) → AreMade before after covers make → (site : ℕ) → is_covered after only site ≡ is_covered before only site
 same_covered before after covers make only made site =
-    ap (λ flags. is_object_meant only flags (object_of after.image.objects site)) made.loaded ∙ ap (λ (image : Image). is_object_meant only before.loaded (object_of image.objects site)) made.image
+    ap (λ flags. is_object_in_scope only flags (object_of after.image.objects site)) made.loaded ∙ ap (λ (image : Image). is_object_in_scope only before.loaded (object_of image.objects site)) made.image
 
 -- Site by site: those below a number are done.
 next_site : (own covers below next : Bool) (make : Entries → Entries) (entries : Entries) → (own ≡ true → (covers ≡ true) × (below ≡ false) × (next ≡ true)) → (own ≡ false → below ≡ next)

@@ -15,7 +15,8 @@ use Rattle.klp_types.specs.Entries.{is_empty}
 use Rattle.klp_stack.specs.Stack.{entries_at, has_entry, entries_of_others, place_of, IsStack}
 use Rattle.klp_sites.specs.Table.{SiteTable, is_stacked}
 use Rattle.klp_sites.specs.Changes.{pushed, rows_of_push, rows_of_take}
-use Rattle.klp_patch.specs.Changes.{AreMade, with_nop, without_nop, hooked_count, is_of_sites}
+use Rattle.klp_sites.specs.Undo.{is_of_sites}
+use Rattle.klp_patch.specs.Changes.{AreMade, with_nop, without_nop, hooked_count}
 
 abbrev pub Entries : Type 0
 Entries = List Entry

@@ -4,11 +4,11 @@ use Rattle.std.specs.List.{All}
 use Rattle.klp_types.specs.declared.limits.TheConstants.{MAX_FUNCTIONS}
 use Rattle.klp_types.specs.declared.version.Version.{Version}
 use Rattle.klp_types.specs.declared.version.Entry.{Entry}
-use Rattle.klp_types.specs.declared.version.Move.{Move}
-use Rattle.klp_machine.specs.Blocked.{blocked_among}
+use Rattle.klp_types.specs.declared.version.Transition.{Transition}
+use Rattle.klp_model.specs.Blocked.{blocked_among}
 
 -- at sites with these entries, the first of which has this number
-abbrev pub blocked_at : ℕ → Move → List (List Entry) → List Version
+abbrev pub blocked_at : ℕ → Transition → List (List Entry) → List Version
 blocked_at site move [] = []
 blocked_at site move (entries ∷ stacks) = blocked_among site move entries ++ blocked_at (suc site) move stacks
 

@@ -2,7 +2,6 @@
 use Rattle.std.specs.Prelude.{◌≡◌, ℕ, ◌+◌, ◌≤◌, Bool, true, false, not, ◌==◌, ◌&&◌, ◌||◌, List, ◌∷◌, ◌++◌, None, length, filter, is_none, if◌then◌else◌}
 use Rattle.std.specs.List.{All, count_by}
 use Rattle.klp_types.specs.declared.record.Record.{Record}
-use Rattle.klp_types.specs.declared.record.Record.TheVariants.{StackEntry, HookFlag}
 use Rattle.klp_types.specs.declared.version.Entry.{Entry}
 use Rattle.klp_types.specs.Setting.{function_for}
 use Rattle.klp_types.specs.Entries.{entry_of, is_empty}
@@ -12,7 +11,7 @@ use Rattle.klp_catalog.specs.States.{is_cumulative}
 use Rattle.klp_stack.specs.Stack.{entries_at, has_entry}
 use Rattle.klp_sites.specs.Table.{SiteTable, is_stacked}
 use Rattle.klp_sites.specs.Changes.{noting}
-use Rattle.klp_sites.specs.Undo.{undone}
+use Rattle.klp_sites.specs.Undo.{is_of_sites, undone}
 use Rattle.klp_patch.specs.Covered.{functions_in}
 
 -- what a patch puts on the entries of a site: its function, or a nop where it replaces and there are entries
@@ -42,12 +41,6 @@ hooked_count table = count_by is_stacked table.stacks
 -- how many entries a patch has at most: one for each function, and a nop on every other site where it replaces
 abbrev pub most_entries : Catalog → ℕ → SiteTable → ℕ
 most_entries catalog patch table = length (functions_in catalog patch) + (if is_cumulative catalog patch then length table.stacks else 0)
-
--- the row is one of a site: an entry or the hook
-abbrev pub is_of_sites : Record → Bool
-is_of_sites (StackEntry site patch was) = true
-is_of_sites (HookFlag site was) = true
-is_of_sites other = false
 
 -- the rows that changed are noted as they were, as the newest: no more than these many entries, and one for each site that is
 -- hooked or unhooked. So many sites were hooked before, or are afterwards, and so many are afterwards, or were before.

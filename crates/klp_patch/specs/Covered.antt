@@ -10,17 +10,17 @@ abbrev pub functions_in : Catalog → ℕ → List Function
 functions_in catalog patch = all_functions (patch_objects (slice_get (patches_of catalog) patch))
 
 -- whether a change of one object, or of all that are loaded, is about this object
-abbrev pub is_meant : Option ℕ → List Bool → ℕ → Bool
-is_meant None loaded object = slice_index_or loaded object false
-is_meant (Some own) loaded object = object == own
+abbrev pub is_in_scope : Option ℕ → List Bool → ℕ → Bool
+is_in_scope None loaded object = slice_index_or loaded object false
+is_in_scope (Some own) loaded object = object == own
 
-abbrev pub is_object_meant : Option ℕ → List Bool → Option ℕ → Bool
-is_object_meant only loaded None = false
-is_object_meant only loaded (Some object) = is_meant only loaded object
+abbrev pub is_object_in_scope : Option ℕ → List Bool → Option ℕ → Bool
+is_object_in_scope only loaded None = false
+is_object_in_scope only loaded (Some object) = is_in_scope only loaded object
 
 -- whether it is about the object of this site; a site that isn't there has none
 abbrev pub is_covered : SiteTable → Option ℕ → ℕ → Bool
-is_covered table only site = is_object_meant only table.loaded (object_of table.image.objects site)
+is_covered table only site = is_object_in_scope only table.loaded (object_of table.image.objects site)
 
 -- how many symbols an object has; one that isn't there has none
 abbrev pub symbol_count : List Object → ℕ → ℕ

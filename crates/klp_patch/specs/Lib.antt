@@ -1,3 +1,9 @@
 pub mod Covered
 pub mod Changes
 pub mod Blocked
+pub mod Loaded
+pub mod Refusing
+pub mod Places
+pub mod Calls
+pub mod ModuleShares
+pub mod Brought

@@ -1,7 +1,7 @@
 ghost use Rattle.std.specs.Prelude.{◌≡◌, ℕ, ◌<◌, ◌≤◌, ◌||◌, ◌++◌, true, List, [], length, is_some};
 ghost use Rattle.klp_types.specs.declared.version.Version.{Version as AnyVersion};
 ghost use Rattle.klp_types.specs.Setting.{function_for};
-ghost use Rattle.klp_machine.specs.Blocked.{blocked_among};
+ghost use Rattle.klp_model.specs.Blocked.{blocked_among};
 ghost use Rattle.klp_modules.specs.Names.{names_of};
 ghost use Rattle.klp_catalog.specs.States.{is_cumulative};
 ghost use Rattle.klp_stack.specs.Stack.{entries_at, has_entry};
@@ -9,14 +9,13 @@ ghost use Rattle.klp_tasks.specs.Members.{IsSetOf};
 ghost use Rattle.klp_patch.specs.Covered.{functions_in};
 ghost use Rattle.klp_patch.specs.Blocked.{blocked_at, AreFunctions};
 
-use crate::patch::replaces;
 use klp_catalog::Catalog;
 use klp_sites::Sites;
 use klp_tasks::VersionSet;
-use klp_types::{MAX_SITES, Move, Site};
+use klp_types::{MAX_SITES, Site, Transition};
 
 /// Puts what is blocked at one site into the set, which is one version at most.
-fn block_at(sites: &Sites, site: Site, moving: &Move, blocked: &mut VersionSet)
+fn block_at(sites: &Sites, site: Site, moving: &Transition, blocked: &mut VersionSet)
     requires number { AreFunctions (entries_at sites.now.stacks site) }
     requires sites { length sites.now.stacks ≤ MAX_SITES }
     ensures { (versions : List AnyVersion) → IsSetOf blocked.old versions → IsSetOf blocked.new (versions ++ blocked_among site moving.now (entries_at sites.now.stacks site)) }
@@ -32,7 +31,7 @@ fn block_at(sites: &Sites, site: Site, moving: &Move, blocked: &mut VersionSet)
 
 /// Puts what is blocked at all sites into the empty set: a cumulative patch has nops where it has no
 /// function.
-fn block_all(sites: &Sites, moving: &Move, blocked: &mut VersionSet)
+fn block_all(sites: &Sites, moving: &Transition, blocked: &mut VersionSet)
     requires empty { IsSetOf blocked.old [] }
     requires number { (site : ℕ) → AreFunctions (entries_at sites.now.stacks site) }
     requires sites { length sites.now.stacks ≤ MAX_SITES }
@@ -45,7 +44,7 @@ fn block_all(sites: &Sites, moving: &Move, blocked: &mut VersionSet)
 
 /// Puts what is blocked at the sites of the patch's functions into the empty set. Other sites aren't looked
 /// at, because there such a patch has no entry.
-fn block_functions(sites: &Sites, catalog: &Catalog, moving: &Move, blocked: &mut VersionSet)
+fn block_functions(sites: &Sites, catalog: &Catalog, moving: &Transition, blocked: &mut VersionSet)
     requires empty { IsSetOf blocked.old [] }
     requires number { (site : ℕ) → AreFunctions (entries_at sites.now.stacks site) }
     requires sites { length sites.now.stacks ≤ MAX_SITES }
@@ -66,7 +65,7 @@ fn block_functions(sites: &Sites, catalog: &Catalog, moving: &Move, blocked: &mu
 /// kernel goes over the patch's functions for each frame (`klp_check_stack`).
 ///
 /// It costs as much as the patch has functions; for a cumulative one as much as there are sites.
-pub fn block(sites: &Sites, catalog: &Catalog, moving: Move, blocked: &mut VersionSet)
+pub fn block(sites: &Sites, catalog: &Catalog, moving: Transition, blocked: &mut VersionSet)
     requires number { (site : ℕ) → AreFunctions (entries_at sites.now.stacks site) }
     requires sites { length sites.now.stacks ≤ MAX_SITES }
     requires names { catalog.now.names ≡ names_of sites.now.image.objects }
@@ -77,7 +76,7 @@ pub fn block(sites: &Sites, catalog: &Catalog, moving: Move, blocked: &mut Versi
     ensures { IsSetOf blocked.new (blocked_at 0 moving sites.now.stacks) }
 {
     blocked.clear();
-    if replaces(catalog, moving.patch) {
+    if catalog.is_cumulative(moving.patch) {
         block_all(sites, &moving, blocked);
     } else {
         block_functions(sites, catalog, &moving, blocked);

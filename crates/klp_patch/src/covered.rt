@@ -14,8 +14,8 @@ use klp_types::{MAX_SITES, ObjId, Site};
 
 /// Whether a change of one object, or of all that are loaded, is about this object. The one that is named
 /// is meant whether it is loaded or not.
-fn is_meant(image: &Image, only: Option<ObjId>, object: ObjId) -> bool
-    ensures { result ≡ covered.is_meant only image.now.loaded object }
+fn is_in_scope(image: &Image, only: Option<ObjId>, object: ObjId) -> bool
+    ensures { result ≡ covered.is_in_scope only image.now.loaded object }
 {
     match only {
         Some(own) => object == own,
@@ -24,7 +24,7 @@ fn is_meant(image: &Image, only: Option<ObjId>, object: ObjId) -> bool
 }
 
 /// The site of a function, where the change is about its object. A function without a site has no entry.
-pub(crate) fn meant_site(
+pub(crate) fn site_in_scope(
     sites: &Sites,
     only: &Option<ObjId>,
     function: &CatalogFunction,
@@ -36,7 +36,7 @@ pub(crate) fn meant_site(
     let Some(site) = function.site() else {
         return None;
     };
-    if is_meant(sites.image(), *only, function.object()) {
+    if is_in_scope(sites.image(), *only, function.object()) {
         Some(site)
     } else {
         None
@@ -60,10 +60,10 @@ fn push_object(
     object: ObjId,
 )
     requires { length flags.old.items + symbol_count image.now.image.objects object ≤ MAX_SITES }
-    ensures { flags.new.items ≡ flags.old.items ++ replicate (symbol_count image.now.image.objects object) (covered.is_meant only.now image.now.loaded object) }
+    ensures { flags.new.items ≡ flags.old.items ++ replicate (symbol_count image.now.image.objects object) (covered.is_in_scope only.now image.now.loaded object) }
 {
     let symbols = image.symbols(object).unwrap_or(0);
-    push_times(flags, is_meant(image, *only, object), symbols);
+    push_times(flags, is_in_scope(image, *only, object), symbols);
 }
 
 /// For each site, whether the change is about it. The flags are made before anything changes, since the

@@ -8,18 +8,11 @@ ghost use Rattle.klp_stack.specs.Stack.{entries_at, has_entry, entries_of_others
 ghost use Rattle.klp_patch.specs.Covered.{functions_in, is_covered};
 ghost use Rattle.klp_patch.specs.Changes.{AreMade, Notes, with_entry, with_nop, without_nop, hooked_count, most_entries};
 
-use crate::covered::{covered_sites, meant_site};
+use crate::covered::{covered_sites, site_in_scope};
 use crate::site::{put, put_nop, take, take_nop};
 use klp_catalog::Catalog;
 use klp_sites::Sites;
 use klp_types::{Entry, MAX_PATCHES, MAX_SITES, ObjId, PatchId, Records, Site};
-
-/// Whether a patch is a cumulative one, which alone has nops; one that isn't there isn't.
-pub(crate) fn replaces(catalog: &Catalog, patch: PatchId) -> bool
-    ensures { result ≡ is_cumulative catalog.now patch }
-{
-    catalog.replaces(patch).unwrap_or(false)
-}
 
 /// Puts the functions of a patch on top of the stacks of their sites. No two are for one site, so each
 /// stack gets one entry at most.
@@ -41,7 +34,7 @@ fn put_functions(
 {
     let functions = catalog.functions(patch);
     for number in 0..functions.len() {
-        if let Some(site) = meant_site(sites, only, &functions[number]) {
+        if let Some(site) = site_in_scope(sites, only, &functions[number]) {
             let func = Some(number as u16);
             put(sites, site, Entry { patch, func }, log);
         }
@@ -82,7 +75,7 @@ fn take_functions(
 {
     let functions = catalog.functions(patch);
     for number in 0..functions.len() {
-        if let Some(site) = meant_site(sites, only, &functions[number]) {
+        if let Some(site) = site_in_scope(sites, only, &functions[number]) {
             take(sites, site, patch, log);
         }
     }
@@ -124,7 +117,7 @@ pub fn patch_sites(
     ensures notes { Notes sites.old sites.new log.old log.new (most_entries catalog.now patch sites.old) (hooked_count sites.old) (hooked_count sites.new) }
 {
     put_functions(sites, catalog, patch, &only, log);
-    if replaces(catalog, patch) {
+    if catalog.is_cumulative(patch) {
         put_nops(sites, patch, only, log);
     }
 }
@@ -150,7 +143,7 @@ pub fn unpatch_sites(
     ensures entries { AreMade sites.old sites.new (is_covered sites.old only) (λ site entries. entries_of_others patch entries) }
     ensures notes { Notes sites.old sites.new log.old log.new (most_entries catalog.now patch sites.old) (hooked_count sites.new) (hooked_count sites.old) }
 {
-    if replaces(catalog, patch) {
+    if catalog.is_cumulative(patch) {
         take_all(sites, patch, only, log);
     } else {
         take_functions(sites, catalog, patch, &only, log);

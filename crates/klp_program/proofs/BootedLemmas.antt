@@ -11,8 +11,8 @@ use Rattle.klp_text.specs.TextImage.{TextImage}
 use Rattle.klp_modules.specs.Names as names
 use Rattle.klp_modules.specs.Names.{ModuleTable, ObjectNames}
 use Rattle.klp_callback.specs.Told.{Told}
-use Rattle.klp_plan.specs.Plan.{Plan}
-use Rattle.klp_plan.specs.Scripts.{scripts_of}
+use Rattle.klp_catalog_text.specs.Plan.{Plan}
+use Rattle.klp_catalog_text.specs.Scripts.{scripts_of}
 use Rattle.klp_catalog.specs.declared.assemble.AssembleFault.{AssembleFault}
 use Rattle.klp_catalog.specs.Assembled.{without_scripts, scripts_told, counts_told, IsAssembleFault}
 use Rattle.klp_catalog.specs.Catalog.{Catalog, some_same_site, patches_of}
@@ -20,9 +20,9 @@ use Rattle.klp_catalog.specs.Runs.{HasCounts}
 use Rattle.klp_core.specs.declared.fault.BootFault.{BootFault}
 use Rattle.klp_core.specs.declared.fault.BootFault.TheVariants as boot
 use Rattle.klp_core.specs.Boot.{symbol_counts, name_counts, IsMatch}
-use Rattle.klp_machine.specs.Opening.{opening_state}
+use Rattle.klp_model.specs.Opening.{opening_state}
 use Rattle.klp_core.specs.Journaled.{Journaled}
-use Rattle.klp_steps.specs.Managed.{setting_of}
+use Rattle.klp_manager_state.specs.Managed.{setting_of}
 use Rattle.std.specs.Result.{IsErrAnd, IfErr}
 use Rattle.klp_program.specs.declared.fault.Fault.{Fault}
 use Rattle.klp_program.specs.declared.fault.Fault.TheVariants as faults

@@ -6,14 +6,14 @@ use Rattle.klp_text.specs.Faults.{image_fault}
 use Rattle.klp_types.specs.Script.{Script}
 use Rattle.klp_modules.specs.Names.{names_of}
 use Rattle.klp_callback.specs.Told.{Told}
-use Rattle.klp_plan.specs.Plan.{Plan}
-use Rattle.klp_plan.specs.Scripts.{scripts_of}
+use Rattle.klp_catalog_text.specs.Plan.{Plan}
+use Rattle.klp_catalog_text.specs.Scripts.{scripts_of}
 use Rattle.klp_catalog.specs.Assembled.{without_scripts, counts_told, IsAssembleFault}
 use Rattle.klp_catalog.specs.Runs.{HasCounts}
 use Rattle.klp_core.specs.declared.fault.BootFault.TheVariants as boot
-use Rattle.klp_machine.specs.Opening.{opening_state}
+use Rattle.klp_model.specs.Opening.{opening_state}
 use Rattle.klp_core.specs.Journaled.{Journaled}
-use Rattle.klp_steps.specs.Managed.{setting_of}
+use Rattle.klp_manager_state.specs.Managed.{setting_of}
 use Rattle.klp_program.specs.declared.fault.Fault.{Fault}
 use Rattle.klp_program.specs.declared.fault.Fault.TheVariants.{NoMemory, Image, Assemble, Boot}
 

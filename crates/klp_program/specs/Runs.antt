@@ -1,10 +1,10 @@
 -- What the program comes to over a catalog's text.
 use Rattle.std.specs.Prelude.{◌≡◌, ℕ, List, Result, Ok, Err}
-use Rattle.klp_plan.specs.Plan.{Plan}
-use Rattle.klp_plan.specs.Text.{plan_of, IsFaultOf}
+use Rattle.klp_catalog_text.specs.Plan.{Plan}
+use Rattle.klp_catalog_text.specs.Text.{plan_of, IsFaultOf}
 use Rattle.klp_core.specs.Journaled.{Journaled}
-use Rattle.klp_output.specs.Written.{Written}
-use Rattle.klp_streams.specs.Supply.{Supply}
+use Rattle.klp_console_io.specs.Written.{Written}
+use Rattle.klp_console_io.specs.Supply.{Supply}
 use Rattle.klp_console.specs.declared.served.Served.{Served}
 use Rattle.klp_console.specs.declared.served.ServeFault.{ServeFault}
 use Rattle.klp_console.specs.Served.{ComesTo}

@@ -1,17 +1,17 @@
 ghost use Rattle.std.specs.Prelude.{◌≡◌, false, length, map, None, OnOk, IfOk, IfErr};
 ghost use Rattle.klp_text.specs.Faults.{image_fault};
 ghost use Rattle.klp_modules.specs.Names.{names_of};
-ghost use Rattle.klp_plan.specs.Scripts.{scripts_of};
-ghost use Rattle.klp_plan.specs.Within.{AreTargetsWithin};
+ghost use Rattle.klp_catalog_text.specs.Scripts.{scripts_of};
+ghost use Rattle.klp_catalog_text.specs.Within.{AreTargetsWithin};
 ghost use Rattle.klp_catalog.specs.Catalog.{some_same_site};
 ghost use Rattle.klp_program.specs.Booted.{IsBootedOver, IsBootFault, never_ran};
 
 use crate::fault::Fault;
 use klp_callback::Boxed;
 use klp_catalog::Catalog;
+use klp_catalog_text::Plan;
 use klp_core::Manager;
 use klp_modules::Modules;
-use klp_plan::Plan;
 use klp_text::Image;
 use std::alloc::Global;
 

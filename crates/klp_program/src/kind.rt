@@ -1,11 +1,10 @@
 ghost use Rattle.std.specs.Prelude.{◌≡◌, option_map, slice_get, IfOk};
-ghost use Rattle.klp_plan.specs.Scripts.{scripts_of};
+ghost use Rattle.klp_catalog_text.specs.Scripts.{scripts_of};
 ghost use Rattle.klp_program.specs.Booted.{never_ran};
 ghost use Rattle.klp_program.specs.Kinds.{told_by};
 
-use arrayvec::ArrayVec;
 use klp_callback::{Quiet, Refusing, Scripted};
-use klp_plan::Plan;
+use klp_catalog_text::Plan;
 use klp_world::Script;
 use std::alloc::{AllocError, Global};
 
@@ -20,23 +19,12 @@ pub(crate) enum Kind {
     Quiet(Box<Quiet>),
 }
 
-fn copy_of(script: &Script) -> Script
-    ensures { result ≡ script.now }
-{
-    let mut edits = ArrayVec::new();
-    let _ = edits.try_extend_from_slice(&script.edits);
-    Script {
-        edits,
-        status: script.status,
-    }
-}
-
 // A callback of the simplest kind that means the script.
 fn kind_of(alloc: Global, script: &Script) -> Result<Kind, AllocError>
     ensures { IfOk result (λ kind. told_by kind ≡ never_ran script.now) }
 {
     if !script.edits.is_empty() {
-        let scripted = Scripted::new(copy_of(script));
+        let scripted = Scripted::new(script.copy());
         Ok(Kind::Scripted(Box::new(alloc, scripted)?))
     } else if script.status != 0 {
         let refusing = Refusing::new(script.status);

@@ -1,10 +1,11 @@
-//! What the program does, apart from the process: it reads its words, boots a manager over a
-//! catalog's text, and serves the console by it.
+//! What the program does, apart from the process: it reads its words and the catalog's file, boots a
+//! manager over the catalog's text, and serves the console by it.
 #![tactic(auto)]
 
 mod arguments;
 mod booted;
 mod fault;
+mod file;
 mod kind;
 mod sample;
 mod serve;
@@ -13,6 +14,7 @@ mod wanted;
 pub use arguments::{refused, told, words};
 pub use booted::boot;
 pub use fault::Fault;
+pub use file::catalog_in;
 pub use sample::CATALOG;
 pub use serve::{console, served};
 pub use wanted::Words;

@@ -1,7 +1,7 @@
 -- Records put back: each gives one entry or one object what it was.
-use Rattle.std.specs.Prelude.{ℕ, Bool, nat_lt, List, [], ◌∷◌, length, slice_set, if◌then◌else◌}
+use Rattle.std.specs.Prelude.{ℕ, Bool, true, false, nat_lt, List, [], ◌∷◌, length, slice_set, if◌then◌else◌}
 use Rattle.klp_types.specs.declared.record.Record.{Record}
-use Rattle.klp_types.specs.declared.record.Record.TheVariants.{StackEntry, LoadedFlag}
+use Rattle.klp_types.specs.declared.record.Record.TheVariants.{StackEntry, HookFlag, LoadedFlag}
 use Rattle.klp_stack.specs.Undo as of_stacks
 use Rattle.klp_sites.specs.Table.{SiteTable}
 
@@ -16,6 +16,12 @@ abbrev pub put_back : SiteTable → Record → SiteTable
 put_back table (StackEntry site patch was) = record table { stacks = of_stacks.put_back table.stacks (StackEntry site patch was) }
 put_back table (LoadedFlag object was) = put_loaded table object was
 put_back table other = table
+
+-- the row is one of a site: an entry or the hook
+abbrev pub is_of_sites : Record → Bool
+is_of_sites (StackEntry site patch was) = true
+is_of_sites (HookFlag site was) = true
+is_of_sites other = false
 
 -- the table once all records are put back, the newest, which stands last, first
 abbrev pub undone : SiteTable → List Record → SiteTable

@@ -2,8 +2,8 @@ ghost use Rattle.std.specs.Prelude.{◌≡◌, ◌<◌, ◌≤◌, ◌==◌, fin
 ghost use Rattle.std.specs.Option.{option_to_list};
 ghost use Rattle.klp_types.specs.Records.{spare_of};
 ghost use Rattle.klp_text.specs.TextImage.{site_count};
-ghost use Rattle.klp_machine.specs.Blocked.{blocked_among};
-ghost use Rattle.klp_machine.specs.Rows.{word_of};
+ghost use Rattle.klp_model.specs.Blocked.{blocked_among};
+ghost use Rattle.klp_model.specs.Rows.{word_of};
 ghost use Rattle.klp_types.specs.declared.version.Entry.{Entry as AnyEntry};
 ghost use Rattle.klp_stack.specs.Stack.{IsStack, entries_at, has_entry};
 ghost use Rattle.klp_sites.specs.Table.{bytes_at, image_of, is_hooked_at, opening};
@@ -14,7 +14,7 @@ use arrayvec::ArrayVec;
 use klp_stack::Stacks;
 use klp_text::Image;
 use klp_types::{
-    Entry, MAX_PATCHES, Move, ObjId, PatchId, Place, Record, Records, Site, SiteWord, Version,
+    Entry, MAX_PATCHES, ObjId, PatchId, Place, Record, Records, Site, SiteWord, Transition, Version,
 };
 use std::alloc::{AllocError, Global};
 use std::marker::Model;
@@ -249,7 +249,7 @@ impl Sites {
     /// The version at a site that a task mustn't be inside of when it switches (what the kernel's
     /// `klp_check_stack_func` looks for): none where the moving patch has no entry there. The cost is
     /// at most the stack's height.
-    pub fn blocked(&self, site: Site, moving: Move) -> Option<Version>
+    pub fn blocked(&self, site: Site, moving: Transition) -> Option<Version>
         ensures { option_to_list result ≡ blocked_among site moving (entries_at self.now.stacks site) }
     {
         self.stacks.blocked(site, moving)

@@ -8,8 +8,8 @@ use Rattle.std.proofs.lemmas.List.{take_at, drop_at}
 use Rattle.std.proofs.lemmas.Map.Steps.{length-le_from_distinct_below}
 use Rattle.klp_types.specs.declared.limits.TheConstants.{MAX_PATCHES}
 use Rattle.klp_types.specs.declared.version.Entry.{Entry}
-use Rattle.klp_types.specs.declared.version.Move.{Move}
-use Rattle.klp_machine.specs.Blocked.{held_version, blocked_among}
+use Rattle.klp_types.specs.declared.version.Transition.{Transition}
+use Rattle.klp_model.specs.Blocked.{held_version, blocked_among}
 use Rattle.klp_stack.specs.Stack.{has_entry, entries_of_others, place_of, IsStack}
 
 differ_back : (a b : ℕ) → (a == b) ≡ false → (b == a) ≡ false
@@ -35,7 +35,7 @@ no_entry patch (entry ∷ older) none =
     let parts = or_parts (entry.patch == patch) (has_entry patch older) none in
     cond-false _ _ _ parts.0 ∙ no_entry patch older parts.1
 
-pub none_blocked : (site : ℕ) (move : Move) (entries : List Entry) → has_entry move.patch entries ≡ false → blocked_among site move entries ≡ []
+pub none_blocked : (site : ℕ) (move : Transition) (entries : List Entry) → has_entry move.patch entries ≡ false → blocked_among site move entries ≡ []
 none_blocked site move [] none = refl
 none_blocked site move (entry ∷ older) none =
     let parts = or_parts (entry.patch == move.patch) (has_entry move.patch older) none in
@@ -108,7 +108,7 @@ module _ (entry : Entry) (older : List Entry) where
         let parts = or_parts (first.patch == patch) (has_entry patch newer) none in
         cond-true _ _ _ (not_from_false _ parts.0) ∙ ap (λ rest. first ∷ rest) (its_others newer parts.1 none_older)
 
-  pub its_version : (site : ℕ) (move : Move) → (entry.patch == move.patch) ≡ true → (newer : List Entry) → has_entry move.patch newer ≡ false
+  pub its_version : (site : ℕ) (move : Transition) → (entry.patch == move.patch) ≡ true → (newer : List Entry) → has_entry move.patch newer ≡ false
       → blocked_among site move (newer ++ entry ∷ older) ≡ held_version site move.target entry older ∷ []
   its_version site move own [] none = cond-true _ _ _ own
   its_version site move own (first ∷ newer) none =

@@ -13,10 +13,10 @@ use Rattle.klp_types.proofs.EntryLemmas.{list_any-reverse}
 use Rattle.klp_types.specs.declared.limits.TheConstants.{MAX_PATCHES}
 use Rattle.klp_types.specs.declared.record.Place.{Place}
 use Rattle.klp_types.specs.declared.version.Entry.{Entry}
-use Rattle.klp_types.specs.declared.version.Move.{Move}
+use Rattle.klp_types.specs.declared.version.Transition.{Transition}
 use Rattle.klp_types.specs.declared.version.Version.TheVariants.{Original}
 use Rattle.klp_types.specs.Pick.{newest_version}
-use Rattle.klp_machine.specs.Blocked.{held_version, blocked_among}
+use Rattle.klp_model.specs.Blocked.{held_version, blocked_among}
 use Rattle.klp_stack.specs.Stack.{has_entry, entries_of_others, place_of, IsStack}
 use Rattle.klp_stack.specs.Undo.{may_stand, put_at, put_entry}
 use Rattle.klp_stack.proofs.EntryLemmas.{Stands, stands, no_place, all_others, none_blocked, put_between, at_its_place, its_place, its_others, its_version, its_entry, no_entry, few_entries}
@@ -160,7 +160,7 @@ module _ (patch : ℕ) (seen row : List Entry) (i : ℕ) (entry : Entry) (same_r
   pub own_entry : (now : List Entry) → reverse row ≡ now → Some entry ≡ find (is_own patch) now
   own_entry now view = sym (its_entry entry older patch own newer none_newer) ∙ ap (find (is_own patch)) (sym at ∙ view)
 
-  pub held : (site : ℕ) (move : Move) (now : List Entry) → move.patch ≡ patch → reverse row ≡ now → held_version site move.target entry older ∷ [] ≡ blocked_among site move now
+  pub held : (site : ℕ) (move : Transition) (now : List Entry) → move.patch ≡ patch → reverse row ≡ now → held_version site move.target entry older ∷ [] ≡ blocked_among site move now
   held site move now moving view =
       sym (its_version entry older site move (subst (λ p. (entry.patch == p) ≡ true) (sym moving) own) newer (subst (λ p. has_entry p newer ≡ false) (sym moving) none_newer))
       ∙ ap (blocked_among site move) (sym at ∙ view)
@@ -180,7 +180,7 @@ none_own patch seen row now same_row view none =
     sym (no_entry patch now (subst (λ es. has_entry patch es ≡ false) view (missing patch row (none ∙ ap (position (is_own patch)) same_row))))
 
 -- What holds a sleeper back.
-module _ (site : ℕ) (move : Move) (seen row now : List Entry) (same_row : seen ≡ row) (view : reverse row ≡ now) where
+module _ (site : ℕ) (move : Transition) (seen row now : List Entry) (same_row : seen ≡ row) (view : reverse row ≡ now) where
   pub none_held : None ≡ position (is_own move.patch) seen → [] ≡ blocked_among site move now
   none_held none = sym (none_blocked site move now (subst (λ es. has_entry move.patch es ≡ false) view (missing move.patch row (none ∙ ap (position (is_own move.patch)) same_row))))
 

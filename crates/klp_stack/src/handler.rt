@@ -19,12 +19,12 @@ pub fn pick(site: Site, word: SiteWord, state: i8) -> Version
     } else {
         word.top
     };
-    version(site, entry)
+    version_of(site, entry)
 }
 
 /// The version of an entry, or the original where there is none. A nop is the original too, since that is
 /// what a cumulative patch gives back.
-pub(crate) fn version(site: Site, entry: Option<Entry>) -> Version
+pub fn version_of(site: Site, entry: Option<Entry>) -> Version
     ensures { result ≡ newest_version site (option_to_list entry) }
 {
     let Some(Entry { patch, func }) = entry else {

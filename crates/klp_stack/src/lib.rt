@@ -15,5 +15,5 @@ pub mod laws;
 mod stack;
 mod stacks;
 
-pub use handler::pick;
+pub use handler::{pick, version_of};
 pub use stacks::Stacks;

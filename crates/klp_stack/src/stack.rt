@@ -1,14 +1,14 @@
 ghost use Rattle.std.specs.Prelude.{◌≡◌, ◌<◌, ◌≤◌, ◌==◌, false, [], ◌∷◌, find, length, position, slice_get};
 ghost use Rattle.std.specs.Option.{option_to_list};
 ghost use Rattle.klp_types.specs.declared.version.Entry.{Entry as AnyEntry};
-ghost use Rattle.klp_machine.specs.Blocked.{blocked_among};
-ghost use Rattle.klp_machine.specs.Rows.{word_of};
+ghost use Rattle.klp_model.specs.Blocked.{blocked_among};
+ghost use Rattle.klp_model.specs.Rows.{word_of};
 ghost use Rattle.klp_stack.specs.Stack.{IsStack, has_entry, entries_of_others, place_of};
 ghost use Rattle.klp_stack.specs.Undo.{may_stand, put_entry};
 
-use crate::handler::version;
+use crate::handler::version_of;
 use arrayvec::ArrayVec;
-use klp_types::{Entry, MAX_PATCHES, Move, PatchId, Place, Site, SiteWord, Version};
+use klp_types::{Entry, MAX_PATCHES, PatchId, Place, Site, SiteWord, Transition, Version};
 use std::marker::Model;
 
 /// The entries of one site (the kernel's `func_stack`). The order is that of the enablings, since a newer
@@ -164,7 +164,7 @@ impl Stack {
     /// What holds a sleeper back at the site of these entries (the kernel's `klp_check_stack_func`). Away
     /// from the patch that is the patch's own version. Towards it, it is what is below: the older entry, or
     /// the original where there is none.
-    pub(crate) fn blocked(&self, site: Site, moving: Move) -> Option<Version>
+    pub(crate) fn blocked(&self, site: Site, moving: Transition) -> Option<Version>
         ensures { option_to_list result ≡ blocked_among site moving self.now }
     {
         let Some(place) = place_in(&self.row, moving.patch) else {
@@ -177,6 +177,6 @@ impl Stack {
         } else {
             None
         };
-        Some(version(site, entry))
+        Some(version_of(site, entry))
     }
 }

@@ -1,7 +1,7 @@
 ghost use Rattle.std.specs.Prelude.{◌≡◌, ◌<◌, ◌==◌, find, true, false, [], ◌∷◌, length, replicate, slice_set, None, IfOk};
 ghost use Rattle.std.specs.Option.{option_to_list};
-ghost use Rattle.klp_machine.specs.Blocked.{blocked_among};
-ghost use Rattle.klp_machine.specs.Rows.{word_of};
+ghost use Rattle.klp_model.specs.Blocked.{blocked_among};
+ghost use Rattle.klp_model.specs.Rows.{word_of};
 ghost use Rattle.klp_types.specs.declared.version.Entry.{Entry as AnyEntry};
 ghost use Rattle.klp_stack.specs.Stack.{IsStack, entries_at, has_entry, entries_of_others, place_of};
 ghost use Rattle.klp_stack.specs.Undo.{put_back};
@@ -9,7 +9,7 @@ ghost use Rattle.klp_stack.specs.Changes.{Changes};
 
 use crate::stack::Stack;
 use arrayvec::ArrayVec;
-use klp_types::{Entry, MAX_PATCHES, Move, PatchId, Record, Site, SiteWord, Version};
+use klp_types::{Entry, MAX_PATCHES, PatchId, Record, Site, SiteWord, Transition, Version};
 use std::alloc::{AllocError, Global};
 use std::marker::Model;
 
@@ -150,7 +150,7 @@ impl Stacks {
     /// The version at a site that a task mustn't be inside of when it switches (what the kernel's
     /// `klp_check_stack_func` looks for): none where the moving patch has no entry there. The cost is
     /// at most the stack's height.
-    pub fn blocked(&self, site: Site, moving: Move) -> Option<Version>
+    pub fn blocked(&self, site: Site, moving: Transition) -> Option<Version>
         ensures { option_to_list result ≡ blocked_among site moving (entries_at self.now site) }
     {
         match self.stacks.get(usize::from(site.0)) {

@@ -4,7 +4,7 @@ use Rattle.std.specs.List.{list_any}
 use Rattle.std.proofs.lemmas.List.Folds.{list_any-append}
 use Rattle.klp_types.specs.declared.version.Version.{Version}
 use Rattle.klp_types.specs.declared.version.Version.TheVariants.{Original, New}
-use Rattle.klp_machine.specs.Blocked.{is_version}
+use Rattle.klp_model.specs.Blocked.{is_version}
 use Rattle.klp_tasks.specs.Members.{VersionFlags, IsSetOf}
 
 abbrev flagged : (ℕ → Version) → ℕ → List Bool → List Version

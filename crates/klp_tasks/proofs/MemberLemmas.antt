@@ -4,7 +4,7 @@ use Rattle.std.specs.List.{list_any}
 use Rattle.klp_types.specs.declared.limits.TheConstants.{MAX_SITES, MAX_PATCHES, MAX_FUNCTIONS}
 use Rattle.klp_types.specs.declared.version.Version.{Version}
 use Rattle.klp_types.specs.declared.version.Version.TheVariants.{Original, New}
-use Rattle.klp_machine.specs.Task.{Tasks}
+use Rattle.klp_model.specs.Task.{Tasks}
 use Rattle.klp_tasks.specs.Sleepers.{sleeps_where}
 use Rattle.klp_tasks.specs.Members.{has}
 

@@ -11,10 +11,10 @@ use Rattle.klp_types.specs.declared.task.Task.{Task}
 use Rattle.klp_types.specs.Records.{RecordList, spare_of}
 use Rattle.klp_types.specs.declared.version.Version.{Version}
 use Rattle.klp_types.specs.declared.task.Mode.TheVariants.{Asleep}
-use Rattle.klp_machine.specs.Task.{Tasks, task_at, with_task, is_mode, at_target, in_state}
-use Rattle.klp_machine.specs.State.{State, with_tasks}
-use Rattle.klp_machine.specs.TaskStep.{change_task}
-use Rattle.klp_machine.specs.Blocked.{is_version, is_held, switched}
+use Rattle.klp_model.specs.Task.{Tasks, task_at, with_task, is_mode, at_target, in_state}
+use Rattle.klp_model.specs.State.{State, with_tasks}
+use Rattle.klp_model.specs.TaskStep.{change_task}
+use Rattle.klp_model.specs.Blocked.{is_version, is_held, switched}
 use Rattle.klp_tasks.specs.Members.{VersionFlags, has, IsSetOf}
 use Rattle.klp_tasks.proofs.MemberLemmas.{same_any}
 use Rattle.klp_tasks.specs.Changes.{record_of, put_back, undone, changed_row, changed, record_if_switched, records_switched}

@@ -4,7 +4,7 @@ use Rattle.std.specs.Ordering.{int_eq}
 use Rattle.klp_types.specs.declared.record.Record.{Record}
 use Rattle.klp_types.specs.declared.record.Record.TheVariants.{TaskRow, NoTaskRow}
 use Rattle.klp_types.specs.declared.task.Task.{Task}
-use Rattle.klp_machine.specs.Task.{Tasks, task_at, with_task}
+use Rattle.klp_model.specs.Task.{Tasks, task_at, with_task}
 
 -- a change of the row of one task that is there
 abbrev pub changed_row : Tasks → ℕ → (Task → Task) → Option Task → Tasks

@@ -4,7 +4,7 @@ use Rattle.std.specs.List.{list_any}
 use Rattle.klp_types.specs.declared.limits.TheConstants.{MAX_SITES, MAX_PATCHES, MAX_FUNCTIONS}
 use Rattle.klp_types.specs.declared.version.Version.{Version}
 use Rattle.klp_types.specs.declared.version.Version.TheVariants.{Original, New}
-use Rattle.klp_machine.specs.Blocked.{is_version}
+use Rattle.klp_model.specs.Blocked.{is_version}
 
 -- for each site whether its original is in the set, and for each patch the same of its new functions
 pub record VersionFlags : Type 0 where

@@ -4,7 +4,7 @@ use Rattle.std.specs.List.{list_any}
 use Rattle.klp_types.specs.declared.version.Version.{Version}
 use Rattle.klp_types.specs.declared.task.Mode.TheVariants.{Asleep}
 use Rattle.klp_types.specs.declared.task.Task.{Task}
-use Rattle.klp_machine.specs.Task.{is_mode}
+use Rattle.klp_model.specs.Task.{is_mode}
 
 -- whether a task sleeps inside of a version that passes the test
 abbrev pub sleeps_where : (Version → Bool) → Option Task → Bool

@@ -3,9 +3,9 @@
 ghost use Rattle.std.specs.Prelude.{◌≡◌, ℕ, ◌≤◌, List, length};
 ghost use Rattle.klp_types.specs.declared.task.Task.{Task as AnyTask};
 ghost use Rattle.klp_types.specs.declared.version.Version.{Version as AnyVersion};
-ghost use Rattle.klp_machine.specs.Task.{Tasks};
-ghost use Rattle.klp_machine.specs.State.{State, with_tasks};
-ghost use Rattle.klp_machine.specs.TaskStep.{change};
+ghost use Rattle.klp_model.specs.Task.{Tasks};
+ghost use Rattle.klp_model.specs.State.{State, with_tasks};
+ghost use Rattle.klp_model.specs.TaskStep.{change};
 ghost use Rattle.klp_tasks.specs.Changes.{changed, records_switched};
 ghost use Rattle.klp_tasks.specs.Members.{VersionFlags, IsSetOf};
 

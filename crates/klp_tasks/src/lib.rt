@@ -16,5 +16,5 @@ pub mod laws;
 mod tasks;
 mod version_set;
 
-pub use tasks::Tasks;
+pub use tasks::{Tasks, target_state};
 pub use version_set::VersionSet;

@@ -5,16 +5,16 @@ ghost use Rattle.klp_types.specs.Records.{spare_of};
 ghost use Rattle.klp_types.specs.declared.version.Version.{Version as AnyVersion};
 ghost use Rattle.klp_types.specs.declared.task.Task.{Task as AnyTask};
 ghost use Rattle.klp_types.specs.declared.task.Mode.TheVariants.{Kernel, Asleep};
-ghost use Rattle.klp_machine.specs.Task.{task_at, with_task, is_mode, at_target, in_state, all_in};
-ghost use Rattle.klp_machine.specs.TaskStep.{new_task, state_of_task, exited};
-ghost use Rattle.klp_machine.specs.Blocked.{switched, lags};
+ghost use Rattle.klp_model.specs.Task.{task_at, with_task, is_mode, at_target, in_state, all_in};
+ghost use Rattle.klp_model.specs.TaskStep.{new_task, state_of_task, exited};
+ghost use Rattle.klp_model.specs.Blocked.{switched, lags};
 ghost use Rattle.klp_tasks.specs.Members.{has, ArePassing, IsSetOf};
 ghost use Rattle.klp_tasks.specs.Sleepers.{sleeps_where};
 ghost use Rattle.klp_tasks.specs.Changes.{Changes, changed, record_of, record_if_switched, records_switched, put_back, undone};
 
 use crate::version_set::VersionSet;
 use arrayvec::ArrayVec;
-use klp_types::{Frames, MAX_TASKS, Mode, Move, Record, Records, Task, TaskId};
+use klp_types::{Frames, MAX_TASKS, Mode, Record, Records, Task, TaskId, Transition};
 use std::alloc::{AllocError, Global};
 use std::marker::Model;
 
@@ -50,8 +50,9 @@ fn lags(row: &Option<Task>, target: bool) -> bool
     }
 }
 
-/// The state of a task that is brought to this target. At rest it is -1, which no target is.
-fn target_state(target: bool) -> i8
+/// The state of a task that is brought to this target: 1 to run the patch, 0 to leave it. At rest it is -1,
+/// which no target is.
+pub fn target_state(target: bool) -> i8
     ensures { result ≡ at_target target }
 {
     if target { 1 } else { 0 }
@@ -195,7 +196,7 @@ impl Tasks {
 
     /// A task leaves the kernel, and is brought to the target of whatever moves (kernel exit switching),
     /// since outside of the kernel it is inside of no function.
-    pub fn leave(&mut self, task: TaskId, moving: Option<Move>) -> Record
+    pub fn leave(&mut self, task: TaskId, moving: Option<Transition>) -> Record
         requires { is_some (task_at self.old task) ≡ true }
         ensures { Changes self.old self.new task result (changed self.old task (exited moving)) }
     {

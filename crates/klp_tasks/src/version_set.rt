@@ -1,7 +1,7 @@
 ghost use Rattle.std.specs.Prelude.{◌≡◌, ℕ, ◌<◌, ◌==◌, ◌||◌, false, List, [], ◌∷◌, ◌++◌, length, slice_index_or};
 ghost use Rattle.std.specs.List.{list_any};
 ghost use Rattle.klp_types.specs.declared.version.Version.{Version as AnyVersion};
-ghost use Rattle.klp_machine.specs.Blocked.{is_version};
+ghost use Rattle.klp_model.specs.Blocked.{is_version};
 ghost use Rattle.klp_tasks.specs.Members.{has, IsSetOf, IsWithin};
 
 use klp_types::{Frames, MAX_FUNCTIONS, MAX_PATCHES, MAX_SITES, Version};

@@ -4,13 +4,13 @@ use Rattle.klp_types.specs.declared.version.Version.{Version}
 use Rattle.klp_types.specs.declared.version.Version.TheVariants.{Original, New}
 use Rattle.klp_types.specs.declared.version.Target.{Target}
 use Rattle.klp_types.specs.declared.version.Entry.{Entry}
-use Rattle.klp_types.specs.declared.version.Move.{Move}
+use Rattle.klp_types.specs.declared.version.Transition.{Transition}
 use Rattle.klp_types.specs.Image.{Symbol, symbol_of}
 use Rattle.klp_types.specs.Bytes.{entry_end}
 use Rattle.klp_types.specs.Setting.{Setting, Function, functions_of}
 
 -- whether this is the patch in transition
-abbrev pub moves : Option Move → ℕ → Bool
+abbrev pub moves : Option Transition → ℕ → Bool
 moves None patch = false
 moves (Some move) patch = move.patch == patch
 
@@ -20,7 +20,7 @@ is_unpatched (pos n) = n == 0
 is_unpatched other = false
 
 -- the entries that a task may run: one that isn't brought to the moving patch passes over its entry
-abbrev pub entries_for : Option Move → ℤ → List Entry → List Entry
+abbrev pub entries_for : Option Transition → ℤ → List Entry → List Entry
 entries_for moving task [] = []
 entries_for moving task (newest ∷ older) = if moves moving newest.patch && is_unpatched task then older else newest ∷ older
 

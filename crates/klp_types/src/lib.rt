@@ -4,7 +4,7 @@
 //! patches, the scripts of callbacks and the world that they change, the entries that patches put on a
 //! site, the version that is the newest of some entries, and the bytes of the text. Begin with
 //! `specs/Setting`, then `World`, `Script`, `Entries` and `Bytes`. The state of the whole machine and its
-//! events are above, in `klp_machine`, so that the crates of the image, the world and the catalog don't
+//! events are above, in `klp_model`, so that the crates of the image, the world and the catalog don't
 //! depend on the machine (docs/DECISIONS.md, "Definitions without a state").
 //!
 //! `laws` has what is proved of the definitions themselves. Of entries: when patches put an entry on a
@@ -17,6 +17,7 @@
 //!
 //! The code is small. [`Records`] logs a record last, gives the newest back, and is emptied; its room is
 //! taken once. [`Frames`] has at most 32 versions: `push` puts one last, or leaves a full list as it is.
+//! [`Script`] is here, below the world that it changes, so that the catalog's text doesn't wait for that.
 #![tactic(auto)]
 
 mod callback;
@@ -27,6 +28,7 @@ mod limits;
 mod number;
 mod record;
 mod row;
+mod script;
 mod shadow;
 mod task;
 mod text;
@@ -44,7 +46,8 @@ pub use limits::{
 pub use number::{ObjId, PatchId, Site};
 pub use record::{Place, Record, Records};
 pub use row::{SiteRow, SiteWord};
+pub use script::Script;
 pub use shadow::{ShadowKey, ShadowValue};
 pub use task::{Frames, Mode, Task, TaskId};
 pub use text::{ObjectText, SymbolText};
-pub use version::{Entry, Move, Target, Version};
+pub use version::{Entry, Target, Transition, Version, is_in_transition};

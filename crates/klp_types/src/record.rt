@@ -4,7 +4,7 @@ ghost use Rattle.klp_types.specs.Records.{spare_of};
 use crate::number::{ObjId, PatchId, Site};
 use crate::shadow::{ShadowKey, ShadowValue};
 use crate::task::{Task, TaskId};
-use crate::version::Move;
+use crate::version::Transition;
 use std::alloc::{AllocError, Global};
 use std::marker::Model;
 
@@ -68,7 +68,7 @@ pub enum Record {
     },
     /// The patch that was in transition, and its target.
     Moving {
-        was: Move,
+        was: Transition,
     },
     /// No patch was in transition: to put this back ends the transition that the event began.
     NothingMoving,

@@ -1,3 +1,6 @@
+ghost use Rattle.std.specs.Prelude.{◌≡◌};
+ghost use Rattle.klp_types.specs.Pick.{moves};
+
 use crate::number::{PatchId, Site};
 
 /// Which code answers a call of a function. It names code, and no entry: a nop is the original.
@@ -30,9 +33,19 @@ pub struct Entry {
 
 /// The patch in transition. There is one at most (the kernel's `klp_transition_patch`).
 #[derive(Clone, Copy, Debug, PartialEq, Eq)]
-pub struct Move {
+pub struct Transition {
     pub patch: PatchId,
     /// The state that tasks are brought to: `true` to run the patch, `false` to leave it. A reversal turns
     /// this round and nothing else.
     pub target: bool,
+}
+
+/// Whether this is the patch in transition, of which there is one at most.
+pub fn is_in_transition(transition: &Option<Transition>, patch: PatchId) -> bool
+    ensures { result ≡ moves transition.now patch }
+{
+    match transition {
+        Some(own) => own.patch == patch,
+        None => false,
+    }
 }

@@ -13,11 +13,9 @@
 
 pub mod laws;
 mod patch;
-mod script;
 mod shadow;
 mod sorted;
 mod world;
 
-pub use klp_types::{Edit, MAX_EDITS, MAX_PATCHES, MAX_STATES, MAX_VARIABLES};
-pub use script::Script;
+pub use klp_types::{Edit, MAX_EDITS, MAX_PATCHES, MAX_STATES, MAX_VARIABLES, Script};
 pub use world::World;

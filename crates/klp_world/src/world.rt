@@ -120,6 +120,16 @@ impl World {
         &self.installed
     }
 
+    /// The same in a list of its own, to be kept while callbacks change the world, or to be shown.
+    pub fn installed_list(&self) -> ArrayVec<PatchId, MAX_PATCHES>
+        ensures value { result.items ≡ map (λ (i : Installed). i.patch) self.now.installed }
+        ensures limit { length result.items ≤ MAX_PATCHES }
+    {
+        let mut list = ArrayVec::new();
+        let _ = list.try_extend_from_slice(&self.installed);
+        list
+    }
+
     /// Whether the patch is installed, also while it is in transition, since it is in the list from its
     /// start to its end.
     pub fn is_installed(&self, patch: PatchId) -> bool

@@ -2,22 +2,11 @@
 //! standard output.
 #![tactic(auto)]
 
-use klp_program::{CATALOG, Fault, Words, console, refused, told, words};
+use klp_program::{Fault, Words, catalog_in, console, refused, told, words};
 use std::io::{ErrorKind, Input};
 use std::process::ExitCode;
-use std::rt::{Env, Files};
-use std::{env, fs, io};
-
-/// The catalog in a file, or the built-in one where no file is named.
-fn catalog_in<R: Files + AllocGlobal>(rt: &R, path: Option<String>) -> Result<Vec<u8>, Fault> {
-    let Some(path) = path else {
-        return Ok(CATALOG.to_vec(rt.alloc())?);
-    };
-    fs::read(rt, path.as_str()).map_err(|error| match error.kind() {
-        ErrorKind::OutOfMemory => Fault::NoMemory,
-        _ => Fault::CannotRead,
-    })
-}
+use std::rt::Env;
+use std::{env, io};
 
 // The words behind the program's name.
 fn given<R: Env + AllocGlobal>(rt: &R) -> io::Result<Vec<String>> {
@@ -58,32 +47,4 @@ fn run(rt: &HostRuntime) -> u8 {
 
 fn main(rt: HostRuntime) -> ExitCode {
     ExitCode::from(run(&rt))
-}
-
-#[cfg(test)]
-mod tests {
-    use super::*;
-    use std::test::Fail;
-
-    // The text at a path.
-    fn text(rt: &HostRuntime, path: &str) -> Result<Result<Vec<u8>, Fault>, Fail> {
-        let path = String::from_str(rt.alloc(), path)?;
-        Ok(catalog_in(rt, Some(path)))
-    }
-
-    #[test]
-    fn a_file_is_read_whole_or_not_at_all(rt: HostRuntime) -> Result<(), Fail> {
-        assert_eq!(rt; catalog_in(&rt, None)?.as_slice(), CATALOG);
-        assert_eq!(rt; text(&rt, "missing.catalog")?, Err(Fault::CannotRead));
-        // a folder
-        assert_eq!(rt; text(&rt, ".")?, Err(Fault::CannotRead));
-        // a file whose every read fails, on Linux
-        assert_eq!(rt; text(&rt, "/proc/self/mem")?, Err(Fault::CannotRead));
-        fs::write(&rt, "small.catalog", "handler 1000\n")?;
-        assert_eq!(rt;
-            text(&rt, "small.catalog")??.as_slice(),
-            b"handler 1000\n".as_slice()
-        );
-        Ok(())
-    }
 }

@@ -1,6 +1,6 @@
 -- One more object has its numbers and its functions.
 use Rattle.std.proofs.Common.{◌++◌, length, append_assoc, sym, ap, ◌∙◌, arith}
-use Rattle.klp_plan.specs.Scripts.{scripts_of_targets}
+use Rattle.klp_catalog_text.specs.Scripts.{scripts_of_targets}
 use Rattle.klp_catalog.specs.declared.numbers.Numbers.{Numbers}
 use Rattle.klp_catalog.specs.Catalog.{functions_of_target, functions_of_patch}
 use Rattle.klp_catalog.specs.Stored.{stored_target, stored_targets, target_size}

@@ -1,5 +1,5 @@
 use Rattle.std.proofs.Common.{◌≡◌, ◌+◌, ◌≤◌, ◌++◌, length}
-use Rattle.klp_plan.specs.Scripts.{scripts_of_targets}
+use Rattle.klp_catalog_text.specs.Scripts.{scripts_of_targets}
 use Rattle.klp_catalog.specs.Catalog.{functions_of_patch}
 use Rattle.klp_catalog.specs.Stored.{stored_targets}
 use Rattle.klp_catalog.proofs.assemble.assemble_patch.Given as goal

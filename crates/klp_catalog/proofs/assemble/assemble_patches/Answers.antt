@@ -1,7 +1,7 @@
 -- One more patch has its numbers and its functions.
 use Rattle.std.proofs.Common.{◌≡◌, ◌||◌, length, sym, ap, ◌∙◌, arith}
 use Rattle.std.proofs.lemmas.Grind.{common_steps}
-use Rattle.klp_plan.specs.Scripts.{scripts_of}
+use Rattle.klp_catalog_text.specs.Scripts.{scripts_of}
 use Rattle.klp_catalog.specs.declared.numbers.Numbers.{Numbers}
 use Rattle.klp_catalog.specs.Catalog.{has_same_site, some_same_site}
 use Rattle.klp_catalog.specs.Stored.{StoredPatch, stored_patch, stored_patches, patch_size, functions_of_plan}

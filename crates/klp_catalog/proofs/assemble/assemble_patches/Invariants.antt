@@ -1,5 +1,5 @@
 use Rattle.std.proofs.Common.{◌≡◌, ◌+◌, ◌≤◌, ◌++◌, ◌||◌, length}
-use Rattle.klp_plan.specs.Scripts.{scripts_of}
+use Rattle.klp_catalog_text.specs.Scripts.{scripts_of}
 use Rattle.klp_catalog.specs.Catalog.{some_same_site}
 use Rattle.klp_catalog.specs.Stored.{stored_patches}
 use Rattle.klp_catalog.proofs.assemble.assemble_patches.Given as goal

@@ -3,7 +3,7 @@ use Rattle.std.proofs.lemmas.Bool.{le-leb}
 use Rattle.std.proofs.lemmas.List.{length-take-le, length-replicate}
 use Rattle.std.proofs.KnownBytes.{Keeps-refl}
 use Rattle.std.specs.Io.KnownBytes.{Consumes}
-use Rattle.klp_output.specs.Gathered.{Gathered}
+use Rattle.klp_console_io.specs.Gathered.{Gathered}
 use Rattle.klp_console.proofs.ServeLemmas.{SoFar, start_at, so_far_start, so_far_on, read_failed, served_all, end_failed, hear_failed}
 use Rattle.klp_console.proofs.console.serve.Goals as goal
 

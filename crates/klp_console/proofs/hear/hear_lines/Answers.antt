@@ -2,7 +2,7 @@ use Rattle.std.proofs.Common.{◌≡◌, ◌<◌, [], ◌∷◌, ◌++◌, lengt
 use Rattle.std.proofs.lemmas.List.{nil_from_length}
 use Rattle.std.proofs.lemmas.Bool.{eqb-true}
 use Rattle.std.specs.Prelude.{IfSome, IfNone}
-use Rattle.klp_lines.specs.Lines.{lines_and_rest}
+use Rattle.klp_console_io.specs.Lines.{lines_and_rest}
 use Rattle.klp_console.proofs.SaidLemmas.{serves_none, serves_on, stops_at, some_line, one_more}
 use Rattle.klp_console.proofs.hear.hear_lines.Goals as goal
 

@@ -1,5 +1,5 @@
 use Rattle.std.proofs.Common.{◌≡◌, ◌+◌, ◌≤◌, ℕ, List, ◌++◌, length, false}
-use Rattle.klp_lines.specs.Lines.{lines_and_rest}
+use Rattle.klp_console_io.specs.Lines.{lines_and_rest}
 use Rattle.klp_console.specs.Said.{Serves}
 use Rattle.klp_console.proofs.hear.hear_lines.Given as goal
 

@@ -1,5 +1,5 @@
 use Rattle.std.proofs.Common.{sym, subst, rules}
-use Rattle.klp_steps.specs.Managed.{setting_of}
+use Rattle.klp_manager_state.specs.Managed.{setting_of}
 use Rattle.klp_core.specs.Journaled.{journaled_of, IsSound}
 use Rattle.klp_core.specs.Taking.{Appends}
 use Rattle.klp_core.proofs.JournalLemmas.{appended_sound, appended, with_room}
@@ -10,18 +10,18 @@ returns-clause-sound g c =
     let taken = c.in_ok-reply.ensures.taken in
     let noted = c.in_ok-reply.ensures.noted.accepted in
     let one = c.in_ok-reply.ensures.one in
-    subst (IsSound c.take.new.parts c.take.new.catalog) (sym c.append.ensures.appended)
-    (appended_sound c.args.parts.now c.take.new.parts c.args.catalog.now c.take.new.catalog c.args.journal.now c.args.event.now c.in_ok-reply.reply c.requires taken noted c.append.ensures.few one)
+    subst (IsSound c.take.new.state c.take.new.catalog) (sym c.append.ensures.appended)
+    (appended_sound c.args.state.now c.take.new.state c.args.catalog.now c.take.new.catalog c.args.journal.now c.args.event.now c.in_ok-reply.reply c.requires taken noted c.append.ensures.few one)
 
 pub returns-clause-taken : goal.returns-clause-taken
 returns-clause-taken g c =
     let taken = c.in_ok-reply.ensures.taken in
     let noted = c.in_ok-reply.ensures.noted.accepted in
     let one = c.in_ok-reply.ensures.one in
-    let before = journaled_of c.args.parts.now c.args.catalog.now c.args.journal.now in
+    let before = journaled_of c.args.state.now c.args.catalog.now c.args.journal.now in
     record {
       answered = with_room (setting_of before.managed) before.managed.state c.args.journal.now c.args.event.now c.in_ok-reply.reply (search rules) taken.takes.answered;
-      accepted = subst (λ gs. Appends before (journaled_of c.take.new.parts c.take.new.catalog gs) c.args.event.now c.in_ok-reply.reply) (sym c.append.ensures.appended)
-          (appended c.args.parts.now c.take.new.parts c.args.catalog.now c.take.new.catalog c.args.journal.now c.args.event.now c.in_ok-reply.reply taken noted c.append.ensures.few one);
+      accepted = subst (λ gs. Appends before (journaled_of c.take.new.state c.take.new.catalog gs) c.args.event.now c.in_ok-reply.reply) (sym c.append.ensures.appended)
+          (appended c.args.state.now c.take.new.state c.args.catalog.now c.take.new.catalog c.args.journal.now c.args.event.now c.in_ok-reply.reply taken noted c.append.ensures.few one);
       refused = tt;
     }

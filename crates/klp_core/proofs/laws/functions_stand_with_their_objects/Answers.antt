@@ -1,6 +1,6 @@
 use Rattle.std.proofs.Common.{◌≡◌, Some, subst}
 use Rattle.klp_catalog.specs.Catalog.{site_of}
-use Rattle.klp_steps.specs.Managed.{setting_of}
+use Rattle.klp_manager_state.specs.Managed.{setting_of}
 use Rattle.klp_core.proofs.PlacedLemmas.{patches_placed}
 use Rattle.klp_core.proofs.laws.functions_stand_with_their_objects.Goals as goal
 

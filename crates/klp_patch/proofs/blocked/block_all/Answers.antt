@@ -1,5 +1,5 @@
 use Rattle.std.proofs.Common.{◌≡◌, ◌+◌, ◌++◌, suc, take, sym, ap, subst, ◌∙◌, arith}
-use Rattle.klp_machine.specs.Blocked.{blocked_among}
+use Rattle.klp_model.specs.Blocked.{blocked_among}
 use Rattle.klp_stack.specs.Stack.{entries_at}
 use Rattle.klp_tasks.specs.Members.{IsSetOf}
 use Rattle.klp_patch.specs.Blocked.{blocked_at}

@@ -4,7 +4,7 @@ use Rattle.std.specs.List.{list_any}
 use Rattle.std.proofs.lemmas.List.{append-nil, take_all}
 use Rattle.klp_types.specs.Setting.{Function, function_for}
 use Rattle.klp_catalog.specs.Catalog.{CatalogFunction}
-use Rattle.klp_machine.specs.Blocked.{is_version}
+use Rattle.klp_model.specs.Blocked.{is_version}
 use Rattle.klp_tasks.specs.Members.{IsSetOf}
 use Rattle.klp_patch.proofs.BlockLemmas.{blocked_by, blocked_if, blocked_by_more, by_functions}
 use Rattle.klp_patch.proofs.blocked.block_functions.Goals as goal

@@ -1,6 +1,6 @@
 use Rattle.std.proofs.Common.{◌≡◌, ◌+◌, ◌∙◌, ap, arith}
 use Rattle.klp_types.specs.Image.{symbols_of}
-use Rattle.klp_machine.specs.Entries.{entries_of}
+use Rattle.klp_model.specs.Entries.{entries_of}
 use Rattle.klp_patch.proofs.BlockLemmas.{same_blocked}
 use Rattle.klp_patch.proofs.laws.the_stacks_tell_what_is_blocked.Goals as goal
 

@@ -15,15 +15,15 @@ put_nops-requires-clause-records g c =
     let before = c.args.sites.now in
     let functions : ℕ = length (functions_in c.args.catalog.now c.args.patch) in
     let same = sites_kept before c.put_functions.new.sites c.args.log.now c.put_functions.new.log _ _ _ c.put_functions.ensures.notes in
-    let most = most_is c.args.catalog.now c.args.patch before true (sym c.replaces.ensures ∙ c.if-replaces.true) in
+    let most = most_is c.args.catalog.now c.args.patch before true (sym c.is_cumulative.ensures ∙ c.if-is_cumulative.true) in
     room_when_put before c.put_functions.new.sites c.args.log.now c.put_functions.new.log functions (length c.put_functions.new.sites.stacks) c.put_functions.ensures.notes
     (omega (arith, same, most, c.requires.records))
 
-pub returns-then-replaces-clause-notes : goal.returns-then-replaces-clause-notes
-returns-then-replaces-clause-notes g c =
+pub returns-then-is_cumulative-clause-notes : goal.returns-then-is_cumulative-clause-notes
+returns-then-is_cumulative-clause-notes g c =
     let before = c.args.sites.now in
     let functions : ℕ = length (functions_in c.args.catalog.now c.args.patch) in
     let same = sites_kept before c.put_functions.new.sites c.args.log.now c.put_functions.new.log _ _ _ c.put_functions.ensures.notes in
-    let most = most_is c.args.catalog.now c.args.patch before true (sym c.replaces.ensures ∙ c.if-replaces.true) in
+    let most = most_is c.args.catalog.now c.args.patch before true (sym c.is_cumulative.ensures ∙ c.if-is_cumulative.true) in
     notes_put before c.put_functions.new.sites c.put_nops.new.sites c.args.log.now c.put_functions.new.log c.put_nops.new.log functions (length c.put_functions.new.sites.stacks) (most_entries c.args.catalog.now c.args.patch before)
     (omega (arith, same, most)) c.put_functions.ensures.notes c.put_nops.ensures.notes

@@ -7,7 +7,7 @@ use Rattle.klp_stack.specs.Stack.{entries_at, has_entry}
 use Rattle.klp_patch.specs.Covered.{is_covered, functions_in}
 use Rattle.klp_patch.proofs.MadeLemmas.{sites_kept, made_both, made_also, notes_put, notes_longer}
 use Rattle.klp_patch.proofs.FunctionLemmas.{is_below, next_function, fresh_number, functions_put}
-use Rattle.klp_patch.proofs.MeantLemmas.{meant_here, all_meant}
+use Rattle.klp_patch.proofs.ScopeLemmas.{in_scope_here, all_in_scope}
 use Rattle.klp_patch.proofs.patch.put_functions.Goals as goal
 use Rattle.klp_patch.proofs.patch.put_functions.Goals.{in-Some, in_default}
 
@@ -27,7 +27,7 @@ put-requires-clause-fresh g c =
     let make : ℕ → List Entry → List Entry = λ site entries. entry_of c.args.patch (number site) false ++ entries in
     let so_far = c.loop-number.invariant.entries in
     let below : i < length functions = omega arith in
-    let own = meant_here functions _ c.functions-functions.ensures.setting i before now only _ make so_far c.functions-functions.ensures.distinct below c.index-functions-number.result c.index-functions-number.is in
+    let own = in_scope_here functions _ c.functions-functions.ensures.setting i before now only _ make so_far c.functions-functions.ensures.distinct below c.index-functions-number.result c.index-functions-number.is in
     let site = c.in-Some.site in
     ap (has_entry c.args.patch) (so_far.entries site)
     ∙ fresh_number (is_covered before only site) (number site) i c.args.patch (make site) (entries_at before.stacks site) (sym (c.in-Some.ensures.site site ∙ own site) ∙ eq-eqb site site refl) (c.requires.fresh site)
@@ -43,8 +43,8 @@ loop-number-preserved g c =
     let make : ℕ → List Entry → List Entry = λ site entries. entry_of c.args.patch (number site) false ++ entries in
     let so_far = c.loop-number.invariant.entries in
     let below : i < length functions = omega arith in
-    let own = meant_here functions _ c.functions-functions.ensures.setting i before now only _ make so_far c.functions-functions.ensures.distinct below c.index-functions-number.result c.index-functions-number.is in
-    elim c.match-meant_site.branch [
+    let own = in_scope_here functions _ c.functions-functions.ensures.setting i before now only _ make so_far c.functions-functions.ensures.distinct below c.index-functions-number.result c.index-functions-number.is in
+    elim c.match-site_in_scope.branch [
       | in-Some w ↦ rw (w.sites-is, w.log-is) (record {
         entries = made_both before now w.put.new.sites (λ site. is_covered before only site && is_below (number site) i) (λ site. eqb w.in-Some.site site) (λ site. is_covered before only site && is_below (number site) (i + 1))
             make (λ site entries. record { patch = c.args.patch; func = Some i } ∷ entries) make so_far w.put.ensures.entries
@@ -69,6 +69,6 @@ returns-clause-entries g c =
     let make : ℕ → List Entry → List Entry = λ site entries. entry_of c.args.patch (number site) false ++ entries in
     let so_far = c.loop-number.invariant.entries in
     let past : i ≡ length functions = omega arith in
-    let done = all_meant functions _ c.functions-functions.ensures.setting i past in
+    let done = all_in_scope functions _ c.functions-functions.ensures.setting i past in
     made_also before now (λ site. is_covered before only site && is_below (number site) i) (λ site. is_covered before only site) make make so_far
     (λ site. functions_put (is_covered before only site) (number site) i c.args.patch (entries_at before.stacks site) (done site))

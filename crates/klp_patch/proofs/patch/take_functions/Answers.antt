@@ -7,7 +7,7 @@ use Rattle.klp_stack.specs.Stack.{entries_at, entries_of_others}
 use Rattle.klp_patch.specs.Covered.{is_covered, functions_in}
 use Rattle.klp_patch.proofs.MadeLemmas.{made_both, made_also, notes_taken, notes_longer}
 use Rattle.klp_patch.proofs.FunctionLemmas.{is_below, next_function}
-use Rattle.klp_patch.proofs.MeantLemmas.{meant_here, all_meant}
+use Rattle.klp_patch.proofs.ScopeLemmas.{in_scope_here, all_in_scope}
 use Rattle.klp_patch.proofs.patch.take_functions.Goals as goal
 use Rattle.klp_patch.proofs.patch.take_functions.Goals.{in-Some, in_default}
 
@@ -22,8 +22,8 @@ loop-number-preserved g c =
     let make : ℕ → List Entry → List Entry = λ site entries. entries_of_others c.args.patch entries in
     let so_far = c.loop-number.invariant.entries in
     let below : i < length functions = omega arith in
-    let own = meant_here functions _ c.functions-functions.ensures.setting i before now only _ make so_far c.functions-functions.ensures.distinct below c.index-functions-number.result c.index-functions-number.is in
-    elim c.match-meant_site.branch [
+    let own = in_scope_here functions _ c.functions-functions.ensures.setting i before now only _ make so_far c.functions-functions.ensures.distinct below c.index-functions-number.result c.index-functions-number.is in
+    elim c.match-site_in_scope.branch [
       | in-Some w ↦ rw (w.sites-is, w.log-is) (record {
         entries = made_both before now w.take.new.sites (λ site. is_covered before only site && is_below (number site) i) (λ site. eqb w.in-Some.site site) (λ site. is_covered before only site && is_below (number site) (i + 1))
             make (λ site entries. entries_of_others c.args.patch entries) make so_far w.take.ensures.entries
@@ -48,6 +48,6 @@ returns-clause-entries g c =
     let make : ℕ → List Entry → List Entry = λ site entries. entries_of_others c.args.patch entries in
     let so_far = c.loop-number.invariant.entries in
     let past : i ≡ length functions = omega arith in
-    let done = all_meant functions _ c.functions-functions.ensures.setting i past in
+    let done = all_in_scope functions _ c.functions-functions.ensures.setting i past in
     made_also before now (λ site. is_covered before only site && is_below (number site) i) (λ site. is_covered before only site && is_some (number site)) make make so_far
     (λ site. ap (λ b. cond (is_covered before only site && b) (make site (entries_at before.stacks site)) (entries_at before.stacks site)) (done site))

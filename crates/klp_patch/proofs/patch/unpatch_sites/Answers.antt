@@ -9,8 +9,8 @@ use Rattle.klp_patch.proofs.MadeLemmas.{made_also}
 use Rattle.klp_patch.proofs.PatchLemmas.{only_functions}
 use Rattle.klp_patch.proofs.patch.unpatch_sites.Goals as goal
 
-pub returns-else-replaces-clause-entries : goal.returns-else-replaces-clause-entries
-returns-else-replaces-clause-entries g c =
+pub returns-else-is_cumulative-clause-entries : goal.returns-else-is_cumulative-clause-entries
+returns-else-is_cumulative-clause-entries g c =
     let before = c.args.sites.now in
     let catalog = c.args.catalog.now in
     let patch = c.args.patch in
@@ -18,4 +18,4 @@ returns-else-replaces-clause-entries g c =
     let make : ℕ → List Entry → List Entry = λ site entries. entries_of_others patch entries in
     made_also before c.take_functions.new.sites (λ site. covers site && is_some (function_for (functions_in catalog patch) site)) covers make make c.take_functions.ensures.entries
     (λ site. only_functions (covers site) patch (function_for (functions_in catalog patch) site) (is_cumulative catalog patch) (entries_at before.stacks site)
-    (sym c.replaces.ensures ∙ c.if-replaces.false) (c.requires.own site))
+    (sym c.is_cumulative.ensures ∙ c.if-is_cumulative.false) (c.requires.own site))

@@ -2,8 +2,8 @@ use Rattle.std.proofs.Common.{◌≡◌, ℕ, pos, List, [], ◌∷◌, ◌++◌
 use Rattle.std.specs.List.{slice_get}
 use Rattle.klp_types.specs.Script.{Script}
 use Rattle.klp_callback.specs.Told.{Told}
-use Rattle.klp_plan.specs.Plan.{Plan}
-use Rattle.klp_plan.specs.Scripts.{scripts_of}
+use Rattle.klp_catalog_text.specs.Plan.{Plan}
+use Rattle.klp_catalog_text.specs.Scripts.{scripts_of}
 use Rattle.klp_program.specs.Booted.{never_ran}
 use Rattle.klp_program.specs.Kinds.{told_by}
 use Rattle.klp_program.proofs.ServeLemmas.{first_made, next_made, all_made, told_of}

@@ -1,5 +1,5 @@
 use Rattle.std.proofs.Common.{◌≡◌, ◌-◌, length}
-use Rattle.klp_plan.specs.Scripts.{scripts_of}
+use Rattle.klp_catalog_text.specs.Scripts.{scripts_of}
 use Rattle.klp_program.proofs.ServeLemmas.{first_made}
 use Rattle.klp_program.proofs.serve.served.Given as goal
 

@@ -1,4 +1,4 @@
-use Rattle.klp_machine.specs.Task.{task_at}
+use Rattle.klp_model.specs.Task.{task_at}
 use Rattle.klp_tasks.proofs.TaskLemmas.{step_changes}
 use Rattle.klp_tasks.proofs.laws.rows_change_as_the_step_says.Goals as goal
 

@@ -1,6 +1,6 @@
 use Rattle.std.proofs.Common.{List, length, sym, ap, subst, ◌∙◌, arith}
 use Rattle.klp_modules.specs.Names.{ModuleTable, ObjectNames}
-use Rattle.klp_plan.specs.Scripts.{scripts_of}
+use Rattle.klp_catalog_text.specs.Scripts.{scripts_of}
 use Rattle.klp_catalog.specs.Catalog.{some_same_site}
 use Rattle.klp_catalog.specs.Assembled.{scripts_told, counts_told}
 use Rattle.klp_catalog.specs.Stored.{IsStored, stored_patches}

@@ -5,16 +5,16 @@ use Rattle.klp_core.proofs.JournalLemmas.{sound_stands, rewound}
 use Rattle.klp_core.proofs.manager.Manager.rewind.Goals as goal
 
 pub returns-then-mark-clause-stands : goal.returns-then-mark-clause-stands
-returns-then-mark-clause-stands g c = subst Stands c.self.view_is (sound_stands c.self.inside.parts c.self.inside.catalog c.self.inside.journal c.self.invariant)
+returns-then-mark-clause-stands g c = subst Stands c.self.view_is (sound_stands c.self.inside.state c.self.inside.catalog c.self.inside.journal c.self.invariant)
 
 pub returns-clause-rewound : goal.returns-clause-rewound
 returns-clause-rewound g c =
     let same = ap (λ (m : Journaled). length m.groups) c.self.view_is in (
       omega (arith, c.if-mark.false, c.mark.ensures.value, same),
-      subst (λ (m : Journaled). IsRewound m (journaled_of c.rewind_to.new.parts c.self.inside.catalog c.rewind_to.new.journal) c.args.mark) c.self.view_is
-          (rewound c.self.inside.parts c.rewind_to.new.parts c.self.inside.catalog c.self.inside.journal c.rewind_to.new.journal c.args.mark c.rewind_to.ensures.sound
+      subst (λ (m : Journaled). IsRewound m (journaled_of c.rewind_to.new.state c.self.inside.catalog c.rewind_to.new.journal) c.args.mark) c.self.view_is
+          (rewound c.self.inside.state c.rewind_to.new.state c.self.inside.catalog c.self.inside.journal c.rewind_to.new.journal c.args.mark c.rewind_to.ensures.sound
           c.rewind_to.ensures.groups c.rewind_to.ensures.base c.rewind_to.ensures.image),
     )
 
 pub returns-clause-stands : goal.returns-clause-stands
-returns-clause-stands g c = sound_stands c.rewind_to.new.parts c.self.inside.catalog c.rewind_to.new.journal c.rewind_to.ensures.sound
+returns-clause-stands g c = sound_stands c.rewind_to.new.state c.self.inside.catalog c.rewind_to.new.journal c.rewind_to.ensures.sound

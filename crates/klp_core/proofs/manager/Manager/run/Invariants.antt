@@ -1,5 +1,5 @@
 use Rattle.std.proofs.Common.{◌≡◌, ◌≤◌, take}
-use Rattle.klp_steps.specs.Managed.{setting_of}
+use Rattle.klp_manager_state.specs.Managed.{setting_of}
 use Rattle.klp_core.specs.Journaled.{Stands}
 use Rattle.klp_core.specs.Taking.{AreTaken}
 use Rattle.klp_core.proofs.manager.Manager.run.Given as goal

@@ -16,7 +16,7 @@ returns c =
     let seen = c.deref.result.now in
     let row = c.self.inside.row.items in
     let now = c.args.self.now in
-    ap (λ v. v ∷ []) c.version.ensures
+    ap (λ v. v ∷ []) c.version_of.ensures
     ∙ elim c.if-not-moving.branch [
       | then-not-moving w ↦
           ap (λ o. newest_version site (option_to_list o) ∷ []) w.entry-is

@@ -1,4 +1,4 @@
-use Rattle.klp_machine.specs.Task.{in_state}
+use Rattle.klp_model.specs.Task.{in_state}
 use Rattle.std.proofs.Common.{◌≡◌, ◌∙◌, refl, arith, length, append-nil, Some, None, w8}
 use Rattle.std.proofs.lemmas.Int.{to_z-of_z}
 use Rattle.klp_tasks.proofs.TaskLemmas.{started, one_changed, has_room, all_changed}

@@ -1,4 +1,4 @@
-use Rattle.klp_machine.specs.Task.{in_state}
+use Rattle.klp_model.specs.Task.{in_state}
 use Rattle.klp_tasks.proofs.TaskLemmas.{ChangedSoFar}
 use Rattle.klp_tasks.proofs.tasks.Tasks.set_all.Given as goal
 

@@ -1,7 +1,7 @@
 use Rattle.std.proofs.Common.{◌≡◌, ◌≤◌, ◌∙◌, refl, arith, length, append-nil, map, Some, None}
 use Rattle.std.specs.Option.{option_map}
 use Rattle.klp_types.specs.Records.{spare_of}
-use Rattle.klp_machine.specs.Blocked.{switched}
+use Rattle.klp_model.specs.Blocked.{switched}
 use Rattle.klp_tasks.specs.Changes.{records_switched}
 use Rattle.klp_tasks.proofs.ListedLemmas.{listed}
 use Rattle.klp_tasks.proofs.TaskLemmas.{started, one_changed, has_room, all_changed, rows_are_few, switched_alike}

@@ -1,4 +1,4 @@
-use Rattle.klp_machine.specs.Blocked.{switched}
+use Rattle.klp_model.specs.Blocked.{switched}
 use Rattle.klp_tasks.proofs.ListedLemmas.{listed}
 use Rattle.klp_tasks.proofs.TaskLemmas.{ChangedSoFar}
 use Rattle.klp_tasks.proofs.tasks.Tasks.try_all.Given as goal

@@ -1,9 +1,0 @@
-pub mod CallLemmas
-pub mod LoopLemmas
-pub mod RanLemmas
-pub mod RunLemmas
-pub mod UndoLemmas
-pub mod RefusalLemmas
-pub mod PartLemmas
-pub mod PartsLemmas
-pub mod MayRunLemmas

@@ -1,7 +1,0 @@
-use Rattle.klp_calls.specs.Parts.{parts_in}
-use Rattle.klp_calls.proofs.PartsLemmas.{room_to_go}
-use Rattle.klp_calls.proofs.parts.run_going.Goals as goal
-
-pub let_go_each-requires : goal.let_go_each-requires
-let_go_each-requires g c =
-    room_to_go c.args.moving (parts_in c.args.catalog.now c.args.object c.args.installed.now) c.args.world.now c.args.log.now c.requires.room

@@ -1,0 +1,14 @@
+pub mod Function
+pub mod Words
+pub mod Edits
+pub mod Gives
+pub mod Lines
+pub mod Plan
+pub mod Scripts
+pub mod PlanParts
+pub mod Limits
+pub mod Spelled
+pub mod Draft
+pub mod Within
+pub mod Kept
+pub mod Text

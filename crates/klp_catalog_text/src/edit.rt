@@ -1,0 +1,219 @@
+//! The edits of a callback, and its script: words with parts, which no other line has.
+
+ghost use Rattle.std.specs.Prelude.{◌≡◌, ℕ, ◌<◌, ◌≤◌, ◌==◌, List, [], ◌∷◌, length, MatchOption, MatchResult};
+ghost use Rattle.klp_catalog_text.specs.Gives.{Gives};
+ghost use Rattle.klp_catalog_text.specs.Edits.{parts_of, edit_number, alloc_of, free_of, free_all_of, set_of, take_prev_of, edit_of, edits_of, failure_of, script_of};
+
+use crate::fault::TextFaultKind;
+use crate::lines::{end, word};
+use arrayvec::ArrayVec;
+use klp_types::{Edit, MAX_EDITS, Script, ShadowKey};
+use klp_words::{Words, number64, position_of, signed};
+use std::alloc::Global;
+use std::marker::Model;
+
+/// The parts of an edit that are still to be read. Colons separate them, since spaces separate edits.
+#[derive(Drop)]
+struct Fields<'a> {
+    rest: &'a [u8],
+    /// Whether the last part was read: an empty rest may still be one part, which is empty.
+    is_over: bool,
+}
+
+impl<'a> Model for Fields<'a> {
+    ghost use Rattle.std.specs.Prelude.{ℕ, List};
+    ghost use Rattle.klp_catalog_text.specs.Edits.{parts_left};
+
+    ghost Value = { List (List ℕ) };
+
+    ghost view = { λ p. parts_left p.is_over p.rest.now };
+}
+
+impl<'a> Fields<'a> {
+    fn new(word: &'a [u8]) -> Fields<'a>
+        ensures { result ≡ parts_of word.now }
+    {
+        Fields {
+            rest: word,
+            is_over: false,
+        }
+    }
+
+    /// The next part of an edit that has too few parts without it, which is a `BadEdit` like any other
+    /// fault in an edit.
+    fn part(&mut self) -> Result<&'a [u8], TextFaultKind>
+        ensures { MatchResult result (λ part. self.old ≡ part.now ∷ self.new)
+            (λ kind. (kind ≡ TextFaultKind.BadEdit) × (self.old ≡ [])) }
+    {
+        if self.is_over {
+            return Err(TextFaultKind::BadEdit);
+        }
+        let Some(end) = position_of(self.rest, b':') else {
+            self.is_over = true;
+            return Ok(self.rest);
+        };
+        let part = &self.rest[..end];
+        self.rest = &self.rest[end + 1..];
+        Ok(part)
+    }
+
+    /// The end of an edit that has too many parts with one more, which is a `BadEdit` too.
+    fn end(&mut self) -> Result<(), TextFaultKind>
+        ensures { MatchResult result (λ _. self.old ≡ [])
+            (λ kind. (kind ≡ TextFaultKind.BadEdit) × (part : List ℕ) × (parts : List (List ℕ)) × (self.old ≡ part ∷ parts)) }
+    {
+        match self.part() {
+            Ok(_) => Err(TextFaultKind::BadEdit),
+            Err(_) => Ok(()),
+        }
+    }
+}
+
+/// A number in an edit. One out of range is a `BadEdit` and no `BadNumber`, since the fault of a line is no
+/// finer than a word (docs/DECISIONS.md, "Faults inside an edit").
+fn edit_number(part: &[u8]) -> Result<u64, TextFaultKind>
+    ensures { result ≡ edit_number part.now }
+{
+    number64(part).ok_or(TextFaultKind::BadEdit)
+}
+
+fn alloc_edit(parts: &mut Fields<'_>) -> Result<Edit, TextFaultKind>
+    ensures { result ≡ alloc_of parts.old }
+{
+    let obj = parts.part()?;
+    let id = parts.part()?;
+    let value = parts.part()?;
+    parts.end()?;
+    let obj = edit_number(obj)?;
+    let id = edit_number(id)?;
+    Ok(Edit::Alloc(ShadowKey { obj, id }, edit_number(value)?))
+}
+
+fn free_edit(parts: &mut Fields<'_>) -> Result<Edit, TextFaultKind>
+    ensures { result ≡ free_of parts.old }
+{
+    let obj = parts.part()?;
+    let id = parts.part()?;
+    parts.end()?;
+    let obj = edit_number(obj)?;
+    let id = edit_number(id)?;
+    Ok(Edit::Free(ShadowKey { obj, id }))
+}
+
+fn free_all_edit(parts: &mut Fields<'_>) -> Result<Edit, TextFaultKind>
+    ensures { result ≡ free_all_of parts.old }
+{
+    let id = parts.part()?;
+    parts.end()?;
+    Ok(Edit::FreeAll(edit_number(id)?))
+}
+
+fn set_data_edit(parts: &mut Fields<'_>) -> Result<Edit, TextFaultKind>
+    ensures { result ≡ set_of parts.old }
+{
+    let state = parts.part()?;
+    let value = parts.part()?;
+    parts.end()?;
+    let state = edit_number(state)?;
+    Ok(Edit::SetData(state, edit_number(value)?))
+}
+
+fn take_prev_edit(parts: &mut Fields<'_>) -> Result<Edit, TextFaultKind>
+    ensures { result ≡ take_prev_of parts.old }
+{
+    let state = parts.part()?;
+    parts.end()?;
+    Ok(Edit::TakePrev(edit_number(state)?))
+}
+
+/// An edit: its name and its numbers. All parts are there before a number is read, but every fault is the
+/// same one.
+fn edit(word: &[u8]) -> Result<Edit, TextFaultKind>
+    ensures { result ≡ edit_of word.now }
+{
+    let mut parts = Fields::new(word);
+    let name = parts.part()?;
+    if name == b"alloc".as_slice() {
+        alloc_edit(&mut parts)
+    } else if name == b"free".as_slice() {
+        free_edit(&mut parts)
+    } else if name == b"freeall".as_slice() {
+        free_all_edit(&mut parts)
+    } else if name == b"set".as_slice() {
+        set_data_edit(&mut parts)
+    } else if name == b"takeprev".as_slice() {
+        take_prev_edit(&mut parts)
+    } else {
+        Err(TextFaultKind::BadEdit)
+    }
+}
+
+/// The edits that the words are, of which there may be too many: whether that matters is known only when
+/// the line has its place.
+fn edits(alloc: Global, words: &mut Words<'_>) -> Result<Vec<Edit>, TextFaultKind>
+    ensures { Gives (λ e. e.items) result (edits_of words.old) }
+{
+    let mut edits = Vec::new(alloc);
+    while let Some(word) = words.next() {
+        edits.push(edit(word)?)?;
+    }
+    Ok(edits)
+}
+
+/// A script as a line gives it. There may be more edits than a script may have, since every word is checked
+/// before the line is too much (docs/DECISIONS.md, "Scripts with too many edits").
+#[derive(Debug, Drop)]
+pub struct ScriptText {
+    edits: Vec<Edit>,
+    status: i32,
+}
+
+impl Model for ScriptText {
+    ghost use Rattle.klp_types.specs.Script.{Script};
+
+    ghost Value = { Script };
+
+    ghost view = { λ s. record { edits = s.edits.items; status = s.status } };
+}
+
+impl ScriptText {
+    /// The script, unless it has too many edits. Takes no memory, because a script's edits are an array.
+    pub fn into_script(self) -> Option<Script>
+        ensures { MatchOption result (MAX_EDITS < length self.edits) (λ script. (length self.edits ≤ MAX_EDITS) × (script ≡ self)) }
+    {
+        let mut edits = ArrayVec::new();
+        edits.try_extend_from_slice(&self.edits).ok()?;
+        Some(Script {
+            edits,
+            status: self.status,
+        })
+    }
+}
+
+/// The script of a callback that fails: it has no edits, since a callback that refuses changes nothing.
+fn failure(alloc: Global, status: i32, words: &mut Words<'_>) -> Result<ScriptText, TextFaultKind>
+    ensures { Gives (λ s. s) result (failure_of status words.old) }
+{
+    end(words)?;
+    Ok(ScriptText {
+        edits: Vec::new(alloc),
+        status,
+    })
+}
+
+/// The script of a callback: its status, and with status 0 its edits.
+pub(crate) fn script(alloc: Global, words: &mut Words<'_>) -> Result<ScriptText, TextFaultKind>
+    ensures { Gives (λ s. s) result (script_of words.old) }
+{
+    let word = word(words)?;
+    let status = signed(word).ok_or(TextFaultKind::BadNumber)?;
+    // Behind another status edits are words too many, whatever they are (docs/DECISIONS.md, "Edits behind a
+    // status").
+    if status != 0 {
+        return failure(alloc, status, words);
+    }
+    Ok(ScriptText {
+        edits: edits(alloc, words)?,
+        status,
+    })
+}

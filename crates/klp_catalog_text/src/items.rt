@@ -1,0 +1,56 @@
+//! What a line is made of beside numbers: what a plan keeps of it as it is.
+
+use std::marker::Model;
+
+/// A name of an object, a patch, a symbol or a new function, as a word of the text spells it. It is ASCII,
+/// so bytes and text are the same.
+#[derive(Debug, Drop)]
+pub struct Name(pub String);
+
+impl Model for Name {
+    ghost use Rattle.std.specs.Prelude.{ℕ, List, string_bytes};
+
+    ghost Value = { List ℕ };
+
+    ghost view = { λ n. string_bytes n.0 };
+}
+
+/// A new function of a patch, as its line has it: which site it is for isn't known before the names are
+/// resolved.
+#[derive(Debug, Drop)]
+pub struct PlanFunction {
+    /// The name of the symbol that it replaces, in the object of its target.
+    pub symbol: String,
+    /// Which of the symbols of that name in the object is meant, from 1. With 0 the name is to be
+    /// unique in the object.
+    pub sympos: u32,
+    pub new_name: String,
+    pub address: u64,
+}
+
+impl Model for PlanFunction {
+    ghost use Rattle.std.specs.Prelude.{string_bytes};
+    ghost use Rattle.klp_catalog_text.specs.Function.{PlanFunction};
+
+    ghost Value = { PlanFunction };
+
+    ghost view = { λ f. record { symbol = string_bytes f.symbol; sympos = f.sympos; new_name = string_bytes f.new_name; address = f.address } };
+}
+
+/// A system state that a patch names (system-state): its id, and the version in which the patch knows it,
+/// by which patches are compared.
+#[derive(Clone, Copy, Debug, PartialEq, Eq)]
+pub struct SystemState {
+    pub id: u64,
+    pub version: u32,
+}
+
+impl Model for SystemState {
+    ghost use Rattle.klp_types.specs.Compatible.{SystemState};
+
+    ghost Value = { SystemState };
+
+    ghost view = { λ s. record { id = s.id; version = s.version } };
+
+    ghost inverse = { λ s. record { id = s.id; version = s.version } };
+}

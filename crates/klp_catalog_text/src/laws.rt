@@ -1,0 +1,11 @@
+//! What is proved of the spelling of scripts. A function here does nothing: its contract is the law.
+ghost use Rattle.std.specs.Prelude.{◌≡◌, Ok};
+ghost use Rattle.klp_types.specs.Script.{Script};
+ghost use Rattle.klp_catalog_text.specs.Edits.{script_of};
+ghost use Rattle.klp_catalog_text.specs.Spelled.{IsScript, script_words};
+
+/// Each script that a callback may have can be written as words, and no two as the same words: the words of
+/// a script are read as the script. So no script is out of an administrator's reach.
+pub fn scripts_are_read_back()
+    ensures { (script : Script) → IsScript script → script_of (script_words script) ≡ Ok script }
+{}

@@ -1,0 +1,228 @@
+//! What one line says.
+
+ghost use Rattle.std.specs.Prelude.{◌≡◌, option_copied};
+ghost use Rattle.std.specs.Char.{is_ascii};
+ghost use Rattle.std.specs.List.{list_all};
+ghost use Rattle.klp_catalog_text.specs.Gives.{Gives};
+ghost use Rattle.klp_catalog_text.specs.Lines.{keyword_of, handler_line, object_line, symbol_line, replace_line, patch_line, target_line, func_line, callback_line, state_line, line_of_words, line_of};
+
+use crate::edit::ScriptText;
+use crate::fault::TextFaultKind;
+use crate::items::{Name, PlanFunction, SystemState};
+use crate::lines::{end, word};
+use crate::{edit, words};
+use klp_types::{MAX_LINE, SymbolText, Which};
+use klp_words::Words;
+use std::alloc::Global;
+
+/// The word that a line begins with.
+#[derive(Clone, Copy, Debug, PartialEq, Eq)]
+pub(crate) enum Keyword {
+    Handler,
+    Object,
+    Symbol,
+    Patch,
+    Target,
+    Func,
+    Callback(Which),
+    State,
+}
+
+/// What a line says, wherever it stands.
+#[derive(Debug, Drop)]
+pub enum CatalogLine {
+    /// The address of the handler.
+    Handler(u64),
+    /// The name of an object.
+    Object(Name),
+    /// A symbol of the last object.
+    Symbol(SymbolText),
+    /// The name of a patch, and whether it replaces all older ones.
+    Patch(Name, bool),
+    /// The name of an object that the last patch changes.
+    Target(Name),
+    /// A new function of the last target.
+    Function(PlanFunction),
+    /// A callback of the last target, whose script may have too many edits.
+    Callback(Which, ScriptText),
+    /// A system state that the last patch names.
+    State(SystemState),
+}
+
+fn is_ascii(text: &[u8]) -> bool
+    ensures { result ≡ list_all is_ascii text.now }
+{
+    text.iter().all(|b| b.is_ascii())
+}
+
+fn keyword_of(word: &[u8]) -> Option<Keyword>
+    ensures { result ≡ keyword_of word.now }
+{
+    if word == b"handler".as_slice() {
+        Some(Keyword::Handler)
+    } else if word == b"object".as_slice() {
+        Some(Keyword::Object)
+    } else if word == b"symbol".as_slice() {
+        Some(Keyword::Symbol)
+    } else if word == b"patch".as_slice() {
+        Some(Keyword::Patch)
+    } else if word == b"target".as_slice() {
+        Some(Keyword::Target)
+    } else if word == b"func".as_slice() {
+        Some(Keyword::Func)
+    } else if word == b"pre".as_slice() {
+        Some(Keyword::Callback(Which::Pre))
+    } else if word == b"post".as_slice() {
+        Some(Keyword::Callback(Which::Post))
+    } else if word == b"preun".as_slice() {
+        Some(Keyword::Callback(Which::PreUn))
+    } else if word == b"postun".as_slice() {
+        Some(Keyword::Callback(Which::PostUn))
+    } else if word == b"state".as_slice() {
+        Some(Keyword::State)
+    } else {
+        None
+    }
+}
+
+fn handler_line(words: &mut Words<'_>) -> Result<CatalogLine, TextFaultKind>
+    ensures { Gives (λ l. l) result (handler_line words.old) }
+{
+    let address = word(words)?;
+    end(words)?;
+    Ok(CatalogLine::Handler(words::address(address)?))
+}
+
+fn object_line(alloc: Global, words: &mut Words<'_>) -> Result<CatalogLine, TextFaultKind>
+    ensures { Gives (λ l. l) result (object_line words.old) }
+{
+    let name = word(words)?;
+    end(words)?;
+    Ok(CatalogLine::Object(words::name(alloc, name)?))
+}
+
+fn symbol_line(alloc: Global, words: &mut Words<'_>) -> Result<CatalogLine, TextFaultKind>
+    ensures { Gives (λ l. l) result (symbol_line words.old) }
+{
+    let name = word(words)?;
+    let address = word(words)?;
+    let body = word(words)?;
+    end(words)?;
+    let Name(name) = words::symbol_name(alloc, name)?;
+    let address = words::address(address)?;
+    let body = words::body(alloc, body)?;
+    Ok(CatalogLine::Symbol(SymbolText {
+        name,
+        address,
+        body,
+    }))
+}
+
+/// The rest of a line whose third word is `replace`.
+fn replace_line(
+    alloc: Global,
+    name: &[u8],
+    words: &mut Words<'_>,
+) -> Result<CatalogLine, TextFaultKind>
+    ensures { Gives (λ l. l) result (replace_line name.now words.old) }
+{
+    end(words)?;
+    Ok(CatalogLine::Patch(words::name(alloc, name)?, true))
+}
+
+fn patch_line(alloc: Global, words: &mut Words<'_>) -> Result<CatalogLine, TextFaultKind>
+    ensures { Gives (λ l. l) result (patch_line words.old) }
+{
+    let name = word(words)?;
+    match words.next() {
+        None => Ok(CatalogLine::Patch(words::name(alloc, name)?, false)),
+        Some(word) if word == b"replace".as_slice() => replace_line(alloc, name, words),
+        Some(_) => Err(TextFaultKind::UnknownWord),
+    }
+}
+
+fn target_line(alloc: Global, words: &mut Words<'_>) -> Result<CatalogLine, TextFaultKind>
+    ensures { Gives (λ l. l) result (target_line words.old) }
+{
+    let name = word(words)?;
+    end(words)?;
+    Ok(CatalogLine::Target(words::name(alloc, name)?))
+}
+
+fn func_line(
+    alloc: Global,
+    target: Option<&str>,
+    words: &mut Words<'_>,
+) -> Result<CatalogLine, TextFaultKind>
+    ensures { Gives (λ l. l) result (func_line (option_copied target.entry) words.old) }
+{
+    let symbol = word(words)?;
+    let name = word(words)?;
+    let address = word(words)?;
+    end(words)?;
+    let spelling = words::symbol(target, symbol)?;
+    let Name(new_name) = words::name(alloc, name)?;
+    let address = words::address(address)?;
+    Ok(CatalogLine::Function(PlanFunction {
+        symbol: String::from_str(alloc, spelling.symbol)?,
+        sympos: spelling.sympos,
+        new_name,
+        address,
+    }))
+}
+
+fn callback_line(
+    alloc: Global,
+    which: Which,
+    words: &mut Words<'_>,
+) -> Result<CatalogLine, TextFaultKind>
+    ensures { Gives (λ l. l) result (callback_line which words.old) }
+{
+    Ok(CatalogLine::Callback(which, edit::script(alloc, words)?))
+}
+
+fn state_line(words: &mut Words<'_>) -> Result<CatalogLine, TextFaultKind>
+    ensures { Gives (λ l. l) result (state_line words.old) }
+{
+    let id = word(words)?;
+    let version = word(words)?;
+    end(words)?;
+    let id = words::id(id)?;
+    let version = words::version(version)?;
+    Ok(CatalogLine::State(SystemState { id, version }))
+}
+
+impl CatalogLine {
+    /// What the line of this text says, whose words are `first` and those in `words`.
+    ///
+    /// `target` is the name of the object of the open target, if a target is open. Reads the line
+    /// in time that is linear in its length, and answers the first of its faults in the order of
+    /// [`TextFaultKind`], none of `OutOfPlace`, `UnknownObject`, `Twice`, `TooMany` and `Missing`.
+    /// `NoMemory` may stand in place of any. How many of `words` are left isn't told.
+    pub fn read(
+        alloc: Global,
+        target: Option<&str>,
+        text: &[u8],
+        first: &[u8],
+        words: &mut Words<'_>,
+    ) -> Result<CatalogLine, TextFaultKind>
+        ensures { Gives (λ l. l) result (line_of (option_copied target.entry) text.now first.now words.old) }
+    {
+        if !is_ascii(text) {
+            return Err(TextFaultKind::NotAscii);
+        }
+        if text.len() > MAX_LINE {
+            return Err(TextFaultKind::LineTooLong);
+        }
+        match keyword_of(first).ok_or(TextFaultKind::UnknownWord)? {
+            Keyword::Handler => handler_line(words),
+            Keyword::Object => object_line(alloc, words),
+            Keyword::Symbol => symbol_line(alloc, words),
+            Keyword::Patch => patch_line(alloc, words),
+            Keyword::Target => target_line(alloc, words),
+            Keyword::Func => func_line(alloc, target, words),
+            Keyword::Callback(which) => callback_line(alloc, which, words),
+            Keyword::State => state_line(words),
+        }
+    }
+}

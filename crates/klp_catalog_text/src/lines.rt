@@ -1,0 +1,90 @@
+ghost use Rattle.std.specs.Prelude.{◌≡◌, ℕ, List, ◌∷◌, [], MatchOption, MatchResult};
+ghost use Rattle.std.specs.Str.Lines.{lines, strip_carriage_return};
+ghost use Rattle.klp_catalog_text.specs.Lines.{words_of};
+
+use crate::fault::TextFaultKind;
+use klp_words::{Separators, Words, position_of};
+use std::marker::Model;
+
+/// The lines of a text that are still to be read. They are cut off one by one, so no list of them is kept.
+///
+/// A line ends at a line feed, or at the end of the text where bytes are left. A carriage return right
+/// before the line feed isn't a part of the line.
+#[derive(Drop)]
+pub struct Lines<'a> {
+    rest: &'a [u8],
+}
+
+impl<'a> Model for Lines<'a> {
+    ghost use Rattle.std.specs.Prelude.{ℕ, List};
+    ghost use Rattle.std.specs.Str.Lines.{lines};
+
+    ghost Value = { List (List ℕ) };
+
+    ghost view = { λ l. lines l.rest.now };
+}
+
+impl<'a> Lines<'a> {
+    /// All lines of the text, which may be of any length and have any bytes. Nothing is looked at
+    /// yet.
+    pub fn new(text: &'a [u8]) -> Lines<'a>
+        ensures { result ≡ lines text.now }
+    {
+        Lines { rest: text }
+    }
+
+    /// The next line, without the bytes that end it, in time that is linear in its length.
+    pub fn next(&mut self) -> Option<&'a [u8]>
+        ensures { MatchOption result (self.old ≡ []) (λ line. self.old ≡ line.now ∷ self.new) }
+    {
+        if self.rest.is_empty() {
+            return None;
+        }
+        let Some(end) = position_of(self.rest, b'\n') else {
+            let line = self.rest;
+            self.rest = &[];
+            return Some(line);
+        };
+        let line = &self.rest[..end];
+        self.rest = &self.rest[end + 1..];
+        Some(without_carriage_return(line))
+    }
+}
+
+/// The line before its line feed, less the carriage return at its end: the line of a text that was written
+/// elsewhere is the same one (docs/DECISIONS.md, "Carriage returns").
+fn without_carriage_return(line: &[u8]) -> &[u8]
+    ensures { result.now ≡ strip_carriage_return line.now }
+{
+    match line {
+        [front @ .., b'\r'] => front,
+        _ => line,
+    }
+}
+
+/// The words of a line. Spaces and tabs separate them, as in what administrators write by hand.
+pub fn words_of(line: &[u8]) -> Words<'_>
+    ensures { result ≡ words_of line.now }
+{
+    Words::new(line, Separators::SpacesAndTabs)
+}
+
+/// The next word of a line that has too few words without it, which is a `WrongCount` whatever the line.
+pub(crate) fn word<'a>(words: &mut Words<'a>) -> Result<&'a [u8], TextFaultKind>
+    ensures { MatchResult result (λ word. words.old ≡ word.now ∷ words.new)
+        (λ kind. (kind ≡ TextFaultKind.WrongCount) × (words.old ≡ [])) }
+{
+    words.next().ok_or(TextFaultKind::WrongCount)
+}
+
+/// The end of a line that has too many words with one more. It is asked for before any word's own fault is
+/// reported.
+pub(crate) fn end(words: &mut Words<'_>) -> Result<(), TextFaultKind>
+    ensures { MatchResult result (λ _. words.old ≡ [])
+        (λ kind. (kind ≡ TextFaultKind.WrongCount) × (word : List ℕ) × (rest : List (List ℕ)) × (words.old ≡ word ∷ rest)) }
+{
+    match words.next() {
+        None => Ok(()),
+        Some(_) => Err(TextFaultKind::WrongCount),
+    }
+}

@@ -1,0 +1,208 @@
+ghost use Rattle.std.specs.Prelude.{◌≡◌, ◌<◌, [], length, slice_get, option_map, OnOk, OnErr};
+ghost use Rattle.klp_catalog_text.specs.PlanParts.{with_function, with_target, with_function_in, with_callback, with_callback_in, with_state};
+ghost use Rattle.klp_catalog_text.specs.Draft.{patch_names_of};
+ghost use Rattle.klp_catalog_text.specs.Limits.{AreFew};
+ghost use Rattle.klp_catalog_text.specs.Scripts.{scripts_of};
+
+use crate::items::{PlanFunction, SystemState};
+use crate::names::Names;
+use klp_types::{ObjId, ObjectText, Script, Which};
+use std::alloc::{AllocError, Global};
+use std::marker::Model;
+use std::mem;
+
+/// A callback of a patch for an object (callbacks): here it is a script, and the caller of the catalog
+/// makes callbacks of it.
+#[derive(Debug, Drop)]
+pub struct PlanCallback {
+    pub which: Which,
+    pub script: Script,
+}
+
+impl Model for PlanCallback {
+    ghost use Rattle.klp_types.specs.Setting.{Callback as PlanCallback};
+
+    ghost Value = { PlanCallback };
+
+    ghost view = { λ c. record { which = c.which; script = c.script } };
+}
+
+/// An object that a patch changes, the new functions in it, and the callbacks for it. The object is a
+/// number, so that no later look-up of its name can fail (docs/DECISIONS.md, "Objects of targets by
+/// number").
+#[derive(Debug, Drop)]
+pub struct PlanTarget {
+    pub object: ObjId,
+    pub functions: Vec<PlanFunction>,
+    /// In the order of the text, each kind at most once, since a kernel's object has one of each.
+    pub callbacks: Vec<PlanCallback>,
+}
+
+impl Model for PlanTarget {
+    ghost use Rattle.klp_catalog_text.specs.Plan.{PlanTarget};
+
+    ghost Value = { PlanTarget };
+
+    ghost view = { λ t. record { object = t.object; functions = t.functions.items; callbacks = t.callbacks.items } };
+}
+
+impl PlanTarget {
+    /// Adds a function behind the others, so that functions are numbered in the order of the text.
+    pub(crate) fn push(&mut self, function: PlanFunction) -> Result<(), AllocError>
+        ensures ok { OnOk result (self.new ≡ with_function function self.old) }
+        ensures err { OnErr result (self.new ≡ self.old) }
+    {
+        self.functions.push(function)?;
+        Ok(())
+    }
+
+    /// Adds a callback behind the others: the order of the text is that in which callbacks are handed to a
+    /// catalog.
+    pub(crate) fn push_callback(&mut self, callback: PlanCallback) -> Result<(), AllocError>
+        ensures ok { OnOk result (self.new ≡ with_callback callback self.old) }
+        ensures err { OnErr result (self.new ≡ self.old) }
+    {
+        self.callbacks.push(callback)?;
+        Ok(())
+    }
+}
+
+/// A patch, as the lines behind its own give it. It has no number, which is its place in the plan.
+#[derive(Debug, Drop)]
+pub struct PlanPatch {
+    pub name: String,
+    /// Whether the patch is a cumulative one, which replaces all older ones when its transition is
+    /// complete.
+    pub replace: bool,
+    pub targets: Vec<PlanTarget>,
+    /// The system states that the patch names, in the order of the text, each id once.
+    pub states: Vec<SystemState>,
+}
+
+impl Model for PlanPatch {
+    ghost use Rattle.std.specs.Prelude.{string_bytes};
+    ghost use Rattle.klp_catalog_text.specs.Plan.{PlanPatch};
+
+    ghost Value = { PlanPatch };
+
+    ghost view = { λ p. record { name = string_bytes p.name; replace = p.replace; targets = p.targets.items; states = p.states.items } };
+}
+
+impl PlanPatch {
+    /// Adds an object without functions behind the others: it is the open target from now on.
+    pub(crate) fn push_target(&mut self, alloc: Global, object: ObjId) -> Result<(), AllocError>
+        ensures ok { OnOk result (self.new ≡ with_target (Some object) self.old) }
+        ensures err { OnErr result (self.new ≡ self.old) }
+    {
+        self.targets.push(PlanTarget {
+            object,
+            functions: Vec::new(alloc),
+            callbacks: Vec::new(alloc),
+        })?;
+        Ok(())
+    }
+
+    /// Adds a function to the last object, which is the open target.
+    pub(crate) fn push_function(&mut self, function: PlanFunction) -> Result<(), AllocError>
+        requires { 0 < length self.old.targets }
+        ensures ok { OnOk result (self.new ≡ with_function_in function self.old) }
+        ensures err { OnErr result (self.new ≡ self.old) }
+    {
+        let last = self.targets.len() - 1;
+        self.targets[last].push(function)
+    }
+
+    /// Adds a callback to the last object, which is the open target.
+    pub(crate) fn push_callback(&mut self, callback: PlanCallback) -> Result<(), AllocError>
+        requires { 0 < length self.old.targets }
+        ensures ok { OnOk result (self.new ≡ with_callback_in callback self.old) }
+        ensures err { OnErr result (self.new ≡ self.old) }
+    {
+        let last = self.targets.len() - 1;
+        self.targets[last].push_callback(callback)
+    }
+
+    /// Adds a system state behind the others. It belongs to the patch, and to no target.
+    pub(crate) fn push_state(&mut self, state: SystemState) -> Result<(), AllocError>
+        ensures ok { OnOk result (self.new ≡ with_state state self.old) }
+        ensures err { OnErr result (self.new ≡ self.old) }
+    {
+        self.states.push(state)?;
+        Ok(())
+    }
+}
+
+/// What a catalog's text says: the handler, the objects with their symbols, and the patches, in the
+/// order of the text. [`read`](crate::read) makes it.
+#[derive(Drop)]
+pub struct Plan {
+    pub(crate) handler: u64,
+    pub(crate) objects: Vec<ObjectText>,
+    pub(crate) patches: Vec<PlanPatch>,
+    /// The names of the patches once more, by which they are found.
+    pub(crate) patch_names: Names,
+}
+
+impl Model for Plan {
+    ghost use Rattle.klp_catalog_text.specs.Plan.{Plan};
+
+    ghost Value = { Plan };
+
+    ghost view = { λ p. record { handler = p.handler; objects = p.objects.items; patches = p.patches.items } };
+
+    ghost use Rattle.klp_catalog_text.specs.Kept.{IsPlanKept};
+
+    ghost invariant = { λ p. IsPlanKept p.patches.items p.patch_names };
+}
+
+impl Plan {
+    /// The address that a hooked entry site calls, which has to be in reach of each symbol.
+    pub fn handler(&self) -> u64
+        ensures { result ≡ self.now.handler }
+    {
+        self.handler
+    }
+
+    /// The script of a callback, by its place over all patches, their objects and their callbacks in the
+    /// order of the text, from 0: so a caller can make one callback after another. Takes a look at each
+    /// object before it.
+    pub fn script(&self, number: usize) -> Option<&Script>
+        ensures { option_map (λ script. script.now) result ≡ slice_get (scripts_of self.now.patches) number }
+    {
+        let mut left = number;
+        for patch in &self.patches {
+            for target in &patch.targets {
+                if let Some(callback) = target.callbacks.get(left) {
+                    return Some(&callback.script);
+                }
+                left -= target.callbacks.len();
+            }
+        }
+        None
+    }
+
+    /// The objects with their symbols, as the image takes them. The plan has none afterwards, since bodies
+    /// aren't copied on the way.
+    pub fn take_objects(&mut self) -> Vec<ObjectText>
+        ensures objects { result.items ≡ self.old.objects }
+        ensures rest { self.new ≡ record self.old { objects = [] } }
+    {
+        let alloc = *self.objects.allocator();
+        mem::replace(&mut self.objects, Vec::new(alloc))
+    }
+
+    /// The patches, and their names by which they are found: the catalog takes both over as they are.
+    pub fn into_patches(self) -> (Vec<PlanPatch>, Names)
+        ensures patches { result.0.items ≡ self.patches }
+        ensures names { result.1 ≡ patch_names_of self.patches }
+        ensures few { AreFew self.patches }
+    {
+        let Plan {
+            handler: _,
+            objects: _,
+            patches,
+            patch_names,
+        } = self;
+        (patches, patch_names)
+    }
+}

@@ -1,0 +1,34 @@
+ghost use Rattle.std.specs.Prelude.{◌≡◌, length, IfOk, IfErr};
+ghost use Rattle.klp_catalog_text.specs.Text.{plan_of, IsFaultOf};
+ghost use Rattle.klp_catalog_text.specs.Within.{AreTargetsWithin};
+
+use crate::draft::Draft;
+use crate::fault::TextFault;
+use crate::lines::Lines;
+use crate::plan::Plan;
+use std::alloc::Global;
+
+/// Reads the whole text of a catalog, in time that is linear in its length.
+///
+/// A fault is that of the first faulty line. A text without a faulty line that has no handler or no object
+/// is `Missing`, at line 0. `NoMemory` may come in place of any of these, at the line where memory ran out.
+pub fn read(alloc: Global, text: &[u8]) -> Result<Plan, TextFault>
+    ensures plan { IfOk result (λ plan. plan_of text.now ≡ Ok plan) }
+    // so a plan's targets are objects of the image that its objects make
+    ensures targets { IfOk result (λ plan. AreTargetsWithin (length plan.objects) plan.patches) }
+    ensures fault { IfErr result (λ fault. IsFaultOf text.now fault.line fault.kind) }
+{
+    let mut draft = Draft::new(alloc);
+    let mut lines = Lines::new(text);
+    let mut number = 0;
+    while let Some(line) = lines.next() {
+        number += 1;
+        if let Err(kind) = draft.read_line(alloc, line) {
+            return Err(TextFault { line: number, kind });
+        }
+    }
+    match draft.finish() {
+        Ok(plan) => Ok(plan),
+        Err(kind) => Err(TextFault { line: 0, kind }),
+    }
+}

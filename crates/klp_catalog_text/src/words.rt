@@ -1,0 +1,86 @@
+//! The words of a catalog's line, each read by its own rule. A word is checked before it is copied, so that
+//! only want of memory can come behind.
+
+ghost use Rattle.std.specs.Prelude.{◌≡◌, Some, None, Ok, Err, option_copied};
+ghost use Rattle.klp_words.specs.Words.{spelling_of};
+ghost use Rattle.klp_catalog_text.specs.Gives.{Gives};
+ghost use Rattle.klp_catalog_text.specs.Words.{name_of, symbol_name_of, address_of, body_of, id_of, version_of, symbol_of};
+
+use crate::fault::TextFaultKind;
+use crate::items::Name;
+use hex::FromHexError;
+use klp_words::{
+    Spelling, hexadecimal, is_name, is_symbol_name, number32, number64, spelling_of, text,
+};
+use std::alloc::Global;
+
+/// The name of an object, a patch or a new function. No `.` may be in it, because it ends the object's name
+/// in the spelling of a symbol.
+pub(crate) fn name(alloc: Global, word: &[u8]) -> Result<Name, TextFaultKind>
+    ensures { Gives (λ n. n) result (name_of word.now) }
+{
+    if !is_name(word) {
+        return Err(TextFaultKind::BadName);
+    }
+    Ok(Name(String::from_str(alloc, text(word))?))
+}
+
+/// The name of a symbol. It may have a `.`, as compilers make them (`f.constprop.0`), and a `$`, but no
+/// comma, which its position is behind.
+pub(crate) fn symbol_name(alloc: Global, word: &[u8]) -> Result<Name, TextFaultKind>
+    ensures { Gives (λ n. n) result (symbol_name_of word.now) }
+{
+    if !is_symbol_name(word) {
+        return Err(TextFaultKind::BadName);
+    }
+    Ok(Name(String::from_str(alloc, text(word))?))
+}
+
+/// An address, in hexadecimal digits.
+pub(crate) fn address(word: &[u8]) -> Result<u64, TextFaultKind>
+    ensures { result ≡ address_of word.now }
+{
+    hexadecimal(word).ok_or(TextFaultKind::BadHex)
+}
+
+/// The bytes of a symbol, in hexadecimal digits. Here an odd number of them is a `BadHex`; one that is too
+/// long is found when the line gets its place, and one that is too short by the image (docs/DECISIONS.md,
+/// "Bodies of odd or great length").
+pub(crate) fn body(alloc: Global, word: &[u8]) -> Result<Vec<u8>, TextFaultKind>
+    ensures { Gives (λ b. b.items) result (body_of word.now) }
+{
+    match hex::decode(alloc, word) {
+        Ok(body) => Ok(body),
+        Err(FromHexError::OutOfMemory) => Err(TextFaultKind::NoMemory),
+        Err(_) => Err(TextFaultKind::BadHex),
+    }
+}
+
+/// The id of a system state, of 64 bits. One out of range is a `BadNumber` like one that isn't a number.
+pub(crate) fn id(word: &[u8]) -> Result<u64, TextFaultKind>
+    ensures { result ≡ id_of word.now }
+{
+    number64(word).ok_or(TextFaultKind::BadNumber)
+}
+
+/// The version of a system state. It has 32 bits, as the `version` of the kernel's `klp_state`.
+pub(crate) fn version(word: &[u8]) -> Result<u32, TextFaultKind>
+    ensures { result ≡ version_of word.now }
+{
+    number32(word).ok_or(TextFaultKind::BadNumber)
+}
+
+/// The symbol of a `func` line. Where a target is open, the symbol is in its object. Whatever is wrong with
+/// its spelling is a `BadSymbol`, since it is one word (docs/DECISIONS.md, "The spelling of a symbol").
+pub(crate) fn symbol<'a>(
+    target: Option<&str>,
+    word: &'a [u8],
+) -> Result<Spelling<'a>, TextFaultKind>
+    ensures { result ≡ symbol_of (option_copied target.entry) (spelling_of word.now) }
+{
+    let spelling = spelling_of(word).ok_or(TextFaultKind::BadSymbol)?;
+    match target {
+        Some(object) if spelling.object != object => Err(TextFaultKind::BadSymbol),
+        _ => Ok(spelling),
+    }
+}

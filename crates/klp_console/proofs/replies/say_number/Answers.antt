@@ -1,0 +1,8 @@
+use Rattle.klp_console.proofs.replies.say_number.Goals as goal
+
+pub returns : goal.returns
+returns g c =
+    let adds_up = c.what_is_said_adds_up.ensures.adds_up in
+    adds_up _ _ _ _ _
+    (adds_up _ _ _ _ _ c.say.ensures c.number.ensures)
+    c.say-2.ensures

@@ -1,0 +1,14 @@
+use Rattle.klp_console.proofs.replies.say_symbol.Goals as goal
+
+pub returns : goal.returns
+returns g c =
+    let adds_up = c.what_is_said_adds_up.ensures.adds_up in
+    adds_up _ _ _ _ _
+    (adds_up _ _ _ _ _
+    (adds_up _ _ _ _ _
+    (adds_up _ _ _ _ _
+    (adds_up _ _ _ _ _ c.say.ensures c.say_name.ensures)
+    c.say-2.ensures)
+    c.say_name-2.ensures)
+    c.say-3.ensures)
+    c.number.ensures

@@ -1,0 +1,103 @@
+//! What is asked to be seen: each kind of look goes to its own file, and its refusals are said in one
+//! place.
+ghost use Rattle.std.specs.Prelude.{◌≡◌, [], Ok};
+ghost use Rattle.std.specs.Result.{result_and, result_unwrap_or};
+ghost use Rattle.klp_console_io.specs.Says.{Says};
+ghost use Rattle.klp_console.specs.Queries.{look_text, seen_text, force_nothing};
+
+use crate::files::{
+    is_installed, say_directory, say_enabled, say_functions, say_patch_state, say_patches,
+    say_transition,
+};
+use crate::refusals::say_refusal;
+use crate::replies::say_done;
+use crate::runs::{say_mark, say_runs, say_variable};
+use crate::text::{say_pick, say_stack, say_text};
+use klp_console_commands::Query;
+use klp_console_io::{Answers, Sink, what_is_said_adds_up};
+use klp_core::Manager;
+use klp_model::Refusal;
+use klp_types::PatchId;
+
+/// Says what a look shows. Says nothing where it is refused, so that the refusal is the whole answer.
+fn show<W: Sink>(
+    answers: &mut Answers,
+    writer: &mut W,
+    manager: &Manager,
+    look: &Query,
+) -> Result<(), Refusal>
+    ensures says { Says (answers.old, W.written writer.old) (answers.new, W.written writer.new) (result_unwrap_or (look_text manager.now look.now) []) }
+    ensures result { result ≡ result_and (look_text manager.now look.now) (Ok tt) }
+{
+    match *look {
+        Query::Enabled(patch) => say_enabled(answers, writer, manager, patch),
+        Query::Transition(patch) => say_transition(answers, writer, manager, patch),
+        Query::PatchState(task) => say_patch_state(answers, writer, manager, task),
+        Query::Patches => {
+            say_patches(answers, writer, manager);
+            Ok(())
+        }
+        Query::Patch(patch) => say_directory(answers, writer, manager, patch),
+        Query::Object(patch, object) => say_functions(answers, writer, manager, patch, object),
+        Query::Variable(key) => {
+            say_variable(answers, writer, manager, key);
+            Ok(())
+        }
+        Query::Text(object) => say_text(answers, writer, manager, object),
+        Query::Stack(site) => {
+            say_stack(answers, writer, manager, site);
+            Ok(())
+        }
+        Query::Pick(task, site) => say_pick(answers, writer, manager, task, site),
+        Query::Runs(patch, object) => say_runs(answers, writer, manager, patch, object),
+        Query::Mark => {
+            say_mark(answers, writer, manager);
+            Ok(())
+        }
+    }
+}
+
+/// Says what a look shows, or why it is refused: `NotFound` for a file that isn't there, `NoTask` and
+/// `NoModule` for a task that isn't there and an object that isn't loaded. The refusal is said, and
+/// answered so that it can be counted.
+///
+/// The files are those of the kernel (livepatch, Sysfs). A switch is 1 or 0, an address 16 hexadecimal
+/// digits, a position is counted from 1, and a count of runs stays at the greatest number. It costs as
+/// much as what it says.
+pub fn say_query<W: Sink>(
+    answers: &mut Answers,
+    writer: &mut W,
+    manager: &Manager,
+    look: &Query,
+) -> Result<(), Refusal>
+    ensures says { Says (answers.old, W.written writer.old) (answers.new, W.written writer.new) (seen_text (look_text manager.now look.now)) }
+    ensures result { result ≡ result_and (look_text manager.now look.now) (Ok tt) }
+{
+    what_is_said_adds_up();
+    let result = show(answers, writer, manager, look);
+    if let Err(refusal) = result {
+        say_refusal(answers, writer, refusal);
+    }
+    result
+}
+
+/// Says what is answered to a 0 that is written to the `force` file of a patch: that it is done, though it
+/// does nothing, as in the kernel (`force_store`), or `NotFound` where the patch isn't installed. A refusal
+/// is said, and answered too.
+pub fn say_force_nothing<W: Sink>(
+    answers: &mut Answers,
+    writer: &mut W,
+    manager: &Manager,
+    patch: PatchId,
+) -> Result<(), Refusal>
+    ensures says { Says (answers.old, W.written writer.old) (answers.new, W.written writer.new) (seen_text (force_nothing manager.now patch)) }
+    ensures result { result ≡ result_and (force_nothing manager.now patch) (Ok tt) }
+{
+    if is_installed(manager, patch) {
+        say_done(answers, writer);
+        Ok(())
+    } else {
+        say_refusal(answers, writer, Refusal::NotFound);
+        Err(Refusal::NotFound)
+    }
+}

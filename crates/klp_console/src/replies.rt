@@ -1,0 +1,210 @@
+//! How an event is answered: in words and names, as a line has them.
+ghost use Rattle.std.specs.Prelude.{◌≡◌, ◌++◌, codes};
+ghost use Rattle.std.specs.Fmt.{decimal, signed_decimal};
+ghost use Rattle.klp_modules.specs.Names.{symbol_at_site};
+ghost use Rattle.klp_console_io.specs.Says.{Says};
+ghost use Rattle.klp_console.specs.Replies.{done_text, original_text, frame_text, frames_text, reply_text, answer_text};
+
+use crate::names::{object_name, patch_name, say_name};
+use crate::refusals::say_refusal;
+use klp_catalog::Catalog;
+use klp_console_io::{Answers, Sink, what_is_said_adds_up};
+use klp_model::{Refusal, Reply};
+use klp_modules::Modules;
+use klp_types::{Frames, ObjId, PatchId, Site, Version};
+
+/// Says that a line was done which has no more to report, as `ok`, so that each line with words has an
+/// answer.
+pub fn say_done<W: Sink>(answers: &mut Answers, writer: &mut W)
+    ensures { Says (answers.old, W.written writer.old) (answers.new, W.written writer.new) done_text }
+{
+    answers.say(writer, b"ok\n");
+}
+
+/// Says a word, with the space behind it, and a number, in a line of its own.
+fn say_number<W: Sink>(answers: &mut Answers, writer: &mut W, word: &[u8], number: u64)
+    ensures { Says (answers.old, W.written writer.old) (answers.new, W.written writer.new) (word.now ++ decimal number ++ codes "\n") }
+{
+    what_is_said_adds_up();
+    answers.say(writer, word);
+    answers.number(writer, number);
+    answers.say(writer, b"\n");
+}
+
+/// Says that the callback of a patch for an object answered a status. It is no error, since the event was
+/// accepted.
+fn say_pre_failed<W: Sink>(
+    answers: &mut Answers,
+    writer: &mut W,
+    patch: &str,
+    object: &str,
+    status: i64,
+)
+    ensures { Says (answers.old, W.written writer.old) (answers.new, W.written writer.new)
+        (codes "prefailed " ++ patch.now ++ codes " " ++ object.now ++ codes " " ++ signed_decimal status ++ codes "\n") }
+{
+    what_is_said_adds_up();
+    answers.say(writer, b"prefailed ");
+    say_name(answers, writer, patch);
+    answers.say(writer, b" ");
+    say_name(answers, writer, object);
+    answers.say(writer, b" ");
+    answers.signed(writer, status);
+    answers.say(writer, b"\n");
+}
+
+/// Says a symbol of an object and its position among those of its name, from 1, in the spelling in which a
+/// line can name it again.
+fn say_symbol<W: Sink>(
+    answers: &mut Answers,
+    writer: &mut W,
+    object: &str,
+    symbol: &str,
+    position: u64,
+)
+    ensures { Says (answers.old, W.written writer.old) (answers.new, W.written writer.new)
+        (codes " .klp.sym." ++ object.now ++ codes "." ++ symbol.now ++ codes "," ++ decimal position) }
+{
+    what_is_said_adds_up();
+    answers.say(writer, b" .klp.sym.");
+    say_name(answers, writer, object);
+    answers.say(writer, b".");
+    say_name(answers, writer, symbol);
+    answers.say(writer, b",");
+    answers.number(writer, position);
+}
+
+/// Says the original function of a site. Nothing where the site isn't there, as the definition has it.
+fn say_original<W: Sink>(answers: &mut Answers, writer: &mut W, modules: &Modules, site: Site)
+    ensures { Says (answers.old, W.written writer.old) (answers.new, W.written writer.new)
+        (original_text modules.now.names (symbol_at_site modules.now.names site)) }
+{
+    what_is_said_adds_up();
+    if let Some((object, symbol, position)) = modules.symbol(site) {
+        say_symbol(
+            answers,
+            writer,
+            object_name(modules, object),
+            symbol,
+            u64::from(position),
+        );
+    }
+}
+
+/// Says a new function by its patch and its place in it, since its name needn't be the only one.
+fn say_new<W: Sink>(answers: &mut Answers, writer: &mut W, patch: &str, function: u64)
+    ensures { Says (answers.old, W.written writer.old) (answers.new, W.written writer.new) (codes " " ++ patch.now ++ codes ":" ++ decimal function) }
+{
+    what_is_said_adds_up();
+    answers.say(writer, b" ");
+    say_name(answers, writer, patch);
+    answers.say(writer, b":");
+    answers.number(writer, function);
+}
+
+/// Says a function that a task was inside of, in a form in which a line can name it again.
+fn say_frame<W: Sink>(
+    answers: &mut Answers,
+    writer: &mut W,
+    catalog: &Catalog,
+    modules: &Modules,
+    version: Version,
+)
+    requires { catalog.now.names ≡ modules.now.names }
+    ensures { Says (answers.old, W.written writer.old) (answers.new, W.written writer.new) (frame_text catalog.now version) }
+{
+    match version {
+        Version::Original(site) => say_original(answers, writer, modules, site),
+        Version::New(patch, function) => {
+            let patch = patch_name(catalog, patch);
+            say_new(answers, writer, patch, u64::from(function));
+        }
+    }
+}
+
+/// Says the functions that a task was inside of, outermost first, in the order in which a line has them.
+fn say_frames<W: Sink>(
+    answers: &mut Answers,
+    writer: &mut W,
+    catalog: &Catalog,
+    modules: &Modules,
+    frames: &Frames,
+)
+    requires { catalog.now.names ≡ modules.now.names }
+    ensures { Says (answers.old, W.written writer.old) (answers.new, W.written writer.new) (frames_text catalog.now frames.now) }
+{
+    what_is_said_adds_up();
+    let versions = frames.as_slice();
+    for place in 0..versions.len() {
+        say_frame(answers, writer, catalog, modules, versions[place]);
+    }
+}
+
+/// Says what a task that woke up was inside of, in one line; the word alone where it was inside of nothing.
+fn say_woken<W: Sink>(
+    answers: &mut Answers,
+    writer: &mut W,
+    catalog: &Catalog,
+    modules: &Modules,
+    frames: &Frames,
+)
+    requires { catalog.now.names ≡ modules.now.names }
+    ensures { Says (answers.old, W.written writer.old) (answers.new, W.written writer.new) (reply_text catalog.now (Reply.Woken frames.now)) }
+{
+    what_is_said_adds_up();
+    answers.say(writer, b"woken");
+    say_frames(answers, writer, catalog, modules, frames);
+    answers.say(writer, b"\n");
+}
+
+/// Says what an accepted event answers: one line, whichever reply it is.
+fn say_reply<W: Sink>(
+    answers: &mut Answers,
+    writer: &mut W,
+    catalog: &Catalog,
+    modules: &Modules,
+    reply: &Reply,
+)
+    requires { catalog.now.names ≡ modules.now.names }
+    ensures { Says (answers.old, W.written writer.old) (answers.new, W.written writer.new) (reply_text catalog.now reply.now) }
+{
+    match *reply {
+        Reply::Done => say_done(answers, writer),
+        Reply::Started => answers.say(writer, b"started\n"),
+        Reply::Reversed => answers.say(writer, b"reversed\n"),
+        Reply::Pending(tasks) => say_number(answers, writer, b"pending ", u64::from(tasks)),
+        Reply::Completed(true) => answers.say(writer, b"completed 1\n"),
+        Reply::Completed(false) => answers.say(writer, b"completed 0\n"),
+        Reply::PreFailed(patch, object, status) => {
+            let patch = patch_name(catalog, patch);
+            let object = object_name(modules, object);
+            say_pre_failed(answers, writer, patch, object, i64::from(status));
+        }
+        Reply::Value(value) => say_number(answers, writer, b"value ", value),
+        Reply::Freed(count) => say_number(answers, writer, b"freed ", u64::from(count)),
+        Reply::Woken(ref frames) => say_woken(answers, writer, catalog, modules, frames),
+    }
+}
+
+/// Says what was answered to an event: what it did, in the word of its [`Reply`] and the names and numbers
+/// that this has, or why it was refused.
+///
+/// A function that a task was inside of is spelled as a livepatch symbol, with the position from 1
+/// (livepatch module ELF format, livepatch symbols), or as `PATCH:INDEX`, by its place over the patch's
+/// objects from 0. It takes time that is linear in what it says, and no look-up.
+pub fn say_answer<W: Sink>(
+    answers: &mut Answers,
+    writer: &mut W,
+    catalog: &Catalog,
+    modules: &Modules,
+    answer: &Result<Reply, Refusal>,
+)
+    // a manager's catalog is one over the objects that it manages, so the names agree
+    requires { catalog.now.names ≡ modules.now.names }
+    ensures { Says (answers.old, W.written writer.old) (answers.new, W.written writer.new) (answer_text catalog.now answer.now) }
+{
+    match answer {
+        Ok(reply) => say_reply(answers, writer, catalog, modules, reply),
+        Err(refusal) => say_refusal(answers, writer, *refusal),
+    }
+}

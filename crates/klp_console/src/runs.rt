@@ -1,0 +1,122 @@
+//! What is shown as numbers: shadow variables, runs of callbacks, and how many events are in the journal.
+ghost use Rattle.std.specs.Prelude.{◌≡◌, ◌++◌, [], codes, length, Option, Ok};
+ghost use Rattle.std.specs.Fmt.{decimal};
+ghost use Rattle.std.specs.Result.{result_and, result_unwrap_or};
+ghost use Rattle.klp_types.specs.World.{variable};
+ghost use Rattle.klp_console_io.specs.Says.{Says};
+ghost use Rattle.klp_catalog.specs.Runs.{callback_runs};
+ghost use Rattle.klp_console_commands.specs.declared.request.Query.TheVariants as look;
+ghost use Rattle.klp_console.specs.Queries.{lines_of, variable_text, count_text, runs_text, look_text};
+
+use crate::files::has_object;
+use klp_catalog::Catalog;
+use klp_console_io::{Answers, Sink, what_is_said_adds_up};
+use klp_core::Manager;
+use klp_model::Refusal;
+use klp_types::{ObjId, PatchId, ShadowKey, Which};
+
+/// The kinds of callbacks, in the order in which their counts are said: that of a patch that comes and
+/// goes.
+const KINDS: [Which; 4] = [Which::Pre, Which::Post, Which::PreUn, Which::PostUn];
+
+/// Says the value of a shadow variable. Where it isn't there that is an answer too, and no refusal.
+pub(crate) fn say_variable<W: Sink>(
+    answers: &mut Answers,
+    writer: &mut W,
+    manager: &Manager,
+    key: ShadowKey,
+)
+    ensures { Says (answers.old, W.written writer.old) (answers.new, W.written writer.new) (variable_text (variable manager.now.managed.state.world key)) }
+{
+    what_is_said_adds_up();
+    match manager.shadow_get(key) {
+        None => answers.say(writer, b"none\n"),
+        Some(value) => {
+            answers.say(writer, b"value ");
+            answers.number(writer, value);
+            answers.say(writer, b"\n");
+        }
+    }
+}
+
+/// Says how often a callback ran, and a dash where there is none, so that each kind has its place in the
+/// line.
+fn say_count<W: Sink>(answers: &mut Answers, writer: &mut W, count: Option<u64>)
+    ensures { Says (answers.old, W.written writer.old) (answers.new, W.written writer.new) (count_text count) }
+{
+    what_is_said_adds_up();
+    match count {
+        None => answers.say(writer, b" -"),
+        Some(count) => {
+            answers.say(writer, b" ");
+            answers.number(writer, count);
+        }
+    }
+}
+
+/// Says how often the callbacks of some kinds ran, in the order of these.
+fn say_counts<W: Sink>(
+    answers: &mut Answers,
+    writer: &mut W,
+    catalog: &Catalog,
+    patch: PatchId,
+    object: ObjId,
+    kinds: &[Which],
+)
+    ensures { Says (answers.old, W.written writer.old) (answers.new, W.written writer.new) (lines_of (λ which. count_text (callback_runs catalog.now patch object which)) kinds.now) }
+{
+    what_is_said_adds_up();
+    for which in kinds {
+        say_count(
+            answers,
+            writer,
+            catalog.callback_runs(patch, object, *which),
+        );
+    }
+}
+
+/// Says how often each callback of a patch for an object ran, in one line.
+fn say_all_counts<W: Sink>(
+    answers: &mut Answers,
+    writer: &mut W,
+    catalog: &Catalog,
+    patch: PatchId,
+    object: ObjId,
+)
+    ensures { Says (answers.old, W.written writer.old) (answers.new, W.written writer.new) (runs_text catalog.now patch object) }
+{
+    what_is_said_adds_up();
+    answers.say(writer, b"runs");
+    say_counts(answers, writer, catalog, patch, object, &KINDS);
+    answers.say(writer, b"\n");
+}
+
+/// Says how often the callbacks of a patch for an object ran, where the patch changes the object. It
+/// needn't be installed, since counts stay when it goes.
+pub(crate) fn say_runs<W: Sink>(
+    answers: &mut Answers,
+    writer: &mut W,
+    manager: &Manager,
+    patch: PatchId,
+    object: ObjId,
+) -> Result<(), Refusal>
+    ensures says { Says (answers.old, W.written writer.old) (answers.new, W.written writer.new)
+        (result_unwrap_or (look_text manager.now (look.Runs patch object)) []) }
+    ensures result { result ≡ result_and (look_text manager.now (look.Runs patch object)) (Ok tt) }
+{
+    what_is_said_adds_up();
+    if !has_object(manager.catalog(), patch, object) {
+        return Err(Refusal::NotFound);
+    }
+    say_all_counts(answers, writer, manager.catalog(), patch, object);
+    Ok(())
+}
+
+/// Says how many accepted events are in the journal, as the number that `rewind` takes.
+pub(crate) fn say_mark<W: Sink>(answers: &mut Answers, writer: &mut W, manager: &Manager)
+    ensures { Says (answers.old, W.written writer.old) (answers.new, W.written writer.new) (decimal (length manager.now.groups) ++ codes "\n") }
+{
+    what_is_said_adds_up();
+    answers.number(writer, u64::from(manager.mark()));
+    answers.say(writer, b"\n");
+}

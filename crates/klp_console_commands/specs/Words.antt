@@ -1,0 +1,32 @@
+-- The words of a console line, and what a word is by itself.
+use Rattle.std.specs.Prelude.{ℕ, ◌^◌, ◌==◌, ◌&&◌, not, Bool, nat_lt, nat_le, if◌then◌else◌, List, length, ok_or, Result, Ok, Err}
+use Rattle.std.specs.List.{list_all}
+use Rattle.klp_words.specs.Words.{decimal_of}
+use Rattle.klp_words.specs.declared.split.Separators.TheVariants.{Spaces}
+use Rattle.klp_words.specs.Split.{separates, words_between}
+use Rattle.klp_words.specs.Steps.{◌>>=◌}
+use Rattle.klp_console_commands.specs.declared.fault.LineFault.{LineFault}
+use Rattle.klp_console_commands.specs.declared.fault.LineFault.TheVariants.{BadLine}
+
+-- spaces alone separate words: a tab is a byte as any other
+abbrev pub words_of : List ℕ → List (List ℕ)
+words_of line = words_between (separates Spaces) line
+
+-- any byte but `/` and `:`
+abbrev pub is_name_byte : ℕ → Bool
+is_name_byte b = not (b == 47) && not (b == 58)
+
+-- a word that may name a patch or an object
+abbrev pub is_name : List ℕ → Bool
+is_name word = nat_lt 0 (length word) && list_all is_name_byte word
+
+-- decimal digits, of a number of 64 bits
+abbrev pub number_of : List ℕ → Result ℕ LineFault
+number_of word = ok_or (decimal_of (2 ^ 64) word) BadLine
+
+abbrev pub at_most : ℕ → ℕ → Result ℕ LineFault
+at_most most number = if nat_le number most then Ok number else Err BadLine
+
+-- the same, of a number up to this one
+abbrev pub number_to : ℕ → List ℕ → Result ℕ LineFault
+number_to most word = number_of word >>= at_most most

@@ -1,0 +1,187 @@
+//! The lines that name files, which are those of a kernel, so that its habits work here too.
+
+ghost use Rattle.std.specs.Prelude.{◌≡◌};
+ghost use Rattle.klp_console_commands.specs.Lines.{switch, enabled_line, force_line, echo_file, echo_line, proc_query, patch_query, cat_file, cat_line, directory_query, list_query, list_line};
+
+use crate::fault::LineFault;
+use crate::names::{NameResolver, task};
+use crate::request::{Query, Request};
+use crate::words::{after_prefix, end, is_name, number_to, word};
+use klp_model::Event;
+use klp_types::MAX_TASK_NUMBER;
+use klp_words::{Words, cut};
+
+/// Where the directories of the patches are (livepatch, Sysfs). To list it is to ask for the installed
+/// patches.
+const PATCHES: &[u8] = b"/sys/kernel/livepatch";
+
+/// What the files of a patch begin with, so that what is behind it begins with the patch's name.
+const BELOW_PATCHES: &[u8] = b"/sys/kernel/livepatch/";
+
+/// What the files of a task begin with: the task's number is behind it, as in a kernel's `/proc`.
+const PROC: &[u8] = b"/proc/";
+
+/// The value that is written to a file: the word `0` or `1`, and no other spelling of these, since it is
+/// compared and not read.
+fn switch(value: &[u8]) -> Result<bool, LineFault>
+    ensures { result ≡ switch value.now }
+{
+    if value == b"0".as_slice() {
+        Ok(false)
+    } else if value == b"1".as_slice() {
+        Ok(true)
+    } else {
+        Err(LineFault::BadValue)
+    }
+}
+
+fn enabled_line(value: &[u8], patch: &[u8], names: &NameResolver<'_>) -> Result<Request, LineFault>
+    ensures { result ≡ enabled_line names.now value.now patch.now }
+{
+    let value = switch(value)?;
+    Ok(Request::Take(Event::SetEnabled(names.patch(patch)?, value)))
+}
+
+fn force_line(value: &[u8], patch: &[u8], names: &NameResolver<'_>) -> Result<Request, LineFault>
+    ensures { result ≡ force_line names.now value.now patch.now }
+{
+    let is_forced = switch(value)?;
+    let patch = names.patch(patch)?;
+    if is_forced {
+        Ok(Request::Take(Event::Force(patch)))
+    } else {
+        Ok(Request::ForceNothing(patch))
+    }
+}
+
+/// What is asked by writing a value to the file of a patch. That it has such a file is looked at before the
+/// value is.
+fn echo_file(value: &[u8], file: &[u8], names: &NameResolver<'_>) -> Result<Request, LineFault>
+    ensures { result ≡ echo_file names.now value.now file.now }
+{
+    let (patch, file) = cut(file, b'/');
+    if !is_name(patch) {
+        return Err(LineFault::BadLine);
+    }
+    if file == b"enabled".as_slice() {
+        enabled_line(value, patch, names)
+    } else if file == b"force".as_slice() {
+        force_line(value, patch, names)
+    } else {
+        Err(LineFault::BadLine)
+    }
+}
+
+/// The words after `echo`: a value, an arrow and a file. There has to be a space on both sides of the
+/// arrow, since only spaces separate words.
+pub(crate) fn echo_line(
+    words: &mut Words<'_>,
+    names: &NameResolver<'_>,
+) -> Result<Request, LineFault>
+    ensures { result ≡ echo_line names.now words.old }
+{
+    let value = word(words)?;
+    let arrow = word(words)?;
+    let file = word(words)?;
+    end(words)?;
+    if arrow != b">".as_slice() {
+        return Err(LineFault::BadLine);
+    }
+    match after_prefix(file, BELOW_PATCHES) {
+        Some(file) => echo_file(value, file, names),
+        None => Err(LineFault::BadLine),
+    }
+}
+
+/// The file of a task: `patch_state`, the only one that has a meaning here.
+fn proc_query(file: &[u8]) -> Result<Request, LineFault>
+    ensures { result ≡ proc_query file.now }
+{
+    let (number, file) = cut(file, b'/');
+    if file != b"patch_state".as_slice() {
+        return Err(LineFault::BadLine);
+    }
+    let number = number_to(MAX_TASK_NUMBER, number)?;
+    Ok(Request::See(Query::PatchState(task(number)?)))
+}
+
+/// The file of a patch: those two that can be read and have a meaning here.
+fn patch_query(file: &[u8], names: &NameResolver<'_>) -> Result<Request, LineFault>
+    ensures { result ≡ patch_query names.now file.now }
+{
+    let (patch, file) = cut(file, b'/');
+    if !is_name(patch) {
+        return Err(LineFault::BadLine);
+    }
+    if file == b"enabled".as_slice() {
+        Ok(Request::See(Query::Enabled(names.patch(patch)?)))
+    } else if file == b"transition".as_slice() {
+        Ok(Request::See(Query::Transition(names.patch(patch)?)))
+    } else {
+        Err(LineFault::BadLine)
+    }
+}
+
+fn cat_file(file: &[u8], names: &NameResolver<'_>) -> Result<Request, LineFault>
+    ensures { result ≡ cat_file names.now file.now }
+{
+    if let Some(file) = after_prefix(file, PROC) {
+        return proc_query(file);
+    }
+    match after_prefix(file, BELOW_PATCHES) {
+        Some(file) => patch_query(file, names),
+        None => Err(LineFault::BadLine),
+    }
+}
+
+/// The word after `cat`. There is no name of a file by itself, since files are those below a patch or a
+/// task.
+pub(crate) fn cat_line(
+    words: &mut Words<'_>,
+    names: &NameResolver<'_>,
+) -> Result<Request, LineFault>
+    ensures { result ≡ cat_line names.now words.old }
+{
+    let file = word(words)?;
+    end(words)?;
+    cat_file(file, names)
+}
+
+/// The directory of a patch, or of an object in it. A name has no `/`, so the two can't be mixed up.
+fn directory_query(directory: &[u8], names: &NameResolver<'_>) -> Result<Request, LineFault>
+    ensures { result ≡ directory_query names.now directory.now }
+{
+    if is_name(directory) {
+        return Ok(Request::See(Query::Patch(names.patch(directory)?)));
+    }
+    let (patch, object) = cut(directory, b'/');
+    if !is_name(patch) || !is_name(object) {
+        return Err(LineFault::BadLine);
+    }
+    let patch = names.patch(patch)?;
+    Ok(Request::See(Query::Object(patch, names.object(object)?)))
+}
+
+fn list_query(directory: &[u8], names: &NameResolver<'_>) -> Result<Request, LineFault>
+    ensures { result ≡ list_query names.now directory.now }
+{
+    if directory == PATCHES {
+        return Ok(Request::See(Query::Patches));
+    }
+    match after_prefix(directory, BELOW_PATCHES) {
+        Some(directory) => directory_query(directory, names),
+        None => Err(LineFault::BadLine),
+    }
+}
+
+/// The word after `ls`: the directory of all patches, of one, or of an object in one.
+pub(crate) fn list_line(
+    words: &mut Words<'_>,
+    names: &NameResolver<'_>,
+) -> Result<Request, LineFault>
+    ensures { result ≡ list_line names.now words.old }
+{
+    let directory = word(words)?;
+    end(words)?;
+    list_query(directory, names)
+}

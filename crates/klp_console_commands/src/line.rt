@@ -1,0 +1,216 @@
+//! A line of the console.
+
+ghost use Rattle.std.specs.Prelude.{◌≡◌};
+ghost use Rattle.klp_console_commands.specs.Names.{names_of};
+ghost use Rattle.klp_console_commands.specs.Lines.{keyword_of, load_line, insmod_line, rmmod_line, alone, text_line, stack_line, pick_line, runs_line, rewind_line, line_of, request_of};
+
+use crate::fault::LineFault;
+use crate::files::{cat_line, echo_line, list_line};
+use crate::names::{NameResolver, task};
+use crate::request::{Query, Request};
+use crate::shadow::shadow_line;
+use crate::tasks::task_line;
+use crate::words::{end, is_name, number_to, word, words_of};
+use klp_catalog::Catalog;
+use klp_model::Event;
+use klp_modules::Modules;
+use klp_types::{MAX_MARK, MAX_TASK_NUMBER};
+use klp_words::{Words, spelling_of};
+
+/// The word that a line begins with.
+#[derive(Clone, Copy)]
+pub(crate) enum Keyword {
+    Load,
+    Insmod,
+    Rmmod,
+    Poll,
+    Echo,
+    Cat,
+    List,
+    Task,
+    Shadow,
+    Text,
+    Stack,
+    Pick,
+    Runs,
+    Mark,
+    Rewind,
+    Seal,
+}
+
+fn keyword_of(word: &[u8]) -> Option<Keyword>
+    ensures { result ≡ keyword_of word.now }
+{
+    if word == b"task".as_slice() {
+        Some(Keyword::Task)
+    } else if word == b"poll".as_slice() {
+        Some(Keyword::Poll)
+    } else if word == b"shadow".as_slice() {
+        Some(Keyword::Shadow)
+    } else if word == b"cat".as_slice() {
+        Some(Keyword::Cat)
+    } else if word == b"echo".as_slice() {
+        Some(Keyword::Echo)
+    } else if word == b"load".as_slice() {
+        Some(Keyword::Load)
+    } else if word == b"insmod".as_slice() {
+        Some(Keyword::Insmod)
+    } else if word == b"rmmod".as_slice() {
+        Some(Keyword::Rmmod)
+    } else if word == b"ls".as_slice() {
+        Some(Keyword::List)
+    } else if word == b"text".as_slice() {
+        Some(Keyword::Text)
+    } else if word == b"stack".as_slice() {
+        Some(Keyword::Stack)
+    } else if word == b"pick".as_slice() {
+        Some(Keyword::Pick)
+    } else if word == b"runs".as_slice() {
+        Some(Keyword::Runs)
+    } else if word == b"mark".as_slice() {
+        Some(Keyword::Mark)
+    } else if word == b"rewind".as_slice() {
+        Some(Keyword::Rewind)
+    } else if word == b"seal".as_slice() {
+        Some(Keyword::Seal)
+    } else {
+        None
+    }
+}
+
+fn load_line(words: &mut Words<'_>, names: &NameResolver<'_>) -> Result<Request, LineFault>
+    ensures { result ≡ load_line names.now words.old }
+{
+    let patch = word(words)?;
+    end(words)?;
+    if !is_name(patch) {
+        return Err(LineFault::BadLine);
+    }
+    Ok(Request::Take(Event::Enable(names.patch(patch)?)))
+}
+
+fn insmod_line(words: &mut Words<'_>, names: &NameResolver<'_>) -> Result<Request, LineFault>
+    ensures { result ≡ insmod_line names.now words.old }
+{
+    let object = word(words)?;
+    end(words)?;
+    if !is_name(object) {
+        return Err(LineFault::BadLine);
+    }
+    Ok(Request::Take(Event::Coming(names.object(object)?)))
+}
+
+fn rmmod_line(words: &mut Words<'_>, names: &NameResolver<'_>) -> Result<Request, LineFault>
+    ensures { result ≡ rmmod_line names.now words.old }
+{
+    let object = word(words)?;
+    end(words)?;
+    if !is_name(object) {
+        return Err(LineFault::BadLine);
+    }
+    Ok(Request::Take(Event::Going(names.object(object)?)))
+}
+
+/// What a line of one word asks for.
+fn alone(request: Request, words: &mut Words<'_>) -> Result<Request, LineFault>
+    ensures { result ≡ alone request words.old }
+{
+    end(words)?;
+    Ok(request)
+}
+
+fn text_line(words: &mut Words<'_>, names: &NameResolver<'_>) -> Result<Request, LineFault>
+    ensures { result ≡ text_line names.now words.old }
+{
+    let object = word(words)?;
+    end(words)?;
+    if !is_name(object) {
+        return Err(LineFault::BadLine);
+    }
+    Ok(Request::See(Query::Text(names.object(object)?)))
+}
+
+fn stack_line(words: &mut Words<'_>, names: &NameResolver<'_>) -> Result<Request, LineFault>
+    ensures { result ≡ stack_line names.now words.old }
+{
+    let symbol = word(words)?;
+    end(words)?;
+    let spelling = spelling_of(symbol).ok_or(LineFault::BadLine)?;
+    Ok(Request::See(Query::Stack(names.site(&spelling)?)))
+}
+
+fn pick_line(words: &mut Words<'_>, names: &NameResolver<'_>) -> Result<Request, LineFault>
+    ensures { result ≡ pick_line names.now words.old }
+{
+    let number = word(words)?;
+    let symbol = word(words)?;
+    end(words)?;
+    let number = number_to(MAX_TASK_NUMBER, number)?;
+    let spelling = spelling_of(symbol).ok_or(LineFault::BadLine)?;
+    let task = task(number)?;
+    Ok(Request::See(Query::Pick(task, names.site(&spelling)?)))
+}
+
+fn runs_line(words: &mut Words<'_>, names: &NameResolver<'_>) -> Result<Request, LineFault>
+    ensures { result ≡ runs_line names.now words.old }
+{
+    let patch = word(words)?;
+    let object = word(words)?;
+    end(words)?;
+    if !is_name(patch) || !is_name(object) {
+        return Err(LineFault::BadLine);
+    }
+    let patch = names.patch(patch)?;
+    Ok(Request::See(Query::Runs(patch, names.object(object)?)))
+}
+
+fn rewind_line(words: &mut Words<'_>) -> Result<Request, LineFault>
+    ensures { result ≡ rewind_line words.old }
+{
+    let mark = word(words)?;
+    end(words)?;
+    Ok(Request::Rewind(number_to(MAX_MARK, mark)? as u32))
+}
+
+fn line_of(
+    keyword: Option<Keyword>,
+    words: &mut Words<'_>,
+    names: &NameResolver<'_>,
+) -> Result<Request, LineFault>
+    ensures { result ≡ line_of names.now keyword words.old }
+{
+    match keyword {
+        Some(Keyword::Load) => load_line(words, names),
+        Some(Keyword::Insmod) => insmod_line(words, names),
+        Some(Keyword::Rmmod) => rmmod_line(words, names),
+        Some(Keyword::Poll) => alone(Request::Take(Event::Poll), words),
+        Some(Keyword::Echo) => echo_line(words, names),
+        Some(Keyword::Cat) => cat_line(words, names),
+        Some(Keyword::List) => list_line(words, names),
+        Some(Keyword::Task) => task_line(words, names),
+        Some(Keyword::Shadow) => shadow_line(words),
+        Some(Keyword::Text) => text_line(words, names),
+        Some(Keyword::Stack) => stack_line(words, names),
+        Some(Keyword::Pick) => pick_line(words, names),
+        Some(Keyword::Runs) => runs_line(words, names),
+        Some(Keyword::Mark) => alone(Request::See(Query::Mark), words),
+        Some(Keyword::Rewind) => rewind_line(words),
+        Some(Keyword::Seal) => alone(Request::Seal, words),
+        None => Err(LineFault::BadLine),
+    }
+}
+
+/// What a line asks for, without its line feed. `None` where it has no words: such a line has no
+/// answer. It takes time that is linear in the length of the line, and a look-up for each name.
+pub fn request_of(
+    line: &[u8],
+    catalog: &Catalog,
+    modules: &Modules,
+) -> Option<Result<Request, LineFault>>
+    ensures { result ≡ request_of (names_of catalog.now modules.now) line.now }
+{
+    let mut words = words_of(line);
+    let first = words.next()?;
+    let names = NameResolver { catalog, modules };
+    Some(line_of(keyword_of(first), &mut words, &names))
+}

@@ -1,0 +1,92 @@
+//! The lines of the shadow variables. All their words are numbers, so no name can be unknown here.
+
+ghost use Rattle.std.specs.Prelude.{◌≡◌};
+ghost use Rattle.klp_console_commands.specs.Lines.{key_of, variable_of, alloc_line, get_or_alloc_line, free_line, free_all_line, get_line, shadow_line};
+
+use crate::fault::LineFault;
+use crate::request::{Query, Request};
+use crate::words::{end, number, word};
+use klp_model::Event;
+use klp_types::{ShadowKey, ShadowValue};
+use klp_words::Words;
+
+/// The two words that are a key, and nothing behind them: the words are counted before numbers are read.
+fn key(words: &mut Words<'_>) -> Result<ShadowKey, LineFault>
+    ensures { result ≡ key_of words.old }
+{
+    let obj = word(words)?;
+    let id = word(words)?;
+    end(words)?;
+    let obj = number(obj)?;
+    let id = number(id)?;
+    Ok(ShadowKey { obj, id })
+}
+
+/// The three words that are a key and a value, and nothing behind them.
+fn variable(words: &mut Words<'_>) -> Result<(ShadowKey, ShadowValue), LineFault>
+    ensures { result ≡ variable_of words.old }
+{
+    let obj = word(words)?;
+    let id = word(words)?;
+    let value = word(words)?;
+    end(words)?;
+    let obj = number(obj)?;
+    let id = number(id)?;
+    let value = number(value)?;
+    Ok((ShadowKey { obj, id }, value))
+}
+
+fn alloc_line(words: &mut Words<'_>) -> Result<Request, LineFault>
+    ensures { result ≡ alloc_line words.old }
+{
+    let (key, value) = variable(words)?;
+    Ok(Request::Take(Event::ShadowAlloc(key, value)))
+}
+
+fn get_or_alloc_line(words: &mut Words<'_>) -> Result<Request, LineFault>
+    ensures { result ≡ get_or_alloc_line words.old }
+{
+    let (key, value) = variable(words)?;
+    Ok(Request::Take(Event::ShadowGetOrAlloc(key, value)))
+}
+
+fn free_line(words: &mut Words<'_>) -> Result<Request, LineFault>
+    ensures { result ≡ free_line words.old }
+{
+    Ok(Request::Take(Event::ShadowFree(key(words)?)))
+}
+
+fn free_all_line(words: &mut Words<'_>) -> Result<Request, LineFault>
+    ensures { result ≡ free_all_line words.old }
+{
+    let id = word(words)?;
+    end(words)?;
+    Ok(Request::Take(Event::ShadowFreeAll(number(id)?)))
+}
+
+fn get_line(words: &mut Words<'_>) -> Result<Request, LineFault>
+    ensures { result ≡ get_line words.old }
+{
+    Ok(Request::See(Query::Variable(key(words)?)))
+}
+
+/// The words after `shadow`: a verb, and numbers. A key is two of them, since it has a parent object and an
+/// id.
+pub(crate) fn shadow_line(words: &mut Words<'_>) -> Result<Request, LineFault>
+    ensures { result ≡ shadow_line words.old }
+{
+    let verb = word(words)?;
+    if verb == b"alloc".as_slice() {
+        alloc_line(words)
+    } else if verb == b"getalloc".as_slice() {
+        get_or_alloc_line(words)
+    } else if verb == b"free".as_slice() {
+        free_line(words)
+    } else if verb == b"freeall".as_slice() {
+        free_all_line(words)
+    } else if verb == b"get".as_slice() {
+        get_line(words)
+    } else {
+        Err(LineFault::BadLine)
+    }
+}

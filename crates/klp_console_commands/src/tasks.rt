@@ -1,0 +1,130 @@
+//! The lines of what tasks do, which in a kernel nobody types: here they are in place of its scheduler.
+
+ghost use Rattle.std.specs.Prelude.{◌≡◌, ◌≤◌, length};
+ghost use Rattle.klp_console_commands.specs.Words.{words_of};
+ghost use Rattle.klp_console_commands.specs.Names.{is_frame, are_frames, versions_of};
+ghost use Rattle.klp_console_commands.specs.Lines.{sleep_line, fork_line, plain_event, plain_line, task_line};
+
+use crate::fault::LineFault;
+use crate::names::{NameResolver, task};
+use crate::request::Request;
+use crate::words::{end, is_name, number_to, word};
+use klp_model::Event;
+use klp_types::{Frames, MAX_FRAMES, MAX_INDEX, MAX_TASK_NUMBER};
+use klp_words::{Words, cut, spelling_of};
+
+/// Whether a word spells a function that a task may be inside of, known or not: shapes come before names.
+fn is_frame(word: &[u8]) -> bool
+    ensures { result ≡ is_frame word.now }
+{
+    if spelling_of(word).is_some() {
+        return true;
+    }
+    let (patch, index) = cut(word, b':');
+    is_name(patch) && number_to(MAX_INDEX, index).is_ok()
+}
+
+/// Whether each word spells a function, and there are no more than a task can be inside of. The words are
+/// read once more for their names, so that no list of half-read frames is kept (docs/DECISIONS.md, "Frames
+/// read twice").
+fn are_frames(words: &Words<'_>) -> bool
+    ensures { result ≡ are_frames words.now }
+{
+    let mut left = words.again();
+    let mut count = 0;
+    while let Some(word) = left.next() {
+        if count == MAX_FRAMES || !is_frame(word) {
+            return false;
+        }
+        count += 1;
+    }
+    true
+}
+
+/// The functions that the words spell, of which there aren't too many: so each finds its place, and the
+/// answer of `push` is dropped.
+fn frames(words: &Words<'_>, names: &NameResolver<'_>) -> Result<Frames, LineFault>
+    requires { length words.now ≤ MAX_FRAMES }
+    ensures { result ≡ versions_of names.now words.now }
+{
+    let mut left = words.again();
+    let mut frames = Frames::new();
+    while let Some(word) = left.next() {
+        let _ = frames.push(names.version(word)?);
+    }
+    Ok(frames)
+}
+
+/// The words after the task that falls asleep: the functions that it is inside of, innermost last. There
+/// may be none.
+fn sleep_line(
+    number: u64,
+    words: &mut Words<'_>,
+    names: &NameResolver<'_>,
+) -> Result<Request, LineFault>
+    ensures { result ≡ sleep_line names.now number words.old }
+{
+    if !are_frames(words) {
+        return Err(LineFault::BadLine);
+    }
+    let task = task(number)?;
+    Ok(Request::Take(Event::Sleep(task, frames(words, names)?)))
+}
+
+/// The word after the task that forks: the one that it makes. Its shape is looked at before either task.
+fn fork_line(number: u64, words: &mut Words<'_>) -> Result<Request, LineFault>
+    ensures { result ≡ fork_line number words.old }
+{
+    let child = word(words)?;
+    end(words)?;
+    let child = number_to(MAX_TASK_NUMBER, child)?;
+    let parent = task(number)?;
+    Ok(Request::Take(Event::Fork(parent, task(child)?)))
+}
+
+/// What a task does, where the verb needs no more words. An unknown verb is a bad line, whatever its task
+/// is.
+fn plain_event(verb: &[u8], number: u64) -> Result<Request, LineFault>
+    ensures { result ≡ plain_event verb.now number }
+{
+    if verb == b"new".as_slice() {
+        Ok(Request::Take(Event::NewTask(task(number)?)))
+    } else if verb == b"end".as_slice() {
+        Ok(Request::Take(Event::EndTask(task(number)?)))
+    } else if verb == b"enter".as_slice() {
+        Ok(Request::Take(Event::EnterKernel(task(number)?)))
+    } else if verb == b"exit".as_slice() {
+        Ok(Request::Take(Event::ExitToUser(task(number)?)))
+    } else if verb == b"wake".as_slice() {
+        Ok(Request::Take(Event::Wake(task(number)?)))
+    } else {
+        Err(LineFault::BadLine)
+    }
+}
+
+fn plain_line(verb: &[u8], number: u64, words: &mut Words<'_>) -> Result<Request, LineFault>
+    ensures { result ≡ plain_line verb.now number words.old }
+{
+    end(words)?;
+    plain_event(verb, number)
+}
+
+/// The words after `task`: a verb, a task and what the verb needs. The task's number is read before the
+/// verb is known, since every verb has one.
+pub(crate) fn task_line(
+    words: &mut Words<'_>,
+    names: &NameResolver<'_>,
+) -> Result<Request, LineFault>
+    ensures { result ≡ task_line names.now words.old }
+{
+    let verb = word(words)?;
+    let word = word(words)?;
+    let number = number_to(MAX_TASK_NUMBER, word)?;
+    if verb == b"sleep".as_slice() {
+        sleep_line(number, words, names)
+    } else if verb == b"fork".as_slice() {
+        fork_line(number, words)
+    } else {
+        plain_line(verb, number, words)
+    }
+}

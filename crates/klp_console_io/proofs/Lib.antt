@@ -1,0 +1,4 @@
+pub mod LineLemmas
+pub mod SaysLemmas
+pub mod WriteLemmas
+pub mod TextLemmas

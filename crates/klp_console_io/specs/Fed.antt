@@ -1,0 +1,25 @@
+-- What is fed from memory.
+use Rattle.std.specs.Prelude.{ℕ, Bool, List, Option, Some, length, min}
+use Rattle.klp_console_io.specs.Supply.{Supply}
+
+pub record Fed : Type 0 where
+  -- the bytes that are still to be read
+  pub left : List ℕ
+  -- how many bytes one read gives at most
+  pub most : ℕ
+  -- how many reads come before the one that fails, where one does
+  pub fails_in : Option ℕ
+  -- whether a read into some room gave no byte
+  pub has_ended : Bool
+  -- how many reads failed
+  pub failures : ℕ
+  -- how many reads into some room were made, or failed
+  pub reads : ℕ
+
+-- what it is to those who read
+abbrev pub supply_of : Fed → Supply
+supply_of fed = record { left = Some fed.left; has_ended = fed.has_ended; failures = fed.failures; reads = fed.reads }
+
+-- how many bytes a read gives into so much room
+abbrev pub given : Fed → ℕ → ℕ
+given fed room = min (min fed.most (length fed.left)) room

@@ -1,0 +1,9 @@
+pub mod Lines
+pub mod Written
+pub mod Gathered
+pub mod Says
+pub mod Texts
+pub mod Supply
+pub mod Due
+pub mod Fed
+pub mod Held

@@ -1,0 +1,170 @@
+//! What is said: gathered first, and written where the room is full, since a write for each word would be a
+//! call of the kernel each.
+ghost use Rattle.std.specs.Prelude.{◌≡◌, ℕ, ◌+◌, ◌<◌, ◌≤◌, ◌⊎◌, false, List, [], length, OnOk, OnErr};
+ghost use Rattle.std.specs.Fmt.{decimal, signed_decimal};
+ghost use Rattle.std.specs.Io.KnownBytes.{Appends};
+ghost use Rattle.hex.specs.Hex.{encode_lower};
+ghost use Rattle.klp_console_io.specs.Says.{IsWell, IsToBlame, Moves, Says};
+ghost use Rattle.klp_console_io.specs.Texts.{address_text};
+
+use crate::sink::{Failed, Sink};
+use arrayvec::ArrayVec;
+use itoa::Buffer;
+use klp_types::ANSWER_ROOM;
+use std::marker::Model;
+
+/// How many bytes are turned into digits at a time, so that their room is small however long a body is.
+const PIECE: usize = 32;
+
+/// What was said and isn't written yet. What is said goes to the same sink each time, which is handed in
+/// again and not kept, so that a console may lend it out.
+#[derive(Drop)]
+pub struct Answers {
+    bytes: ArrayVec<u8, ANSWER_ROOM>,
+    /// Whether the sink has failed. It is kept here, so that whoever says ten words needs to ask once
+    /// (docs/DECISIONS.md, "A failed sink").
+    has_failed: bool,
+}
+
+impl Model for Answers {
+    ghost use Rattle.klp_console_io.specs.Gathered.{Gathered};
+
+    ghost Value = { Gathered };
+
+    ghost view = { λ a. record { bytes = a.bytes.items; has_failed = a.has_failed } };
+}
+
+/// Writes all bytes, in as many writes as it takes. A write that takes none is a failure, since to try
+/// again might never end.
+fn write_all<W: Sink>(writer: &mut W, bytes: &[u8]) -> Result<(), Failed>
+    ensures ok { OnOk result (Appends (W.written writer.old).taken (W.written writer.new).taken bytes.now × IsWell (W.written writer.old) (W.written writer.new)) }
+    ensures err { OnErr result ((gone rest : List ℕ) × Moves (W.written writer.old) (W.written writer.new) bytes.now gone rest × IsToBlame (W.written writer.old) (W.written writer.new) × (0 < length rest)) }
+{
+    let mut done = 0;
+    while done < bytes.len() {
+        match writer.write(&bytes[done..]) {
+            Err(_) => return Err(Failed),
+            Ok(count) => {
+                if count == 0 {
+                    return Err(Failed);
+                }
+                done += count;
+            }
+        }
+    }
+    Ok(())
+}
+
+/// The digits of a piece, in room for those of the longest, which is lent so that nothing is allocated.
+fn in_hex<'a>(piece: &[u8], digits: &'a mut [u8; 2 * PIECE]) -> &'a [u8]
+    requires { length piece.now ≤ PIECE }
+    ensures { result.now ≡ encode_lower piece.now }
+{
+    let digits = &mut digits[..2 * piece.len()];
+    // the room is as long as the digits, so this can't fail
+    let _ = hex::encode_to_slice(piece, digits);
+    digits
+}
+
+impl Answers {
+    /// Nothing is said yet, and no sink is known: it comes with the first call.
+    pub fn new() -> Answers
+        ensures { result ≡ record { bytes = []; has_failed = false } }
+    {
+        Answers {
+            bytes: ArrayVec::new(),
+            has_failed: false,
+        }
+    }
+
+    /// Whether the sink has failed. From then on nothing is said: what is lost is the end of all answers,
+    /// and no piece in between.
+    pub fn has_failed(&self) -> bool
+        ensures { result ≡ self.now.has_failed }
+    {
+        self.has_failed
+    }
+
+    /// Writes all that was gathered. After a failure it does nothing, so it may be called without asking.
+    #[tactic(auto, unfolding(crate::specs::Says::Speaks))]
+    pub fn flush<W: Sink>(&mut self, writer: &mut W)
+        ensures says { Says (self.old, W.written writer.old) (self.new, W.written writer.new) [] }
+        ensures empty { self.new.has_failed ≡ false → self.new.bytes ≡ [] }
+    {
+        if self.has_failed {
+            return;
+        }
+        match write_all(writer, self.bytes.as_slice()) {
+            Ok(()) => self.bytes.clear(),
+            Err(Failed) => self.has_failed = true,
+        }
+    }
+
+    /// Writes what was gathered, where there is no room behind it, so that texts are written in their
+    /// order.
+    #[tactic(auto, unfolding(crate::specs::Says::Speaks))]
+    fn make_room<W: Sink>(&mut self, writer: &mut W, len: usize)
+        ensures says { Says (self.old, W.written writer.old) (self.new, W.written writer.new) [] }
+        ensures room { (length self.new.bytes + len ≤ ANSWER_ROOM) ⊎ (self.new.has_failed ≡ false → self.new.bytes ≡ []) }
+    {
+        if self.bytes.remaining_capacity() < len {
+            self.flush(writer);
+        }
+    }
+
+    /// Says a text for which there is room, or before which nothing is gathered: a longer one is written at
+    /// once, since it would never fit.
+    #[tactic(auto, unfolding(crate::specs::Says::Speaks))]
+    fn take<W: Sink>(&mut self, writer: &mut W, text: &[u8])
+        requires { (length self.old.bytes + length text.now ≤ ANSWER_ROOM) ⊎ (self.old.has_failed ≡ false → self.old.bytes ≡ []) }
+        ensures { Says (self.old, W.written writer.old) (self.new, W.written writer.new) text.now }
+    {
+        if !self.has_failed && self.bytes.try_extend_from_slice(text).is_err() {
+            self.has_failed = write_all(writer, text).is_err();
+        }
+    }
+
+    /// Says a text: it is gathered, and what was gathered is written first where there is no room for both.
+    /// A text that is longer than the room is written at once, so any length may be said.
+    pub fn say<W: Sink>(&mut self, writer: &mut W, text: &[u8])
+        ensures { Says (self.old, W.written writer.old) (self.new, W.written writer.new) text.now }
+    {
+        self.make_room(writer, text.len());
+        self.take(writer, text);
+    }
+
+    /// Says a number in decimal digits, without zeros in front.
+    pub fn number<W: Sink>(&mut self, writer: &mut W, number: u64)
+        ensures { Says (self.old, W.written writer.old) (self.new, W.written writer.new) (decimal number) }
+    {
+        self.say(writer, Buffer::new().format(number).as_bytes());
+    }
+
+    /// Says a number in decimal digits, behind a minus where it is below zero.
+    pub fn signed<W: Sink>(&mut self, writer: &mut W, value: i64)
+        ensures { Says (self.old, W.written writer.old) (self.new, W.written writer.new) (signed_decimal value) }
+    {
+        self.say(writer, Buffer::new().format(value).as_bytes());
+    }
+
+    /// Says bytes as pairs of lower-case hexadecimal digits, in the order of the bytes.
+    pub fn hex<W: Sink>(&mut self, writer: &mut W, bytes: &[u8])
+        ensures { Says (self.old, W.written writer.old) (self.new, W.written writer.new) (encode_lower bytes.now) }
+    {
+        let mut digits = [0; 2 * PIECE];
+        let mut done = 0;
+        while done < bytes.len() {
+            let piece = &bytes[done..(done + PIECE).min(bytes.len())];
+            self.say(writer, in_hex(piece, &mut digits));
+            done += piece.len();
+        }
+    }
+
+    /// Says an address as 16 lower-case hexadecimal digits, zeros in front among them, so that addresses
+    /// align.
+    pub fn address<W: Sink>(&mut self, writer: &mut W, address: u64)
+        ensures { Says (self.old, W.written writer.old) (self.new, W.written writer.new) (address_text address) }
+    {
+        self.hex(writer, &address.to_be_bytes());
+    }
+}

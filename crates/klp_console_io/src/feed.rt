@@ -1,0 +1,101 @@
+//! Bytes in memory as a source, so that tests can cut an input as they want.
+ghost use Rattle.std.specs.Prelude.{◌≡◌, ◌<◌, ◌≤◌, ◌↔◌, false, length, Some, IsErr, IfOk, OnErr};
+
+use crate::count::{Count, two_counts};
+use crate::due::is_due;
+use crate::sink::Failed;
+use crate::source::Source;
+use std::marker::Model;
+use std::sync::ledger::{Blank, Book, Ledger};
+
+/// Bytes in memory, of which one read gives so many at most, so that an input can be cut as finely as one
+/// wants. One read may fail, by its number. A feed ends only where no byte is left.
+#[derive(Drop)]
+pub struct Feed<'a, L: Ledger> {
+    left: &'a [u8],
+    most: usize,
+    /// How many reads come before the one that fails. None fails where there is no number.
+    fails_in: Option<u32>,
+    has_ended: bool,
+    book: Book<L>,
+    failures: Count<L>,
+    reads: Count<L>,
+}
+
+impl<'a, L: Ledger> Model for Feed<'a, L> {
+    ghost use Rattle.std.specs.Prelude.{◌<◌};
+    ghost use Rattle.klp_console_io.specs.Fed.{Fed};
+
+    ghost Value = { Fed };
+
+    ghost view = { λ f. record { left = f.left.now; most = f.most; fails_in = f.fails_in; has_ended = f.has_ended; failures = f.failures; reads = f.reads } };
+
+    ghost invariant = { λ f. 0 < f.most };
+}
+
+impl<'a, L: Ledger> Feed<'a, L> {
+    /// Feeds `bytes`, at most `most` of them in one read, which isn't 0, or the feed would end at once. The
+    /// read of the number `fails_at` fails, counted from 0. The blank is for the two counts, and has two
+    /// parts.
+    pub fn new(bytes: &'a [u8], most: usize, fails_at: Option<u32>, blank: Blank) -> Self
+        requires most { 0 < most }
+        requires name { blank.name ≡ L.name }
+        requires parts { blank.parts ≡ L.parts }
+        requires two { 2 ≤ blank.parts }
+        ensures { result ≡ record { left = bytes.now; most = most; fails_in = fails_at; has_ended = false; failures = 0; reads = 0 } }
+    {
+        let (book, failures, reads) = two_counts(blank);
+        Feed {
+            left: bytes,
+            most,
+            fails_in: fails_at,
+            has_ended: false,
+            book,
+            failures,
+            reads,
+        }
+    }
+
+    /// The bytes that are still to be read: a test sees by them how far serving came.
+    pub fn left(&self) -> &'a [u8]
+        ensures { result.now ≡ self.now.left }
+    {
+        self.left
+    }
+}
+
+impl<'a, L: Ledger> Source for Feed<'a, L> {
+    ghost use Rattle.klp_console_io.specs.Supply.{Gives, Fails};
+    ghost use Rattle.klp_console_io.specs.Due.{one_sooner};
+    ghost use Rattle.klp_console_io.specs.Fed.{supply_of, given};
+
+    ghost supply = { supply_of };
+
+    /// Gives as many bytes as it may, as there are and as there is room for, unless it is the read that
+    /// fails, which gives none. A read into no room is no end.
+    fn read(&mut self, buf: &mut [u8]) -> Result<usize, Failed>
+        ensures ok { IfOk result (λ n. Gives (supply_of self.old) (supply_of self.new) buf.new n) }
+        ensures err { OnErr result (Fails (supply_of self.old) (supply_of self.new)) }
+        ensures due { IsErr result ↔ (self.old.fails_in ≡ Some 0) }
+        ensures sooner { self.new.fails_in ≡ one_sooner self.old.fails_in }
+        ensures count { IfOk result (λ n. n ≡ given self.old (length buf.old)) }
+        ensures most { self.new.most ≡ self.old.most }
+    {
+        let fails = is_due(&mut self.fails_in);
+        if fails || !buf.is_empty() {
+            self.reads.add(&mut self.book);
+        }
+        if fails {
+            self.failures.add(&mut self.book);
+            return Err(Failed);
+        }
+        let count = self.most.min(self.left.len()).min(buf.len());
+        let (front, rest) = self.left.split_at(count);
+        buf[..count].copy_from_slice(front);
+        self.left = rest;
+        if count == 0 && !buf.is_empty() {
+            self.has_ended = true;
+        }
+        Ok(count)
+    }
+}

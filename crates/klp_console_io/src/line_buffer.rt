@@ -1,0 +1,107 @@
+//! A line that is heard in pieces, as reads have no regard for lines.
+ghost use Rattle.std.specs.Prelude.{◌≡◌, ℕ, ◌<◌, ◌≤◌, position, List, [], ◌∷◌, ◌++◌, length, IfOk, IfSome, IfNone, OnOk, OnErr};
+ghost use Rattle.klp_console_io.specs.Lines.{is_line_feed, lines_and_rest};
+
+use arrayvec::ArrayVec;
+use klp_types::MAX_CONSOLE_LINE;
+use std::marker::Model;
+
+/// That a line is longer than [`MAX_CONSOLE_LINE`]. There is no more to report, since the line isn't kept.
+#[derive(Debug, Clone, Copy, PartialEq, Eq)]
+pub struct TooLong;
+
+/// The bytes of one line, as far as they were heard: contracts see them as a list. A line feed ends the
+/// line and is no byte of it. It has room for [`MAX_CONSOLE_LINE`] bytes in itself, since serving takes no
+/// memory.
+#[derive(Drop)]
+pub struct LineBuffer {
+    bytes: ArrayVec<u8, MAX_CONSOLE_LINE>,
+}
+
+impl Model for LineBuffer {
+    ghost use Rattle.std.specs.Prelude.{◌≡◌, ℕ, List, [], ◌∷◌};
+    ghost use Rattle.klp_console_io.specs.Lines.{lines_and_rest};
+
+    ghost Value = { List ℕ };
+
+    ghost view = { λ l. l.bytes.items };
+
+    // no byte is a line feed, so what was heard is one line
+    ghost invariant = { λ l. lines_and_rest l.bytes.items ≡ l.bytes.items ∷ [] };
+}
+
+/// Where the first line feed is, from 0; nothing where the piece is in one line.
+fn line_feed(bytes: &[u8]) -> Option<usize>
+    ensures { result ≡ position is_line_feed bytes.now }
+{
+    bytes.iter().position(|b| *b == b'\n')
+}
+
+/// What is before the first line feed, and what is after it, where there is one. A piece that ends with it
+/// has an empty rest, which isn't the same as none: the line is finished.
+fn cut(piece: &[u8]) -> (&[u8], Option<&[u8]>)
+    ensures front { lines_and_rest result.0.now ≡ result.0.now ∷ [] }
+    ensures whole { IfNone result.1 (result.0.now ≡ piece.now) }
+    ensures rest { IfSome result.1 (λ rest. lines_and_rest piece.now ≡ result.0.now ∷ lines_and_rest rest.now) }
+    ensures shorter { IfSome result.1 (λ rest. length rest.now < length piece.now) }
+{
+    match line_feed(piece) {
+        Some(end) => (&piece[..end], Some(&piece[end + 1..])),
+        None => (piece, None),
+    }
+}
+
+impl LineBuffer {
+    /// Nothing is heard of the line yet: its next byte is the first.
+    pub fn new() -> LineBuffer
+        ensures { result ≡ [] }
+    {
+        LineBuffer {
+            bytes: ArrayVec::new(),
+        }
+    }
+
+    /// The bytes of the line as far as they were heard, none of which is a line feed.
+    pub fn bytes(&self) -> &[u8]
+        ensures bytes { result.now ≡ self.now }
+        ensures limit { length result.now ≤ MAX_CONSOLE_LINE }
+        ensures one_line { lines_and_rest result.now ≡ result.now ∷ [] }
+    {
+        self.bytes.as_slice()
+    }
+
+    /// Forgets the line, so that the next one can be heard in the same room.
+    pub fn clear(&mut self)
+        ensures { self.new ≡ [] }
+    {
+        self.bytes.clear();
+    }
+
+    /// Hears a piece up to its first line feed.
+    ///
+    /// `Ok(Some(rest))`: the line is finished, and `rest` is what comes after its line feed. `Ok(None)`:
+    /// the piece has no line feed, and all of it belongs to the line. `Err`: the line is longer than
+    /// [`MAX_CONSOLE_LINE`], whether it has ended or not, and stays as it was before the piece.
+    ///
+    /// Looks at the piece up to its first line feed, and copies that much in one go.
+    pub fn hear<'a>(&mut self, piece: &'a [u8]) -> Result<Option<&'a [u8]>, TooLong>
+        ensures finished { IfOk result (λ heard. IfSome heard (λ rest.
+            lines_and_rest (self.old ++ piece.now) ≡ self.new ∷ lines_and_rest rest.now)) }
+        ensures shorter { IfOk result (λ heard. IfSome heard (λ rest. length rest.now < length piece.now)) }
+
+        ensures unfinished { IfOk result (λ heard. IfNone heard (lines_and_rest (self.old ++ piece.now) ≡ self.new ∷ [])) }
+        ensures heard { IfOk result (λ heard. IfNone heard (self.new ≡ self.old ++ piece.now)) }
+
+        // so it is an error exactly where the first line is too long, be it finished or not
+        ensures limit { OnOk result (length self.new ≤ MAX_CONSOLE_LINE) }
+        ensures too_long { OnErr result ((long : List ℕ) × (more : List (List ℕ))
+            × (lines_and_rest (self.old ++ piece.now) ≡ long ∷ more) × (MAX_CONSOLE_LINE < length long)) }
+        ensures unchanged { OnErr result (self.new ≡ self.old) }
+    {
+        let (front, rest) = cut(piece);
+        if self.bytes.try_extend_from_slice(front).is_err() {
+            return Err(TooLong);
+        }
+        Ok(rest)
+    }
+}

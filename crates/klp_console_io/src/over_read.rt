@@ -1,0 +1,86 @@
+//! A reader of std as a source: the standard input of the program, and readers in tests.
+ghost use Rattle.std.specs.Prelude.{◌≡◌, ◌≤◌, false};
+
+use crate::count::{Count, two_counts};
+use crate::sink::Failed;
+use crate::source::Source;
+use std::io::Read;
+use std::marker::Model;
+use std::sync::ledger::{Blank, Book, Ledger};
+
+/// A reader of std. Contracts know what it has left where they know it of the reader: of a slice they do,
+/// of standard input they don't.
+#[derive(Drop)]
+pub struct OverRead<R: Read, L: Ledger> {
+    reader: R,
+    has_ended: bool,
+    book: Book<L>,
+    failures: Count<L>,
+    reads: Count<L>,
+}
+
+impl<R: Read, L: Ledger> Model for OverRead<R, L> {
+    ghost use Rattle.klp_console_io.specs.Supply.{Supply};
+
+    ghost Value = { Supply };
+
+    ghost view = { λ o. record { left = R.remaining o.reader; has_ended = o.has_ended; failures = o.failures; reads = o.reads } };
+}
+
+impl<R: Read, L: Ledger> OverRead<R, L> {
+    /// Reads from `reader`. The blank is for the two counts, and has two parts.
+    pub fn new(reader: R, blank: Blank) -> Self
+        requires name { blank.name ≡ L.name }
+        requires parts { blank.parts ≡ L.parts }
+        requires two { 2 ≤ blank.parts }
+        ensures { result ≡ record { left = R.remaining reader; has_ended = false; failures = 0; reads = 0 } }
+    {
+        let (book, failures, reads) = two_counts(blank);
+        OverRead {
+            reader,
+            has_ended: false,
+            book,
+            failures,
+            reads,
+        }
+    }
+
+    /// The reader again, with what it has left, so that its owner may go on.
+    pub fn into_inner(self) -> R
+        ensures { R.remaining result ≡ self.left }
+    {
+        let OverRead {
+            reader,
+            has_ended: _,
+            book: _,
+            failures: _,
+            reads: _,
+        } = self;
+        reader
+    }
+}
+
+impl<R: Read, L: Ledger> Source for OverRead<R, L> {
+    ghost supply = { λ o. o };
+
+    fn read(&mut self, buf: &mut [u8]) -> Result<usize, Failed> {
+        match self.reader.read(buf) {
+            Ok(count) => {
+                if !buf.is_empty() {
+                    self.reads.add(&mut self.book);
+                }
+                if count == 0 && !buf.is_empty() {
+                    self.has_ended = true;
+                }
+                Ok(count)
+            }
+            // That this was a failure of the reader no clause says, since std's readers count none
+            // (docs/DECISIONS.md, "Failures of std").
+            Err(_) => {
+                self.reads.add(&mut self.book);
+                self.failures.add(&mut self.book);
+                Err(Failed)
+            }
+        }
+    }
+}

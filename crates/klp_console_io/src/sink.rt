@@ -1,0 +1,28 @@
+//! What answers are written to. It is a trait of its own beside std's `Write`, since its contract counts
+//! what fails.
+ghost use Rattle.std.specs.Prelude.{◌≡◌, ◌+◌, ◌<◌, ◌≤◌, length, take, IfOk, OnErr};
+ghost use Rattle.std.specs.Io.KnownBytes.{Appends, Keeps};
+ghost use Rattle.klp_console_io.specs.Written.{Written};
+
+/// That a write failed. What went wrong isn't said, since the console can only stop.
+#[derive(Debug, Clone, Copy, PartialEq, Eq)]
+pub struct Failed;
+
+/// What takes bytes, perhaps fewer than it is given, as a pipe does.
+pub trait Sink {
+    /// What was written to it so far, where that is known, and what went wrong.
+    ghost written: { Self → Written };
+
+    /// Writes some bytes from the front of `bytes`, and answers how many. None of some is a stall,
+    /// an empty write is none, and an `Err` is a failure, which takes nothing.
+    fn write(&mut self, bytes: &[u8]) -> Result<usize, Failed>
+        ensures bound { IfOk result (λ n. n ≤ length bytes.now) }
+        ensures ok { IfOk result (λ n. Appends (written self.old).taken (written self.new).taken (take n bytes.now)
+            × ((written self.new).failures ≡ (written self.old).failures)) }
+        ensures stall { IfOk result (λ n. n ≡ 0 → 0 < length bytes.now → (written self.new).stalls ≡ (written self.old).stalls + 1) }
+        ensures no_bytes { IfOk result (λ n. length bytes.now ≡ 0 → (written self.new).stalls ≡ (written self.old).stalls) }
+        ensures moved { IfOk result (λ n. 0 < n → (written self.new).stalls ≡ (written self.old).stalls) }
+        ensures err { OnErr result (Keeps (written self.old).taken (written self.new).taken
+            × ((written self.new).failures ≡ (written self.old).failures + 1)
+            × ((written self.new).stalls ≡ (written self.old).stalls)) };
+}

@@ -1,0 +1,193 @@
+//! The events that are measured.
+
+use klp_model::Event;
+use klp_types::{Frames, MAX_FRAMES, MAX_TASKS, PatchId, ShadowKey, Site, TaskId, Version};
+use std::alloc::{AllocError, Global};
+use std::ops::Range;
+
+const HANDLER: u64 = 0xffff_ffff_8100_0000;
+
+const SITES: u16 = 256;
+
+const PATCHES: u8 = 16;
+
+const FUNCTIONS: u16 = 64;
+
+/// How many shadow variables are there while some come and go.
+pub(crate) const FEW: u64 = 10;
+
+pub(crate) const MANY: u64 = 500;
+
+/// How often something comes and goes in a slice.
+const PAIRS: u64 = 16;
+
+/// How many tasks enter the kernel and leave it.
+const TASKS: u8 = 8;
+
+/// How often one task enters the kernel and leaves it.
+const TURNS: u64 = 2_047;
+
+/// A kernel of as many functions as there may be, of eight bytes each, and as many patches as there
+/// may be, each with as many functions as it may have: four of them cover the kernel.
+pub(crate) fn catalog(alloc: Global) -> Result<String, AllocError> {
+    let mut text = format!(in alloc; "handler {HANDLER:x}\nobject vmlinux\n")?;
+    for site in 0..SITES {
+        let address = HANDLER + 0x1000 + u64::from(site) * 16;
+        let line = format!(in alloc; "symbol f{site} {address:x} 0000000000000000\n")?;
+        text.push_str(line.as_str())?;
+    }
+    for patch in 0..PATCHES {
+        let line = format!(in alloc; "patch p{patch}\ntarget vmlinux\n")?;
+        text.push_str(line.as_str())?;
+        let first = u16::from(patch % 4) * FUNCTIONS;
+        for site in first..first + FUNCTIONS {
+            let line = format!(in alloc;
+                "func .klp.sym.vmlinux.f{site},0 n{site} ffffffffc0000000\n"
+            )?;
+            text.push_str(line.as_str())?;
+        }
+    }
+    Ok(text)
+}
+
+/// Each patch is enabled and its transition completed.
+pub(crate) fn enabled(alloc: Global) -> Result<Vec<Event>, AllocError> {
+    let mut events = Vec::new(alloc);
+    for patch in 0..PATCHES {
+        events.push(Event::Enable(PatchId(patch)))?;
+        events.push(Event::Poll)?;
+    }
+    Ok(events)
+}
+
+/// Where all patches are installed, each of these is refused.
+pub(crate) fn refused(alloc: Global) -> Result<Vec<Event>, AllocError> {
+    let mut events = Vec::new(alloc);
+    for patch in 0..32 {
+        events.push(Event::Enable(PatchId(patch)))?;
+        events.push(Event::Poll)?;
+    }
+    Ok(events)
+}
+
+/// Adds the shadow variables of these numbers.
+pub(crate) fn added(alloc: Global, numbers: Range<u64>) -> Result<Vec<Event>, AllocError> {
+    let mut events = Vec::new(alloc);
+    for obj in numbers {
+        events.push(Event::ShadowAlloc(ShadowKey { obj, id: 1 }, obj))?;
+    }
+    Ok(events)
+}
+
+/// A shadow variable between the others comes and goes.
+pub(crate) fn pairs(alloc: Global) -> Result<Vec<Event>, AllocError> {
+    let mut events = Vec::new(alloc);
+    for pair in 0..PAIRS {
+        let key = ShadowKey {
+            obj: pair % FEW,
+            id: 2,
+        };
+        events.push(Event::ShadowAlloc(key, pair))?;
+        events.push(Event::ShadowFree(key))?;
+    }
+    Ok(events)
+}
+
+/// Tasks begin.
+pub(crate) fn begun(alloc: Global) -> Result<Vec<Event>, AllocError> {
+    let mut events = Vec::new(alloc);
+    for task in 0..TASKS {
+        events.push(Event::NewTask(TaskId(task)))?;
+    }
+    Ok(events)
+}
+
+/// They enter the kernel and leave it in turn.
+pub(crate) fn entered(alloc: Global) -> Result<Vec<Event>, AllocError> {
+    let mut events = Vec::new(alloc);
+    for _ in 0..PAIRS {
+        for task in 0..TASKS {
+            events.push(Event::EnterKernel(TaskId(task)))?;
+            events.push(Event::ExitToUser(TaskId(task)))?;
+        }
+    }
+    Ok(events)
+}
+
+/// A task begins, and enters the kernel and leaves it in turn: one event less than the journal takes.
+pub(crate) fn turns(alloc: Global) -> Result<Vec<Event>, AllocError> {
+    let mut events = Vec::new(alloc);
+    events.push(Event::NewTask(TaskId(0)))?;
+    for _ in 0..TURNS {
+        events.push(Event::EnterKernel(TaskId(0)))?;
+        events.push(Event::ExitToUser(TaskId(0)))?;
+    }
+    Ok(events)
+}
+
+/// A patch is enabled, disabled and gone again.
+pub(crate) fn cycle(alloc: Global) -> Result<Vec<Event>, AllocError> {
+    let mut events = Vec::new(alloc);
+    for _ in 0..PAIRS {
+        events.push(Event::Enable(PatchId(0)))?;
+        events.push(Event::Poll)?;
+        events.push(Event::SetEnabled(PatchId(0), false))?;
+        events.push(Event::Poll)?;
+    }
+    Ok(events)
+}
+
+/// As many tasks as there may be fall asleep, and beside them the first patch comes and goes, and shadow
+/// variables do.
+pub(crate) fn mixed(alloc: Global) -> Result<Vec<Event>, AllocError> {
+    let mut events = asleep(alloc, Version::Original(Site(FUNCTIONS)))?;
+    for obj in 0..PAIRS {
+        let key = ShadowKey { obj, id: 1 };
+        events.push(Event::Enable(PatchId(0)))?;
+        events.push(Event::ShadowAlloc(key, obj))?;
+        events.push(Event::Poll)?;
+        events.push(Event::SetEnabled(PatchId(0), false))?;
+        events.push(Event::ShadowFree(key))?;
+        events.push(Event::Poll)?;
+    }
+    Ok(events)
+}
+
+/// As many frames as there may be: the innermost is this function, the others are of functions that the
+/// first patch doesn't change.
+fn frames(innermost: Version) -> Frames {
+    let mut frames = Frames::new();
+    for _ in 1..MAX_FRAMES {
+        frames.push(Version::Original(Site(FUNCTIONS)));
+    }
+    frames.push(innermost);
+    frames
+}
+
+/// As many tasks as there may be fall asleep inside of these functions.
+pub(crate) fn asleep(alloc: Global, innermost: Version) -> Result<Vec<Event>, AllocError> {
+    let frames = frames(innermost);
+    let mut events = Vec::new(alloc);
+    for task in 0..MAX_TASKS as u8 {
+        events.push(Event::NewTask(TaskId(task)))?;
+        events.push(Event::EnterKernel(TaskId(task)))?;
+        events.push(Event::Sleep(TaskId(task), frames))?;
+    }
+    Ok(events)
+}
+
+/// The transition of the first patch starts.
+pub(crate) fn started(alloc: Global) -> Result<Vec<Event>, AllocError> {
+    let mut events = Vec::new(alloc);
+    events.push(Event::Enable(PatchId(0)))?;
+    Ok(events)
+}
+
+/// The transition is tried again and again.
+pub(crate) fn polls(alloc: Global) -> Result<Vec<Event>, AllocError> {
+    let mut events = Vec::new(alloc);
+    for _ in 0..PAIRS {
+        events.push(Event::Poll)?;
+    }
+    Ok(events)
+}

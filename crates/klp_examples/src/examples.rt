@@ -1,0 +1,122 @@
+//! Serves each example: its script over its catalog has to print its output, and nothing else, however
+//! few bytes a read gives and a write takes.
+
+use crate::Fault;
+use crate::few::Few;
+use crate::tally::Tally;
+use klp_program::{catalog_in, console};
+use std::alloc::Global;
+use std::fs;
+use std::rt::Files;
+
+/// The examples, a line each: the name of the script and the output, `NAME.script` and `NAME.output`,
+/// and the name of the catalog where that is another, as `CATALOG.catalog`. Lines that begin with `#` say
+/// what the next ones show.
+const INDEX: &str = "index";
+
+/// What stands for the catalog that is served where no file is named.
+const BUILT_IN: &str = "-";
+
+// What a run answers: its status, and what it writes.
+#[derive(Debug, Drop)]
+struct Outcome {
+    status: u8,
+    out: Vec<u8>,
+    err: Vec<u8>,
+}
+
+// How an input and an output are cut.
+#[derive(Clone, Copy)]
+struct Cut {
+    name: &'static str,
+    // How many bytes a read gives at most, and a write takes.
+    read: usize,
+    written: usize,
+}
+
+/// All at once, read byte by byte, written byte by byte, and both in small pieces.
+const CUTS: [Cut; 5] = [
+    Cut {
+        name: "whole",
+        read: usize::MAX,
+        written: usize::MAX,
+    },
+    Cut {
+        name: "read byte by byte",
+        read: 1,
+        written: usize::MAX,
+    },
+    Cut {
+        name: "written byte by byte",
+        read: usize::MAX,
+        written: 1,
+    },
+    Cut {
+        name: "three bytes at a time",
+        read: 3,
+        written: 3,
+    },
+    Cut {
+        name: "eight bytes at a time",
+        read: 8,
+        written: 8,
+    },
+];
+
+// A run of the script over the catalog.
+fn served(alloc: Global, catalog: &[u8], script: &[u8], cut: Cut) -> Outcome {
+    let mut input = Few::new(script, cut.read);
+    let mut out = Few::new(Vec::new(alloc), cut.written);
+    let mut err = Vec::new(alloc);
+    let status = console(alloc, catalog, &mut input, &mut out, &mut err);
+    Outcome {
+        status,
+        out: out.into_inner(),
+        err,
+    }
+}
+
+// The catalog of this name.
+fn catalog_of<R: Files + AllocGlobal>(rt: &R, name: &str) -> Result<Vec<u8>, Fault> {
+    let path = match name {
+        BUILT_IN => None,
+        _ => Some(format!(in rt.alloc(); "{name}.catalog")?),
+    };
+    Ok(catalog_in(rt, path)?)
+}
+
+// Whether the script over the catalog prints what it is to print, however it is cut. Each cut with
+// which it doesn't is told.
+fn holds<R: Files + Print + AllocGlobal>(rt: &R, name: &str, catalog: &str) -> Result<bool, Fault> {
+    let alloc = rt.alloc();
+    let text = catalog_of(rt, catalog)?;
+    let output = fs::read(rt, format!(in alloc; "{name}.output")?.as_str())?;
+    let script = fs::read(rt, format!(in alloc; "{name}.script")?.as_str())?;
+    let mut all = true;
+    for cut in CUTS {
+        let ran = served(alloc, &text, &script, cut);
+        if ran.status != 0 || ran.out != output || !ran.err.is_empty() {
+            all = false;
+            println!(rt; "{name} over {catalog}, {}: differs", cut.name)?;
+        }
+    }
+    Ok(all)
+}
+
+fn run_scripts<R: Files + Print + AllocGlobal>(rt: &R) -> Result<Tally, Fault> {
+    let mut tally = Tally::new();
+    let index = fs::read_to_string(rt, INDEX)?;
+    for line in index.as_str().lines().filter(|line| !line.starts_with('#')) {
+        let (script, catalog) = line.split_once(' ').unwrap_or((line, line));
+        let holds = holds(rt, script, catalog)?;
+        tally.counts(holds);
+    }
+    Ok(tally)
+}
+
+/// Whether all of them hold. How many do and don't is told.
+pub(crate) fn run<R: Files + Print + AllocGlobal>(rt: &R) -> Result<bool, Fault> {
+    let Tally { held, differing } = run_scripts(rt)?;
+    println!(rt; "{held} scripts print what is written, {differing} don't")?;
+    Ok(differing == 0)
+}

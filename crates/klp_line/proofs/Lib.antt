@@ -1,5 +1,0 @@
-pub mod SplitLemmas
-pub mod WordLemmas
-pub mod NumberLemmas
-pub mod LineLemmas
-pub mod EditLemmas

@@ -1,5 +1,0 @@
-use Rattle.klp_machine.proofs.ObservedLemmas.{are_current}
-use Rattle.klp_machine.proofs.consistency.frames_are_current.Goals as goal
-
-pub returns : goal.returns
-returns c = are_current

@@ -1,5 +1,0 @@
-use Rattle.klp_machine.proofs.LeftLemmas.{none_left}
-use Rattle.klp_machine.proofs.consistency.none_has_left.Goals as goal
-
-pub returns : goal.returns
-returns c = none_left

@@ -1,5 +1,0 @@
-use Rattle.klp_machine.proofs.ObservedLemmas.{seen_state}
-use Rattle.klp_machine.proofs.consistency.state_is_that_of_the_events.Goals as goal
-
-pub returns : goal.returns
-returns c = seen_state

@@ -1,5 +1,0 @@
-use Rattle.klp_machine.proofs.MixedLemmas.{versions_named}
-use Rattle.klp_machine.proofs.consistency.versions_name_their_sites.Goals as goal
-
-pub returns : goal.returns
-returns c = versions_named

@@ -1,5 +1,0 @@
-use Rattle.std.proofs.Common.{rules}
-use Rattle.klp_machine.proofs.examples.a_row_tells_the_two_newest_entries.Goals as goal
-
-pub returns-clause-nop : goal.returns-clause-nop
-returns-clause-nop c = search rules

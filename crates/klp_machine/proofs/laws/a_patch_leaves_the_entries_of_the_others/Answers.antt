@@ -1,5 +1,0 @@
-use Rattle.klp_machine.proofs.LeavingLemmas.{others_stay}
-use Rattle.klp_machine.proofs.laws.a_patch_leaves_the_entries_of_the_others.Goals as goal
-
-pub returns : goal.returns
-returns c = λ setting state patch site allowed moving. others_stay setting patch site state allowed moving

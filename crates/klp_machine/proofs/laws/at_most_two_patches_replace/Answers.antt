@@ -1,5 +1,0 @@
-use Rattle.klp_machine.proofs.ReplacingLemmas.{two_replace}
-use Rattle.klp_machine.proofs.laws.at_most_two_patches_replace.Goals as goal
-
-pub returns : goal.returns
-returns c = two_replace

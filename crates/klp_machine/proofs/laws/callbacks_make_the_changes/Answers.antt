@@ -1,5 +1,0 @@
-use Rattle.klp_machine.proofs.TieLemmas.{step_tie}
-use Rattle.klp_machine.proofs.laws.callbacks_make_the_changes.Goals as goal
-
-pub returns : goal.returns
-returns c = step_tie

@@ -1,5 +1,0 @@
-use Rattle.klp_machine.proofs.TextLemmas.{symbol_in-text_of}
-use Rattle.klp_machine.proofs.laws.reads_as_built.Goals as goal
-
-pub returns : goal.returns
-returns c = symbol_in-text_of

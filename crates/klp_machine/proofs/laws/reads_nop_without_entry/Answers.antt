@@ -1,5 +1,0 @@
-use Rattle.klp_machine.proofs.TextLemmas.{text_of-nop}
-use Rattle.klp_machine.proofs.laws.reads_nop_without_entry.Goals as goal
-
-pub returns : goal.returns
-returns c = text_of-nop

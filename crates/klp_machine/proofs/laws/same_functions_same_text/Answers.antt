@@ -1,5 +1,0 @@
-use Rattle.klp_machine.proofs.TextLemmas.{text_of-same}
-use Rattle.klp_machine.proofs.laws.same_functions_same_text.Goals as goal
-
-pub returns : goal.returns
-returns c = text_of-same

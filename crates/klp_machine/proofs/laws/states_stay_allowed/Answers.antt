@@ -1,8 +1,0 @@
-use Rattle.klp_machine.proofs.AllowedRunLemmas.{allowed_after, allowed_run}
-use Rattle.klp_machine.proofs.laws.states_stay_allowed.Goals as goal
-
-pub returns-clause-step : goal.returns-clause-step
-returns-clause-step c = allowed_after
-
-pub returns-clause-run : goal.returns-clause-run
-returns-clause-run c = allowed_run

@@ -1,5 +1,0 @@
-use Rattle.klp_machine.proofs.OpeningLemmas.{opening_allowed}
-use Rattle.klp_machine.proofs.laws.the_opening_state_is_allowed.Goals as goal
-
-pub returns : goal.returns
-returns c = opening_allowed

@@ -1,5 +1,0 @@
-use Rattle.klp_machine.proofs.SettledLemmas.{none_switched}
-use Rattle.klp_machine.proofs.laws.where_none_lags_none_is_switched.Goals as goal
-
-pub returns : goal.returns
-returns c = none_switched

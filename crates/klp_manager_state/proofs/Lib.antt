@@ -1,0 +1,6 @@
+pub mod StepLemmas
+pub mod RowLemmas
+pub mod InstalledLemmas
+pub mod OpeningLemmas
+pub mod PreviousLemmas
+pub mod InsideLemmas

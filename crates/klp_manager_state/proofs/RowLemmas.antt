@@ -1,0 +1,186 @@
+-- Records put back give each row what it was, whatever other rows they are among.
+use Rattle.std.proofs.Common.{◌≡◌, ℕ, ◌+◌, ◌-◌, ◌<◌, ◌≤◌, length, take, get_or, arith, Bool, suc, cond, true, false, List, [], ◌∷◌, ◌++◌, Option, Some, None, refl, sym, ap, ◌∙◌}
+use Rattle.std.specs.Prelude.{slice_set, slice_index_or}
+use Rattle.std.proofs.lemmas.List.{set-set, set-get_or, length-set, take_more}
+use Rattle.std.specs.List.{All}
+use Rattle.std.specs.Option.{option_to_list}
+use Rattle.std.specs.Ordering.{int_eq}
+use Rattle.klp_types.specs.declared.task.Task.{Task}
+use Rattle.std.proofs.lemmas.List.Elements.{All-nil, All-cons, All-append, All-head, All-tail}
+use Rattle.klp_types.specs.declared.record.Record.{Record}
+use Rattle.klp_types.specs.declared.record.Record.TheVariants.{ShadowVariable, StateValue, StateRow, InstalledPatch, LoadedFlag, StackEntry, HookFlag, TaskRow, NoTaskRow, Moving, NothingMoving, PinnedFlag}
+use Rattle.klp_types.specs.declared.version.Transition.{Transition}
+use Rattle.klp_types.specs.Records.{RecordList}
+use Rattle.klp_types.specs.World.{World}
+use Rattle.klp_model.specs.Task.{Tasks}
+use Rattle.klp_world.specs.Undo as of_world
+use Rattle.klp_tasks.specs.Changes as of_tasks
+use Rattle.klp_sites.specs.Table.{SiteTable}
+use Rattle.klp_sites.specs.Changes.{noting}
+use Rattle.klp_sites.specs.Undo as of_sites
+use Rattle.klp_sites.specs.Undo.{is_of_sites}
+use Rattle.klp_world.specs.Undo.{is_of_world}
+use Rattle.klp_manager_state.specs.Rows.{Rows, is_of_tasks, row_of_moving, put_back, undone, WorldGoesBack, SitesGoBack, TasksGoBack, MovingGoesBack, PinsGoBack}
+
+undone-append : (rows : Rows) (older newer : List Record) → undone rows (older ++ newer) ≡ undone (undone rows newer) older
+undone-append rows [] newer = refl
+undone-append rows (row ∷ older) newer = ap (λ r. put_back r row) (undone-append rows older newer)
+
+-- a row of the world is none of the others
+row_of_world : (rows : Rows) (row : Record) → is_of_world row ≡ true → put_back rows row ≡ record rows { world = of_world.put_back rows.world row }
+row_of_world rows (ShadowVariable key was) is = refl
+row_of_world rows (StateValue patch id was) is = refl
+row_of_world rows (StateRow patch id was) is = refl
+row_of_world rows (InstalledPatch patch place) is = refl
+row_of_world rows other is = let no : ⊥ = cc in absurd no
+
+-- a row of a site is none of the others
+row_of_site : (rows : Rows) (row : Record) → is_of_sites row ≡ true → put_back rows row ≡ record rows { sites = of_sites.put_back rows.sites row }
+row_of_site rows (StackEntry site patch was) is = refl
+row_of_site rows (HookFlag site was) is = refl
+row_of_site rows other is = let no : ⊥ = cc in absurd no
+
+undone_world : (rows : Rows) (records : List Record) → All (λ row. is_of_world row ≡ true) records → undone rows records ≡ record rows { world = of_world.undone rows.world records }
+undone_world rows [] all = refl
+undone_world rows (row ∷ newer) all =
+    let first = All-head (λ row. is_of_world row ≡ true) row newer all in
+    let rest = undone_world rows newer (All-tail (λ row. is_of_world row ≡ true) row newer all) in
+    ap (λ r. put_back r row) rest ∙ row_of_world (record rows { world = of_world.undone rows.world newer }) row first
+
+undone_sites : (rows : Rows) (records : List Record) → All (λ row. is_of_sites row ≡ true) records → undone rows records ≡ record rows { sites = of_sites.undone rows.sites records }
+undone_sites rows [] all = refl
+undone_sites rows (row ∷ newer) all =
+    let first = All-head (λ row. is_of_sites row ≡ true) row newer all in
+    let rest = undone_sites rows newer (All-tail (λ row. is_of_sites row ≡ true) row newer all) in
+    ap (λ r. put_back r row) rest ∙ row_of_site (record rows { sites = of_sites.undone rows.sites newer }) row first
+
+-- a row of a task is none of the others
+row_of_task : (rows : Rows) (row : Record) → is_of_tasks row ≡ true → put_back rows row ≡ record rows { tasks = of_tasks.put_back rows.tasks row }
+row_of_task rows (TaskRow task was) is = refl
+row_of_task rows (NoTaskRow task) is = refl
+row_of_task rows other is = let no : ⊥ = cc in absurd no
+
+undone_tasks : (rows : Rows) (records : List Record) → All (λ row. is_of_tasks row ≡ true) records → undone rows records ≡ record rows { tasks = of_tasks.undone rows.tasks records }
+undone_tasks rows [] all = refl
+undone_tasks rows (row ∷ newer) all =
+    let first = All-head (λ row. is_of_tasks row ≡ true) row newer all in
+    let rest = undone_tasks rows newer (All-tail (λ row. is_of_tasks row ≡ true) row newer all) in
+    ap (λ r. put_back r row) rest ∙ row_of_task (record rows { tasks = of_tasks.undone rows.tasks newer }) row first
+
+-- what a change of one task tells is a row of a task
+pub of_task : (number : ℕ) (was : Option Task) → is_of_tasks (of_tasks.record_of number was) ≡ true
+of_task number None = refl
+of_task number (Some was) = refl
+
+switched_of_task : (number : ℕ) (was task : Option Task) → All (λ row. is_of_tasks row ≡ true) (option_to_list (of_tasks.record_if_switched number was task))
+switched_of_task number None task = All-nil (λ row. is_of_tasks row ≡ true)
+switched_of_task number (Some was) None = All-nil (λ row. is_of_tasks row ≡ true)
+switched_of_task number (Some was) (Some task) = elim (int_eq was.state task.state) as (λ same. All (λ row. is_of_tasks row ≡ true) (option_to_list (cond same None (Some (TaskRow number was))))) [
+  | true ↦ All-nil (λ row. is_of_tasks row ≡ true)
+  | false ↦ All-cons (λ row. is_of_tasks row ≡ true) (TaskRow number was) [] refl (All-nil (λ row. is_of_tasks row ≡ true))
+]
+
+-- so are those of all tasks that are switched
+pub switched_of_tasks : (number : ℕ) (before after : Tasks) → All (λ row. is_of_tasks row ≡ true) (of_tasks.records_switched number before after)
+switched_of_tasks number (was ∷ before) (task ∷ after) =
+    All-append (λ row. is_of_tasks row ≡ true) (option_to_list (of_tasks.record_if_switched number was task)) (of_tasks.records_switched (suc number) before after)
+    (switched_of_task number was task) (switched_of_tasks (suc number) before after)
+switched_of_tasks number [] after = All-nil (λ row. is_of_tasks row ≡ true)
+switched_of_tasks number (was ∷ before) [] = All-nil (λ row. is_of_tasks row ≡ true)
+
+-- the newest are put back first
+noted_behind : (rows : Rows) (l0 l1 : RecordList) (records : List Record) → l1 ≡ noting l0 records → undone rows l1.noted ≡ undone (undone rows records) l0.noted
+noted_behind rows l0 l1 records noted = ap (λ (l : RecordList). undone rows l.noted) noted ∙ undone-append rows l0.noted records
+
+-- rows of the world give the world back
+pub world_back : (before after : World) (l0 l1 : RecordList) (records : List Record) → All (λ row. is_of_world row ≡ true) records → l1 ≡ noting l0 records
+    → of_world.undone after records ≡ before → WorldGoesBack before after l0 l1
+world_back before after l0 l1 records all noted undo rows =
+    let now : Rows = record rows { world = after } in
+    noted_behind now l0 l1 records noted
+    ∙ ap (λ r. undone r l0.noted) (undone_world now records all ∙ ap (λ (w : World). record rows { world = w }) undo)
+
+-- rows of sites give the sites back
+pub sites_back : (before after : SiteTable) (l0 l1 : RecordList) (records : List Record) → All (λ row. is_of_sites row ≡ true) records → l1 ≡ noting l0 records
+    → of_sites.undone after records ≡ before → SitesGoBack before after l0 l1
+sites_back before after l0 l1 records all noted undo rows =
+    let now : Rows = record rows { sites = after } in
+    noted_behind now l0 l1 records noted
+    ∙ ap (λ r. undone r l0.noted) (undone_sites now records all ∙ ap (λ (t : SiteTable). record rows { sites = t }) undo)
+
+-- rows of tasks give the tasks back
+pub tasks_back : (before after : Tasks) (l0 l1 : RecordList) (records : List Record) → All (λ row. is_of_tasks row ≡ true) records → l1 ≡ noting l0 records
+    → of_tasks.undone after records ≡ before → TasksGoBack before after l0 l1
+tasks_back before after l0 l1 records all noted undo rows =
+    let now : Rows = record rows { tasks = after } in
+    noted_behind now l0 l1 records noted
+    ∙ ap (λ r. undone r l0.noted) (undone_tasks now records all ∙ ap (λ (t : Tasks). record rows { tasks = t }) undo)
+
+-- tasks that are brought to another state
+pub switched_back : (before after to : Tasks) (l0 l1 : RecordList) → after ≡ to → l1 ≡ noting l0 (of_tasks.records_switched 0 before to)
+    → of_tasks.undone after (of_tasks.records_switched 0 before to) ≡ before → TasksGoBack before after l0 l1
+switched_back before after to l0 l1 is noted undo =
+    tasks_back before after l0 l1 (of_tasks.records_switched 0 before to) (switched_of_tasks 0 before to) noted undo
+
+-- what moved is noted
+pub moving_back : (before after : Option Transition) (l0 l1 : RecordList) → l1 ≡ noting l0 (row_of_moving before ∷ []) → MovingGoesBack before after l0 l1
+moving_back before after l0 l1 noted rows =
+    let now : Rows = record rows { moving = after } in
+    noted_behind now l0 l1 (row_of_moving before ∷ []) noted ∙ ap (λ r. undone r l0.noted) (back before)
+  where
+    back : (was : Option Transition) → put_back (record rows { moving = after }) (row_of_moving was) ≡ record rows { moving = was }
+    back None = refl
+    back (Some was) = refl
+
+-- whether an object was loaded is noted
+pub loaded_back : (before after : SiteTable) (object : ℕ) (was : Bool) (l0 l1 : RecordList) → l1 ≡ noting l0 (LoadedFlag object was ∷ [])
+    → of_sites.put_back after (LoadedFlag object was) ≡ before → SitesGoBack before after l0 l1
+loaded_back before after object was l0 l1 noted undo rows =
+    let now : Rows = record rows { sites = after } in
+    noted_behind now l0 l1 (LoadedFlag object was ∷ []) noted ∙ ap (λ (t : SiteTable). undone (record rows { sites = t }) l0.noted) undo
+
+-- whether a patch was pinned is noted
+pub pinned_back : (before after : List Bool) (patch : ℕ) (was : Bool) (l0 l1 : RecordList) → l1 ≡ noting l0 (PinnedFlag patch was ∷ [])
+    → slice_set after patch was ≡ before → PinsGoBack before after l0 l1
+pinned_back before after patch was l0 l1 noted undo rows =
+    let now : Rows = record rows { pinned = after } in
+    noted_behind now l0 l1 (PinnedFlag patch was ∷ []) noted ∙ ap (λ (p : List Bool). undone (record rows { pinned = p }) l0.noted) undo
+
+-- a patch that wasn't pinned is pinned
+pub pinned_now : (flags after : List Bool) (patch : ℕ) (l0 l1 : RecordList) → after ≡ slice_set flags patch true → l1 ≡ noting l0 (PinnedFlag patch false ∷ [])
+    → slice_index_or flags patch false ≡ false → PinsGoBack flags after l0 l1
+pinned_now flags after patch l0 l1 is noted free =
+    pinned_back flags after patch false l0 l1 noted
+    (ap (λ fs. slice_set fs patch false) is ∙ set-set flags patch true false ∙ ap (slice_set flags patch) (sym free) ∙ set-get_or flags patch false)
+
+-- the newest that is left is put back, and the older ones are left
+pub one_back : (rows : Rows) (records : List Record) (place : ℕ) (row : Record) → 0 < place → place ≤ length records → row ≡ get_or records (place - 1) row
+    → undone (put_back rows row) (take (place - 1) records) ≡ undone rows (take place records)
+one_back rows records place row some within is =
+    let below : place - 1 < length records = omega arith in
+    let next : (place - 1) + 1 ≡ place = omega arith in
+    sym (undone-append rows (take (place - 1) records) (row ∷ []))
+    ∙ ap (λ r. undone rows (take (place - 1) records ++ r ∷ [])) is
+    ∙ ap (undone rows) (sym (take_more records (place - 1) row below))
+    ∙ ap (λ n. undone rows (take n records)) next
+
+flag_put : (table : SiteTable) (object : ℕ) (was : Bool) (within : Bool) → length table.loaded ≡ length table.image.objects
+    → length (cond within (record table { loaded = slice_set table.loaded object was }) table).loaded ≡ length (cond within (record table { loaded = slice_set table.loaded object was }) table).image.objects
+flag_put table object was true each = length-set table.loaded object was ∙ each
+flag_put table object was false each = each
+
+-- each object still has its flag
+pub flags_put_back : (rows : Rows) (row : Record) → length rows.sites.loaded ≡ length rows.sites.image.objects
+    → length (put_back rows row).sites.loaded ≡ length (put_back rows row).sites.image.objects
+flags_put_back rows (LoadedFlag object was) each = flag_put rows.sites object was _ each
+flags_put_back rows (StackEntry site patch was) each = each
+flags_put_back rows (HookFlag site was) each = each
+flags_put_back rows (ShadowVariable key was) each = each
+flags_put_back rows (StateValue patch id was) each = each
+flags_put_back rows (StateRow patch id was) each = each
+flags_put_back rows (InstalledPatch patch place) each = each
+flags_put_back rows (TaskRow task was) each = each
+flags_put_back rows (NoTaskRow task) each = each
+flags_put_back rows (Moving was) each = each
+flags_put_back rows NothingMoving each = each
+flags_put_back rows (PinnedFlag patch was) each = each

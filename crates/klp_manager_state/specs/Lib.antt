@@ -1,0 +1,6 @@
+pub mod Managed
+pub mod Events
+pub mod Invariant
+pub mod StepLaws
+pub mod Rows
+pub mod Alone

@@ -1,0 +1,95 @@
+-- The rows that events change, and what gives each of them back.
+use Rattle.std.specs.Prelude.{◌≡◌, Bool, true, false, List, [], ◌∷◌, Option, Some, None, slice_set, Result, IfOk, OnErr}
+use Rattle.klp_types.specs.declared.record.Record.{Record}
+use Rattle.klp_types.specs.declared.record.Record.TheVariants.{TaskRow, NoTaskRow, Moving, NothingMoving, PinnedFlag}
+use Rattle.klp_types.specs.declared.version.Transition.{Transition}
+use Rattle.klp_types.specs.Records.{RecordList}
+use Rattle.klp_types.specs.World.{World}
+use Rattle.klp_model.specs.Task.{Tasks}
+use Rattle.klp_model.specs.declared.event.Reply.{Reply}
+use Rattle.klp_model.specs.declared.event.Refusal.{Refusal}
+use Rattle.klp_world.specs.Undo as of_world
+use Rattle.klp_tasks.specs.Changes as of_tasks
+use Rattle.klp_sites.specs.Table.{SiteTable}
+use Rattle.klp_sites.specs.Undo as of_sites
+use Rattle.klp_manager_state.specs.declared.state.ManagerState.{ManagerState}
+
+-- what events change, row by row: the world, the loaded flags with the function stacks, the tasks, what moves and what is pinned
+pub record Rows : Type 0 where
+  pub world : World
+  pub sites : SiteTable
+  pub tasks : Tasks
+  pub moving : Option Transition
+  pub pinned : List Bool
+
+abbrev pub rows_in : ManagerState → Rows
+rows_in manager = record { world = manager.world; sites = manager.sites; tasks = manager.tasks; moving = manager.moving; pinned = manager.pinned }
+
+-- the row is one of a task
+abbrev pub is_of_tasks : Record → Bool
+is_of_tasks (TaskRow task was) = true
+is_of_tasks (NoTaskRow task) = true
+is_of_tasks other = false
+
+-- what moved, as a record
+abbrev pub row_of_moving : Option Transition → Record
+row_of_moving None = NothingMoving
+row_of_moving (Some was) = Moving was
+
+-- what moved
+abbrev pub put_moving : Option Transition → Record → Option Transition
+put_moving moving (Moving was) = Some was
+put_moving moving NothingMoving = None
+put_moving moving other = moving
+
+-- whether a patch was pinned
+abbrev pub put_pinned : List Bool → Record → List Bool
+put_pinned pinned (PinnedFlag patch was) = slice_set pinned patch was
+put_pinned pinned other = pinned
+
+-- the rows with one as the record tells it
+abbrev pub put_back : Rows → Record → Rows
+put_back rows row = record {
+  world = of_world.put_back rows.world row;
+  sites = of_sites.put_back rows.sites row;
+  tasks = of_tasks.put_back rows.tasks row;
+  moving = put_moving rows.moving row;
+  pinned = put_pinned rows.pinned row;
+}
+
+-- the rows once all records are put back, the newest, which stands last, first
+abbrev pub undone : Rows → List Record → Rows
+undone rows [] = rows
+undone rows (row ∷ newer) = put_back (undone rows newer) row
+
+-- the rows before all that is noted
+abbrev pub rows_before : ManagerState → Rows
+rows_before manager = undone (rows_in manager) manager.log.noted
+
+-- The rows before all that is noted stay those that they were, whatever the other rows are: of a change of the world, of the sites, of
+-- the tasks, of what moves and of what is pinned.
+
+abbrev pub WorldGoesBack : World → World → RecordList → RecordList → Type 0
+WorldGoesBack before after log_before log_after =
+    (rows : Rows) → undone (record rows { world = after }) log_after.noted ≡ undone (record rows { world = before }) log_before.noted
+
+abbrev pub SitesGoBack : SiteTable → SiteTable → RecordList → RecordList → Type 0
+SitesGoBack before after log_before log_after =
+    (rows : Rows) → undone (record rows { sites = after }) log_after.noted ≡ undone (record rows { sites = before }) log_before.noted
+
+abbrev pub TasksGoBack : Tasks → Tasks → RecordList → RecordList → Type 0
+TasksGoBack before after log_before log_after =
+    (rows : Rows) → undone (record rows { tasks = after }) log_after.noted ≡ undone (record rows { tasks = before }) log_before.noted
+
+abbrev pub MovingGoesBack : Option Transition → Option Transition → RecordList → RecordList → Type 0
+MovingGoesBack before after log_before log_after =
+    (rows : Rows) → undone (record rows { moving = after }) log_after.noted ≡ undone (record rows { moving = before }) log_before.noted
+
+abbrev pub PinsGoBack : List Bool → List Bool → RecordList → RecordList → Type 0
+PinsGoBack before after log_before log_after =
+    (rows : Rows) → undone (record rows { pinned = after }) log_after.noted ≡ undone (record rows { pinned = before }) log_before.noted
+
+-- an event was taken: where it was accepted, what is noted gives the rows before it, and where it was refused, nothing has changed
+pub record IsNoted (before after : ManagerState) (result : Result Reply Refusal) : Type 0 where
+  pub accepted : IfOk result (λ reply. rows_before after ≡ rows_in before)
+  pub refused : OnErr result (after ≡ before)

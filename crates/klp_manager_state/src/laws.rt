@@ -1,0 +1,60 @@
+//! What is proved of the states that a manager may be in. A function here does nothing: its
+//! contract is the law.
+ghost use Rattle.std.specs.Prelude.{◌≡◌, ℕ, true, List};
+ghost use Rattle.std.specs.List.{All};
+ghost use Rattle.klp_types.specs.declared.record.Record.{Record};
+ghost use Rattle.klp_types.specs.Records.{RecordList};
+ghost use Rattle.klp_types.specs.World.{World};
+ghost use Rattle.klp_model.specs.Task.{Tasks};
+ghost use Rattle.klp_world.specs.Noted.{noting};
+ghost use Rattle.klp_world.specs.Undo as of_world;
+ghost use Rattle.klp_world.specs.Undo.{is_of_world};
+ghost use Rattle.klp_tasks.specs.Changes as of_tasks;
+ghost use Rattle.klp_manager_state.specs.StepLaws.{StepLaws};
+ghost use Rattle.klp_manager_state.specs.Alone.{AreTasksTaken, IsWorldTaken};
+ghost use Rattle.klp_manager_state.specs.Rows.{is_of_tasks, WorldGoesBack, TasksGoBack};
+ghost use Rattle.klp_types.specs.World.{previous_patch};
+ghost use Rattle.klp_model.specs.State.{installed_patches};
+ghost use Rattle.klp_model.specs.Stated.{IsStated};
+ghost use Rattle.klp_catalog.specs.States.{previous_state};
+ghost use Rattle.klp_manager_state.specs.Managed.{Managed, setting_of};
+
+use klp_catalog::laws::runs_add_up;
+use klp_model::laws::{installed_patches_have_their_states, states_stay_allowed};
+
+/// The patch whose state a callback takes over is the one that the catalog says: the newest of the patches
+/// installed before that names the state. The world answers it from its rows, and this is why the two
+/// agree: each installed patch has the states that the catalog gives it, which a manager keeps.
+pub fn previous_states_agree()
+    ensures { (managed : Managed) (patch id : ℕ) → IsStated (setting_of managed) managed.state
+        → previous_patch managed.state.world patch id ≡ previous_state managed.catalog patch id (installed_patches managed.state) }
+{}
+
+/// What each step keeps. It is one law, so that each event's function calls one instead of three.
+pub fn steps_keep()
+    ensures { StepLaws }
+{
+    states_stay_allowed();
+    installed_patches_have_their_states();
+    runs_add_up();
+}
+
+/// An event that nothing refuses, that runs no callback and changes one kind of rows alone, is taken by
+/// that change. The events of tasks and of shadow variables are proved by this.
+#[tactic(auto, using(crate::proofs::StepLemmas::tasks_taken, crate::proofs::StepLemmas::world_taken))]
+pub fn changes_of_one_kind_are_taken()
+    ensures tasks { AreTasksTaken }
+    ensures world { IsWorldTaken }
+{}
+
+/// What is logged of a change, put back, gives the rows before, whatever is logged of other rows: so each
+/// part is proved by itself.
+#[tactic(auto, using(crate::proofs::RowLemmas::world_back, crate::proofs::RowLemmas::tasks_back))]
+pub fn what_is_noted_gives_the_rows_back()
+    ensures world { (before after : World) (log_before log_after : RecordList) (rows : List Record)
+        → All (λ row. is_of_world row ≡ true) rows → log_after ≡ noting log_before rows → of_world.undone after rows ≡ before
+        → WorldGoesBack before after log_before log_after }
+    ensures tasks { (before after : Tasks) (log_before log_after : RecordList) (rows : List Record)
+        → All (λ row. is_of_tasks row ≡ true) rows → log_after ≡ noting log_before rows → of_tasks.undone after rows ≡ before
+        → TasksGoBack before after log_before log_after }
+{}

@@ -1,0 +1,87 @@
+ghost use Rattle.std.specs.Prelude.{◌≡◌, ◌+◌, ◌<◌, ◌≤◌, false, true, not, ◌==◌, length, replicate, filter, slice_index_or, slice_set, IfOk};
+ghost use Rattle.klp_types.specs.Records.{spare_of};
+ghost use Rattle.klp_model.specs.Forcing.{pin_all};
+ghost use Rattle.klp_manager_state.specs.Rows.{put_pinned, PinsGoBack};
+
+use klp_types::{PatchId, Record, Records};
+use std::alloc::{AllocError, Global};
+use std::marker::Model;
+
+/// Which patches are pinned: a forced transition left functions behind that a task may still be inside of
+/// (livepatch, Force). A pin never goes but by undo. All room is taken by [`Pins::new`].
+#[derive(Debug, Drop)]
+pub struct Pins {
+    flags: Vec<bool>,
+}
+
+impl Model for Pins {
+    ghost use Rattle.std.specs.Prelude.{List, Bool};
+
+    ghost Value = { List Bool };
+
+    ghost view = { λ p. p.flags.items };
+}
+
+impl Pins {
+    /// None of so many patches is pinned, with a flag for each patch of the catalog. An error is want of
+    /// memory.
+    pub fn new(alloc: Global, patches: u8) -> Result<Self, AllocError>
+        ensures { IfOk result (λ pins. pins ≡ replicate patches false) }
+    {
+        Ok(Self {
+            flags: vec![in alloc; false; usize::from(patches)]?,
+        })
+    }
+
+    /// Whether a patch is pinned, which keeps it from being enabled again.
+    pub fn is_pinned(&self, patch: PatchId) -> bool
+        ensures { result ≡ slice_index_or self.now patch false }
+    {
+        self.flags
+            .get(usize::from(patch.0))
+            .copied()
+            .unwrap_or(false)
+    }
+
+    /// Pins a patch, where there is one of this number, and logs it where it wasn't pinned, since no record
+    /// is kept of an unchanged row.
+    pub fn pin(&mut self, patch: PatchId, log: &mut Records)
+        requires { 0 < spare_of log.old }
+        ensures flags { self.new ≡ slice_set self.old patch true }
+        ensures noted { PinsGoBack self.old self.new log.old log.new }
+        ensures records { length log.new.noted ≤ length log.old.noted + 1 }
+        ensures room { log.new.room ≡ log.old.room }
+    {
+        let place = usize::from(patch.0);
+        if place < self.flags.len() && !self.flags[place] {
+            self.flags[place] = true;
+            log.note(Record::PinnedFlag { patch, was: false });
+        }
+    }
+
+    /// Pins these patches but for this one: those that a forced cumulative patch replaces.
+    pub fn pin_others(&mut self, patches: &[PatchId], patch: PatchId, log: &mut Records)
+        requires { length patches.now ≤ spare_of log.old }
+        ensures flags { self.new ≡ pin_all (filter (λ p. not (p == patch)) patches.now) self.old }
+        ensures noted { PinsGoBack self.old self.new log.old log.new }
+        ensures room { log.new.room ≡ log.old.room }
+    {
+        for &other in patches {
+            if other != patch {
+                self.pin(other, log);
+            }
+        }
+    }
+
+    /// Puts back whether a patch was pinned. A row of another kind changes nothing, since each part is
+    /// handed every record.
+    pub fn put_back(&mut self, row: Record)
+        ensures { self.new ≡ put_pinned self.old row }
+    {
+        if let Record::PinnedFlag { patch, was } = row {
+            if let Some(flag) = self.flags.get_mut(usize::from(patch.0)) {
+                *flag = was;
+            }
+        }
+    }
+}

@@ -1,0 +1,56 @@
+//! The patch in transition, as a row of the state, so that undo gives it back like any other.
+ghost use Rattle.std.specs.Prelude.{◌≡◌, ◌<◌, ◌∷◌, [], length, not};
+ghost use Rattle.klp_types.specs.Records.{spare_of};
+ghost use Rattle.klp_model.specs.Refusals.{moves_out};
+ghost use Rattle.klp_sites.specs.Changes.{noting};
+ghost use Rattle.klp_manager_state.specs.Rows.{row_of_moving, rows_before, put_moving};
+
+use crate::state::ManagerState;
+use klp_types::{PatchId, Record, Transition};
+
+/// What moves, as a record: with a patch or without one, which are two kinds.
+fn row_of_moving(moving: Option<Transition>) -> Record
+    ensures { result ≡ row_of_moving moving }
+{
+    match moving {
+        Some(was) => Record::Moving { was },
+        None => Record::NothingMoving,
+    }
+}
+
+/// What moved before, as a record has it. A row of another kind changes nothing, since each part is handed
+/// every record.
+pub(crate) fn moving_before(moving: Option<Transition>, row: Record) -> Option<Transition>
+    ensures { result ≡ put_moving moving row }
+{
+    match row {
+        Record::Moving { was } => Some(was),
+        Record::NothingMoving => None,
+        _ => moving,
+    }
+}
+
+impl ManagerState {
+    /// What the `enabled` file of an installed patch reads: 0 as soon as the patch is on its way out, and
+    /// 1 as soon as it is on its way in.
+    pub fn enabled_value(&self, patch: PatchId) -> bool
+        ensures { result ≡ not (moves_out self.now.moving patch) }
+    {
+        match self.moving {
+            Some(moving) => moving.patch != patch || moving.target,
+            None => true,
+        }
+    }
+
+    /// Something else moves, or nothing. What moved before is logged, so a transition that ended goes on
+    /// after undo.
+    #[tactic(auto, using(crate::proofs::RowLemmas::moving_back))]
+    pub fn set_moving(&mut self, moving: Option<Transition>)
+        requires { 0 < spare_of self.old.log }
+        ensures parts { self.new ≡ record self.old { moving = moving; log = noting self.old.log (row_of_moving self.old.moving ∷ []) } }
+        ensures noted { rows_before self.new ≡ rows_before self.old }
+    {
+        self.log.note(row_of_moving(self.moving));
+        self.moving = moving;
+    }
+}

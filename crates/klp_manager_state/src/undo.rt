@@ -1,0 +1,42 @@
+//! What an event logged is put back. No step is turned round, since the rows have all that there was.
+ghost use Rattle.std.specs.Prelude.{◌≡◌, length};
+ghost use Rattle.klp_manager_state.specs.Rows.{rows_in, put_back, undone};
+
+use crate::state::ManagerState;
+use crate::transition::moving_before;
+use klp_types::Record;
+
+impl ManagerState {
+    /// Gives each row what its record has, the newest record, which is last, first. It costs as much as
+    /// there are records. No callback runs. Stacks are rows like all others, so nothing is computed anew
+    /// (docs/DECISIONS.md, "Undo by rows").
+    pub fn undo(&mut self, rows: &[Record])
+        requires modules { self.old.modules.loaded ≡ self.old.sites.loaded }
+        requires objects { length self.old.sites.loaded ≡ length self.old.sites.image.objects }
+        ensures rows { rows_in self.new ≡ undone (rows_in self.old) rows.now }
+        ensures modules { self.new.modules ≡ record self.old.modules { loaded = self.new.sites.loaded } }
+        ensures log { self.new.log ≡ self.old.log }
+    {
+        for place in (0..rows.len()).rev() {
+            self.put_back(&rows[place]);
+        }
+    }
+
+    /// Gives one row what its record has. Each part is handed the record, and changes nothing where it is
+    /// of another kind, so that no table of who has which is needed (docs/DECISIONS.md, "Records of another
+    /// kind").
+    fn put_back(&mut self, row: &Record)
+        requires modules { self.old.modules.loaded ≡ self.old.sites.loaded }
+        requires objects { length self.old.sites.loaded ≡ length self.old.sites.image.objects }
+        ensures rows { rows_in self.new ≡ put_back (rows_in self.old) row.now }
+        ensures modules { self.new.modules ≡ record self.old.modules { loaded = self.new.sites.loaded } }
+        ensures log { self.new.log ≡ self.old.log }
+    {
+        self.world.put_back(*row);
+        self.sites.put_back(*row);
+        self.modules.put_back(*row);
+        self.tasks.put_back(*row);
+        self.pinned.put_back(*row);
+        self.moving = moving_before(self.moving, *row);
+    }
+}

@@ -1,0 +1,93 @@
+//! What is proved of honest observed runs, and examples of them. A function here does nothing: its contract
+//! is the law or the example. The laws are in this crate because they alone depend on which versions hold a
+//! sleeper back (docs/DECISIONS.md, "Where the theorems are").
+ghost use Rattle.std.specs.Prelude.{◌≡◌, ℕ, pos, negsuc, true, false, List, [], ◌∷◌, ◌++◌, Some, None};
+ghost use Rattle.klp_types.specs.declared.version.Version.TheVariants.{Original, New};
+ghost use Rattle.klp_types.specs.Setting.{Setting};
+ghost use Rattle.klp_model.specs.declared.event.Event.TheVariants.{Going, ExitToUser, Sleep};
+ghost use Rattle.klp_types.specs.declared.task.Mode.TheVariants.{Kernel, User, Asleep};
+ghost use Rattle.klp_model.specs.State.{State};
+ghost use Rattle.klp_model.specs.Run.{run};
+ghost use Rattle.klp_model.specs.Blocked.{blocked, is_held};
+ghost use Rattle.klp_model.specs.Observed.{Seen, Happens, Calls, IsHonestItem, IsHonestRun, Watched, events_of, seen_run, seen_from};
+ghost use Rattle.klp_model.specs.InPlace.{IsInPlace};
+ghost use Rattle.klp_model.specs.Consistent.{version_now, AllCurrent, NoneLeft, NoneMixed, AllNamed};
+ghost use Rattle.klp_model.specs.ObservedExamples.{kernel, stray_kernel, one_task, state_of, towards_1, no_frames, inside, watched, start, in_original, late, sleeper_run, stray_run, under_a_task};
+
+/// At every moment of an honest observed run each frame of each task is the version that the task would run
+/// at that site now. This is the consistency model in one sentence: no task is in old code while its calls
+/// get new code.
+pub fn frames_are_current()
+    ensures { (setting : Setting) (start : State) (first second : List Seen)
+        → IsInPlace setting → IsHonestRun setting start (first ++ second)
+        → AllCurrent setting (seen_from setting start first) }
+{}
+
+/// No task has a frame of a function that has left the stacks, so what a patch brought may be freed.
+pub fn none_has_left()
+    ensures { (setting : Setting) (start : State) (first second : List Seen)
+        → IsInPlace setting → IsHonestRun setting start (first ++ second)
+        → NoneLeft setting (seen_from setting start first) }
+{}
+
+/// During a transition a task of state 0 has no frame of the moving patch's functions, and one of state 1
+/// none of the version below an entry of that patch: so no task mixes the two.
+pub fn none_is_mixed()
+    ensures { (setting : Setting) (start : State) (first second : List Seen)
+        → IsInPlace setting → IsHonestRun setting start (first ++ second)
+        → NoneMixed setting (seen_from setting start first) }
+{}
+
+/// A frame's version names the site of the call: a table of versions is enough to know the frames.
+pub fn versions_name_their_sites()
+    ensures { (setting : Setting) (start : State) (first second : List Seen)
+        → IsInPlace setting → IsHonestRun setting start (first ++ second)
+        → AllNamed setting (seen_from setting start first) }
+{}
+
+/// At the end of an honest observed run each frame of each task is the version that the task would run at
+/// that site now: the law in the form that a call which does a list of items can promise.
+pub fn frames_are_current_at_the_end()
+    ensures { (setting : Setting) (start : State) (items : List Seen)
+        → IsInPlace setting → IsHonestRun setting start items
+        → AllCurrent setting (seen_from setting start items) }
+{}
+
+/// The state of an observed run is that of a run of its events: to watch what tasks call changes nothing.
+pub fn state_is_that_of_the_events()
+    ensures { (setting : Setting) (w : Watched) (items : List Seen)
+        → (seen_run setting w items).state ≡ run setting w.state (events_of items) }
+{}
+
+/// The premises are met by a task that sleeps in an original while the patch is enabled: it holds the
+/// transition until it has left the kernel.
+pub fn a_sleeper_holds_the_transition()
+    ensures in_place { IsInPlace kernel }
+    ensures honest { IsHonestRun kernel start sleeper_run }
+    ensures end { (seen_from kernel start sleeper_run).state ≡ state_of false (0 ∷ []) None (one_task User (negsuc 0) []) }
+    ensures held { is_held (blocked kernel (state_of false (0 ∷ []) towards_1 (one_task Asleep (pos 0) in_original)) (record { patch = 0; target = true })) in_original ≡ true }
+{}
+
+/// What isn't honest: to fall asleep and give no frames, to leave the kernel inside of a function, to
+/// unload a module from under a task that runs in it, to call from outside of the kernel.
+pub fn these_are_dishonest()
+    ensures sleep { IsHonestItem kernel (watched (state_of false [] None (one_task Kernel (negsuc 0) [])) (inside 0 (Original 0))) (Happens (Sleep 1 [])) → ⊥ }
+    ensures exit { IsHonestItem kernel late (Happens (ExitToUser 1)) → ⊥ }
+    ensures going { IsHonestItem kernel under_a_task (Happens (Going 1)) → ⊥ }
+    ensures call { IsHonestItem kernel (watched start no_frames) (Calls 1 0) → ⊥ }
+{}
+
+/// Where a function is of another object than its site, an honest run leaves a task in a function that no
+/// site has: the module has gone from under it.
+pub fn a_stray_function_outlives_its_site()
+    ensures honest { IsHonestRun stray_kernel start stray_run }
+    ensures end { seen_from stray_kernel start stray_run ≡ watched (state_of false (0 ∷ []) towards_1 (one_task Kernel (pos 1) [])) (inside 2 (New 0 0)) }
+    ensures version { version_now stray_kernel (state_of false (0 ∷ []) towards_1 (one_task Kernel (pos 1) [])) 1 2 ≡ None }
+{}
+
+/// Towards 1 the version below holds a sleeper. If the new version did, the sleeper in the original
+/// would be let through, and be inside of what it doesn't run any more.
+pub fn the_rule_turned_round_lets_a_sleeper_through()
+    ensures turned { is_held (New 0 0 ∷ New 0 1 ∷ []) in_original ≡ false }
+    ensures completed { version_now kernel (state_of false (0 ∷ []) None (one_task Asleep (negsuc 0) in_original)) 1 0 ≡ Some (New 0 0) }
+{}

@@ -1,0 +1,190 @@
+//! What is proved of the definitions themselves. Each law is the contract of a function that does nothing:
+//! it keeps the definitions honest, and a crate above may rely on it. A lemma that a crate above needs is a
+//! law here too, since only what a public contract says can be cited there (docs/DECISIONS.md, "Lemmas of
+//! other crates").
+ghost use Rattle.std.specs.Prelude.{◌≡◌, ℕ, ◌+◌, ◌≤◌, ℤ, pos, Bool, true, false, not, ◌==◌, ◌&&◌, List, [], ◌∷◌, ◌++◌, map, reverse, filter, Some, None, is_some, is_none, option_map, Ok};
+ghost use Rattle.std.specs.List.{count_by, list_any};
+ghost use Rattle.klp_types.specs.declared.shadow.ShadowKey.{ShadowKey};
+ghost use Rattle.klp_types.specs.Setting.{Setting, replaces, state_ids};
+ghost use Rattle.klp_types.specs.World.{Installed, variable, state_value, installed_before, without_patch};
+ghost use Rattle.klp_types.specs.declared.version.Version.{Version as AnyVersion};
+ghost use Rattle.klp_types.specs.declared.version.Entry.{Entry};
+ghost use Rattle.klp_types.specs.declared.version.Transition.{Transition};
+ghost use Rattle.klp_types.specs.Image.{first_site, given_symbol};
+ghost use Rattle.klp_types.specs.Entries.{patches_site, is_empty};
+ghost use Rattle.klp_types.specs.Bytes.{symbol_in, patched, resting};
+ghost use Rattle.klp_types.specs.Pick.{moves, is_unpatched, target_of};
+ghost use Rattle.klp_types.specs.Callbacks.{after_calls};
+ghost use Rattle.klp_model.specs.declared.event.Event.{Event as AnyEvent};
+ghost use Rattle.klp_types.specs.FirstOf.{first_of};
+ghost use Rattle.klp_model.specs.declared.event.Reply.{Reply as AnyReply};
+ghost use Rattle.klp_model.specs.declared.event.Refusal.{Refusal};
+ghost use Rattle.klp_model.specs.Refusals.{accepts, NoneHolds};
+ghost use Rattle.klp_model.specs.State.{State, is_loaded, installed_patches, is_installed, with_world};
+ghost use Rattle.klp_model.specs.Task.{Tasks};
+ghost use Rattle.klp_model.specs.Blocked.{switched, lags};
+ghost use Rattle.klp_model.specs.Entries.{is_site_loaded, entries_of, is_hooked};
+ghost use Rattle.klp_model.specs.Bytes.{text_of};
+ghost use Rattle.klp_model.specs.Pick.{pick_in};
+ghost use Rattle.klp_model.specs.Versions.{version_in, others};
+ghost use Rattle.klp_model.specs.EventCalls.{calls};
+ghost use Rattle.klp_model.specs.ShadowStep.{shadow_changed};
+ghost use Rattle.klp_model.specs.Completing.{without_older};
+ghost use Rattle.klp_model.specs.Step.{accepted};
+ghost use Rattle.klp_model.specs.Run.{answer, next, run, answers};
+ghost use Rattle.klp_model.specs.Legal.{History, IsLegal, state_after_history, history_of};
+ghost use Rattle.klp_model.specs.Allowed.{is_one_of, Allowed};
+ghost use Rattle.klp_model.specs.Stated.{IsStated};
+ghost use Rattle.klp_model.specs.Opening.{opening_state};
+
+/// The state that a manager is booted with is allowed, if the image has an object: `vmlinux`, which is
+/// loaded from the start.
+pub fn the_opening_state_is_allowed()
+    ensures { (setting : Setting) → is_empty setting.image.objects ≡ false → Allowed setting (opening_state setting) }
+{}
+
+/// A step leads from an allowed state to an allowed state, and so does a run: so what laws ask of a state
+/// holds of every state that a manager comes to.
+pub fn states_stay_allowed()
+    ensures step { (setting : Setting) (state : State) (event : AnyEvent) → Allowed setting state → Allowed setting (next setting state event) }
+    ensures run { (setting : Setting) (state : State) (events : List AnyEvent) → Allowed setting state → Allowed setting (run setting state events) }
+{}
+
+/// What an accepted event does to a shadow variable is what the shadow event, or the callbacks that it
+/// runs, do to it: so a variable can be followed through a run without its states.
+pub fn callbacks_make_the_changes()
+    ensures { (setting : Setting) (state : State) (event : AnyEvent) (key : ShadowKey)
+        → variable (accepted setting state event).1.world key ≡ variable (after_calls (shadow_changed state.world event) (calls setting state event)) key }
+{}
+
+/// What a task runs, by the installed patches alone: one of state 0 runs what it would run if the moving
+/// patch weren't installed, any other, and every task where nothing moves, the newest version. So no task
+/// runs a part of a patch.
+pub fn tasks_run_whole_lists_of_patches()
+    ensures patched { (setting : Setting) (state : State) (own : ℤ) (site : ℕ) → is_site_loaded setting state site ≡ true → is_unpatched own ≡ false
+        → pick_in setting state own site ≡ target_of setting (version_in setting site (reverse (installed_patches state))) }
+    ensures at_rest { (setting : Setting) (state : State) (own : ℤ) (site : ℕ) → is_site_loaded setting state site ≡ true → state.moving ≡ None
+        → pick_in setting state own site ≡ target_of setting (version_in setting site (reverse (installed_patches state))) }
+    ensures unpatched { (setting : Setting) (state : State) (move : Transition) (site : ℕ) → Allowed setting state → is_site_loaded setting state site ≡ true → state.moving ≡ Some move
+        → pick_in setting state (pos 0) site ≡ target_of setting (version_in setting site (reverse (others move.patch (installed_patches state)))) }
+{}
+
+/// When the moving patch is taken out its own entries are gone, and those of the other patches are as they
+/// were, nops among them. So the stacks needn't be made anew.
+pub fn a_patch_leaves_the_entries_of_the_others()
+    ensures { (setting : Setting) (state : State) (patch : ℕ) (site : ℕ) → Allowed setting state → moves state.moving patch ≡ true
+        → entries_of setting (with_world state (without_patch state.world patch)) site ≡ filter (λ (e : Entry). not (e.patch == patch)) (entries_of setting state site) }
+{}
+
+/// Of an event that is accepted none of the cases holds in which it would be refused, and it leads to the
+/// state that its step gives. A refused event leaves the state. So the list of cases is all there is to
+/// know of a refusal.
+pub fn events_are_accepted_where_no_case_holds()
+    ensures none { (cases : List (Bool × Refusal)) → is_none (first_of cases) ≡ true → NoneHolds cases }
+    ensures next { (setting : Setting) (state : State) (event : AnyEvent) → accepts setting state event ≡ true
+        → next setting state event ≡ (accepted setting state event).1 }
+    ensures stays { (setting : Setting) (state : State) (event : AnyEvent) → accepts setting state event ≡ false → next setting state event ≡ state }
+{}
+
+/// A history grows by an event that is accepted after it; its front is a history of the base, and what is
+/// behind that is one of the state that the front leads to. Replies follow from the events. Undo rests on
+/// this, since it cuts histories at their end.
+pub fn histories_grow_and_are_cut_at_their_end()
+    ensures grown { (setting : Setting) (base : State) (history : History) (event : AnyEvent) (reply : AnyReply)
+        → IsLegal setting base history → answer setting (state_after_history setting base history) event ≡ Ok reply
+        → IsLegal setting base (history ++ (event, reply) ∷ []) }
+    ensures front { (setting : Setting) (base : State) (first second : History) → IsLegal setting base (first ++ second) → IsLegal setting base first }
+    ensures behind { (setting : Setting) (base : State) (first second : History) → IsLegal setting base (first ++ second)
+        → IsLegal setting (state_after_history setting base first) second }
+    ensures replies { (setting : Setting) (base : State) (one other : History) → IsLegal setting base one → IsLegal setting base other
+        → map (λ (p : AnyEvent × AnyReply). p.0) one ≡ map (λ (p : AnyEvent × AnyReply). p.0) other → one ≡ other }
+{}
+
+/// What a list of events adds to the history is legal, and leads where all of them lead, since those that
+/// are refused change nothing.
+pub fn accepted_events_lead_where_all_lead()
+    ensures legal { (setting : Setting) (state : State) (events : List AnyEvent) → IsLegal setting state (history_of setting state events) }
+    ensures state { (setting : Setting) (state : State) (events : List AnyEvent)
+        → state_after_history setting state (history_of setting state events) ≡ run setting state events }
+{}
+
+/// Where no task lags, sleepers that are tried change nothing: so a poll may complete without asking who
+/// sleeps.
+pub fn where_none_lags_none_is_switched()
+    ensures { (blocked : List AnyVersion) (target : Bool) (tasks : Tasks) → count_by (lags target) tasks ≡ 0 → map (option_map (switched blocked target)) tasks ≡ tasks }
+{}
+
+/// When a cumulative patch has replaced the older ones, their entries are gone, and so are its own
+/// nops; the others are as they were. Where it had older ones, its own functions alone are left: it is
+/// the newest. One that is the oldest itself, disabled and enabled again, may have newer ones, which
+/// stay.
+pub fn a_replacement_takes_the_older_entries_along()
+    ensures older { (setting : Setting) (state : State) (move : Transition) (site : ℕ) → Allowed setting state → state.moving ≡ Some move → replaces setting move.patch ≡ true
+        → entries_of setting (with_world state (without_older true state.world move.patch)) site
+        ≡ filter (λ (e : Entry). not (is_one_of e.patch (map (λ (i : Installed). i.patch) (installed_before move.patch state.world.installed))) && not (e.patch == move.patch && is_none e.func))
+        (entries_of setting state site) }
+    ensures own { (setting : Setting) (state : State) (move : Transition) (site : ℕ) → Allowed setting state → state.moving ≡ Some move → replaces setting move.patch ≡ true
+        → is_empty (installed_before move.patch state.world.installed) ≡ false
+        → entries_of setting (with_world state (without_older true state.world move.patch)) site
+        ≡ filter (λ (e : Entry). e.patch == move.patch && is_some e.func) (entries_of setting state site) }
+{}
+
+/// Of the installed patches at most two replace: the oldest, and one that moves. One whose replacement is
+/// complete has no older patch left, since all of them went out with it.
+pub fn at_most_two_patches_replace()
+    ensures { (setting : Setting) (state : State) → Allowed setting state → count_by (replaces setting) (installed_patches state) ≤ 2 }
+{}
+
+/// In every state that is reached, an installed patch has a value for each system state that the catalog
+/// gives it, and for no other: so to ask for one can fail only for want of the patch or its state.
+pub fn installed_patches_have_their_states()
+    ensures opening { (setting : Setting) → IsStated setting (opening_state setting) }
+    ensures step { (setting : Setting) (state : State) (event : AnyEvent) → IsStated setting state → IsStated setting (next setting state event) }
+    ensures look { (setting : Setting) (state : State) (patch id : ℕ) → IsStated setting state
+        → is_some (state_value state.world patch id) ≡ (is_installed state patch && list_any (λ own. own == id) (state_ids setting patch)) }
+{}
+
+/// A site has an entry exactly where its object is loaded and an installed patch has a function for it: a
+/// nop is never alone, because a cumulative patch puts it only over an older entry.
+pub fn entry_where_patched()
+    ensures { (setting : Setting) (state : State) (site : ℕ)
+        → is_hooked setting state site
+        ≡ (is_site_loaded setting state site && list_any (patches_site setting site) (installed_patches state)) }
+{}
+
+/// A function of a loaded object reads as it was built, but for its entry site, whatever happened before.
+pub fn reads_as_built()
+    ensures { (setting : Setting) (state : State) (object : ℕ) (number : ℕ)
+        → is_loaded state object ≡ true
+        → symbol_in (text_of setting state object) number
+        ≡ option_map (patched setting.image.handler (is_hooked setting state (first_site setting.image.objects object + number)))
+        (given_symbol setting.image object number) }
+{}
+
+/// A function without an entry reads the NOP, and behind it as it was built: so it runs as if there were no
+/// patches at all.
+pub fn reads_nop_without_entry()
+    ensures { (setting : Setting) (state : State) (object : ℕ) (number : ℕ)
+        → is_loaded state object ≡ true
+        → is_hooked setting state (first_site setting.image.objects object + number) ≡ false
+        → symbol_in (text_of setting state object) number ≡ option_map resting (given_symbol setting.image object number) }
+{}
+
+/// The text depends on no more than what is loaded and for which sites there are functions: not on the
+/// order of patches, nor on what moves, what is pinned and what tasks do. So a patch that is gone has left
+/// no byte.
+pub fn same_functions_same_text()
+    ensures { (setting : Setting) (a : State) (b : State) (object : ℕ)
+        → a.loaded ≡ b.loaded
+        → ((site : ℕ) → list_any (patches_site setting site) (installed_patches a) ≡ list_any (patches_site setting site) (installed_patches b))
+        → text_of setting a object ≡ text_of setting b object }
+{}
+
+/// A run over one list and then another is the run over the first, and from where that ends over the
+/// second: so runs may be cut anywhere.
+pub fn runs_go_on_where_they_end()
+    ensures state { (setting : Setting) (state : State) (first second : List AnyEvent)
+        → run setting state (first ++ second) ≡ run setting (run setting state first) second }
+    ensures answered { (setting : Setting) (state : State) (first second : List AnyEvent)
+        → answers setting state (first ++ second) ≡ answers setting state first ++ answers setting (run setting state first) second }
+{}

@@ -1,0 +1,105 @@
+//! What is proved of a patch that is enabled and gone again. A function here does nothing: its contract is
+//! the law. The premises are those of `specs/Company`; `examples` shows what is lost where some of them
+//! fail.
+ghost use Rattle.std.specs.Prelude.{◌≡◌, ℕ, ◌<◌, false, List, [], ◌∷◌, ◌++◌, Some};
+ghost use Rattle.std.specs.List.{find};
+ghost use Rattle.klp_types.specs.declared.callback.Which.TheVariants.{Pre};
+ghost use Rattle.klp_types.specs.declared.shadow.ShadowKey.{ShadowKey};
+ghost use Rattle.klp_model.specs.declared.event.Event.{Event as AnyEvent};
+ghost use Rattle.klp_types.specs.Setting.{Setting, PatchObject};
+ghost use Rattle.klp_types.specs.World.{variable};
+ghost use Rattle.klp_model.specs.State.{State, is_installed};
+ghost use Rattle.klp_types.specs.Callbacks.{refuses};
+ghost use Rattle.klp_model.specs.Callbacks.{loaded_objects};
+ghost use Rattle.klp_model.specs.ShadowStep.{shadow_changes};
+ghost use Rattle.klp_model.specs.Run.{run, accepted_events, callbacks_of_run};
+ghost use Rattle.klp_model.specs.Footprint.{SameFootprint};
+ghost use Rattle.klp_model.specs.Rounds.{enablings, kinds_for, repeated, RanInRounds, RanOneRound};
+ghost use Rattle.klp_model.specs.Company.{taking_part, company_keys, IsFairCompany};
+
+/// At every moment of a fair company of a patch at which the patch isn't installed, the footprint is that
+/// of the start. Every moment counts, since the patch may come and go many times.
+pub fn gone_without_a_trace()
+    ensures { (setting : Setting) (patch : ℕ) (start : State) (first second : List AnyEvent)
+        → IsFairCompany setting patch start (first ++ second)
+        → is_installed (run setting start first) patch ≡ false
+        → SameFootprint setting (company_keys setting start patch) (run setting start first) start }
+{}
+
+/// At every moment of a fair company, outside of the patch's own variables the shadow variables are those
+/// of the start with the changes of the shadow events: no callback of another patch runs, since none comes
+/// or goes.
+pub fn only_shadow_events_outside()
+    ensures { (setting : Setting) (patch : ℕ) (start : State) (first second : List AnyEvent)
+        → IsFairCompany setting patch start (first ++ second)
+        → (key : ShadowKey) → company_keys setting start patch key ≡ false
+        → variable (run setting start first).world key ≡ variable (shadow_changes start.world first) key }
+{}
+
+/// Between two moments of a fair company at which the patch isn't installed, the callbacks of each object
+/// that takes part ran in as many rounds as there are enablings: pre-patch, post-patch and pre-unpatch any
+/// number of times, post-unpatch. So a callback may count on its partner having run.
+pub fn callbacks_in_rounds()
+    ensures { (setting : Setting) (patch : ℕ) (start : State) (first second third : List AnyEvent)
+        → IsFairCompany setting patch start (first ++ second ++ third)
+        → is_installed (run setting start first) patch ≡ false
+        → is_installed (run setting start (first ++ second)) patch ≡ false
+        → RanInRounds (taking_part setting start patch) (callbacks_of_run setting (run setting start first) second) (enablings second) }
+{}
+
+/// Where there is one enabling between two such moments, the callbacks of each object that takes part ran
+/// in one round. This is the common case, in which the number of rounds needn't be spoken of.
+pub fn callbacks_of_one_round()
+    ensures { (setting : Setting) (patch : ℕ) (start : State) (first second third : List AnyEvent)
+        → IsFairCompany setting patch start (first ++ second ++ third)
+        → is_installed (run setting start first) patch ≡ false
+        → is_installed (run setting start (first ++ second)) patch ≡ false
+        → enablings second ≡ 1
+        → RanOneRound (taking_part setting start patch) (callbacks_of_run setting (run setting start first) second) }
+{}
+
+/// Where an object refuses, each enabling runs its pre-patch callback and nothing else of it, and nothing
+/// of the objects behind it: a pre-patch that fails has to clean up after itself.
+pub fn callbacks_of_the_object_that_refuses()
+    ensures refusing { (setting : Setting) (patch : ℕ) (start : State) (first second third : List AnyEvent)
+        → IsFairCompany setting patch start (first ++ second ++ third)
+        → (object : ℕ × PatchObject) → find refuses (loaded_objects setting start patch) ≡ Some object
+        → kinds_for object.0 (callbacks_of_run setting (run setting start first) second) ≡ repeated (enablings second) (Pre ∷ []) }
+    ensures behind { (setting : Setting) (patch : ℕ) (start : State) (first second third : List AnyEvent)
+        → IsFairCompany setting patch start (first ++ second ++ third)
+        → (object : ℕ × PatchObject) → find refuses (loaded_objects setting start patch) ≡ Some object
+        → (place : ℕ) → object.0 < place → kinds_for place (callbacks_of_run setting (run setting start first) second) ≡ [] }
+{}
+
+/// At the end of a fair company at which the patch isn't installed, the footprint is that of the
+/// start: where the events of a list were all accepted, this is what a call that makes them promises.
+pub fn gone_at_the_end()
+    ensures { (setting : Setting) (patch : ℕ) (start : State) (events : List AnyEvent)
+        → IsFairCompany setting patch start events
+        → is_installed (run setting start events) patch ≡ false
+        → SameFootprint setting (company_keys setting start patch) (run setting start events) start }
+{}
+
+/// What a run of any events promises at its end: where those that aren't refused are a fair company
+/// of a patch, and the patch isn't installed, the footprint is that of the start; and outside of the
+/// patch's own variables the shadow variables are changed by shadow events alone.
+pub fn at_the_end_of_a_run()
+    ensures footprint { (setting : Setting) (patch : ℕ) (start : State) (events : List AnyEvent)
+        → IsFairCompany setting patch start (accepted_events setting start events)
+        → is_installed (run setting start events) patch ≡ false
+        → SameFootprint setting (company_keys setting start patch) (run setting start events) start }
+    ensures outside { (setting : Setting) (patch : ℕ) (start : State) (events : List AnyEvent)
+        → IsFairCompany setting patch start (accepted_events setting start events)
+        → (key : ShadowKey) → company_keys setting start patch key ≡ false
+        → variable (run setting start events).world key ≡ variable (shadow_changes start.world (accepted_events setting start events)) key }
+{}
+
+/// At every moment of a fair company at which the patch isn't installed, the world is as if the patch had
+/// never been: that of the start with the changes of the shadow events. This is stronger than the footprint
+/// alone, since shadow events may go on meanwhile.
+pub fn as_if_it_had_never_been()
+    ensures { (setting : Setting) (patch : ℕ) (start : State) (first second : List AnyEvent)
+        → IsFairCompany setting patch start (first ++ second)
+        → is_installed (run setting start first) patch ≡ false
+        → (run setting start first).world ≡ shadow_changes start.world first }
+{}

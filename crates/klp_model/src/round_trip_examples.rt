@@ -1,0 +1,52 @@
+//! Worked examples, by computation: that there are fair companies, so that the laws don't hold of nothing,
+//! and what is lost where a premise fails. A function here does nothing: its contract is the example.
+ghost use Rattle.std.specs.Prelude.{◌≡◌, true, false, [], ◌∷◌, find, is_some, Some, None};
+ghost use Rattle.klp_types.specs.World.{variable};
+ghost use Rattle.klp_model.specs.declared.event.Event.TheVariants.{Enable, ShadowAlloc};
+ghost use Rattle.klp_model.specs.State.{State, is_installed};
+ghost use Rattle.klp_model.specs.ShadowStep.{shadow_changed, shadow_changes, concerns};
+ghost use Rattle.klp_types.specs.Callbacks.{refuses};
+ghost use Rattle.klp_model.specs.Callbacks.{loaded_objects};
+ghost use Rattle.klp_model.specs.Run.{run};
+ghost use Rattle.klp_model.specs.Allowed.{Allowed};
+ghost use Rattle.klp_model.specs.Company.{taking_part, company_keys, EachUndoes, IsFairCompany};
+ghost use Rattle.klp_model.specs.RoundTripExamples.{key_of, adding, bare, with_a_sleeper, every_stage, own_variable_first, refusing_behind, both_loaded, sharing, with_five, there_and_back};
+
+/// A cumulative patch is enabled, held by a sleeper, turned round twice, complete, disabled, waited for and
+/// gone, and a variable of somebody else is added between: a fair company, so the laws speak of all of
+/// these.
+pub fn a_fair_company_goes_through_every_stage()
+    ensures allowed { Allowed adding with_a_sleeper }
+    ensures fair { IsFairCompany adding 0 with_a_sleeper every_stage }
+    ensures gone { is_installed (run adding with_a_sleeper every_stage) 0 ≡ false }
+{}
+
+/// A variable of the patch's callbacks is there before the patch comes: pre-patch leaves it and
+/// post-unpatch removes it, so it is lost. The event that adds it concerns a variable of the company,
+/// and from behind that event the callbacks don't undo each other.
+pub fn a_variable_that_was_there_is_lost()
+    ensures gone { is_installed (run adding bare own_variable_first) 0 ≡ false }
+    ensures lost { variable (run adding bare own_variable_first).world (key_of 1 9) ≡ None }
+    ensures expected { variable (shadow_changes bare.world own_variable_first) (key_of 1 9) ≡ Some 77 }
+    ensures of_the_company { company_keys adding bare 0 (key_of 1 9) ≡ true }
+    ensures concerned { concerns (ShadowAlloc (key_of 1 9) 77) (key_of 1 9) ≡ true }
+    ensures not_undone { EachUndoes 0 (shadow_changed bare.world (ShadowAlloc (key_of 1 9) 77)) (taking_part adding bare 0) → ⊥ }
+{}
+
+/// Two objects whose callbacks share a variable: those of each undo each other, and yet the variable isn't
+/// what it was when the patch is gone, because the objects clean up in the order in which they were set up,
+/// and not backwards.
+pub fn objects_that_share_a_variable_leave_a_trace()
+    ensures undone { EachUndoes 0 with_five.world (taking_part sharing with_five 0) }
+    ensures before { variable with_five.world (key_of 1 1) ≡ Some 5 }
+    ensures gone { is_installed (run sharing with_five there_and_back) 0 ≡ false }
+    ensures after { variable (run sharing with_five there_and_back).world (key_of 1 1) ≡ Some 9 }
+{}
+
+/// A patch whose second object refuses is gone at once, and its enabling is a fair company: the first
+/// object takes part, since it was set up and cleaned up, and the second one refuses.
+pub fn a_refused_patch_is_a_fair_company()
+    ensures fair { IsFairCompany refusing_behind 0 both_loaded (Enable 0 ∷ []) }
+    ensures refuses { is_some (find refuses (loaded_objects refusing_behind both_loaded 0)) ≡ true }
+    ensures gone { is_installed (run refusing_behind both_loaded (Enable 0 ∷ [])) 0 ≡ false }
+{}

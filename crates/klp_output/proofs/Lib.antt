@@ -1,3 +1,0 @@
-pub mod SaysLemmas
-pub mod WriteLemmas
-pub mod TextLemmas

@@ -1,5 +1,0 @@
-use Rattle.std.proofs.Common.{rules}
-use Rattle.klp_output.proofs.answers.Answers.make_room.Goals as goal
-
-pub returns-else-remaining_capacity-len-clause-room : goal.returns-else-remaining_capacity-len-clause-room
-returns-else-remaining_capacity-len-clause-room g c = search rules

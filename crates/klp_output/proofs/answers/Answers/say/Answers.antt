@@ -1,6 +1,0 @@
-use Rattle.std.proofs.Common.{[]}
-use Rattle.klp_output.proofs.SaysLemmas.{says-append}
-use Rattle.klp_output.proofs.answers.Answers.say.Goals as goal
-
-pub returns : goal.returns
-returns g c = says-append _ _ _ [] c.args.text.now c.make_room.ensures.says c.take.ensures

@@ -1,5 +1,0 @@
-use Rattle.klp_output.proofs.TextLemmas.{length-address_text}
-use Rattle.klp_output.proofs.laws.addresses_have_16_digits.Goals as goal
-
-pub returns : goal.returns
-returns c = length-address_text

@@ -1,4 +1,0 @@
-pub mod Written
-pub mod Gathered
-pub mod Says
-pub mod Texts

@@ -1,0 +1,45 @@
+-- What runs of callbacks leave, and the room that they need.
+use Rattle.std.specs.Prelude.{◌≡◌, ℕ, ◌+◌, ◌≤◌, true, List, length}
+use Rattle.std.specs.List.{sum_by, All}
+use Rattle.std.specs.FinMap as finite
+use Rattle.klp_types.specs.declared.limits.TheConstants.{MAX_VARIABLES}
+use Rattle.klp_types.specs.declared.record.Record.{Record}
+use Rattle.klp_types.specs.Records.{RecordList}
+use Rattle.klp_types.specs.Script.{alloc_count}
+use Rattle.klp_types.specs.World.{World}
+use Rattle.klp_types.specs.Callbacks.{Call, allocs_of, after_calls}
+use Rattle.klp_world.specs.Noted.{noting}
+use Rattle.klp_world.specs.Undo.{undone, is_of_world}
+use Rattle.klp_catalog.specs.Catalog.{Catalog}
+use Rattle.klp_catalog.specs.Runs.{after_runs}
+use Rattle.klp_patch.specs.Loaded.{patches_in}
+
+-- how many records callbacks note at most, beside one for each shadow variable that is gone afterwards: one for each edit, and
+-- one more for each that adds a variable
+abbrev pub records_of : List Call → ℕ
+records_of calls = sum_by (λ (c : Call). length c.script.edits + alloc_count c.script.edits) calls
+
+-- these callbacks ran, in this order
+pub record HaveRun (before after : Catalog) (world_before world_after : World) (log_before log_after : RecordList) (calls : List Call) : Type 0 where
+  -- each is counted
+  pub catalog : after ≡ after_runs before calls
+  -- and did what its script says
+  pub world : world_after ≡ after_calls world_before calls
+  -- so the same patches are installed
+  pub installed : patches_in world_after ≡ patches_in world_before
+  -- no more shadow variables are there than were before and are added
+  pub variables : finite.len world_after.shadow ≤ finite.len world_before.shadow + allocs_of calls
+  -- each row that changed is noted as it was, as the newest, and no other row
+  pub rows : List Record
+  pub noted : log_after ≡ noting log_before rows
+  pub of_world : All (λ row. is_of_world row ≡ true) rows
+  -- put back newest first, they give the world before
+  pub undo : undone world_after rows ≡ world_before
+  -- no more records are noted than those of the callbacks, and one for each shadow variable that is gone
+  pub records : length log_after.noted + finite.len world_after.shadow ≤ length log_before.noted + finite.len world_before.shadow + records_of calls
+  pub room : log_after.room ≡ log_before.room
+
+-- there is room for the shadow variables that callbacks add, and for the records that they note
+pub record HasRoomFor (world : World) (log : RecordList) (calls : List Call) : Type 0 where
+  pub variables : finite.len world.shadow + allocs_of calls ≤ MAX_VARIABLES
+  pub records : length log.noted + finite.len world.shadow + records_of calls ≤ log.room

@@ -1,0 +1,33 @@
+//! One callback: the only place where a catalog's callback is run, so that all that holds of a run is
+//! proved once.
+ghost use Rattle.std.specs.Prelude.{◌≡◌};
+ghost use Rattle.klp_model.specs.Callbacks.{status_of};
+ghost use Rattle.klp_catalog.specs.Runs.{script_at};
+ghost use Rattle.klp_patch.specs.Calls.{HaveRun, HasRoomFor};
+ghost use Rattle.klp_patch.specs.Places.{call_at};
+
+use klp_catalog::Catalog;
+use klp_types::laws::{installed_patches_stay, variables_are_few};
+use klp_types::{PatchId, Records, Which};
+use klp_world::World;
+use klp_world::laws::records_are_few;
+
+/// Runs the callback of a patch for its object at this place, and answers its status: 0 where there is no
+/// such callback. The laws that every run needs are called here, so that no walk over callbacks has to.
+pub(crate) fn run_at(
+    catalog: &mut Catalog,
+    patch: PatchId,
+    place: u8,
+    which: Which,
+    world: &mut World,
+    log: &mut Records,
+) -> i32
+    requires { HasRoomFor world.old log.old (call_at catalog.old patch place which) }
+    ensures status { result ≡ status_of (script_at catalog.old patch place which) }
+    ensures ran { HaveRun catalog.old catalog.new world.old world.new log.old log.new (call_at catalog.old patch place which) }
+{
+    variables_are_few();
+    records_are_few();
+    installed_patches_stay();
+    catalog.run(patch, place, which, world, log).unwrap_or(0)
+}

@@ -1,0 +1,145 @@
+//! The callbacks of a module that comes or goes, patch by patch, oldest first, as the kernel walks over
+//! `klp_patches`.
+ghost use Rattle.std.specs.Prelude.{◌≡◌, ℕ, ◌+◌, ◌≤◌, find, length, take, None, Some, option_map, MatchOption};
+ghost use Rattle.std.specs.List.{flat_map};
+ghost use Rattle.klp_types.specs.declared.callback.Which.TheVariants.{Pre};
+ghost use Rattle.klp_types.specs.declared.limits.TheConstants.{MAX_PATCHES};
+ghost use Rattle.klp_types.specs.Callbacks.{script_for, allocs_of};
+ghost use Rattle.klp_model.specs.Callbacks.{status_of};
+ghost use Rattle.klp_model.specs.ModuleCalls.{Part, part_refuses, parts_before, coming_calls, going_calls};
+ghost use Rattle.klp_model.specs.EventCalls.{coming_may_run, going_may_run};
+ghost use Rattle.klp_patch.specs.ModuleShares.{parts_in};
+ghost use Rattle.klp_patch.specs.Brought.{bring_calls, refusal};
+ghost use Rattle.klp_patch.specs.Calls.{HaveRun, HasRoomFor, records_of};
+
+use crate::module_share::{allocs_to_bring, allocs_to_let_go, bring, let_go};
+use klp_catalog::Catalog;
+use klp_catalog::laws::runs_add_up;
+use klp_types::{ObjId, PatchId, Records, Transition};
+use klp_world::World;
+
+/// How many shadow variables the callbacks that may run when a module comes add at most, the cleaning up
+/// after a refusal among them.
+pub fn allocs_of_coming(
+    catalog: &Catalog,
+    installed: &[PatchId],
+    object: ObjId,
+    moving: Option<Transition>,
+) -> usize
+    requires { length installed.now ≤ MAX_PATCHES }
+    ensures value { result ≡ allocs_of (flat_map (coming_may_run moving) (parts_in catalog.now object installed.now)) }
+    // so they log few records
+    ensures records { records_of (flat_map (coming_may_run moving) (parts_in catalog.now object installed.now)) ≤ 1024 + result }
+{
+    let mut sum = 0;
+    for &patch in installed {
+        sum += allocs_to_bring(catalog, patch, object, &moving);
+    }
+    sum
+}
+
+/// How many shadow variables the callbacks that may run when a module goes add at most.
+pub fn allocs_of_going(
+    catalog: &Catalog,
+    installed: &[PatchId],
+    object: ObjId,
+    moving: Option<Transition>,
+) -> usize
+    requires { length installed.now ≤ MAX_PATCHES }
+    ensures value { result ≡ allocs_of (flat_map (going_may_run moving) (parts_in catalog.now object installed.now)) }
+    ensures records { records_of (flat_map (going_may_run moving) (parts_in catalog.now object installed.now)) ≤ 512 + result }
+{
+    let mut sum = 0;
+    for &patch in installed {
+        sum += allocs_to_let_go(catalog, patch, object, &moving);
+    }
+    sum
+}
+
+/// For each of these patches that has the module, pre-unpatch if the patch doesn't move, and post-unpatch.
+/// It is the going of a module, and also the cleaning up of one that was refused, since both undo what
+/// came.
+fn let_go_each(
+    catalog: &mut Catalog,
+    installed: &[PatchId],
+    object: ObjId,
+    moving: &Option<Transition>,
+    world: &mut World,
+    log: &mut Records,
+)
+    requires { HasRoomFor world.old log.old (going_calls moving.now (parts_in catalog.old object installed.now)) }
+    ensures { HaveRun catalog.old catalog.new world.old world.new log.old log.new (going_calls moving.now (parts_in catalog.old object installed.now)) }
+{
+    runs_add_up();
+    for &patch in installed {
+        let_go(catalog, patch, object, moving, world, log);
+    }
+}
+
+/// For each of these patches that has the module, pre-patch, and post-patch if the patch doesn't move; up
+/// to and with the first pre-patch that refuses. If one does, its place among these, before which the
+/// cleaning up stops, its patch and the status are answered.
+fn bring_each(
+    catalog: &mut Catalog,
+    installed: &[PatchId],
+    object: ObjId,
+    moving: &Option<Transition>,
+    world: &mut World,
+    log: &mut Records,
+) -> Option<(usize, PatchId, i32)>
+    requires { HasRoomFor world.old log.old (bring_calls moving.now (parts_in catalog.old object installed.now)) }
+    ensures refused { MatchOption result
+        (find part_refuses (parts_in catalog.old object installed.now) ≡ None)
+        (λ r. (r.0 ≤ length installed.now) × (option_map refusal (find part_refuses (parts_in catalog.old object installed.now)) ≡ Some (r.1, r.2))
+        × (parts_before (parts_in catalog.old object installed.now) ≡ parts_in catalog.old object (take r.0 installed.now))) }
+    ensures ran { HaveRun catalog.old catalog.new world.old world.new log.old log.new (bring_calls moving.now (parts_in catalog.old object installed.now)) }
+{
+    runs_add_up();
+    for (end, &patch) in installed.iter().enumerate() {
+        if let Some(status) = bring(catalog, patch, object, moving, world, log) {
+            return Some((end, patch, status));
+        }
+    }
+    None
+}
+
+/// Runs, for each of these patches that has the module, pre-patch, and post-patch if the patch doesn't
+/// move; up to and with the first pre-patch that refuses. If one does, the patches before it are cleaned
+/// up, oldest first (the kernel's `klp_cleanup_module_patches_limited`): pre-unpatch if the patch doesn't
+/// move, and post-unpatch. Its patch and the status are answered.
+pub fn run_coming(
+    catalog: &mut Catalog,
+    installed: &[PatchId],
+    object: ObjId,
+    moving: Option<Transition>,
+    world: &mut World,
+    log: &mut Records,
+) -> Option<(PatchId, i32)>
+    requires few { length installed.now ≤ MAX_PATCHES }
+    requires room { HasRoomFor world.old log.old (flat_map (coming_may_run moving) (parts_in catalog.old object installed.now)) }
+    ensures refused { result ≡ option_map (λ (p : Part). (p.0, status_of (script_for Pre p.1.1.callbacks)))
+        (find part_refuses (parts_in catalog.old object installed.now)) }
+    ensures ran { HaveRun catalog.old catalog.new world.old world.new log.old log.new (coming_calls moving (parts_in catalog.old object installed.now)) }
+{
+    runs_add_up();
+    let (end, patch, status) = bring_each(catalog, installed, object, &moving, world, log)?;
+    let_go_each(catalog, &installed[..end], object, &moving, world, log);
+    Some((patch, status))
+}
+
+/// Runs, for each of these patches that has the module, pre-unpatch if the patch doesn't move, and
+/// post-unpatch. None of them can keep the module from going.
+pub fn run_going(
+    catalog: &mut Catalog,
+    installed: &[PatchId],
+    object: ObjId,
+    moving: Option<Transition>,
+    world: &mut World,
+    log: &mut Records,
+)
+    requires few { length installed.now ≤ MAX_PATCHES }
+    requires room { HasRoomFor world.old log.old (flat_map (going_may_run moving) (parts_in catalog.old object installed.now)) }
+    ensures { HaveRun catalog.old catalog.new world.old world.new log.old log.new (going_calls moving (parts_in catalog.old object installed.now)) }
+{
+    let_go_each(catalog, installed, object, &moving, world, log);
+}

@@ -1,0 +1,181 @@
+//! The callbacks of a patch, object by object, in the order in which the patch has its objects.
+ghost use Rattle.std.specs.Prelude.{◌≡◌, ℕ, ◌≤◌, ◌++◌, length, slice_get, find, None, Some, option_map, MatchOption};
+ghost use Rattle.klp_types.specs.declared.callback.Which.TheVariants.{Pre, PostUn};
+ghost use Rattle.klp_types.specs.Setting.{PatchObject as ObjectOf};
+ghost use Rattle.klp_types.specs.Callbacks.{script_for, calls_of, enable_calls, refuses, allocs_of};
+ghost use Rattle.klp_model.specs.Callbacks.{status_of};
+ghost use Rattle.klp_catalog.specs.Runs.{objects_at};
+ghost use Rattle.klp_patch.specs.Loaded.{loaded_in};
+ghost use Rattle.klp_patch.specs.Refusing.{loaded_calls, loaded_call, loaded_status, refusal_of, pre_calls};
+ghost use Rattle.klp_patch.specs.Calls.{HaveRun, HasRoomFor, records_of};
+
+use crate::callback_run::run_at;
+use klp_catalog::Catalog;
+use klp_catalog::laws::runs_add_up;
+use klp_modules::Modules;
+use klp_types::{ObjId, PatchId, Records, Which};
+use klp_world::World;
+
+/// How many shadow variables the callback of one object adds at most, where the object is loaded. An object
+/// that isn't loaded takes no part: its callbacks run when it comes.
+fn allocs_where_loaded(
+    catalog: &Catalog,
+    modules: &Modules,
+    patch: PatchId,
+    which: Which,
+    place: u8,
+) -> u16
+    ensures value { result ≡ allocs_of (loaded_call catalog.now modules.now patch which place) }
+    ensures limit { result ≤ 16 }
+    ensures records { records_of (loaded_call catalog.now modules.now patch which place) ≤ 32 }
+{
+    match catalog.target(patch, place) {
+        Some(object) if modules.is_loaded(object) => catalog.allocs(patch, place, which),
+        _ => 0,
+    }
+}
+
+/// How many shadow variables the callbacks of a kind for the loaded objects of a patch add at most: those
+/// that are there already and those that are removed aren't counted against them.
+pub fn allocs(catalog: &Catalog, modules: &Modules, patch: PatchId, which: Which) -> usize
+    ensures value { result ≡ allocs_of (calls_of patch which (loaded_in catalog.now modules.now patch)) }
+    ensures limit { result ≤ 128 }
+    // so they log few records
+    ensures records { records_of (calls_of patch which (loaded_in catalog.now modules.now patch)) ≤ 256 }
+{
+    let mut sum = 0;
+    for place in 0..catalog.target_len(patch) {
+        sum += usize::from(allocs_where_loaded(catalog, modules, patch, which, place));
+    }
+    sum
+}
+
+/// Runs the callback of one object, where the object is loaded, and answers its status: 0 where there is
+/// none, since what isn't there can't refuse.
+fn run_where_loaded(
+    catalog: &mut Catalog,
+    modules: &Modules,
+    patch: PatchId,
+    which: Which,
+    place: u8,
+    world: &mut World,
+    log: &mut Records,
+) -> i32
+    requires { HasRoomFor world.old log.old (loaded_call catalog.old modules.now patch which place) }
+    ensures status { result ≡ loaded_status catalog.old modules.now patch which place }
+    ensures ran { HaveRun catalog.old catalog.new world.old world.new log.old log.new (loaded_call catalog.old modules.now patch which place) }
+{
+    match catalog.target(patch, place) {
+        Some(object) if modules.is_loaded(object) => {
+            run_at(catalog, patch, place, which, world, log)
+        }
+        _ => 0,
+    }
+}
+
+/// Runs the callbacks of a kind for the loaded ones of the patch's first `end` objects, in order. The end
+/// is for cleaning up, which stops before the object that refused.
+fn run_first(
+    catalog: &mut Catalog,
+    modules: &Modules,
+    patch: PatchId,
+    which: Which,
+    end: u8,
+    world: &mut World,
+    log: &mut Records,
+)
+    requires end { end ≤ length (objects_at catalog.old patch) }
+    requires room { HasRoomFor world.old log.old (loaded_calls catalog.old modules.now patch which end) }
+    ensures { HaveRun catalog.old catalog.new world.old world.new log.old log.new (loaded_calls catalog.old modules.now patch which end) }
+{
+    runs_add_up();
+    for place in 0..end {
+        run_where_loaded(catalog, modules, patch, which, place, world, log);
+    }
+}
+
+/// Runs the callbacks of a kind for the loaded objects of a patch, in order. Their statuses are dropped:
+/// only pre-patch may refuse, as in the kernel, where the other kinds return nothing.
+pub fn run_callbacks(
+    catalog: &mut Catalog,
+    modules: &Modules,
+    patch: PatchId,
+    which: Which,
+    world: &mut World,
+    log: &mut Records,
+)
+    requires room { HasRoomFor world.old log.old (calls_of patch which (loaded_in catalog.old modules.now patch)) }
+    ensures { HaveRun catalog.old catalog.new world.old world.new log.old log.new (calls_of patch which (loaded_in catalog.old modules.now patch)) }
+{
+    let end = catalog.target_len(patch);
+    run_first(catalog, modules, patch, which, end, world, log);
+}
+
+/// Runs pre-patch for one object, where the object is loaded, and answers its status if it refuses, as 0 is
+/// no refusal.
+fn run_pre(
+    catalog: &mut Catalog,
+    modules: &Modules,
+    patch: PatchId,
+    place: u8,
+    world: &mut World,
+    log: &mut Records,
+) -> Option<i32>
+    requires { HasRoomFor world.old log.old (loaded_call catalog.old modules.now patch Pre place) }
+    ensures status { result ≡ refusal_of (loaded_status catalog.old modules.now patch Pre place) }
+    ensures ran { HaveRun catalog.old catalog.new world.old world.new log.old log.new (loaded_call catalog.old modules.now patch Pre place) }
+{
+    match run_where_loaded(catalog, modules, patch, Which::Pre, place, world, log) {
+        0 => None,
+        status => Some(status),
+    }
+}
+
+/// Runs pre-patch object by object, up to and with the first that refuses, and answers the place of that
+/// object, before which the cleaning up stops, and the status.
+fn pre_patch(
+    catalog: &mut Catalog,
+    modules: &Modules,
+    patch: PatchId,
+    world: &mut World,
+    log: &mut Records,
+) -> Option<(u8, i32)>
+    requires { HasRoomFor world.old log.old (pre_calls patch (loaded_in catalog.old modules.now patch)) }
+    ensures refused { MatchOption result
+        (find refuses (loaded_in catalog.old modules.now patch) ≡ None)
+        (λ r. (o : ObjectOf) × (slice_get (objects_at catalog.old patch) r.0 ≡ Some o) × (r.1 ≡ status_of (script_for Pre o.callbacks))
+        × (find refuses (loaded_in catalog.old modules.now patch) ≡ Some (r.0, o))) }
+    ensures ran { HaveRun catalog.old catalog.new world.old world.new log.old log.new
+        (pre_calls patch (loaded_in catalog.old modules.now patch)) }
+{
+    runs_add_up();
+    for place in 0..catalog.target_len(patch) {
+        if let Some(status) = run_pre(catalog, modules, patch, place, world, log) {
+            return Some((place, status));
+        }
+    }
+    None
+}
+
+/// Runs pre-patch object by object, up to and with the first that refuses. If one does, the objects before
+/// it get post-unpatch, so that what they set up is cleaned up, and its number and the status are answered.
+/// The one that refuses cleans up after itself.
+pub fn run_pre_patch(
+    catalog: &mut Catalog,
+    modules: &Modules,
+    patch: PatchId,
+    world: &mut World,
+    log: &mut Records,
+) -> Option<(ObjId, i32)>
+    requires { HasRoomFor world.old log.old
+        (calls_of patch Pre (loaded_in catalog.old modules.now patch) ++ calls_of patch PostUn (loaded_in catalog.old modules.now patch)) }
+    ensures refused { result ≡ option_map (λ (o : ℕ × ObjectOf). (o.1.object, status_of (script_for Pre o.1.callbacks)))
+        (find refuses (loaded_in catalog.old modules.now patch)) }
+    ensures ran { HaveRun catalog.old catalog.new world.old world.new log.old log.new (enable_calls patch (loaded_in catalog.old modules.now patch)) }
+{
+    runs_add_up();
+    let (place, status) = pre_patch(catalog, modules, patch, world, log)?;
+    let object = catalog.target(patch, place).unwrap();
+    run_first(catalog, modules, patch, Which::PostUn, place, world, log);
+    Some((object, status))
+}

@@ -1,0 +1,15 @@
+pub mod BackLemmas
+pub mod TaskLemmas
+pub mod ListLemmas
+pub mod RoomLemmas
+pub mod SymbolLemmas
+pub mod EntryLemmas
+pub mod EnableLemmas
+pub mod ModuleLemmas
+pub mod ModuleLooks
+pub mod ModuleSteps
+pub mod CompleteLemmas
+pub mod CompleteListLemmas
+pub mod CompleteTaskLemmas
+pub mod CompleteSiteLemmas
+pub mod CompletePollLemmas

@@ -1,0 +1,54 @@
+use Rattle.std.proofs.Common.{◌≡◌, refl, sym, ap, ◌∙◌, true, false, [], map}
+use Rattle.std.specs.Prelude.{if◌then◌else◌}
+use Rattle.klp_types.specs.declared.callback.Which.TheVariants.{PreUn}
+use Rattle.klp_types.specs.Callbacks.{calls_of}
+use Rattle.klp_model.specs.declared.event.Event.TheVariants.{SetEnabled}
+use Rattle.klp_model.specs.declared.event.Reply.TheVariants.{Started}
+use Rattle.klp_model.specs.Enabling.{turned_or_started}
+use Rattle.klp_model.specs.Callbacks.{loaded_objects}
+use Rattle.klp_catalog.specs.Runs.{after_runs}
+use Rattle.klp_types.specs.Records.{RecordList}
+use Rattle.klp_types.specs.World.{Installed}
+use Rattle.klp_manager_state.specs.declared.state.ManagerState.{ManagerState}
+use Rattle.klp_manager_state.specs.Rows.{rows_in, undone}
+use Rattle.klp_manager_state.proofs.RowLemmas.{switched_back}
+use Rattle.klp_patch_events.proofs.BackLemmas.{callbacks_back}
+use Rattle.klp_manager_state.specs.Managed.{setting_in, state_in}
+use Rattle.klp_manager_state.proofs.StepLemmas.{accepted_at_sites}
+use Rattle.klp_patch_events.proofs.RoomLemmas.{same_objects}
+use Rattle.klp_patch_events.proofs.TaskLemmas.{target_fits}
+use Rattle.klp_patch_events.proofs.disabling.disable.Goals as goal
+
+pub returns-clause-accepted : goal.returns-clause-accepted
+returns-clause-accepted g c =
+    let before = c.args.manager.now in
+    let catalog = c.args.catalog.now in
+    let now = c.run_callbacks.new.catalog in
+    let setting = setting_in before catalog in
+    let state = state_in before catalog in
+    let after = c.set_moving.new.self in
+    let moved = c.set_moving.ensures.parts in
+    let same = ap (calls_of c.args.patch PreUn) (same_objects before catalog c.args.patch c.requires.kept) in
+    let starts = turned_or_started setting state c.args.patch c.args.value in
+    let made : state_in after now ≡ (starts false).1 =
+    ap (λ (p : ManagerState). state_in p now) moved ∙ rw (c.run_callbacks.ensures.world, same, c.set_all.ensures.tasks, c.target_state.ensures, target_fits true) refl
+    in
+    accepted_at_sites c.steps_keep.ensures before after catalog now (SetEnabled c.args.patch c.args.value) Started c.requires.kept c.requires.free (record {
+      says = ap (λ b. (starts b).0) (sym c.requires.rests);
+      state = made ∙ ap (λ b. (starts b).1) (sym c.requires.rests);
+      runs = c.run_callbacks.ensures.catalog
+          ∙ ap (after_runs catalog) (same ∙ ap (λ b. if b then [] else calls_of c.args.patch PreUn (loaded_objects setting state c.args.patch)) (sym c.requires.rests));
+      sites = ap (λ (p : ManagerState). p.sites) moved;
+      modules = ap (λ (p : ManagerState). p.modules) moved;
+      installed = ap (λ (p : ManagerState). map (λ (i : Installed). i.patch) p.world.installed) moved ∙ c.run_callbacks.ensures.installed;
+      room = ap (λ (p : ManagerState). p.log.room) moved ∙ rw c.set_all.ensures.records (c.run_callbacks.ensures.room ∙ rw c.clear.ensures c.requires.kept.room);
+    })
+
+pub returns-clause-noted : goal.returns-clause-noted
+returns-clause-noted g c =
+    let rows = rows_in c.args.manager.now in
+    c.set_moving.ensures.noted
+    ∙ switched_back c.args.manager.now.tasks c.set_all.new.self _ c.run_callbacks.new.log c.set_all.new.log c.set_all.ensures.tasks c.set_all.ensures.records c.set_all.ensures.undo
+    (record rows { world = c.run_callbacks.new.world })
+    ∙ callbacks_back c.args.catalog.now c.run_callbacks.new.catalog c.args.manager.now.world c.run_callbacks.new.world c.clear.new.self c.run_callbacks.new.log _ c.run_callbacks.ensures rows
+    ∙ ap (λ (l : RecordList). undone rows l.noted) c.clear.ensures

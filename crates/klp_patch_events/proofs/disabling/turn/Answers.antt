@@ -1,0 +1,40 @@
+use Rattle.std.proofs.Common.{sym, ap, ◌∙◌, [], map}
+use Rattle.std.specs.Prelude.{if◌then◌else◌}
+use Rattle.klp_types.specs.declared.callback.Which.TheVariants.{PreUn}
+use Rattle.klp_types.specs.Callbacks.{calls_of}
+use Rattle.klp_model.specs.declared.event.Event.TheVariants.{SetEnabled}
+use Rattle.klp_model.specs.declared.event.Reply.TheVariants.{Reversed}
+use Rattle.klp_model.specs.Enabling.{turned_or_started}
+use Rattle.klp_model.specs.Callbacks.{loaded_objects}
+use Rattle.klp_catalog.specs.Runs.{after_runs}
+use Rattle.klp_types.specs.Records.{RecordList}
+use Rattle.klp_types.specs.World.{Installed}
+use Rattle.klp_manager_state.specs.declared.state.ManagerState.{ManagerState}
+use Rattle.klp_manager_state.specs.Rows.{rows_in, undone}
+use Rattle.klp_manager_state.specs.Managed.{setting_in, state_in}
+use Rattle.klp_manager_state.proofs.StepLemmas.{accepted_at_sites}
+use Rattle.klp_patch_events.proofs.disabling.turn.Goals as goal
+
+pub returns-then-is_in_transition-clause-accepted : goal.returns-then-is_in_transition-clause-accepted
+returns-then-is_in_transition-clause-accepted g c =
+    let before = c.args.manager.now in
+    let catalog = c.args.catalog.now in
+    let setting = setting_in before catalog in
+    let state = state_in before catalog in
+    let after = c.set_moving.new.self in
+    let moved = c.set_moving.ensures.parts in
+    let starts = turned_or_started setting state c.args.patch c.args.value in
+    let moves = sym c.if-is_in_transition.true ∙ c.is_in_transition.ensures in
+    accepted_at_sites c.steps_keep.ensures before after catalog catalog (SetEnabled c.args.patch c.args.value) Reversed c.requires.kept c.requires.free (record {
+      says = ap (λ b. (starts b).0) moves;
+      state = ap (λ (p : ManagerState). state_in p catalog) moved ∙ ap (λ b. (starts b).1) moves;
+      runs = sym (c.steps_keep.ensures.none catalog)
+          ∙ ap (λ b. after_runs catalog (if b then [] else calls_of c.args.patch PreUn (loaded_objects setting state c.args.patch))) moves;
+      sites = ap (λ (p : ManagerState). p.sites) moved;
+      modules = ap (λ (p : ManagerState). p.modules) moved;
+      installed = ap (λ (p : ManagerState). map (λ (i : Installed). i.patch) p.world.installed) moved;
+      room = ap (λ (p : ManagerState). p.log.room) moved ∙ ap (λ (l : RecordList). l.room) c.clear.ensures ∙ c.requires.kept.room;
+    })
+
+pub returns-then-is_in_transition-clause-noted : goal.returns-then-is_in_transition-clause-noted
+returns-then-is_in_transition-clause-noted g c = c.set_moving.ensures.noted ∙ ap (λ (l : RecordList). undone (rows_in c.args.manager.now) l.noted) c.clear.ensures

@@ -1,0 +1,280 @@
+//! A transition is tried and completed (livepatch, Consistency model; cumulative-patches). Entries leave
+//! before the callbacks run, as in the kernel, and the list changes after them, so that they find the
+//! patches that leave.
+ghost use Rattle.std.specs.Prelude.{◌≡◌, ℕ, ◌+◌, ◌*◌, ◌≤◌, true, [], None, Some, ◌==◌, length};
+ghost use Rattle.std.specs.FinMap as finite;
+ghost use Rattle.klp_types.specs.declared.limits.TheConstants.{MAX_SITES, MAX_RECORDS, MAX_TASKS, MAX_VARIABLES};
+ghost use Rattle.klp_types.specs.Callbacks.{end_of, allocs_of};
+ghost use Rattle.klp_model.specs.declared.event.Event.TheVariants.{Poll};
+ghost use Rattle.klp_model.specs.declared.event.Reply.TheVariants.{Completed};
+ghost use Rattle.klp_model.specs.Allowed.{Allowed};
+ghost use Rattle.klp_model.specs.Blocked.{tried, pending};
+ghost use Rattle.klp_model.specs.Callbacks.{end_calls};
+ghost use Rattle.klp_model.specs.Completing.{completed, settled, without_older};
+ghost use Rattle.klp_model.specs.Entries.{entries_of};
+ghost use Rattle.klp_model.specs.Refusals.{refusal};
+ghost use Rattle.klp_model.specs.State.{with_world};
+ghost use Rattle.klp_model.specs.Task.{all_in, at_rest};
+ghost use Rattle.klp_text.specs.TextImage.{IsWithinLimits};
+ghost use Rattle.klp_modules.specs.Names.{names_of};
+ghost use Rattle.klp_catalog.specs.States.{is_cumulative};
+ghost use Rattle.klp_patch.specs.Calls.{records_of};
+ghost use Rattle.klp_stack.specs.Stack.{entries_at};
+ghost use Rattle.klp_manager_state.specs.Managed.{setting_in, state_in, refused_in, may_run_in, entries_in};
+ghost use Rattle.klp_manager_state.specs.Invariant.{Invariant};
+ghost use Rattle.klp_manager_state.specs.Events.{TakesEvent, AcceptsEvent};
+ghost use Rattle.klp_patch_events.specs.Complete.{IsCompleted};
+ghost use Rattle.klp_manager_state.specs.Rows.{rows_in, rows_before, IsNoted};
+
+use crate::replacing::{drop_older, older_than, unpatch_each};
+use klp_catalog::Catalog;
+use klp_manager_state::ManagerState;
+use klp_manager_state::laws::steps_keep;
+use klp_model::laws::{
+    a_patch_leaves_the_entries_of_the_others, a_replacement_takes_the_older_entries_along,
+    at_most_two_patches_replace, where_none_lags_none_is_switched,
+};
+use klp_model::{Refusal, Reply};
+use klp_patch::laws::the_stacks_tell_what_is_blocked;
+use klp_patch::{allocs, block, drop_nops, run_callbacks, unpatch_sites};
+use klp_tasks::laws::records_are_few;
+use klp_types::laws::entries_are_of_their_patches;
+use klp_types::{MAX_FUNCTIONS, MAX_PATCHES, MAX_SITES, MAX_VARIABLES, PatchId, Transition, Which};
+use klp_world::laws::what_is_noted_is_of_the_world;
+
+/// The kind of callback that runs at the end of a transition to this target: post-patch where the patch is
+/// in, post-unpatch where it is out.
+fn end_of(target: bool) -> Which
+    ensures { result ≡ end_of target }
+{
+    if target { Which::Post } else { Which::PostUn }
+}
+
+/// The transition is tried once more: sleepers that are inside of nothing blocked are brought to the
+/// target, and where no task lags it is completed. Nothing completes by itself, while a kernel tries
+/// every second; where there are no tasks the first try completes it (docs/DECISIONS.md, "When
+/// transitions complete").
+pub fn poll(manager: &mut ManagerState, catalog: &mut Catalog) -> Result<Reply, Refusal>
+    requires { Invariant manager.old catalog.old }
+    ensures taken { TakesEvent manager.old manager.new catalog.old catalog.new Poll result }
+    ensures noted { IsNoted manager.old manager.new result }
+{
+    match poll_refusal(manager, catalog) {
+        Some(refusal) => Err(refusal),
+        None => Ok(try_once_more(manager, catalog)),
+    }
+}
+
+/// Why the transition isn't tried, if it isn't: the first reason that holds. Room is asked for also
+/// where a task will lag, since nobody knows before.
+pub fn poll_refusal(manager: &ManagerState, catalog: &Catalog) -> Option<Refusal>
+    requires { Invariant manager.now catalog.now }
+    ensures refusal { result ≡ refused_in manager.now catalog.now Poll }
+    ensures records { records_of (may_run_in manager.now catalog.now Poll) ≤ 256 }
+{
+    let Some(moving) = manager.moving else {
+        return Some(Refusal::NotMoving);
+    };
+    // The sum over all callbacks of the end decides, before any of them runs (docs/DECISIONS.md,
+    // "`Full` at the end of a transition").
+    let end = allocs(
+        catalog,
+        &manager.modules,
+        moving.patch,
+        end_of(moving.target),
+    );
+    if usize::from(manager.world.count()) + end > MAX_VARIABLES {
+        return Some(Refusal::Full);
+    }
+    None
+}
+
+/// A transition that nothing refuses is tried. A task that lags leaves all else as it was.
+fn try_once_more(manager: &mut ManagerState, catalog: &mut Catalog) -> Reply
+    requires kept { Invariant manager.old catalog.old }
+    requires free { refused_in manager.old catalog.old Poll ≡ None }
+    requires records { records_of (may_run_in manager.old catalog.old Poll) ≤ 256 }
+    ensures accepted { AcceptsEvent manager.old manager.new catalog.old catalog.new Poll result }
+    ensures noted { rows_before manager.new ≡ rows_in manager.old }
+{
+    steps_keep();
+    let Some(moving) = manager.moving else {
+        // Can't be: where nothing moves, the poll is refused.
+        return Reply::Completed(false);
+    };
+    let left = try_tasks(manager, catalog, &moving);
+    if left > 0 {
+        return Reply::Pending(left);
+    }
+    complete(manager, catalog, &moving);
+    Reply::Completed(moving.target)
+}
+
+/// Brings sleepers to the target that are inside of nothing blocked, and answers how many tasks lag
+/// then. What was logged before is forgotten, since an event begins here.
+fn try_tasks(manager: &mut ManagerState, catalog: &Catalog, moving: &Transition) -> u8
+    requires kept { Invariant manager.old catalog.now }
+    requires moving { manager.old.moving ≡ Some moving.now }
+    ensures parts { manager.new ≡ record manager.old {
+      tasks = tried (setting_in manager.old catalog.now) (state_in manager.old catalog.now) moving.now;
+      blocked = manager.new.blocked;
+      log = manager.new.log;
+    } }
+    ensures left { result ≡ pending (setting_in manager.old catalog.now) (state_in manager.old catalog.now) moving.now }
+    ensures kept { Invariant manager.new catalog.now }
+    ensures noted { rows_before manager.new ≡ rows_in manager.old }
+    ensures records { length manager.new.log.noted ≤ 64 }
+{
+    where_none_lags_none_is_switched();
+    manager.log.clear();
+    if manager.tasks.lagging(moving.target) == 0 {
+        return 0;
+    }
+    switch_sleepers(manager, catalog, moving);
+    manager.tasks.lagging(moving.target)
+}
+
+/// Brings sleepers to the target that are inside of nothing blocked. The set of what is blocked is made
+/// anew, because entries and modules may have come or gone since the last try.
+fn switch_sleepers(manager: &mut ManagerState, catalog: &Catalog, moving: &Transition)
+    requires state { Allowed (setting_in manager.old catalog.now) (state_in manager.old catalog.now) }
+    requires limits { IsWithinLimits manager.old.sites.image.objects }
+    requires names { catalog.now.names ≡ names_of manager.old.sites.image.objects }
+    requires entries { (site : ℕ) → entries_at manager.old.sites.stacks site ≡ entries_in manager.old catalog.now site }
+    requires log { manager.old.log ≡ record { noted = []; room = MAX_RECORDS } }
+    ensures parts { manager.new ≡ record manager.old {
+      tasks = tried (setting_in manager.old catalog.now) (state_in manager.old catalog.now) moving.now;
+      blocked = manager.new.blocked;
+      log = manager.new.log;
+    } }
+    ensures noted { rows_before manager.new ≡ rows_in manager.old }
+    ensures records { length manager.new.log.noted ≤ 64 }
+    ensures log { manager.new.log.room ≡ MAX_RECORDS }
+{
+    entries_are_of_their_patches();
+    the_stacks_tell_what_is_blocked();
+    records_are_few();
+    prove!(usize::from(catalog.patches()) <= MAX_PATCHES);
+    prove!(manager.sites.sites() <= MAX_SITES);
+    block(&manager.sites, catalog, *moving, &mut manager.blocked);
+    manager
+        .tasks
+        .try_all(&manager.blocked, moving.target, &mut manager.log);
+}
+
+/// Every task is at the target: the transition is complete. As in the kernel
+/// (`klp_complete_transition`) the entries go before the callbacks run, and these still find the
+/// patches that leave.
+fn complete(manager: &mut ManagerState, catalog: &mut Catalog, moving: &Transition)
+    requires kept { Invariant manager.old catalog.old }
+    requires moving { manager.old.moving ≡ Some moving.now }
+    requires variables { finite.len manager.old.world.shadow + allocs_of (end_calls (setting_in manager.old catalog.old) (state_in manager.old catalog.old) (Some moving.now)) ≤ MAX_VARIABLES }
+    requires calls { records_of (end_calls (setting_in manager.old catalog.old) (state_in manager.old catalog.old) (Some moving.now)) ≤ 256 }
+    requires records { length manager.old.log.noted ≤ 64 }
+    ensures completed { IsCompleted manager.old manager.new catalog.old catalog.new moving.now }
+    ensures noted { rows_before manager.new ≡ rows_before manager.old }
+{
+    settle_sites(manager, catalog, moving);
+    run_callbacks(
+        catalog,
+        &manager.modules,
+        moving.patch,
+        end_of(moving.target),
+        &mut manager.world,
+        &mut manager.log,
+    );
+    settle_list(manager, catalog, moving);
+    rest(manager);
+}
+
+/// Nothing moves any more: each task has the state -1, as `/proc/<pid>/patch_state` shows it at rest.
+fn rest(manager: &mut ManagerState)
+    requires tasks { length manager.old.tasks ≡ MAX_TASKS }
+    requires records { length manager.old.log.noted ≤ 4000 }
+    requires log { manager.old.log.room ≡ MAX_RECORDS }
+    ensures parts { manager.new ≡ record manager.old { tasks = all_in at_rest manager.old.tasks; moving = None; log = manager.new.log } }
+    ensures noted { rows_before manager.new ≡ rows_before manager.old }
+    ensures log { manager.new.log.room ≡ MAX_RECORDS }
+{
+    records_are_few();
+    manager.tasks.set_all(-1, &mut manager.log);
+    manager.set_moving(None);
+}
+
+/// Leaves at the sites the entries of the patches that stay. A patch that came in without replacing
+/// anything changes no site now.
+fn settle_sites(manager: &mut ManagerState, catalog: &Catalog, moving: &Transition)
+    requires kept { Invariant manager.old catalog.now }
+    requires moving { manager.old.moving ≡ Some moving.now }
+    requires records { length manager.old.log.noted ≤ 64 }
+    ensures parts { manager.new ≡ record manager.old { sites = manager.new.sites; log = manager.new.log } }
+    ensures image { manager.new.sites.image ≡ manager.old.sites.image }
+    ensures loaded { manager.new.sites.loaded ≡ manager.old.sites.loaded }
+    ensures entries { (site : ℕ) → entries_at manager.new.sites.stacks site
+        ≡ entries_of (setting_in manager.old catalog.now)
+        (with_world (state_in manager.old catalog.now) (settled (setting_in manager.old catalog.now) manager.old.world moving.now)) site }
+    ensures noted { rows_before manager.new ≡ rows_before manager.old }
+    ensures records { length manager.new.log.noted ≤ 2400 }
+    ensures log { manager.new.log.room ≡ MAX_RECORDS }
+{
+    a_patch_leaves_the_entries_of_the_others();
+    entries_are_of_their_patches();
+    prove!(manager.sites.sites() <= MAX_SITES);
+    if !moving.target {
+        prove!(catalog.functions(moving.patch).len() <= MAX_FUNCTIONS);
+        unpatch_sites(
+            &mut manager.sites,
+            catalog,
+            moving.patch,
+            None,
+            &mut manager.log,
+        );
+    } else if catalog.is_cumulative(moving.patch) {
+        replace_sites(manager, catalog, moving);
+    }
+}
+
+/// Takes the entries of the older patches away, and the nops of the patch that replaces them, which
+/// were there for nothing but these.
+fn replace_sites(manager: &mut ManagerState, catalog: &Catalog, moving: &Transition)
+    requires kept { Invariant manager.old catalog.now }
+    requires moving { manager.old.moving ≡ Some moving.now }
+    requires replaces { is_cumulative catalog.now moving.now.patch ≡ true }
+    requires records { length manager.old.log.noted ≤ 64 }
+    ensures parts { manager.new ≡ record manager.old { sites = manager.new.sites; log = manager.new.log } }
+    ensures image { manager.new.sites.image ≡ manager.old.sites.image }
+    ensures loaded { manager.new.sites.loaded ≡ manager.old.sites.loaded }
+    ensures entries { (site : ℕ) → entries_at manager.new.sites.stacks site
+        ≡ entries_of (setting_in manager.old catalog.now)
+        (with_world (state_in manager.old catalog.now) (without_older true manager.old.world moving.now.patch)) site }
+    ensures noted { rows_before manager.new ≡ rows_before manager.old }
+    ensures records { length manager.new.log.noted ≤ 2400 }
+    ensures log { manager.new.log.room ≡ MAX_RECORDS }
+{
+    a_replacement_takes_the_older_entries_along();
+    at_most_two_patches_replace();
+    entries_are_of_their_patches();
+    prove!(manager.sites.sites() <= MAX_SITES);
+    let older = older_than(moving.patch, manager.world.installed());
+    unpatch_each(&mut manager.sites, catalog, older, &mut manager.log);
+    prove!(manager.sites.sites() <= MAX_SITES);
+    drop_nops(&mut manager.sites, moving.patch, &mut manager.log);
+}
+
+/// Leaves the patches that stay in the list, and the values of their states with them.
+fn settle_list(manager: &mut ManagerState, catalog: &Catalog, moving: &Transition)
+    requires records { length manager.old.log.noted ≤ 3500 }
+    requires log { manager.old.log.room ≡ MAX_RECORDS }
+    ensures parts { manager.new ≡ record manager.old { world = settled (setting_in manager.old catalog.now) manager.old.world moving.now; log = manager.new.log } }
+    ensures noted { rows_before manager.new ≡ rows_before manager.old }
+    ensures records { length manager.new.log.noted ≤ 3800 }
+    ensures log { manager.new.log.room ≡ MAX_RECORDS }
+{
+    what_is_noted_is_of_the_world();
+    if !moving.target {
+        prove!(manager.world.drop_records(moving.patch) <= manager.log.spare());
+        manager.world.drop_states(moving.patch, &mut manager.log);
+    } else if catalog.is_cumulative(moving.patch) {
+        drop_older(&mut manager.world, moving.patch, &mut manager.log);
+    }
+}

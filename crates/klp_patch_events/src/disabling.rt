@@ -1,0 +1,133 @@
+//! A patch is disabled, or its transition turns round (livepatch, Disabling; callbacks, the case of a
+//! transition that is reversed).
+ghost use Rattle.std.specs.Prelude.{◌≡◌, ◌≤◌, true, false, None};
+ghost use Rattle.klp_types.specs.Pick.{moves};
+ghost use Rattle.klp_model.specs.declared.event.Event.TheVariants.{SetEnabled};
+ghost use Rattle.klp_model.specs.Refusals.{refusal};
+ghost use Rattle.klp_model.specs.EventCalls.{lacks_room, disable_calls};
+ghost use Rattle.klp_patch.specs.Calls.{records_of};
+ghost use Rattle.klp_manager_state.specs.Managed.{setting_in, state_in, refused_in, lacks_room_in};
+ghost use Rattle.klp_manager_state.specs.Invariant.{Invariant};
+ghost use Rattle.klp_manager_state.specs.Events.{TakesEvent, AcceptsEvent};
+ghost use Rattle.klp_manager_state.specs.Rows.{rows_in, rows_before, IsNoted};
+
+use klp_catalog::Catalog;
+use klp_manager_state::ManagerState;
+use klp_manager_state::laws::steps_keep;
+use klp_model::{Refusal, Reply};
+use klp_patch::{allocs, run_callbacks};
+use klp_tasks::laws::records_are_few;
+use klp_tasks::target_state;
+use klp_types::{MAX_VARIABLES, PatchId, Transition, Which, is_in_transition};
+
+/// A value is written to the `enabled` file of an installed patch (the kernel's `enabled_store`). A
+/// transition of the patch turns round, and nothing runs, since what was set up is still there; else
+/// the patch starts to be disabled, object by object with pre-unpatch.
+pub fn set_enabled(
+    manager: &mut ManagerState,
+    catalog: &mut Catalog,
+    patch: PatchId,
+    value: bool,
+) -> Result<Reply, Refusal>
+    requires { Invariant manager.old catalog.old }
+    ensures taken { TakesEvent manager.old manager.new catalog.old catalog.new (SetEnabled patch value) result }
+    ensures noted { IsNoted manager.old manager.new result }
+{
+    match set_refusal(manager, catalog, patch, value) {
+        Some(refusal) => Err(refusal),
+        None => Ok(turn(manager, catalog, patch, value)),
+    }
+}
+
+/// Why the value isn't written, if it isn't: the first reason that holds. Room is computed before them,
+/// though it is the last, since its proof bounds the records too (docs/DECISIONS.md, "Room computed
+/// before the refusals").
+pub fn set_refusal(
+    manager: &ManagerState,
+    catalog: &Catalog,
+    patch: PatchId,
+    value: bool,
+) -> Option<Refusal>
+    requires { Invariant manager.now catalog.now }
+    ensures refusal { result ≡ refused_in manager.now catalog.now (SetEnabled patch value) }
+    ensures records { records_of (disable_calls (setting_in manager.now catalog.now) (state_in manager.now catalog.now) patch) ≤ 256 }
+{
+    let lacks_room = lacks_room_to_set(manager, catalog, patch, value);
+    if patch.0 >= catalog.patches() {
+        Some(Refusal::NoPatch)
+    } else if !manager.world.is_installed(patch) {
+        Some(Refusal::NotFound)
+    } else if value == manager.enabled_value(patch) {
+        Some(Refusal::SameValue)
+    } else if !value && manager.moving.is_some() && !is_in_transition(&manager.moving, patch) {
+        Some(Refusal::Busy)
+    } else if lacks_room {
+        Some(Refusal::Full)
+    } else {
+        None
+    }
+}
+
+/// Whether there is no room for what the callbacks add. A patch that moves runs none, since its
+/// transition turns round.
+fn lacks_room_to_set(manager: &ManagerState, catalog: &Catalog, patch: PatchId, value: bool) -> bool
+    requires { Invariant manager.now catalog.now }
+    ensures room { result ≡ lacks_room_in manager.now catalog.now (SetEnabled patch value) }
+    ensures records { records_of (disable_calls (setting_in manager.now catalog.now) (state_in manager.now catalog.now) patch) ≤ 256 }
+{
+    let pre_un = if is_in_transition(&manager.moving, patch) {
+        0
+    } else {
+        allocs(catalog, &manager.modules, patch, Which::PreUn)
+    };
+    usize::from(manager.world.count()) + pre_un > MAX_VARIABLES
+}
+
+/// A transition turns round, or a disabling starts, by whether the patch moves.
+fn turn(manager: &mut ManagerState, catalog: &mut Catalog, patch: PatchId, value: bool) -> Reply
+    requires kept { Invariant manager.old catalog.old }
+    requires free { refused_in manager.old catalog.old (SetEnabled patch value) ≡ None }
+    requires records { records_of (disable_calls (setting_in manager.old catalog.old) (state_in manager.old catalog.old) patch) ≤ 256 }
+    ensures accepted { AcceptsEvent manager.old manager.new catalog.old catalog.new (SetEnabled patch value) result }
+    ensures noted { rows_before manager.new ≡ rows_in manager.old }
+{
+    steps_keep();
+    if is_in_transition(&manager.moving, patch) {
+        manager.log.clear();
+        manager.set_moving(Some(Transition {
+            patch,
+            target: value,
+        }));
+        return Reply::Reversed;
+    }
+    disable(manager, catalog, patch, value)
+}
+
+/// A disabling starts. The tasks are at 1, because all of them run the patch, and the entries stay
+/// until the end.
+fn disable(manager: &mut ManagerState, catalog: &mut Catalog, patch: PatchId, value: bool) -> Reply
+    requires kept { Invariant manager.old catalog.old }
+    requires free { refused_in manager.old catalog.old (SetEnabled patch value) ≡ None }
+    requires records { records_of (disable_calls (setting_in manager.old catalog.old) (state_in manager.old catalog.old) patch) ≤ 256 }
+    requires rests { moves manager.old.moving patch ≡ false }
+    ensures accepted { AcceptsEvent manager.old manager.new catalog.old catalog.new (SetEnabled patch value) result }
+    ensures noted { rows_before manager.new ≡ rows_in manager.old }
+{
+    steps_keep();
+    records_are_few();
+    manager.log.clear();
+    run_callbacks(
+        catalog,
+        &manager.modules,
+        patch,
+        Which::PreUn,
+        &mut manager.world,
+        &mut manager.log,
+    );
+    manager.tasks.set_all(target_state(true), &mut manager.log);
+    manager.set_moving(Some(Transition {
+        patch,
+        target: false,
+    }));
+    Reply::Started
+}

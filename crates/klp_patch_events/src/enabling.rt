@@ -1,0 +1,246 @@
+//! A patch is enabled (livepatch, Enabling; callbacks, pre-patch; cumulative-patches).
+ghost use Rattle.std.specs.Prelude.{◌≡◌, ℕ, ◌+◌, ◌<◌, ◌≤◌, true, false, None, length, slice_index_or, is_none, ◌&&◌};
+ghost use Rattle.std.specs.List.{list_any};
+ghost use Rattle.klp_types.specs.World.{with_patch, without_patch};
+ghost use Rattle.klp_model.specs.declared.event.Event.TheVariants.{Enable};
+ghost use Rattle.klp_model.specs.declared.event.Reply.TheVariants.{PreFailed};
+ghost use Rattle.klp_model.specs.State.{is_among};
+ghost use Rattle.klp_model.specs.Task.{all_in, at_target};
+ghost use Rattle.klp_model.specs.Enabling.{move_to};
+ghost use Rattle.klp_text.specs.TextImage.{site_count};
+ghost use Rattle.klp_modules.specs.Names.{names_of};
+ghost use Rattle.klp_stack.specs.Stack.{entries_at, has_entry};
+ghost use Rattle.klp_patch.specs.Covered.{is_covered};
+ghost use Rattle.klp_patch.specs.Changes.{AreMade, with_entry};
+ghost use Rattle.klp_model.specs.Refusals.{refusal, lacks_symbol, is_compatible};
+ghost use Rattle.klp_model.specs.EventCalls.{lacks_room};
+ghost use Rattle.klp_catalog.specs.Catalog.{CatalogFunction as FunctionOf};
+ghost use Rattle.klp_catalog.specs.States.{state_ids};
+ghost use Rattle.klp_patch.specs.Calls.{records_of};
+ghost use Rattle.klp_manager_state.specs.Managed.{setting_in, state_in, refused_in, may_run_in, lacks_room_in};
+ghost use Rattle.klp_manager_state.specs.Invariant.{Invariant};
+ghost use Rattle.klp_manager_state.specs.Events.{TakesEvent, AcceptsEvent};
+ghost use Rattle.klp_manager_state.specs.Rows.{rows_in, rows_before, IsNoted};
+
+use klp_catalog::{Catalog, CatalogFunction};
+use klp_manager_state::ManagerState;
+use klp_manager_state::laws::steps_keep;
+use klp_model::laws::events_are_accepted_where_no_case_holds;
+use klp_model::{Refusal, Reply};
+use klp_modules::Modules;
+use klp_patch::laws::those_that_run_note_no_more_than_those_that_may;
+use klp_patch::{allocs, patch_sites, run_pre_patch};
+use klp_tasks::laws::records_are_few;
+use klp_tasks::target_state;
+use klp_types::laws::{entries_are_of_their_patches, the_newest_entry_is_on_top};
+use klp_types::{
+    MAX_FUNCTIONS, MAX_PATCHES, MAX_RECORDS, MAX_SITES, MAX_TASKS, MAX_VARIABLES, ObjId, PatchId,
+    Transition, Which,
+};
+use klp_world::laws::what_is_noted_is_of_the_world;
+
+/// Whether the function is for a loaded object and names no site. One for an object that isn't loaded may,
+/// since it is looked at when the module comes (docs/DECISIONS.md, "Symbols of objects that aren't
+/// loaded").
+fn lacks_site(modules: &Modules, function: &CatalogFunction) -> bool
+    ensures { result ≡ (slice_index_or modules.now.loaded function.now.object false && is_none function.now.site) }
+{
+    modules.is_loaded(function.object()) && function.site().is_none()
+}
+
+/// Whether one of these functions is for a loaded object and names no site: the patch has nothing to hook
+/// then.
+fn lack_symbol(modules: &Modules, functions: &[CatalogFunction]) -> bool
+    ensures { result ≡ list_any (λ (f : FunctionOf). slice_index_or modules.now.loaded f.object false && is_none f.site) functions.now }
+{
+    functions
+        .iter()
+        .any(|function| lacks_site(modules, function))
+}
+
+/// The reply where a pre-patch callback of the patch refused: for this object, with this status. It is no
+/// refusal, since callbacks ran and were counted.
+fn pre_failed(patch: PatchId, refused: &(ObjId, i32)) -> Reply
+    ensures { result ≡ PreFailed patch refused.now.0 refused.now.1 }
+{
+    let (object, status) = *refused;
+    Reply::PreFailed(patch, object, status)
+}
+
+/// A patch that isn't installed is put last and starts to move to the target 1: pre-patch runs object
+/// by object, and its entries come to the sites of loaded objects. Where pre-patch refuses, the objects
+/// before get post-unpatch, and the patch is gone again.
+pub fn enable(
+    manager: &mut ManagerState,
+    catalog: &mut Catalog,
+    patch: PatchId,
+) -> Result<Reply, Refusal>
+    requires { Invariant manager.old catalog.old }
+    ensures taken { TakesEvent manager.old manager.new catalog.old catalog.new (Enable patch) result }
+    ensures noted { IsNoted manager.old manager.new result }
+{
+    match enable_refusal(manager, catalog, patch) {
+        Some(refusal) => Err(refusal),
+        None => Ok(install(manager, catalog, patch)),
+    }
+}
+
+/// Why the patch isn't enabled, if it isn't: the first reason that holds. It may be asked without
+/// enabling, as a full journal does.
+pub fn enable_refusal(manager: &ManagerState, catalog: &Catalog, patch: PatchId) -> Option<Refusal>
+    requires { Invariant manager.now catalog.now }
+    ensures refusal { result ≡ refused_in manager.now catalog.now (Enable patch) }
+    ensures records { records_of (may_run_in manager.now catalog.now (Enable patch)) ≤ 512 }
+{
+    // Computed before the refusals, though it comes last, since its proof bounds the records on every
+    // way out (docs/DECISIONS.md, "Room computed before the refusals").
+    let lacks_room = lacks_room_to_enable(manager, catalog, patch);
+    if patch.0 >= catalog.patches() {
+        Some(Refusal::NoPatch)
+    } else if manager.world.is_installed(patch) {
+        Some(Refusal::AlreadyThere)
+    } else if manager.moving.is_some() {
+        Some(Refusal::Busy)
+    } else if manager.pinned.is_pinned(patch) {
+        Some(Refusal::Pinned)
+    } else if !is_compatible(manager, catalog, patch) {
+        Some(Refusal::Incompatible)
+    } else if lacks_symbol(manager, catalog, patch) {
+        Some(Refusal::NoSymbol)
+    } else if lacks_room {
+        Some(Refusal::Full)
+    } else {
+        None
+    }
+}
+
+/// Whether the patch can live with the system states of all installed ones, also those that it would
+/// replace, since it takes their states over.
+fn is_compatible(manager: &ManagerState, catalog: &Catalog, patch: PatchId) -> bool
+    requires kept { Invariant manager.now catalog.now }
+    requires patch { patch < length catalog.now.patches }
+    ensures { result ≡ is_compatible (setting_in manager.now catalog.now) (state_in manager.now catalog.now) patch }
+{
+    catalog.is_compatible(patch, manager.world.installed())
+}
+
+/// Whether a function of the patch for a loaded object names no site, so that the patch couldn't be put
+/// in whole.
+fn lacks_symbol(manager: &ManagerState, catalog: &Catalog, patch: PatchId) -> bool
+    requires { Invariant manager.now catalog.now }
+    ensures { result ≡ lacks_symbol (setting_in manager.now catalog.now) manager.now.sites.loaded patch }
+{
+    lack_symbol(&manager.modules, catalog.functions(patch))
+}
+
+/// Whether there is no room for what the callbacks that may run add. It is asked once, so that none
+/// fails for want of room.
+fn lacks_room_to_enable(manager: &ManagerState, catalog: &Catalog, patch: PatchId) -> bool
+    requires { Invariant manager.now catalog.now }
+    ensures room { result ≡ lacks_room_in manager.now catalog.now (Enable patch) }
+    ensures records { records_of (may_run_in manager.now catalog.now (Enable patch)) ≤ 512 }
+{
+    // Both kinds count, whatever the statuses are, so that one can add it up from the catalog
+    // (docs/DECISIONS.md, "Room for the callbacks that may run").
+    let pre = allocs(catalog, &manager.modules, patch, Which::Pre);
+    let post_un = allocs(catalog, &manager.modules, patch, Which::PostUn);
+    usize::from(manager.world.count()) + pre + post_un > MAX_VARIABLES
+}
+
+/// A patch that nothing refuses is put last, and starts to move where no pre-patch callback refuses. It
+/// is in the list before they run, so that they can set its states.
+fn install(manager: &mut ManagerState, catalog: &mut Catalog, patch: PatchId) -> Reply
+    requires kept { Invariant manager.old catalog.old }
+    requires free { refused_in manager.old catalog.old (Enable patch) ≡ None }
+    requires records { records_of (may_run_in manager.old catalog.old (Enable patch)) ≤ 512 }
+    ensures accepted { AcceptsEvent manager.old manager.new catalog.old catalog.new (Enable patch) result }
+    ensures noted { rows_before manager.new ≡ rows_in manager.old }
+{
+    steps_keep();
+    events_are_accepted_where_no_case_holds();
+    those_that_run_note_no_more_than_those_that_may();
+    entries_are_of_their_patches();
+    the_newest_entry_is_on_top();
+    prove!(usize::from(catalog.patches()) <= MAX_PATCHES);
+    prove!(manager.sites.sites() <= MAX_SITES);
+    put_last(manager, catalog, patch);
+    // For all objects before the first site is hooked, since a refused patch mustn't touch the text
+    // (docs/DECISIONS.md, "Pre-patch before the first hook").
+    match run_pre_patch(
+        catalog,
+        &manager.modules,
+        patch,
+        &mut manager.world,
+        &mut manager.log,
+    ) {
+        None => {
+            start(manager, catalog, patch);
+            Reply::Started
+        }
+        Some(refused) => {
+            take_out(manager, patch);
+            pre_failed(patch, &refused)
+        }
+    }
+}
+
+/// Puts a patch last, with its system states at 0. What was logged before is forgotten, since an event
+/// begins here.
+fn put_last(manager: &mut ManagerState, catalog: &Catalog, patch: PatchId)
+    requires fresh { is_among patch manager.old.world.installed ≡ false }
+    requires room { length manager.old.world.installed < MAX_PATCHES }
+    requires log { manager.old.log.room ≡ MAX_RECORDS }
+    ensures parts { manager.new ≡ record manager.old { world = with_patch manager.old.world patch (state_ids catalog.now patch); log = manager.new.log } }
+    ensures noted { rows_before manager.new ≡ rows_in manager.old }
+    ensures records { length manager.new.log.noted ≤ 17 }
+    ensures log { manager.new.log.room ≡ MAX_RECORDS }
+{
+    what_is_noted_is_of_the_world();
+    manager.log.clear();
+    let ids = catalog.state_ids(patch);
+    manager.world.add_states(patch, &ids, &mut manager.log);
+}
+
+/// Takes a patch out again after a refusal, with its states and the values that callbacks gave these.
+fn take_out(manager: &mut ManagerState, patch: PatchId)
+    requires { length manager.old.log.noted + 17 ≤ manager.old.log.room }
+    ensures parts { manager.new ≡ record manager.old { world = without_patch manager.old.world patch; log = manager.new.log } }
+    ensures noted { rows_before manager.new ≡ rows_before manager.old }
+    ensures log { manager.new.log.room ≡ manager.old.log.room }
+{
+    what_is_noted_is_of_the_world();
+    prove!(manager.world.drop_records(patch) <= manager.log.spare());
+    manager.world.drop_states(patch, &mut manager.log);
+}
+
+/// A patch that is put last starts to move to the target 1. Its entries are there before any task is at
+/// 1: a task of state 0 passes over them, so nothing changes for it yet.
+fn start(manager: &mut ManagerState, catalog: &Catalog, patch: PatchId)
+    requires number { patch < MAX_PATCHES }
+    requires sites { site_count manager.old.sites.image ≤ MAX_SITES }
+    requires names { catalog.now.names ≡ names_of manager.old.sites.image.objects }
+    requires fresh { (site : ℕ) → has_entry patch (entries_at manager.old.sites.stacks site) ≡ false }
+    requires tasks { length manager.old.tasks ≡ MAX_TASKS }
+    requires records { length manager.old.log.noted ≤ 2048 }
+    requires log { manager.old.log.room ≡ MAX_RECORDS }
+    ensures entries { AreMade manager.old.sites manager.new.sites (is_covered manager.old.sites None) (with_entry catalog.now patch) }
+    ensures parts { manager.new ≡ record manager.old {
+      sites = manager.new.sites;
+      tasks = all_in (at_target false) manager.old.tasks;
+      moving = move_to patch true;
+      log = manager.new.log;
+    } }
+    ensures noted { rows_before manager.new ≡ rows_before manager.old }
+    ensures log { manager.new.log.room ≡ MAX_RECORDS }
+{
+    records_are_few();
+    prove!(manager.sites.sites() <= MAX_SITES);
+    prove!(catalog.functions(patch).len() <= MAX_FUNCTIONS);
+    patch_sites(&mut manager.sites, catalog, patch, None, &mut manager.log);
+    prove!(manager.sites.sites() <= MAX_SITES);
+    manager.tasks.set_all(target_state(false), &mut manager.log);
+    manager.set_moving(Some(Transition {
+        patch,
+        target: true,
+    }));
+}

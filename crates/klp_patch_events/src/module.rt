@@ -1,0 +1,251 @@
+//! A module is loaded, or unloaded (livepatch, Livepatch life-cycle; callbacks, the cases of modules).
+ghost use Rattle.std.specs.Prelude.{◌≡◌, ◌+◌, ◌<◌, ◌≤◌, ◌==◌, ◌&&◌, not, nat_lt, true, false, length, is_none, Some, None};
+ghost use Rattle.std.specs.List.{All, count_by, list_any};
+ghost use Rattle.klp_types.specs.declared.limits.TheConstants.{MAX_PATCHES};
+ghost use Rattle.klp_types.specs.Callbacks.{allocs_of};
+ghost use Rattle.klp_model.specs.declared.event.Event.TheVariants.{Coming, Going};
+ghost use Rattle.klp_model.specs.EventCalls.{lacks_room};
+ghost use Rattle.klp_model.specs.Refusals.{refusal, part_lacks_symbol};
+ghost use Rattle.klp_model.specs.State.{installed_patches};
+ghost use Rattle.klp_catalog.specs.Catalog.{CatalogFunction as FunctionOf, catalog_functions};
+ghost use Rattle.klp_catalog.specs.States.{is_cumulative};
+ghost use Rattle.klp_patch.specs.Calls.{records_of};
+ghost use Rattle.klp_manager_state.specs.Managed.{setting_in, state_in, refused_in, may_run_in, lacks_room_in};
+ghost use Rattle.klp_manager_state.specs.Invariant.{Invariant};
+ghost use Rattle.klp_manager_state.specs.Events.{TakesEvent, AcceptsEvent};
+ghost use Rattle.klp_manager_state.specs.Rows.{rows_in, rows_before, IsNoted};
+
+use crate::module_sites::{patch_object, unpatch_object};
+use arrayvec::ArrayVec;
+use klp_catalog::{Catalog, CatalogFunction};
+use klp_manager_state::ManagerState;
+use klp_manager_state::laws::steps_keep;
+use klp_model::laws::at_most_two_patches_replace;
+use klp_model::{Refusal, Reply};
+use klp_patch::{allocs_of_coming, allocs_of_going, run_coming, run_going};
+use klp_types::{MAX_PATCHES, MAX_VARIABLES, ObjId, PatchId};
+
+/// Whether a function is for this object and names no site of it, so that it couldn't be put in.
+fn lacks_site(function: &CatalogFunction, object: ObjId) -> bool
+    ensures { result ≡ (function.now.object == object && is_none function.now.site) }
+{
+    function.object() == object && function.site().is_none()
+}
+
+/// Whether a patch has a function for this object that names no site of it.
+fn lacks_symbol(catalog: &Catalog, patch: PatchId, object: ObjId) -> bool
+    ensures { result ≡ list_any (λ (f : FunctionOf). f.object == object && is_none f.site) (catalog_functions catalog.now patch) }
+{
+    catalog
+        .functions(patch)
+        .iter()
+        .any(|function| lacks_site(function, object))
+}
+
+/// Whether one of these patches has a function for this object that names no site of it. It was enabled
+/// while the module wasn't loaded, so nobody has asked before.
+fn some_lacks_symbol(catalog: &Catalog, patches: &[PatchId], object: ObjId) -> bool
+    ensures { result ≡ list_any (λ patch. list_any (λ (f : FunctionOf). f.object == object && is_none f.site) (catalog_functions catalog.now patch)) patches.now }
+{
+    for &patch in patches {
+        if lacks_symbol(catalog, patch, object) {
+            return true;
+        }
+    }
+    false
+}
+
+/// A module is loaded (the kernel's `klp_module_coming`). Each installed patch that has it runs
+/// pre-patch for it, and post-patch if it doesn't move, and puts its entries on the module's sites.
+/// Where a pre-patch refuses, the patches before are cleaned up, and the module isn't loaded.
+pub fn coming(
+    manager: &mut ManagerState,
+    catalog: &mut Catalog,
+    object: ObjId,
+) -> Result<Reply, Refusal>
+    requires { Invariant manager.old catalog.old }
+    ensures taken { TakesEvent manager.old manager.new catalog.old catalog.new (Coming object) result }
+    ensures noted { IsNoted manager.old manager.new result }
+{
+    match coming_refusal(manager, catalog, object) {
+        Some(refusal) => Err(refusal),
+        None => Ok(come(manager, catalog, object)),
+    }
+}
+
+/// A module is unloaded (the kernel's `klp_module_going`). Each installed patch that has it runs
+/// pre-unpatch for it if it doesn't move, and post-unpatch, and takes its entries out of the module's
+/// sites.
+pub fn going(
+    manager: &mut ManagerState,
+    catalog: &mut Catalog,
+    object: ObjId,
+) -> Result<Reply, Refusal>
+    requires { Invariant manager.old catalog.old }
+    ensures taken { TakesEvent manager.old manager.new catalog.old catalog.new (Going object) result }
+    ensures noted { IsNoted manager.old manager.new result }
+{
+    match going_refusal(manager, catalog, object) {
+        Some(refusal) => Err(refusal),
+        None => Ok(go(manager, catalog, object)),
+    }
+}
+
+/// Why a module isn't loaded, if it isn't: the first reason that holds. Room is computed before the
+/// refusals, since its proof bounds the records too (docs/DECISIONS.md, "Room computed before the
+/// refusals").
+pub fn coming_refusal(manager: &ManagerState, catalog: &Catalog, object: ObjId) -> Option<Refusal>
+    requires { Invariant manager.now catalog.now }
+    ensures refusal { result ≡ refused_in manager.now catalog.now (Coming object) }
+    ensures records { records_of (may_run_in manager.now catalog.now (Coming object)) ≤ 1024 + allocs_of (may_run_in manager.now catalog.now (Coming object)) }
+{
+    let lacks_symbol = part_lacks_symbol(manager, catalog, object);
+    let lacks_room = lacks_room_to_come(manager, catalog, object);
+    if !is_module(manager, object) {
+        Some(Refusal::NoModule)
+    } else if manager.sites.is_loaded(object) {
+        Some(Refusal::AlreadyThere)
+    } else if lacks_symbol {
+        Some(Refusal::NoSymbol)
+    } else if lacks_room {
+        Some(Refusal::Full)
+    } else {
+        None
+    }
+}
+
+/// Why a module isn't unloaded, if it isn't: the first reason that holds. A task inside of it is one,
+/// since a kernel has the module's reference count for that.
+pub fn going_refusal(manager: &ManagerState, catalog: &Catalog, object: ObjId) -> Option<Refusal>
+    requires { Invariant manager.now catalog.now }
+    ensures refusal { result ≡ refused_in manager.now catalog.now (Going object) }
+    ensures records { records_of (may_run_in manager.now catalog.now (Going object)) ≤ 512 + allocs_of (may_run_in manager.now catalog.now (Going object)) }
+{
+    let is_in_use = manager.is_in_use(catalog, object);
+    let lacks_room = lacks_room_to_go(manager, catalog, object);
+    if !is_module(manager, object) || !manager.sites.is_loaded(object) {
+        Some(Refusal::NoModule)
+    } else if is_in_use {
+        Some(Refusal::InUse)
+    } else if lacks_room {
+        Some(Refusal::Full)
+    } else {
+        None
+    }
+}
+
+/// Whether the image has this object, and it isn't `vmlinux`, which never comes or goes.
+fn is_module(manager: &ManagerState, object: ObjId) -> bool
+    ensures { result ≡ (not (object == 0) && nat_lt object (length manager.now.sites.image.objects)) }
+{
+    object.0 != 0 && object.0 < manager.sites.image().objects()
+}
+
+/// Whether an installed patch has a function for the module that names no site of it.
+fn part_lacks_symbol(manager: &ManagerState, catalog: &Catalog, object: ObjId) -> bool
+    ensures { result ≡ part_lacks_symbol (setting_in manager.now catalog.now) (state_in manager.now catalog.now) object }
+{
+    some_lacks_symbol(catalog, manager.world.installed(), object)
+}
+
+/// Whether there is no room for what the callbacks add when the module comes, whether they run or not.
+fn lacks_room_to_come(manager: &ManagerState, catalog: &Catalog, object: ObjId) -> bool
+    ensures room { result ≡ lacks_room_in manager.now catalog.now (Coming object) }
+    ensures records { records_of (may_run_in manager.now catalog.now (Coming object)) ≤ 1024 + allocs_of (may_run_in manager.now catalog.now (Coming object)) }
+{
+    let added = allocs_of_coming(catalog, manager.world.installed(), object, manager.moving);
+    added > MAX_VARIABLES - usize::from(manager.world.count())
+}
+
+/// Whether there is no room for what the callbacks add when the module goes.
+fn lacks_room_to_go(manager: &ManagerState, catalog: &Catalog, object: ObjId) -> bool
+    ensures room { result ≡ lacks_room_in manager.now catalog.now (Going object) }
+    ensures records { records_of (may_run_in manager.now catalog.now (Going object)) ≤ 512 + allocs_of (may_run_in manager.now catalog.now (Going object)) }
+{
+    let added = allocs_of_going(catalog, manager.world.installed(), object, manager.moving);
+    added > MAX_VARIABLES - usize::from(manager.world.count())
+}
+
+/// The installed patches, oldest first, in a list that stays while the world changes: callbacks are
+/// handed the world, and so the world's own list can't be lent meanwhile.
+fn installed_patches(manager: &ManagerState, catalog: &Catalog) -> ArrayVec<PatchId, MAX_PATCHES>
+    requires { Invariant manager.now catalog.now }
+    ensures value { result.items ≡ installed_patches (state_in manager.now catalog.now) }
+    ensures few { length result.items ≤ MAX_PATCHES }
+    ensures numbers { All (λ p. p < MAX_PATCHES) result.items }
+    ensures replace { count_by (is_cumulative catalog.now) result.items ≤ 2 }
+{
+    at_most_two_patches_replace();
+    let _patches = catalog.patches();
+    manager.world.installed_list()
+}
+
+/// A module is loaded that nothing speaks against. Callbacks see no function stack, and an event is one
+/// step, so they all run before the entries come, and a refused module costs no entry
+/// (docs/DECISIONS.md, "Callbacks of a module before its entries").
+fn come(manager: &mut ManagerState, catalog: &mut Catalog, object: ObjId) -> Reply
+    requires kept { Invariant manager.old catalog.old }
+    requires free { refused_in manager.old catalog.old (Coming object) ≡ None }
+    requires records { records_of (may_run_in manager.old catalog.old (Coming object)) ≤ 1024 + allocs_of (may_run_in manager.old catalog.old (Coming object)) }
+    ensures accepted { AcceptsEvent manager.old manager.new catalog.old catalog.new (Coming object) result }
+    ensures noted { rows_before manager.new ≡ rows_in manager.old }
+{
+    steps_keep();
+    let installed = installed_patches(manager, catalog);
+    manager.log.clear();
+    match run_coming(
+        catalog,
+        &installed,
+        object,
+        manager.moving,
+        &mut manager.world,
+        &mut manager.log,
+    ) {
+        Some((patch, status)) => Reply::PreFailed(patch, object, status),
+        None => {
+            manager.log.note(manager.sites.load(object));
+            // the one row is logged by the sites, and by its record both get their flag back
+            manager.modules.set_loaded(object, true);
+            patch_object(
+                &mut manager.sites,
+                catalog,
+                &installed,
+                object,
+                &mut manager.log,
+            );
+            Reply::Done
+        }
+    }
+}
+
+/// A module is unloaded that nothing speaks against. The callbacks run before the entries go, as when
+/// one is loaded; the flag goes last, so that undo loads the module before its entries are back.
+fn go(manager: &mut ManagerState, catalog: &mut Catalog, object: ObjId) -> Reply
+    requires kept { Invariant manager.old catalog.old }
+    requires free { refused_in manager.old catalog.old (Going object) ≡ None }
+    requires records { records_of (may_run_in manager.old catalog.old (Going object)) ≤ 512 + allocs_of (may_run_in manager.old catalog.old (Going object)) }
+    ensures accepted { AcceptsEvent manager.old manager.new catalog.old catalog.new (Going object) result }
+    ensures noted { rows_before manager.new ≡ rows_in manager.old }
+{
+    steps_keep();
+    let installed = installed_patches(manager, catalog);
+    manager.log.clear();
+    run_going(
+        catalog,
+        &installed,
+        object,
+        manager.moving,
+        &mut manager.world,
+        &mut manager.log,
+    );
+    unpatch_object(
+        &mut manager.sites,
+        catalog,
+        &installed,
+        object,
+        &mut manager.log,
+    );
+    manager.log.note(manager.sites.unload(object));
+    manager.modules.set_loaded(object, false);
+    Reply::Done
+}

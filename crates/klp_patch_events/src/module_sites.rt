@@ -1,0 +1,110 @@
+//! The entries of all installed patches come to the sites of a module, and leave them. What is proved here
+//! beside is how many records that logs at most.
+ghost use Rattle.std.specs.Prelude.{◌≡◌, ℕ, ◌+◌, ◌*◌, ◌∷◌, ◌<◌, ◌≤◌, true, [], length, reverse, Some, if◌then◌else◌};
+ghost use Rattle.std.specs.List.{All, count_by};
+ghost use Rattle.klp_types.specs.declared.limits.TheConstants.{MAX_FUNCTIONS, MAX_PATCHES, MAX_RECORDS, MAX_SITES};
+ghost use Rattle.klp_types.specs.Entries.{entries_from};
+ghost use Rattle.klp_model.specs.Allowed.{AreDistinct};
+ghost use Rattle.klp_text.specs.TextImage.{site_count};
+ghost use Rattle.klp_modules.specs.Names.{names_of};
+ghost use Rattle.klp_catalog.specs.Catalog.{patches_of};
+ghost use Rattle.klp_catalog.specs.States.{is_cumulative};
+ghost use Rattle.klp_stack.specs.Stack.{entries_at};
+ghost use Rattle.klp_patch.specs.Changes.{hooked_count, most_entries};
+ghost use Rattle.klp_patch.specs.Covered.{is_covered};
+ghost use Rattle.klp_manager_state.specs.Rows.{SitesGoBack};
+
+use klp_catalog::Catalog;
+use klp_patch::{patch_sites, unpatch_sites};
+use klp_sites::Sites;
+use klp_types::laws::{entries_are_of_their_patches, the_newest_entry_is_on_top};
+use klp_types::{MAX_PATCHES, ObjId, PatchId, Records};
+
+/// Each site has one stack. The call is made for its contract, which bounds their number.
+fn stacks_are_few(sites: &Sites)
+    requires { site_count sites.now.image ≤ MAX_SITES }
+    ensures stacks { length sites.now.stacks ≤ MAX_SITES }
+    ensures hooked { hooked_count sites.now ≤ MAX_SITES }
+{
+    let _sites = sites.sites();
+}
+
+/// A patch has few functions, and has nops only where it is a cumulative one. The call is made for its
+/// contract.
+fn entries_are_few(sites: &Sites, catalog: &Catalog, patch: PatchId)
+    requires { length sites.now.stacks ≤ MAX_SITES }
+    ensures { most_entries catalog.now patch sites.now ≤ MAX_FUNCTIONS + MAX_SITES * count_by (is_cumulative catalog.now) (patch ∷ []) }
+{
+    let _functions = catalog.functions(patch);
+}
+
+/// Puts the entries of patches on the sites of one object, which have none, oldest first: so each stack has
+/// the order in which the patches were enabled.
+pub(crate) fn patch_object(
+    sites: &mut Sites,
+    catalog: &Catalog,
+    patches: &[PatchId],
+    object: ObjId,
+    log: &mut Records,
+)
+    requires numbers { All (λ p. p < MAX_PATCHES) patches.now }
+    requires few { length patches.now ≤ MAX_PATCHES }
+    requires distinct { AreDistinct patches.now }
+    requires replace { count_by (is_cumulative catalog.now) patches.now ≤ 2 }
+    requires sites { site_count sites.old.image ≤ MAX_SITES }
+    requires names { catalog.now.names ≡ names_of sites.old.image.objects }
+    requires bare { (site : ℕ) → is_covered sites.old (Some object) site ≡ true → entries_at sites.old.stacks site ≡ [] }
+    requires records { length log.old.noted ≤ 2048 }
+    requires room { log.old.room ≡ MAX_RECORDS }
+    ensures image { sites.new.image ≡ sites.old.image }
+    ensures loaded { sites.new.loaded ≡ sites.old.loaded }
+    ensures entries { (site : ℕ) → entries_at sites.new.stacks site
+        ≡ (if is_covered sites.old (Some object) site
+        then entries_from (record { image = sites.old.image; patches = patches_of catalog.now }) site (reverse patches.now)
+        else entries_at sites.old.stacks site) }
+    ensures noted { SitesGoBack sites.old sites.new log.old log.new }
+    ensures room { log.new.room ≡ MAX_RECORDS }
+{
+    the_newest_entry_is_on_top();
+    entries_are_of_their_patches();
+    stacks_are_few(sites);
+    for &patch in patches {
+        stacks_are_few(sites);
+        entries_are_few(sites, catalog, patch);
+        patch_sites(sites, catalog, patch, Some(object), log);
+    }
+}
+
+/// Takes the entries of patches out of the sites of one object, which have those of no other, so that none
+/// is left.
+pub(crate) fn unpatch_object(
+    sites: &mut Sites,
+    catalog: &Catalog,
+    patches: &[PatchId],
+    object: ObjId,
+    log: &mut Records,
+)
+    requires few { length patches.now ≤ MAX_PATCHES }
+    requires replace { count_by (is_cumulative catalog.now) patches.now ≤ 2 }
+    requires sites { site_count sites.old.image ≤ MAX_SITES }
+    requires names { catalog.now.names ≡ names_of sites.old.image.objects }
+    requires own { (site : ℕ) → is_covered sites.old (Some object) site ≡ true
+        → entries_at sites.old.stacks site ≡ entries_from (record { image = sites.old.image; patches = patches_of catalog.now }) site (reverse patches.now) }
+    requires records { length log.old.noted ≤ 2048 }
+    requires room { log.old.room ≡ MAX_RECORDS }
+    ensures image { sites.new.image ≡ sites.old.image }
+    ensures loaded { sites.new.loaded ≡ sites.old.loaded }
+    ensures entries { (site : ℕ) → entries_at sites.new.stacks site
+        ≡ (if is_covered sites.old (Some object) site then [] else entries_at sites.old.stacks site) }
+    ensures noted { SitesGoBack sites.old sites.new log.old log.new }
+    ensures records { length log.new.noted < MAX_RECORDS }
+    ensures room { log.new.room ≡ MAX_RECORDS }
+{
+    entries_are_of_their_patches();
+    stacks_are_few(sites);
+    for &patch in patches {
+        stacks_are_few(sites);
+        entries_are_few(sites, catalog, patch);
+        unpatch_sites(sites, catalog, patch, Some(object), log);
+    }
+}

@@ -1,0 +1,96 @@
+//! What a cumulative patch takes along when its transition is complete (cumulative-patches).
+ghost use Rattle.std.specs.Prelude.{◌≡◌, ℕ, ◌+◌, ◌*◌, ◌≤◌, true, None, Some, not, ◌==◌, length, map, slice_get, if◌then◌else◌};
+ghost use Rattle.std.specs.List.{filter, count_by};
+ghost use Rattle.klp_types.specs.declared.limits.TheConstants.{MAX_SITES, MAX_RECORDS};
+ghost use Rattle.klp_types.specs.declared.version.Entry.{Entry};
+ghost use Rattle.klp_types.specs.World.{Installed};
+ghost use Rattle.klp_model.specs.Allowed.{is_one_of};
+ghost use Rattle.klp_model.specs.Completing.{without_older};
+ghost use Rattle.klp_text.specs.TextImage.{site_count};
+ghost use Rattle.klp_modules.specs.Names.{names_of};
+ghost use Rattle.klp_catalog.specs.States.{installed_before, is_cumulative};
+ghost use Rattle.klp_stack.specs.Stack.{entries_at};
+ghost use Rattle.klp_patch.specs.Covered.{is_covered};
+ghost use Rattle.klp_patch.specs.Changes.{hooked_count};
+ghost use Rattle.klp_patch_events.specs.Complete.{AreOwn};
+ghost use Rattle.klp_manager_state.specs.Rows.{WorldGoesBack, SitesGoBack};
+
+use klp_catalog::Catalog;
+use klp_patch::unpatch_sites;
+use klp_sites::Sites;
+use klp_types::{MAX_FUNCTIONS, MAX_SITES, PatchId, Records};
+use klp_world::World;
+use klp_world::laws::what_is_noted_is_of_the_world;
+
+/// Of these patches those before this one, all of them where it isn't among them. There may be none, and
+/// newer ones behind it, where a cumulative patch is enabled again after others: these stay
+/// (docs/DECISIONS.md, "Cumulative patches below newer ones").
+pub(crate) fn older_than(patch: PatchId, installed: &[PatchId]) -> &[PatchId]
+    ensures { result.now ≡ installed_before patch installed.now }
+{
+    for place in 0..installed.len() {
+        if installed[place] == patch {
+            return &installed[..place];
+        }
+    }
+    installed
+}
+
+/// Takes the entries of these patches out of the stacks of all loaded sites. The order makes no difference
+/// to what is left, but to the records.
+pub(crate) fn unpatch_each(
+    sites: &mut Sites,
+    catalog: &Catalog,
+    patches: &[PatchId],
+    log: &mut Records,
+)
+    requires sites { site_count sites.old.image ≤ MAX_SITES }
+    requires names { catalog.now.names ≡ names_of sites.old.image.objects }
+    requires own { AreOwn catalog.now sites.old.stacks }
+    requires records { length log.old.noted + hooked_count sites.old + 64 * length patches.now + 256 * count_by (is_cumulative catalog.now) patches.now ≤ 3000 }
+    requires log { log.old.room ≡ MAX_RECORDS }
+    ensures image { sites.new.image ≡ sites.old.image }
+    ensures loaded { sites.new.loaded ≡ sites.old.loaded }
+    ensures entries { (site : ℕ) → entries_at sites.new.stacks site
+        ≡ (if is_covered sites.old None site then filter (λ (e : Entry). not (is_one_of e.patch patches.now)) (entries_at sites.old.stacks site) else entries_at sites.old.stacks site) }
+    ensures noted { SitesGoBack sites.old sites.new log.old log.new }
+    ensures records { length log.new.noted + hooked_count sites.new
+        ≤ length log.old.noted + hooked_count sites.old + 64 * length patches.now + 256 * count_by (is_cumulative catalog.now) patches.now }
+    ensures log { log.new.room ≡ MAX_RECORDS }
+{
+    for &patch in patches {
+        prove!(sites.sites() <= MAX_SITES);
+        prove!(catalog.functions(patch).len() <= MAX_FUNCTIONS);
+        unpatch_sites(sites, catalog, patch, None, log);
+    }
+}
+
+/// The oldest installed patch, if there is one, as a copy, since the world is changed next.
+fn oldest(world: &World) -> Option<PatchId>
+    ensures { result ≡ slice_get (map (λ (i : Installed). i.patch) world.now.installed) 0 }
+{
+    world.installed().first().copied()
+}
+
+/// Takes the patches before this one out of the list, oldest first, so that the one to go is always the
+/// first.
+pub(crate) fn drop_older(world: &mut World, patch: PatchId, log: &mut Records)
+    requires records { length log.old.noted ≤ 3500 }
+    requires log { log.old.room ≡ MAX_RECORDS }
+    ensures world { world.new ≡ without_older true world.old patch }
+    ensures noted { WorldGoesBack world.old world.new log.old log.new }
+    ensures records { length log.new.noted ≤ 3800 }
+    ensures log { log.new.room ≡ MAX_RECORDS }
+{
+    what_is_noted_is_of_the_world();
+    for _dropped in 0..world.installed().len() {
+        let Some(oldest) = oldest(world) else {
+            return;
+        };
+        if oldest == patch {
+            return;
+        }
+        prove!(world.drop_records(oldest) <= log.spare());
+        world.drop_states(oldest, log);
+    }
+}

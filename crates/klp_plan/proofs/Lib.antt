@@ -1,6 +1,0 @@
-pub mod SpelledLemmas
-pub mod ListLemmas
-pub mod LimitLemmas
-pub mod DraftLemmas
-pub mod ScriptLemmas
-pub mod TextLemmas

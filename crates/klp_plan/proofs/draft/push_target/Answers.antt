@@ -1,9 +1,0 @@
-use Rattle.std.proofs.Common.{◌-◌, Some, arith}
-use Rattle.klp_plan.specs.Parts.{with_target}
-use Rattle.klp_plan.proofs.ListLemmas.{set_last, on_ok}
-use Rattle.klp_plan.proofs.draft.push_target.Goals as goal
-
-pub returns-clause-ok : goal.returns-clause-ok
-returns-clause-ok c =
-    on_ok c.push_target.result c.push_target.ensures.ok
-    (λ e. set_last (with_target (Some c.args.object)) c.args.patches.now.items (c.len-last.result - 1) c.index_mut.result.now _ (omega arith) c.index_mut.ensures.value e)

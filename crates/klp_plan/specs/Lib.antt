@@ -1,9 +1,0 @@
-pub mod Plan
-pub mod Scripts
-pub mod Parts
-pub mod Limits
-pub mod Spelled
-pub mod Draft
-pub mod Within
-pub mod Kept
-pub mod Text

@@ -1,0 +1,24 @@
+//! The catalog that is served, out of its file.
+ghost use Rattle.std.specs.Prelude.{◌≡◌, ◌⊎◌, IsSome, IfOk, IfErr};
+ghost use Rattle.klp_program.specs.declared.fault.Fault.TheVariants.{CannotRead, NoMemory};
+
+use crate::fault::Fault;
+use crate::sample::CATALOG;
+use std::fs;
+use std::io::ErrorKind;
+use std::rt::Files;
+
+/// The catalog in the file at this path, whole, or the built-in one where no file is named. No clause
+/// can say what a file has.
+pub fn catalog_in<R: Files + AllocGlobal>(rt: &R, path: Option<String>) -> Result<Vec<u8>, Fault>
+    ensures built_in { path ≡ None → IfOk result (λ catalog. catalog.items ≡ CATALOG.now) }
+    ensures fault { IfErr result (λ fault. (fault ≡ NoMemory) ⊎ ((fault ≡ CannotRead) × IsSome path)) }
+{
+    let Some(path) = path else {
+        return Ok(CATALOG.to_vec(rt.alloc())?);
+    };
+    fs::read(rt, path.as_str()).map_err(|error| match error.kind() {
+        ErrorKind::OutOfMemory => Fault::NoMemory,
+        _ => Fault::CannotRead,
+    })
+}

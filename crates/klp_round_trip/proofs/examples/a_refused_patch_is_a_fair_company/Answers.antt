@@ -1,8 +1,0 @@
-use Rattle.klp_round_trip.proofs.StageLemmas.{refused_fair, refused_gone}
-use Rattle.klp_round_trip.proofs.examples.a_refused_patch_is_a_fair_company.Goals as goal
-
-pub returns-clause-fair : goal.returns-clause-fair
-returns-clause-fair c = refused_fair
-
-pub returns-clause-gone : goal.returns-clause-gone
-returns-clause-gone c = refused_gone

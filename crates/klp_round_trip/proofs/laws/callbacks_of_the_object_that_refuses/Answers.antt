@@ -1,8 +1,0 @@
-use Rattle.klp_round_trip.proofs.RefusingLemmas.{refusing_runs, behind_runs}
-use Rattle.klp_round_trip.proofs.laws.callbacks_of_the_object_that_refuses.Goals as goal
-
-pub returns-clause-refusing : goal.returns-clause-refusing
-returns-clause-refusing c = refusing_runs
-
-pub returns-clause-behind : goal.returns-clause-behind
-returns-clause-behind c = behind_runs

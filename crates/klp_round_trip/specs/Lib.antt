@@ -1,4 +1,0 @@
-pub mod Footprint
-pub mod Company
-pub mod Rounds
-pub mod Examples

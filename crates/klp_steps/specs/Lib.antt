@@ -1,7 +1,0 @@
-pub mod Managed
-pub mod Events
-pub mod Invariant
-pub mod StepLaws
-pub mod Complete
-pub mod Rows
-pub mod Alone

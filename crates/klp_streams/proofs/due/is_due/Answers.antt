@@ -1,5 +1,0 @@
-use Rattle.std.proofs.Common.{rules}
-use Rattle.klp_streams.proofs.due.is_due.Goals as goal
-
-pub returns-in-Some-clause-sooner : goal.returns-in-Some-clause-sooner
-returns-in-Some-clause-sooner c = search rules

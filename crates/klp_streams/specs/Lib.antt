@@ -1,4 +1,0 @@
-pub mod Supply
-pub mod Due
-pub mod Fed
-pub mod Held

@@ -1,0 +1,20 @@
+use Rattle.std.proofs.Common.{sym, ◌∙◌, refl}
+use Rattle.klp_types.specs.declared.task.Task.{Task}
+use Rattle.klp_types.specs.declared.task.Mode.TheVariants.{Kernel}
+use Rattle.klp_model.specs.declared.event.Event.TheVariants.{EnterKernel}
+use Rattle.klp_model.specs.declared.event.Reply.TheVariants.{Done}
+use Rattle.klp_manager_state.specs.Managed.{state_in}
+use Rattle.klp_task_events.proofs.TakenLemmas.{refused_taken}
+use Rattle.klp_task_events.proofs.TaskLemmas.{task_taken, changed_as_said}
+use Rattle.klp_task_events.proofs.tasks.enter_kernel.Goals as goal
+
+pub returns-in-Some-clause-taken : goal.returns-in-Some-clause-taken
+returns-in-Some-clause-taken c = λ catalog holds.
+    refused_taken c.steps_keep.ensures c.args.manager.now catalog (EnterKernel c.args.task) c.in-Some.refusal holds (sym c.in-Some.is ∙ c.enter_kernel_refusal.ensures.refusal catalog)
+
+pub returns-clause-taken : goal.returns-clause-taken
+returns-clause-taken c = λ catalog holds.
+    task_taken c.changes_of_one_kind_are_taken.ensures.tasks c.steps_keep.ensures c.args.manager.now c.note_alone.new.manager catalog c.enter-row.new.self c.enter-row.result (EnterKernel c.args.task) Done holds
+    (sym c.in_default.is ∙ c.enter_kernel_refusal.ensures.refusal catalog) refl
+    (changed_as_said c.rows_change_as_the_step_says.ensures (state_in c.args.manager.now catalog) c.args.task (λ (t : Task). record t { mode = Kernel }) c.enter-row.new.self Done c.enter-row.ensures.tasks)
+    c.note_alone.ensures

@@ -1,0 +1,17 @@
+use Rattle.std.proofs.Common.{sym, ◌∙◌, refl}
+use Rattle.klp_model.specs.declared.event.Event.TheVariants.{Fork}
+use Rattle.klp_model.specs.declared.event.Reply.TheVariants.{Done}
+use Rattle.klp_task_events.proofs.TakenLemmas.{refused_taken}
+use Rattle.klp_task_events.proofs.TaskLemmas.{task_taken}
+use Rattle.klp_task_events.proofs.tasks.fork.Goals as goal
+
+pub returns-in-Some-clause-taken : goal.returns-in-Some-clause-taken
+returns-in-Some-clause-taken c = λ catalog holds.
+    refused_taken c.steps_keep.ensures c.args.manager.now catalog (Fork c.args.parent c.args.child) c.in-Some.refusal holds (sym c.in-Some.is ∙ c.fork_refusal.ensures.refusal catalog)
+
+pub returns-clause-taken : goal.returns-clause-taken
+returns-clause-taken c = λ catalog holds.
+    task_taken c.changes_of_one_kind_are_taken.ensures.tasks c.steps_keep.ensures c.args.manager.now c.note_alone.new.manager catalog c.fork-row.new.self c.fork-row.result (Fork c.args.parent c.args.child) Done holds
+    (sym c.in_default.is ∙ c.fork_refusal.ensures.refusal catalog) refl
+    (rw c.fork-row.ensures.tasks refl)
+    c.note_alone.ensures

@@ -1,0 +1,20 @@
+use Rattle.std.proofs.Common.{sym, ◌∙◌, refl}
+use Rattle.klp_types.specs.declared.task.Task.{Task}
+use Rattle.klp_types.specs.declared.task.Mode.TheVariants.{Asleep}
+use Rattle.klp_model.specs.declared.event.Event.TheVariants.{Sleep}
+use Rattle.klp_model.specs.declared.event.Reply.TheVariants.{Done}
+use Rattle.klp_manager_state.specs.Managed.{state_in}
+use Rattle.klp_task_events.proofs.TakenLemmas.{refused_taken}
+use Rattle.klp_task_events.proofs.TaskLemmas.{task_taken, changed_as_said}
+use Rattle.klp_task_events.proofs.tasks.sleep.Goals as goal
+
+pub returns-in-Some-clause-taken : goal.returns-in-Some-clause-taken
+returns-in-Some-clause-taken g c =
+    refused_taken c.steps_keep.ensures c.args.manager.now c.args.catalog.now (Sleep c.args.task c.args.frames) c.in-Some.refusal c.requires (sym c.in-Some.is ∙ c.sleep_refusal.ensures.refusal)
+
+pub returns-clause-taken : goal.returns-clause-taken
+returns-clause-taken g c =
+    task_taken c.changes_of_one_kind_are_taken.ensures.tasks c.steps_keep.ensures c.args.manager.now c.note_alone.new.manager c.args.catalog.now c.sleep-row.new.self c.sleep-row.result (Sleep c.args.task c.args.frames) Done c.requires
+    (sym c.in_default.is ∙ c.sleep_refusal.ensures.refusal) refl
+    (changed_as_said c.rows_change_as_the_step_says.ensures (state_in c.args.manager.now c.args.catalog.now) c.args.task (λ (t : Task). record t { mode = Asleep; frames = c.args.frames }) c.sleep-row.new.self Done c.sleep-row.ensures.tasks)
+    c.note_alone.ensures

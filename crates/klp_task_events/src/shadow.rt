@@ -1,0 +1,148 @@
+//! The events that change shadow variables (shadow-vars, Implementation details).
+//!
+//! An event that is accepted empties the log, and logs each variable that it changes, as it was. One that
+//! is refused changes nothing. A function of its own answers why an event is refused, or `None` where
+//! nothing refuses it, because a full journal has to know without taking it; the removals have none, since
+//! nothing refuses them.
+ghost use Rattle.std.specs.Prelude.{◌≡◌, ◌<◌, ℕ, None, IfNone};
+ghost use Rattle.std.specs.FinMap as finite;
+ghost use Rattle.klp_types.specs.declared.limits.TheConstants.{MAX_VARIABLES};
+ghost use Rattle.klp_types.specs.World.{variable};
+ghost use Rattle.klp_model.specs.Refusals.{is_full, refusal};
+ghost use Rattle.klp_model.specs.declared.event.Event.TheVariants.{ShadowAlloc, ShadowGetOrAlloc, ShadowFree, ShadowFreeAll};
+ghost use Rattle.klp_catalog.specs.Catalog.{Catalog as AnyCatalog};
+ghost use Rattle.klp_manager_state.specs.Managed.{refused_in};
+ghost use Rattle.klp_manager_state.specs.Invariant.{Invariant};
+ghost use Rattle.klp_manager_state.specs.Events.{TakesEvent};
+ghost use Rattle.klp_manager_state.specs.Rows.{IsNoted};
+
+use klp_catalog::Catalog;
+use klp_manager_state::ManagerState;
+use klp_manager_state::laws::{
+    changes_of_one_kind_are_taken, steps_keep, what_is_noted_gives_the_rows_back,
+};
+use klp_model::{Refusal, Reply};
+use klp_types::{MAX_VARIABLES, ShadowKey, ShadowValue};
+use klp_world::laws::{freed_and_left_are_all, what_is_noted_is_of_the_world};
+
+/// A variable that isn't there is added. One that is there is a refusal, where the kernel warns and gives
+/// nothing (`klp_shadow_alloc`).
+pub fn shadow_alloc(
+    manager: &mut ManagerState,
+    catalog: &Catalog,
+    key: ShadowKey,
+    value: ShadowValue,
+) -> Result<Reply, Refusal>
+    requires { Invariant manager.old catalog.now }
+    ensures taken { TakesEvent manager.old manager.new catalog.now catalog.now (ShadowAlloc key value) result }
+    ensures noted { IsNoted manager.old manager.new result }
+{
+    steps_keep();
+    changes_of_one_kind_are_taken();
+    what_is_noted_gives_the_rows_back();
+    what_is_noted_is_of_the_world();
+    if let Some(refusal) = shadow_alloc_refusal(manager, key) {
+        return Err(refusal);
+    }
+    manager.log.clear();
+    manager.world.alloc(key, value, &mut manager.log);
+    Ok(Reply::Done)
+}
+
+/// Why a variable isn't added, whatever its value: that it is there comes before want of room.
+pub fn shadow_alloc_refusal(manager: &ManagerState, key: ShadowKey) -> Option<Refusal>
+    ensures refusal { (catalog : AnyCatalog) (value : ℕ) → result ≡ refused_in manager.now catalog (ShadowAlloc key value) }
+    ensures room { IfNone result (finite.len manager.now.world.shadow < MAX_VARIABLES) }
+{
+    if manager.world.get(key).is_some() {
+        Some(Refusal::Exists)
+    } else if is_full(manager) {
+        Some(Refusal::Full)
+    } else {
+        None
+    }
+}
+
+/// The value of a variable, which is added where it isn't there (`klp_shadow_get_or_alloc`). Where it is,
+/// nothing changes, and the event is accepted all the same.
+pub fn shadow_get_or_alloc(
+    manager: &mut ManagerState,
+    catalog: &Catalog,
+    key: ShadowKey,
+    value: ShadowValue,
+) -> Result<Reply, Refusal>
+    requires { Invariant manager.old catalog.now }
+    ensures taken { TakesEvent manager.old manager.new catalog.now catalog.now (ShadowGetOrAlloc key value) result }
+    ensures noted { IsNoted manager.old manager.new result }
+{
+    steps_keep();
+    changes_of_one_kind_are_taken();
+    what_is_noted_gives_the_rows_back();
+    what_is_noted_is_of_the_world();
+    if let Some(refusal) = shadow_get_or_alloc_refusal(manager, key) {
+        return Err(refusal);
+    }
+    manager.log.clear();
+    let there = manager.world.get_or_alloc(key, value, &mut manager.log);
+    Ok(Reply::Value(there))
+}
+
+/// Why a variable that isn't there isn't added, whatever its value. One that is there needs no room.
+pub fn shadow_get_or_alloc_refusal(manager: &ManagerState, key: ShadowKey) -> Option<Refusal>
+    ensures refusal { (catalog : AnyCatalog) (value : ℕ) → result ≡ refused_in manager.now catalog (ShadowGetOrAlloc key value) }
+    ensures room { IfNone result (variable manager.now.world key ≡ None → finite.len manager.now.world.shadow < MAX_VARIABLES) }
+{
+    if manager.world.get(key).is_none() && is_full(manager) {
+        Some(Refusal::Full)
+    } else {
+        None
+    }
+}
+
+/// A variable is removed, where it is there (`klp_shadow_free`). To remove what isn't there is no fault, as
+/// in the kernel.
+pub fn shadow_free(
+    manager: &mut ManagerState,
+    catalog: &Catalog,
+    key: ShadowKey,
+) -> Result<Reply, Refusal>
+    requires { Invariant manager.old catalog.now }
+    ensures taken { TakesEvent manager.old manager.new catalog.now catalog.now (ShadowFree key) result }
+    ensures noted { IsNoted manager.old manager.new result }
+{
+    steps_keep();
+    changes_of_one_kind_are_taken();
+    what_is_noted_gives_the_rows_back();
+    what_is_noted_is_of_the_world();
+    manager.log.clear();
+    let was_there = manager.world.free(key, &mut manager.log);
+    Ok(Reply::Freed(u16::from(was_there)))
+}
+
+/// All variables of the id are removed (`klp_shadow_free_all`), whatever their parent objects. It walks
+/// over all variables.
+pub fn shadow_free_all(
+    manager: &mut ManagerState,
+    catalog: &Catalog,
+    id: u64,
+) -> Result<Reply, Refusal>
+    requires { Invariant manager.old catalog.now }
+    ensures taken { TakesEvent manager.old manager.new catalog.now catalog.now (ShadowFreeAll id) result }
+    ensures noted { IsNoted manager.old manager.new result }
+{
+    steps_keep();
+    changes_of_one_kind_are_taken();
+    what_is_noted_gives_the_rows_back();
+    what_is_noted_is_of_the_world();
+    freed_and_left_are_all();
+    manager.log.clear();
+    let freed = manager.world.free_all(id, &mut manager.log);
+    Ok(Reply::Freed(freed))
+}
+
+/// Whether no shadow variable can be added. The limit is our own: it is what memory is in a kernel.
+fn is_full(manager: &ManagerState) -> bool
+    ensures { result ≡ is_full manager.now.world }
+{
+    usize::from(manager.world.count()) >= MAX_VARIABLES
+}

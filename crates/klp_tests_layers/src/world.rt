@@ -1,0 +1,82 @@
+//! A world that is full, or that memory was refused for, and records that are put back.
+use klp_types::{MAX_VARIABLES, ObjId, Record, Records, ShadowKey};
+use klp_world::World;
+use std::alloc::{AllocError, Global};
+
+fn key(obj: u64, id: u64) -> ShadowKey {
+    ShadowKey { obj, id }
+}
+
+/// Adds variables, and answers how many it added.
+fn fill(world: &mut World, log: &mut Records) -> usize {
+    let mut added = 0usize;
+    for id in 0..512 {
+        let has_room = (world.count() as usize) < MAX_VARIABLES && log.spare() > 0;
+        if has_room && world.alloc(key(8, id), id, log) {
+            added = added.saturating_add(1);
+        }
+    }
+    added
+}
+
+/// A new world, and a log with so much room.
+fn opened(alloc: Global, room: usize) -> Result<(World, Records), AllocError> {
+    let log = Records::new(alloc, room)?;
+    let world = World::new(alloc)?;
+    Ok((world, log))
+}
+
+/// Whether a new world is empty and takes 512 variables, and no 513th by a record that is put back.
+fn is_filled(alloc: Global) -> Result<bool, AllocError> {
+    let (mut world, mut log) = opened(alloc, 512)?;
+    let is_empty = world.installed().is_empty() && world.count() == 0;
+    let added = fill(&mut world, &mut log);
+    world.put_back(Record::ShadowVariable {
+        key: key(9, 9),
+        was: Some(1),
+    });
+    Ok(
+        is_empty
+            && added == 512
+            && world.count() == 512
+            && world.get(key(8, 511)) == Some(511)
+            && world.get(key(9, 9)).is_none(),
+    )
+}
+
+/// With one allocation refused (`rt try --test --fail-alloc N`) this test passes too.
+#[test]
+fn a_world_holds_512_variables(rt: HostRuntime) {
+    let told = is_filled(rt.alloc()).or_else(|_| is_filled(rt.alloc()));
+    assert!(rt; told == Ok(true));
+}
+
+fn loaded(object: u8) -> Record {
+    Record::LoadedFlag {
+        object: ObjId(object),
+        was: true,
+    }
+}
+
+/// The room of a new log, of one that three rows were noted in, and of one that is cleared; and the
+/// rows that are taken of the last two.
+fn taken(alloc: Global) -> Result<([usize; 3], [Option<Record>; 2]), AllocError> {
+    let mut log = Records::new(alloc, 3)?;
+    let empty = log.spare();
+    for object in 1..4 {
+        if log.spare() > 0 {
+            log.note(loaded(object));
+        }
+    }
+    let full = log.spare();
+    let last = log.take_last();
+    log.clear();
+    let cleared = log.spare();
+    Ok(([empty, full, cleared], [last, log.take_last()]))
+}
+
+#[test]
+fn records_are_taken_newest_first_and_cleared(rt: HostRuntime) {
+    let told = taken(rt.alloc());
+    assert!(rt; told == Ok(([3, 0, 3], [Some(loaded(3)), None])));
+}

@@ -1,0 +1,41 @@
+ghost use Rattle.std.specs.Prelude.{◌≡◌};
+
+use crate::edit::Edit;
+use crate::limits::MAX_EDITS;
+use arrayvec::ArrayVec;
+use std::marker::Model;
+
+/// What a callback does and answers: edits of the world in order, and a status. A script with a status
+/// other than 0 makes no edit, so that a pre-patch which refuses leaves nothing to undo. (Scripts are this
+/// project's own, since a kernel's callback is code.)
+#[derive(Debug, Drop)]
+pub struct Script {
+    pub edits: ArrayVec<Edit, MAX_EDITS>,
+    pub status: i32,
+}
+
+impl Model for Script {
+    ghost use Rattle.std.specs.Prelude.{FitsSigned};
+    ghost use Rattle.std.specs.Int.{w32};
+    ghost use Rattle.klp_types.specs.Script.{Script as ScriptOfEdits};
+
+    ghost Value = { ScriptOfEdits };
+
+    ghost view = { λ s. record { edits = s.edits.items; status = s.status } };
+
+    ghost invariant = { λ s. FitsSigned w32 s.status };
+}
+
+impl Script {
+    /// The same edits and status, since an array of edits isn't copied by itself.
+    pub fn copy(&self) -> Script
+        ensures { result ≡ self.now }
+    {
+        let mut edits = ArrayVec::new();
+        let _ = edits.try_extend_from_slice(&self.edits);
+        Script {
+            edits,
+            status: self.status,
+        }
+    }
+}

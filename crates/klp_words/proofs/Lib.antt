@@ -1,0 +1,3 @@
+pub mod SplitLemmas
+pub mod WordLemmas
+pub mod NumberLemmas

@@ -1,0 +1,125 @@
+//! Names, and how the symbol that a function stands in for is spelled.
+
+ghost use Rattle.std.specs.Prelude.{◌≡◌, true};
+ghost use Rattle.std.specs.List.{list_all};
+ghost use Rattle.std.specs.Str.{IsAscii};
+ghost use Rattle.klp_words.specs.Words.{is_name_byte, is_symbol_byte, is_name, is_symbol_name, spelling_of_parts, spelling_behind_prefix, spelling_of};
+
+use crate::number::number32;
+use crate::split::cut;
+use klp_types::{MAX_NAME, MAX_SYMBOL_NAME};
+use std::marker::Model;
+use std::str;
+
+/// What the spelling of a symbol begins with (livepatch module ELF format, livepatch symbols).
+const SYMBOL_PREFIX: &[u8] = b".klp.sym.";
+
+fn is_name_byte(byte: u8) -> bool
+    ensures { result ≡ is_name_byte byte }
+{
+    byte.is_ascii_alphanumeric() || byte == b'_' || byte == b'-'
+}
+
+fn is_symbol_byte(byte: u8) -> bool
+    ensures { result ≡ is_symbol_byte byte }
+{
+    byte.is_ascii_alphanumeric() || byte == b'_' || byte == b'.' || byte == b'$'
+}
+
+fn has_only_name_bytes(word: &[u8]) -> bool
+    ensures { result ≡ list_all is_name_byte word.now }
+{
+    word.iter().all(|b| is_name_byte(*b))
+}
+
+fn has_only_symbol_bytes(word: &[u8]) -> bool
+    ensures { result ≡ list_all is_symbol_byte word.now }
+{
+    word.iter().all(|b| is_symbol_byte(*b))
+}
+
+/// Whether the word may name an object, a patch or a new function: 1 to 55 letters, digits, `_` and `-`. It is
+/// ASCII then, so bytes and text are the same.
+#[tactic(auto, using(crate::proofs::WordLemmas::length_tests, crate::proofs::WordLemmas::ascii_from_name))]
+pub fn is_name(word: &[u8]) -> bool
+    ensures value { result ≡ is_name word.now }
+    ensures ascii { result ≡ true → IsAscii word.now }
+{
+    if word.is_empty() || word.len() > MAX_NAME {
+        return false;
+    }
+    has_only_name_bytes(word)
+}
+
+/// Whether the word may name a symbol: 1 to 127 letters, digits, `_`, `.` and `$`, as compilers make them
+/// (`f.constprop.0`). No comma is among them, which the position of a symbol is behind.
+#[tactic(auto, using(crate::proofs::WordLemmas::length_tests, crate::proofs::WordLemmas::ascii_from_symbol_name))]
+pub fn is_symbol_name(word: &[u8]) -> bool
+    ensures value { result ≡ is_symbol_name word.now }
+    ensures ascii { result ≡ true → IsAscii word.now }
+{
+    if word.is_empty() || word.len() > MAX_SYMBOL_NAME {
+        return false;
+    }
+    has_only_symbol_bytes(word)
+}
+
+/// The word as text, which it is since it is ASCII: nothing is copied, and nothing can fail.
+pub fn text(word: &[u8]) -> &str
+    requires { IsAscii word.now }
+    ensures { result.now ≡ word.now }
+{
+    str::from_utf8(word).unwrap()
+}
+
+/// A symbol with its object and its position, as a `func` line spells it: position 0 asks for the only
+/// symbol of that name, and n for the n-th.
+#[derive(Drop)]
+pub struct Spelling<'a> {
+    pub object: &'a str,
+    pub symbol: &'a str,
+    pub sympos: u32,
+}
+
+impl<'a> Model for Spelling<'a> {
+    ghost use Rattle.klp_words.specs.Words.{Spelling};
+
+    ghost Value = { Spelling };
+
+    ghost view = { λ s. record { object = s.object.now; symbol = s.symbol.now; sympos = s.sympos } };
+}
+
+fn spelling_of_parts<'a>(
+    object: &'a [u8],
+    symbol: &'a [u8],
+    position: &[u8],
+) -> Option<Spelling<'a>>
+    ensures { result ≡ spelling_of_parts object.now symbol.now position.now }
+{
+    if !is_name(object) || !is_symbol_name(symbol) {
+        return None;
+    }
+    let sympos = number32(position)?;
+    Some(Spelling {
+        object: text(object),
+        symbol: text(symbol),
+        sympos,
+    })
+}
+
+fn spelling_behind_prefix(text: &[u8]) -> Option<Spelling<'_>>
+    ensures { result ≡ spelling_behind_prefix text.now }
+{
+    let (object, rest) = cut(text, b'.');
+    let (symbol, position) = cut(rest, b',');
+    spelling_of_parts(object, symbol, position)
+}
+
+/// What `.klp.sym.objname.symbol_name,sympos` spells (livepatch module ELF format, livepatch symbols).
+/// `None` for any other word. Nothing is copied: the parts are lent from the word.
+pub fn spelling_of(word: &[u8]) -> Option<Spelling<'_>>
+    ensures { result ≡ spelling_of word.now }
+{
+    let rest = word.strip_prefix(SYMBOL_PREFIX)?;
+    spelling_behind_prefix(rest)
+}

@@ -1,0 +1,126 @@
+//! How bytes are cut into words, and at one byte. The lines of catalogs and of the console share it.
+
+ghost use Rattle.std.specs.Prelude.{◌≡◌, ℕ, ◌==◌, not, position, List, ◌∷◌, [], MatchOption};
+ghost use Rattle.std.specs.List.{position_or_len, before_first, after_first};
+ghost use Rattle.klp_words.specs.Split.{separates, words_between};
+
+use std::marker::Model;
+
+/// What separates the words of a line: a tab is a byte of a word on the console, and none in a catalog.
+#[derive(Clone, Copy)]
+pub enum Separators {
+    Spaces,
+    SpacesAndTabs,
+}
+
+/// The words of a line that are still to be read, and what separates them. They are cut off one by one, so
+/// no list of them is kept.
+#[derive(Drop)]
+pub struct Words<'a> {
+    rest: &'a [u8],
+    separators: Separators,
+}
+
+impl<'a> Model for Words<'a> {
+    ghost use Rattle.std.specs.Prelude.{ℕ, List};
+    ghost use Rattle.klp_words.specs.Split.{separates, words_between};
+
+    ghost Value = { List (List ℕ) };
+
+    ghost view = { λ w. words_between (separates w.separators) w.rest.now };
+}
+
+impl<'a> Words<'a> {
+    /// All words of the line, which may have any bytes, since nobody has looked at them yet.
+    pub fn new(line: &'a [u8], separators: Separators) -> Words<'a>
+        ensures { result ≡ words_between (separates separators) line.now }
+    {
+        Words {
+            rest: line,
+            separators,
+        }
+    }
+
+    /// The same words, to be gone over twice.
+    pub fn again(&self) -> Words<'a>
+        ensures { result ≡ self.now }
+    {
+        Words {
+            rest: self.rest,
+            separators: self.separators,
+        }
+    }
+
+    /// The next word, which is never empty, in time that is linear in its length and that of what
+    /// separates it from the front.
+    pub fn next(&mut self) -> Option<&'a [u8]>
+        ensures { MatchOption result (self.old ≡ []) (λ word. self.old ≡ word.now ∷ self.new) }
+    {
+        let (word, rest) = first_word(self.rest, self.separators)?;
+        self.rest = rest;
+        Some(word)
+    }
+}
+
+/// The first word, which is never empty, and what is behind it, in time that is linear in the word's length
+/// and that of what separates it from the front.
+pub fn first_word(line: &[u8], separators: Separators) -> Option<(&[u8], &[u8])>
+    ensures { MatchOption result (words_between (separates separators) line.now ≡ [])
+        (λ found. words_between (separates separators) line.now ≡ found.0.now ∷ words_between (separates separators) found.1.now) }
+{
+    let (_, line) = line.split_at(gap_len(line, separators));
+    let (word, rest) = line.split_at(word_len(line, separators));
+    if word.is_empty() {
+        return None;
+    }
+    Some((word, rest))
+}
+
+/// How many separators the bytes begin with: words may have any number of them in between.
+fn gap_len(bytes: &[u8], separators: Separators) -> usize
+    ensures { result ≡ position_or_len (λ b. not (separates separators b)) bytes.now }
+{
+    bytes
+        .iter()
+        .position(|b| !separates(separators, *b))
+        .unwrap_or(bytes.len())
+}
+
+/// How long the word is that the bytes begin with: 0 only where there are no bytes, once the gap is cut
+/// off.
+fn word_len(bytes: &[u8], separators: Separators) -> usize
+    ensures { result ≡ position_or_len (separates separators) bytes.now }
+{
+    bytes
+        .iter()
+        .position(|b| separates(separators, *b))
+        .unwrap_or(bytes.len())
+}
+
+fn separates(separators: Separators, byte: u8) -> bool
+    ensures { result ≡ separates separators byte }
+{
+    match separators {
+        Separators::Spaces => byte == b' ',
+        Separators::SpacesAndTabs => byte == b' ' || byte == b'\t',
+    }
+}
+
+/// Where the first byte `at` is, from 0; nothing where there is none.
+pub fn position_of(bytes: &[u8], at: u8) -> Option<usize>
+    ensures { result ≡ position (λ b. b == at) bytes.now }
+{
+    bytes.iter().position(|b| *b == at)
+}
+
+/// What is before the first byte `at`, and what is behind it: all and nothing where there is none. So a
+/// text without the byte and one that ends with it come to the same.
+pub fn cut(text: &[u8], at: u8) -> (&[u8], &[u8])
+    ensures before { result.0.now ≡ before_first (λ b. b == at) text.now }
+    ensures after { result.1.now ≡ after_first (λ b. b == at) text.now }
+{
+    match position_of(text, at) {
+        Some(end) => (&text[..end], &text[end + 1..]),
+        None => (text, &[]),
+    }
+}
