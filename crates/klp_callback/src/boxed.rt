@@ -41,10 +41,12 @@ impl Boxed {
     /// The callback is asked for its script again, which costs one comparison of at most
     /// [`klp_world::MAX_EDITS`] edits.
     pub fn run(&mut self, patch: PatchId, world: &mut World, log: &mut Records) -> i32
-        requires room { HasRoom world.old log.old (alloc_count self.old.script.edits) (rows_of_script patch world.old self.old.script) }
+        requires room { HasRoom world.old log.old (alloc_count self.old.script.edits)
+            (rows_of_script patch world.old self.old.script) }
         ensures status { result ≡ self.old.script.status }
         ensures told { self.new ≡ after_run self.old }
-        ensures changes { Changes world.old world.new log.old log.new (effect patch world.old self.old.script) (rows_of_script patch world.old self.old.script) }
+        ensures changes { Changes world.old world.new log.old log.new (effect patch world.old self.old.script)
+            (rows_of_script patch world.old self.old.script) }
     {
         self.counted.run(patch, world, log)
     }

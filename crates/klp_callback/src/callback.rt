@@ -18,7 +18,8 @@ pub trait Callback: Drop + Send {
     /// counts the run, and answers the script's status. It takes no memory. A run with another status than
     /// 0 counts too.
     fn run(&mut self, patch: PatchId, world: &mut World, log: &mut Records) -> i32
-        requires room { HasRoom world.old log.old (alloc_count (script_of self.old).edits) (rows_of_script patch world.old (script_of self.old)) }
+        requires room { HasRoom world.old log.old (alloc_count (script_of self.old).edits)
+            (rows_of_script patch world.old (script_of self.old)) }
         ensures status { result ≡ (script_of self.old).status }
         ensures script { script_of self.new ≡ script_of self.old }
         ensures runs { runs_of self.new ≡ counted (runs_of self.old) }

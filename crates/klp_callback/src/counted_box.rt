@@ -37,13 +37,16 @@ impl CountedBox {
     /// Runs the callback in the box, which is asked for its script again: if that were another one, which
     /// the trait's contract rules out, the world would change by the script that was given first.
     pub(crate) fn run(&mut self, patch: PatchId, world: &mut World, log: &mut Records) -> i32
-        requires room { HasRoom world.old log.old (alloc_count self.old.script.edits) (rows_of_script patch world.old self.old.script) }
+        requires room { HasRoom world.old log.old (alloc_count self.old.script.edits)
+            (rows_of_script patch world.old self.old.script) }
         ensures status { result ≡ self.old.script.status }
         ensures script { self.new.script ≡ self.old.script }
         ensures runs { self.new.runs ≡ counted self.old.runs }
         ensures box_script { script_of self.new.callback ≡ script_of self.old.callback }
-        ensures box_runs { script_of self.old.callback ≡ self.old.script → runs_of self.new.callback ≡ counted (runs_of self.old.callback) }
-        ensures changes { Changes world.old world.new log.old log.new (effect patch world.old self.old.script) (rows_of_script patch world.old self.old.script) }
+        ensures box_runs { script_of self.old.callback ≡ self.old.script
+            → runs_of self.new.callback ≡ counted (runs_of self.old.callback) }
+        ensures changes { Changes world.old world.new log.old log.new (effect patch world.old self.old.script)
+            (rows_of_script patch world.old self.old.script) }
     {
         self.runs = self.runs.saturating_add(1);
         // What was said of the box when it was made can't be known here, so it is compared

@@ -13,7 +13,8 @@ use klp_world::{MAX_EDITS, Script, World};
 /// fault, so nothing is answered.
 fn make_edit(edit: Edit, patch: PatchId, world: &mut World, log: &mut Records)
     requires room { HasRoom world.old log.old (alloc_count (edit ∷ [])) (rows_of_edit patch world.old edit) }
-    ensures changes { Changes world.old world.new log.old log.new (edited patch world.old edit) (rows_of_edit patch world.old edit) }
+    ensures changes { Changes world.old world.new log.old log.new (edited patch world.old edit)
+        (rows_of_edit patch world.old edit) }
 {
     match edit {
         Edit::Alloc(key, value) => {
@@ -34,7 +35,8 @@ fn make_edit(edit: Edit, patch: PatchId, world: &mut World, log: &mut Records)
 /// state stays as it is, since there is nothing to take over.
 fn take_previous(patch: PatchId, id: u64, world: &mut World, log: &mut Records)
     requires { length (rows_of_edit patch world.old (Edit.TakePrev id)) ≤ spare_of log.old }
-    ensures changes { Changes world.old world.new log.old log.new (edited patch world.old (Edit.TakePrev id)) (rows_of_edit patch world.old (Edit.TakePrev id)) }
+    ensures changes { Changes world.old world.new log.old log.new (edited patch world.old (Edit.TakePrev id))
+        (rows_of_edit patch world.old (Edit.TakePrev id)) }
 {
     if let Some(older) = world.previous(patch, id) {
         if let Some(value) = world.value(older, id) {
@@ -58,9 +60,11 @@ fn make_edits(edits: &[Edit], patch: PatchId, world: &mut World, log: &mut Recor
 /// Runs a script for the patch, and answers its status, as [`crate::Callback::run`] does. A script that
 /// refuses makes no edit.
 pub fn run_script(script: &Script, patch: PatchId, world: &mut World, log: &mut Records) -> i32
-    requires room { HasRoom world.old log.old (alloc_count script.now.edits) (rows_of_script patch world.old script.now) }
+    requires room { HasRoom world.old log.old (alloc_count script.now.edits)
+        (rows_of_script patch world.old script.now) }
     ensures status { result ≡ script.now.status }
-    ensures changes { Changes world.old world.new log.old log.new (effect patch world.old script.now) (rows_of_script patch world.old script.now) }
+    ensures changes { Changes world.old world.new log.old log.new (effect patch world.old script.now)
+        (rows_of_script patch world.old script.now) }
 {
     scripts_are_undone();
     if script.status == 0 {

@@ -95,7 +95,8 @@ fn push_functions(
     given: Vec<PlanFunction>,
     functions: &mut Vec<CatalogFunction>,
 ) -> Result<(), AllocError>
-    ensures { OnOk result (functions.new.items ≡ functions.old.items ++ map (resolved_function modules.now.names object) given.items) }
+    ensures { OnOk result (functions.new.items ≡ functions.old.items ++ map
+        (resolved_function modules.now.names object) given.items) }
 {
     for function in given {
         functions.push(resolve(modules, object, function))?;
@@ -159,7 +160,8 @@ fn assemble_target(
 ) -> Result<CatalogTarget, AssembleFault>
     requires { numbers.old.next ≤ numbers.old.end }
     ensures target { IfOk result (λ made. made ≡ stored_target numbers.old.next target) }
-    ensures functions { OnOk result (functions.new.items ≡ functions.old.items ++ functions_of_target modules.now.names target) }
+    ensures functions { OnOk result
+        (functions.new.items ≡ functions.old.items ++ functions_of_target modules.now.names target) }
     ensures numbers { OnOk result (numbers.new ≡ record numbers.old { next = numbers.old.next + target_size target }) }
     ensures within { OnOk result (numbers.new.next ≤ numbers.new.end) }
     ensures fault { IfErr result (IsShort (numbers.old.next + target_size target) numbers.old.end) }

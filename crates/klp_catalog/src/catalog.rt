@@ -100,14 +100,16 @@ impl Catalog {
     ) -> Result<Catalog, AssembleFault>
         requires targets { AreTargetsWithin (length modules.now.names) plan.patches }
         ensures names { IfOk result (λ catalog. catalog.names ≡ modules.now.names) }
-        ensures patches { IfOk result (λ catalog. map without_scripts catalog.patches ≡ map without_scripts plan.patches) }
+        ensures patches { IfOk result
+            (λ catalog. map without_scripts catalog.patches ≡ map without_scripts plan.patches) }
         ensures scripts { IfOk result (λ catalog. scripts_of catalog.patches ≡ scripts_told callbacks.items) }
         ensures counts { IfOk result (λ catalog. catalog.runs ≡ counts_told callbacks.items) }
         ensures shape { IfOk result (λ catalog. HasCounts catalog.patches catalog.runs) }
         ensures limits { IfOk result (λ catalog. AreWithin catalog.patches) }
         ensures number { IfOk result (λ catalog. length (scripts_of plan.patches) ≡ length callbacks.items) }
         ensures distinct { IfOk result (λ catalog. some_same_site modules.now.names plan.patches ≡ false) }
-        ensures fault { IfErr result (λ fault. IsAssembleFault modules.now.names plan.patches (length callbacks.items) fault) }
+        ensures fault { IfErr result
+            (λ fault. IsAssembleFault modules.now.names plan.patches (length callbacks.items) fault) }
     {
         let symbols = symbol_counts(alloc, modules)?;
         let over = Snapshot::of(modules);
@@ -156,7 +158,8 @@ impl Catalog {
 
     /// How many symbols an object has, by the names that the catalog was assembled over.
     pub fn symbols(&self, object: ObjId) -> Option<u16>
-        ensures { result ≡ option_map (λ (found : ObjectNames). length found.symbols) (slice_get self.now.names object) }
+        ensures { result ≡ option_map (λ (found : ObjectNames). length found.symbols)
+            (slice_get self.now.names object) }
     {
         let ObjId(number) = object;
         count_at(&self.symbols, number)
@@ -204,7 +207,8 @@ impl Catalog {
     /// The object that a patch changes, by its place among those of the patch from 0, by which its
     /// callbacks are run.
     pub fn target(&self, patch: PatchId, number: u8) -> Option<ObjId>
-        ensures { result ≡ option_map (λ (found : PatchObject). found.object) (slice_get (objects_at self.now patch) number) }
+        ensures { result ≡ option_map (λ (found : PatchObject). found.object) (slice_get
+            (objects_at self.now patch) number) }
     {
         let target = patch::targets_of(&self.patches, patch).get(usize::from(number))?;
         Some(target.object)
@@ -242,12 +246,15 @@ impl Catalog {
         world: &mut World,
         log: &mut Records,
     ) -> Option<i32>
-        requires room { IfSome (script_at self.old patch place which) (λ script. HasRoom world.old log.old (alloc_count script.edits) (rows_of_script patch world.old script)) }
+        requires room { IfSome (script_at self.old patch place which)
+            (λ script. HasRoom world.old log.old (alloc_count script.edits) (rows_of_script patch world.old script)) }
         ensures status { result ≡ option_map (λ (s : ScriptOfEdits). s.status) (script_at self.old patch place which) }
         // one run of the callback, if there is one, so its count grows by one
-        ensures catalog { self.new ≡ after_runs self.old (call_of patch place which (script_at self.old patch place which)) }
+        ensures catalog { self.new
+            ≡ after_runs self.old (call_of patch place which (script_at self.old patch place which)) }
         ensures changes { let script = script_at self.old patch place which in
-            Changes world.old world.new log.old log.new (after_calls world.old (call_of patch place which script)) (rows_if patch world.old script) }
+            Changes world.old world.new log.old log.new (after_calls world.old (call_of patch place which script))
+            (rows_if patch world.old script) }
     {
         let number = patch::number_of(&self.patches, patch, usize::from(place), which)?;
         Some(self.callbacks[number].run(patch, world, log))
@@ -271,7 +278,9 @@ impl Catalog {
     /// patch has no such callback, which isn't the same as one that never ran.
     pub fn callback_runs(&self, patch: PatchId, object: ObjId, which: Which) -> Option<u64>
         ensures runs { result ≡ callback_runs self.now patch object which }
-        ensures there { is_some result ≡ is_some (option_and_then (λ place. script_at self.now patch place which) (place_of object (objects_at self.now patch))) }
+        ensures there { is_some result
+            ≡ is_some (option_and_then (λ place. script_at self.now patch place which)
+            (place_of object (objects_at self.now patch))) }
     {
         let place = patch::place_of(patch::targets_of(&self.patches, patch), object)?;
         let number = patch::number_of(&self.patches, patch, place, which)?;
@@ -283,7 +292,8 @@ impl Catalog {
     pub fn functions(&self, patch: PatchId) -> &[CatalogFunction]
         ensures functions { result.now ≡ catalog_functions self.now patch }
         // what the manager reads of them when it puts their entries on sites
-        ensures setting { map setting_function result.now ≡ all_functions (patch_objects (slice_get (patches_of self.now) patch)) }
+        ensures setting { map setting_function result.now
+            ≡ all_functions (patch_objects (slice_get (patches_of self.now) patch)) }
         ensures in_object { All (LiesInObject self.now.names) result.now }
         ensures distinct { has_same_site result.now ≡ false }
         ensures few { length result.now ≤ MAX_FUNCTIONS }
@@ -295,7 +305,8 @@ impl Catalog {
     /// its name and its address.
     pub fn function(&self, patch: PatchId, number: u16) -> Option<(Option<Site>, &str, u64)>
         ensures { option_map {U = Option ℕ × List ℕ × ℕ} (λ f. (f.0, f.1.now, f.2)) result
-            ≡ option_map (λ (f : FunctionValue). (f.site, f.new_name, f.address)) (slice_get (catalog_functions self.now patch) number) }
+            ≡ option_map (λ (f : FunctionValue). (f.site, f.new_name, f.address)) (slice_get
+            (catalog_functions self.now patch) number) }
     {
         let function = self.functions(patch).get(usize::from(number))?;
         Some((function.site(), function.new_name(), function.address()))
@@ -306,7 +317,8 @@ impl Catalog {
     /// that the name is unique in the object (livepatch, Metadata).
     pub fn function_name(&self, patch: PatchId, number: u16) -> Option<(ObjId, &str, u32)>
         ensures { option_map {U = ℕ × List ℕ × ℕ} (λ f. (f.0, f.1.now, f.2)) result
-            ≡ option_map (λ (f : FunctionValue). (f.object, f.symbol, f.sympos)) (slice_get (catalog_functions self.now patch) number) }
+            ≡ option_map (λ (f : FunctionValue). (f.object, f.symbol, f.sympos)) (slice_get
+            (catalog_functions self.now patch) number) }
     {
         let function = self.functions(patch).get(usize::from(number))?;
         Some((function.object(), function.symbol(), function.sympos()))

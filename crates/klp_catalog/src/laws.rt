@@ -23,10 +23,12 @@ pub fn sites_lie_in_their_objects()
 /// count.
 pub fn counts_grow_by_runs()
     ensures counts { (catalog : Catalog) (calls : List Call) (patch place : ℕ) (which : Which)
-        → runs_of (after_runs catalog calls) patch place which ≡ option_map (grown (times patch place which calls)) (runs_of catalog patch place which) }
+        → runs_of (after_runs catalog calls) patch place which ≡ option_map (grown (times patch place which calls))
+        (runs_of catalog patch place which) }
     ensures looks { (catalog : Catalog) (calls : List Call) (patch object place : ℕ) (which : Which)
         → place_of object (objects_at catalog patch) ≡ Some place
-        → callback_runs (after_runs catalog calls) patch object which ≡ option_map (grown (times patch place which calls)) (callback_runs catalog patch object which) }
+        → callback_runs (after_runs catalog calls) patch object which ≡ option_map (grown
+        (times patch place which calls)) (callback_runs catalog patch object which) }
     ensures names { (catalog : Catalog) (calls : List Call) → (after_runs catalog calls).names ≡ catalog.names }
     ensures patches { (catalog : Catalog) (calls : List Call) → (after_runs catalog calls).patches ≡ catalog.patches }
 {}

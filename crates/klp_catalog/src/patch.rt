@@ -131,7 +131,8 @@ fn can_live_with(replace: bool, own: &[SystemState], state: SystemState) -> bool
 
 /// Whether a patch with these states of its own can live with each of another's states.
 fn can_live_with_all(replace: bool, own: &[SystemState], states: &[SystemState]) -> bool
-    ensures { result ≡ list_all (λ (s : StateValue). compatible.can_live_with replace s (compatible.version_among s.id own.now)) states.now }
+    ensures { result ≡ list_all (λ (s : StateValue). compatible.can_live_with replace s
+        (compatible.version_among s.id own.now)) states.now }
 {
     states
         .iter()

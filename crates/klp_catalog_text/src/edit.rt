@@ -60,7 +60,8 @@ impl<'a> Fields<'a> {
     /// The end of an edit that has too many parts with one more, which is a `BadEdit` too.
     fn end(&mut self) -> Result<(), TextFaultKind>
         ensures { MatchResult result (λ _. self.old ≡ [])
-            (λ kind. (kind ≡ TextFaultKind.BadEdit) × (part : List ℕ) × (parts : List (List ℕ)) × (self.old ≡ part ∷ parts)) }
+            (λ kind. (kind ≡ TextFaultKind.BadEdit) × (part : List ℕ) × (parts : List (List ℕ))
+            × (self.old ≡ part ∷ parts)) }
     {
         match self.part() {
             Ok(_) => Err(TextFaultKind::BadEdit),
@@ -179,7 +180,8 @@ impl Model for ScriptText {
 impl ScriptText {
     /// The script, unless it has too many edits. Takes no memory, because a script's edits are an array.
     pub fn into_script(self) -> Option<Script>
-        ensures { MatchOption result (MAX_EDITS < length self.edits) (λ script. (length self.edits ≤ MAX_EDITS) × (script ≡ self)) }
+        ensures { MatchOption result (MAX_EDITS < length self.edits)
+            (λ script. (length self.edits ≤ MAX_EDITS) × (script ≡ self)) }
     {
         let mut edits = ArrayVec::new();
         edits.try_extend_from_slice(&self.edits).ok()?;

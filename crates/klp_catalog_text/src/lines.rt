@@ -81,7 +81,8 @@ pub(crate) fn word<'a>(words: &mut Words<'a>) -> Result<&'a [u8], TextFaultKind>
 /// reported.
 pub(crate) fn end(words: &mut Words<'_>) -> Result<(), TextFaultKind>
     ensures { MatchResult result (λ _. words.old ≡ [])
-        (λ kind. (kind ≡ TextFaultKind.WrongCount) × (word : List ℕ) × (rest : List (List ℕ)) × (words.old ≡ word ∷ rest)) }
+        (λ kind. (kind ≡ TextFaultKind.WrongCount) × (word : List ℕ) × (rest : List (List ℕ))
+        × (words.old ≡ word ∷ rest)) }
 {
     match words.next() {
         None => Ok(()),

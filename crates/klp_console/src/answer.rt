@@ -23,7 +23,8 @@ fn apply<W: Sink>(
     writer: &mut W,
 ) -> bool
     requires { answers.old.has_failed ≡ false }
-    ensures { IsSaid (IsTakenAs manager.old manager.new event) (answers.old, W.written writer.old) (answers.new, W.written writer.new) result }
+    ensures { IsSaid (IsTakenAs manager.old manager.new event) (answers.old, W.written writer.old)
+        (answers.new, W.written writer.new) result }
 {
     let reply = manager.apply(event);
     let catalog = manager.catalog();
@@ -34,7 +35,8 @@ fn apply<W: Sink>(
 /// The events behind the mark are undone. Answers whether there are fewer than it, so that nothing was.
 fn rewind<W: Sink>(manager: &mut Manager, mark: u32, answers: &mut Answers, writer: &mut W) -> bool
     requires { answers.old.has_failed ≡ false }
-    ensures { IsSaid (IsRewoundAs manager.old manager.new mark) (answers.old, W.written writer.old) (answers.new, W.written writer.new) result }
+    ensures { IsSaid (IsRewoundAs manager.old manager.new mark) (answers.old, W.written writer.old)
+        (answers.new, W.written writer.new) result }
 {
     match manager.rewind(mark) {
         Ok(()) => {
@@ -56,7 +58,8 @@ fn done<W: Sink>(
     writer: &mut W,
 ) -> bool
     requires { answers.old.has_failed ≡ false }
-    ensures { IsSaid (IsDone manager.old manager.new request.now) (answers.old, W.written writer.old) (answers.new, W.written writer.new) result }
+    ensures { IsSaid (IsDone manager.old manager.new request.now) (answers.old, W.written writer.old)
+        (answers.new, W.written writer.new) result }
 {
     match *request {
         Request::Take(event) => apply(manager, event, answers, writer),
@@ -80,7 +83,8 @@ fn done_if<W: Sink>(
     writer: &mut W,
 ) -> bool
     requires { answers.old.has_failed ≡ false }
-    ensures { IsSaid (IsDoneIf manager.old manager.new request.now) (answers.old, W.written writer.old) (answers.new, W.written writer.new) result }
+    ensures { IsSaid (IsDoneIf manager.old manager.new request.now) (answers.old, W.written writer.old)
+        (answers.new, W.written writer.new) result }
 {
     what_is_said_adds_up();
     match request {
@@ -112,8 +116,10 @@ pub(crate) fn answer_line<W: Sink>(
     requires room { served.old.lines + 1 < 2 ^ 64 }
     requires few { served.old.refused ≤ served.old.lines }
     requires short { length line.now ≤ MAX_CONSOLE_LINE }
-    ensures serves { Serves (record { manager = manager.old; served = served.old; said = (answers.old, W.written writer.old) })
-        (record { manager = manager.new; served = served.new; said = (answers.new, W.written writer.new) }) (line.now ∷ []) }
+    ensures serves { Serves
+        (record { manager = manager.old; served = served.old; said = (answers.old, W.written writer.old) })
+        (record { manager = manager.new; served = served.new; said = (answers.new, W.written writer.new) })
+        (line.now ∷ []) }
     ensures few { served.new.refused ≤ served.new.lines }
 {
     let request = request_by(manager, line);

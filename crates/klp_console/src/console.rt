@@ -30,8 +30,10 @@ fn hear<W: Sink>(
     requires room { served.old.lines + length piece.now < 2 ^ 64 }
     requires few { served.old.refused ≤ served.old.lines }
     requires none { answers.old.bytes ≡ [] }
-    ensures hears { Hears (record { manager = manager.old; served = served.old; said = (answers.old, W.written writer.old) })
-        (record { manager = manager.new; served = served.new; said = (answers.new, W.written writer.new) }) (lines_and_rest (line.old ++ piece.now)) line.new result }
+    ensures hears { Hears
+        (record { manager = manager.old; served = served.old; said = (answers.old, W.written writer.old) })
+        (record { manager = manager.new; served = served.new; said = (answers.new, W.written writer.new) })
+        (lines_and_rest (line.old ++ piece.now)) line.new result }
     ensures short { IfOk result (λ _. length line.new ≤ MAX_CONSOLE_LINE) }
     ensures few { IfOk result (λ _. served.new.refused ≤ served.new.lines) }
     ensures room { IfOk result (λ _. served.new.lines ≤ served.old.lines + length piece.now) }
@@ -59,8 +61,10 @@ fn end<W: Sink>(
     requires room { served.old.lines + 1 < 2 ^ 64 }
     requires few { served.old.refused ≤ served.old.lines }
     requires none { answers.old.bytes ≡ [] }
-    ensures serves { Serves (record { manager = manager.old; served = served.old; said = (answers.old, W.written writer.old) })
-        (record { manager = manager.new; served = served.new; said = (answers.new, W.written writer.new) }) (whole (line.now ∷ [])) }
+    ensures serves { Serves
+        (record { manager = manager.old; served = served.old; said = (answers.old, W.written writer.old) })
+        (record { manager = manager.new; served = served.new; said = (answers.new, W.written writer.new) })
+        (whole (line.now ∷ [])) }
     ensures written { IfOk result (λ _. (answers.new.has_failed ≡ false) × (answers.new.bytes ≡ [])) }
     ensures failed { IfErr result (λ fault. (fault ≡ Write) × (answers.new.has_failed ≡ true)) }
 {

@@ -112,7 +112,8 @@ fn say_patch_lines<W: Sink>(
     catalog: &Catalog,
     patches: &[PatchId],
 )
-    ensures { Says (answers.old, W.written writer.old) (answers.new, W.written writer.new) (lines_of (patch_line catalog.now) patches.now) }
+    ensures { Says (answers.old, W.written writer.old) (answers.new, W.written writer.new)
+        (lines_of (patch_line catalog.now) patches.now) }
 {
     what_is_said_adds_up();
     for patch in patches {
@@ -122,7 +123,8 @@ fn say_patch_lines<W: Sink>(
 
 /// Says the installed patches, oldest first, which is the order in which they were enabled.
 pub(crate) fn say_patches<W: Sink>(answers: &mut Answers, writer: &mut W, manager: &Manager)
-    ensures { Says (answers.old, W.written writer.old) (answers.new, W.written writer.new) (lines_of (patch_line manager.now.managed.catalog) (installed_patches manager.now.managed.state)) }
+    ensures { Says (answers.old, W.written writer.old) (answers.new, W.written writer.new)
+        (lines_of (patch_line manager.now.managed.catalog) (installed_patches manager.now.managed.state)) }
 {
     let patches = manager.installed();
     say_patch_lines(answers, writer, manager.catalog(), patches.as_slice());
@@ -135,7 +137,8 @@ fn say_object_lines<W: Sink>(
     manager: &Manager,
     patch: PatchId,
 )
-    ensures { Says (answers.old, W.written writer.old) (answers.new, W.written writer.new) (lines_of (object_line manager.now.managed.catalog) (objects_at manager.now.managed.catalog patch)) }
+    ensures { Says (answers.old, W.written writer.old) (answers.new, W.written writer.new)
+        (lines_of (object_line manager.now.managed.catalog) (objects_at manager.now.managed.catalog patch)) }
 {
     what_is_said_adds_up();
     let catalog = manager.catalog();
@@ -148,7 +151,8 @@ fn say_object_lines<W: Sink>(
 
 /// Says the files of a patch, and a directory for each object that it changes, loaded or not.
 fn say_files<W: Sink>(answers: &mut Answers, writer: &mut W, manager: &Manager, patch: PatchId)
-    ensures { Says (answers.old, W.written writer.old) (answers.new, W.written writer.new) (directory_text manager.now.managed.catalog patch) }
+    ensures { Says (answers.old, W.written writer.old) (answers.new, W.written writer.new)
+        (directory_text manager.now.managed.catalog patch) }
 {
     what_is_said_adds_up();
     answers.say(writer, b"enabled\nforce\ntransition\n");
@@ -176,7 +180,8 @@ pub(crate) fn say_directory<W: Sink>(
 
 /// Says a symbol and which of those of its name it is, with the comma between that a kernel has.
 fn say_position<W: Sink>(answers: &mut Answers, writer: &mut W, symbol: &str, position: u64)
-    ensures { Says (answers.old, W.written writer.old) (answers.new, W.written writer.new) (symbol.now ++ codes "," ++ decimal position ++ codes "\n") }
+    ensures { Says (answers.old, W.written writer.old) (answers.new, W.written writer.new)
+        (symbol.now ++ codes "," ++ decimal position ++ codes "\n") }
 {
     what_is_said_adds_up();
     say_name(answers, writer, symbol);
@@ -187,7 +192,8 @@ fn say_position<W: Sink>(answers: &mut Answers, writer: &mut W, symbol: &str, po
 
 /// Says a function that a patch changes, with its position, as the kernel names its directory.
 fn say_function<W: Sink>(answers: &mut Answers, writer: &mut W, function: &CatalogFunction)
-    ensures { Says (answers.old, W.written writer.old) (answers.new, W.written writer.new) (position_text function.now) }
+    ensures { Says (answers.old, W.written writer.old) (answers.new, W.written writer.new)
+        (position_text function.now) }
 {
     // the only symbol of its name is the first, and the kernel's directory has `name,1` for it
     let position = u64::from(function.sympos().max(1));
@@ -201,7 +207,8 @@ fn say_positions<W: Sink>(
     functions: &[CatalogFunction],
     object: ObjId,
 )
-    ensures { Says (answers.old, W.written writer.old) (answers.new, W.written writer.new) (lines_of position_text (filter (λ (f : FunctionValue). f.object == object) functions.now)) }
+    ensures { Says (answers.old, W.written writer.old) (answers.new, W.written writer.new)
+        (lines_of position_text (filter (λ (f : FunctionValue). f.object == object) functions.now)) }
 {
     what_is_said_adds_up();
     for function in functions {

@@ -23,8 +23,10 @@ pub(crate) fn hear_lines<W: Sink>(
     requires room { served.old.lines + length piece.now < 2 ^ 64 }
     requires few { served.old.refused ≤ served.old.lines }
     requires none { answers.old.bytes ≡ [] }
-    ensures hears { Hears (record { manager = manager.old; served = served.old; said = (answers.old, W.written writer.old) })
-        (record { manager = manager.new; served = served.new; said = (answers.new, W.written writer.new) }) (lines_and_rest (line.old ++ piece.now)) line.new result }
+    ensures hears { Hears
+        (record { manager = manager.old; served = served.old; said = (answers.old, W.written writer.old) })
+        (record { manager = manager.new; served = served.new; said = (answers.new, W.written writer.new) })
+        (lines_and_rest (line.old ++ piece.now)) line.new result }
     ensures short { IfOk result (λ _. length line.new ≤ MAX_CONSOLE_LINE) }
     ensures few { IfOk result (λ _. served.new.refused ≤ served.new.lines) }
     ensures room { IfOk result (λ _. served.new.lines ≤ served.old.lines + length piece.now) }

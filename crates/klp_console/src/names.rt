@@ -62,7 +62,8 @@ pub fn say_new_function<W: Sink>(
     patch: PatchId,
     number: u16,
 )
-    ensures { Says (answers.old, W.written writer.old) (answers.new, W.written writer.new) (new_function_text catalog.now patch number) }
+    ensures { Says (answers.old, W.written writer.old) (answers.new, W.written writer.new)
+        (new_function_text catalog.now patch number) }
 {
     what_is_said_adds_up();
     if let Some((_, new_name, address)) = catalog.function(patch, number) {

@@ -26,7 +26,8 @@ fn show<W: Sink>(
     manager: &Manager,
     look: &Query,
 ) -> Result<(), Refusal>
-    ensures says { Says (answers.old, W.written writer.old) (answers.new, W.written writer.new) (result_unwrap_or (look_text manager.now look.now) []) }
+    ensures says { Says (answers.old, W.written writer.old) (answers.new, W.written writer.new)
+        (result_unwrap_or (look_text manager.now look.now) []) }
     ensures result { result ≡ result_and (look_text manager.now look.now) (Ok tt) }
 {
     match *look {
@@ -70,7 +71,8 @@ pub fn say_query<W: Sink>(
     manager: &Manager,
     look: &Query,
 ) -> Result<(), Refusal>
-    ensures says { Says (answers.old, W.written writer.old) (answers.new, W.written writer.new) (seen_text (look_text manager.now look.now)) }
+    ensures says { Says (answers.old, W.written writer.old) (answers.new, W.written writer.new)
+        (seen_text (look_text manager.now look.now)) }
     ensures result { result ≡ result_and (look_text manager.now look.now) (Ok tt) }
 {
     what_is_said_adds_up();
@@ -90,7 +92,8 @@ pub fn say_force_nothing<W: Sink>(
     manager: &Manager,
     patch: PatchId,
 ) -> Result<(), Refusal>
-    ensures says { Says (answers.old, W.written writer.old) (answers.new, W.written writer.new) (seen_text (force_nothing manager.now patch)) }
+    ensures says { Says (answers.old, W.written writer.old) (answers.new, W.written writer.new)
+        (seen_text (force_nothing manager.now patch)) }
     ensures result { result ≡ result_and (force_nothing manager.now patch) (Ok tt) }
 {
     if is_installed(manager, patch) {

@@ -23,7 +23,8 @@ pub fn say_done<W: Sink>(answers: &mut Answers, writer: &mut W)
 
 /// Says a word, with the space behind it, and a number, in a line of its own.
 fn say_number<W: Sink>(answers: &mut Answers, writer: &mut W, word: &[u8], number: u64)
-    ensures { Says (answers.old, W.written writer.old) (answers.new, W.written writer.new) (word.now ++ decimal number ++ codes "\n") }
+    ensures { Says (answers.old, W.written writer.old) (answers.new, W.written writer.new)
+        (word.now ++ decimal number ++ codes "\n") }
 {
     what_is_said_adds_up();
     answers.say(writer, word);
@@ -41,7 +42,8 @@ fn say_pre_failed<W: Sink>(
     status: i64,
 )
     ensures { Says (answers.old, W.written writer.old) (answers.new, W.written writer.new)
-        (codes "prefailed " ++ patch.now ++ codes " " ++ object.now ++ codes " " ++ signed_decimal status ++ codes "\n") }
+        (codes "prefailed " ++ patch.now ++ codes " " ++ object.now ++ codes " " ++ signed_decimal status
+        ++ codes "\n") }
 {
     what_is_said_adds_up();
     answers.say(writer, b"prefailed ");
@@ -93,7 +95,8 @@ fn say_original<W: Sink>(answers: &mut Answers, writer: &mut W, modules: &Module
 
 /// Says a new function by its patch and its place in it, since its name needn't be the only one.
 fn say_new<W: Sink>(answers: &mut Answers, writer: &mut W, patch: &str, function: u64)
-    ensures { Says (answers.old, W.written writer.old) (answers.new, W.written writer.new) (codes " " ++ patch.now ++ codes ":" ++ decimal function) }
+    ensures { Says (answers.old, W.written writer.old) (answers.new, W.written writer.new)
+        (codes " " ++ patch.now ++ codes ":" ++ decimal function) }
 {
     what_is_said_adds_up();
     answers.say(writer, b" ");
@@ -111,7 +114,8 @@ fn say_frame<W: Sink>(
     version: Version,
 )
     requires { catalog.now.names ≡ modules.now.names }
-    ensures { Says (answers.old, W.written writer.old) (answers.new, W.written writer.new) (frame_text catalog.now version) }
+    ensures { Says (answers.old, W.written writer.old) (answers.new, W.written writer.new)
+        (frame_text catalog.now version) }
 {
     match version {
         Version::Original(site) => say_original(answers, writer, modules, site),
@@ -131,7 +135,8 @@ fn say_frames<W: Sink>(
     frames: &Frames,
 )
     requires { catalog.now.names ≡ modules.now.names }
-    ensures { Says (answers.old, W.written writer.old) (answers.new, W.written writer.new) (frames_text catalog.now frames.now) }
+    ensures { Says (answers.old, W.written writer.old) (answers.new, W.written writer.new)
+        (frames_text catalog.now frames.now) }
 {
     what_is_said_adds_up();
     let versions = frames.as_slice();
@@ -149,7 +154,8 @@ fn say_woken<W: Sink>(
     frames: &Frames,
 )
     requires { catalog.now.names ≡ modules.now.names }
-    ensures { Says (answers.old, W.written writer.old) (answers.new, W.written writer.new) (reply_text catalog.now (Reply.Woken frames.now)) }
+    ensures { Says (answers.old, W.written writer.old) (answers.new, W.written writer.new)
+        (reply_text catalog.now (Reply.Woken frames.now)) }
 {
     what_is_said_adds_up();
     answers.say(writer, b"woken");
@@ -166,7 +172,8 @@ fn say_reply<W: Sink>(
     reply: &Reply,
 )
     requires { catalog.now.names ≡ modules.now.names }
-    ensures { Says (answers.old, W.written writer.old) (answers.new, W.written writer.new) (reply_text catalog.now reply.now) }
+    ensures { Says (answers.old, W.written writer.old) (answers.new, W.written writer.new)
+        (reply_text catalog.now reply.now) }
 {
     match *reply {
         Reply::Done => say_done(answers, writer),
@@ -201,7 +208,8 @@ pub fn say_answer<W: Sink>(
 )
     // a manager's catalog is one over the objects that it manages, so the names agree
     requires { catalog.now.names ≡ modules.now.names }
-    ensures { Says (answers.old, W.written writer.old) (answers.new, W.written writer.new) (answer_text catalog.now answer.now) }
+    ensures { Says (answers.old, W.written writer.old) (answers.new, W.written writer.new)
+        (answer_text catalog.now answer.now) }
 {
     match answer {
         Ok(reply) => say_reply(answers, writer, catalog, modules, reply),

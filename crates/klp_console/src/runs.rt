@@ -26,7 +26,8 @@ pub(crate) fn say_variable<W: Sink>(
     manager: &Manager,
     key: ShadowKey,
 )
-    ensures { Says (answers.old, W.written writer.old) (answers.new, W.written writer.new) (variable_text (variable manager.now.managed.state.world key)) }
+    ensures { Says (answers.old, W.written writer.old) (answers.new, W.written writer.new)
+        (variable_text (variable manager.now.managed.state.world key)) }
 {
     what_is_said_adds_up();
     match manager.shadow_get(key) {
@@ -63,7 +64,8 @@ fn say_counts<W: Sink>(
     object: ObjId,
     kinds: &[Which],
 )
-    ensures { Says (answers.old, W.written writer.old) (answers.new, W.written writer.new) (lines_of (λ which. count_text (callback_runs catalog.now patch object which)) kinds.now) }
+    ensures { Says (answers.old, W.written writer.old) (answers.new, W.written writer.new)
+        (lines_of (λ which. count_text (callback_runs catalog.now patch object which)) kinds.now) }
 {
     what_is_said_adds_up();
     for which in kinds {
@@ -83,7 +85,8 @@ fn say_all_counts<W: Sink>(
     patch: PatchId,
     object: ObjId,
 )
-    ensures { Says (answers.old, W.written writer.old) (answers.new, W.written writer.new) (runs_text catalog.now patch object) }
+    ensures { Says (answers.old, W.written writer.old) (answers.new, W.written writer.new)
+        (runs_text catalog.now patch object) }
 {
     what_is_said_adds_up();
     answers.say(writer, b"runs");
@@ -114,7 +117,8 @@ pub(crate) fn say_runs<W: Sink>(
 
 /// Says how many accepted events are in the journal, as the number that `rewind` takes.
 pub(crate) fn say_mark<W: Sink>(answers: &mut Answers, writer: &mut W, manager: &Manager)
-    ensures { Says (answers.old, W.written writer.old) (answers.new, W.written writer.new) (decimal (length manager.now.groups) ++ codes "\n") }
+    ensures { Says (answers.old, W.written writer.old) (answers.new, W.written writer.new)
+        (decimal (length manager.now.groups) ++ codes "\n") }
 {
     what_is_said_adds_up();
     answers.number(writer, u64::from(manager.mark()));

@@ -17,7 +17,8 @@ use klp_types::{Entry, ObjId, Site, Target, TaskId, Version};
 /// Says a symbol's name, address and bytes, in a line of its own. The bytes are those of now, so that one
 /// sees the hook.
 fn say_symbol<W: Sink>(answers: &mut Answers, writer: &mut W, name: &str, address: u64, body: &[u8])
-    ensures { Says (answers.old, W.written writer.old) (answers.new, W.written writer.new) (symbol_text (record { name = name.now; address = address; body = body.now })) }
+    ensures { Says (answers.old, W.written writer.old) (answers.new, W.written writer.new)
+        (symbol_text (record { name = name.now; address = address; body = body.now })) }
 {
     what_is_said_adds_up();
     say_name(answers, writer, name);
@@ -30,7 +31,8 @@ fn say_symbol<W: Sink>(answers: &mut Answers, writer: &mut W, name: &str, addres
 
 /// Says the symbols of an object, in the image's order, so that the n-th line is the n-th symbol.
 fn say_symbols<W: Sink>(answers: &mut Answers, writer: &mut W, text: &TextView<'_>)
-    ensures { Says (answers.old, W.written writer.old) (answers.new, W.written writer.new) (lines_of symbol_text text.now) }
+    ensures { Says (answers.old, W.written writer.old) (answers.new, W.written writer.new)
+        (lines_of symbol_text text.now) }
 {
     what_is_said_adds_up();
     for number in 0..text.len() {
@@ -59,7 +61,8 @@ pub(crate) fn say_text<W: Sink>(
 
 /// Says an entry of a function stack. A nop has no function whose name and address could be said.
 fn say_entry<W: Sink>(answers: &mut Answers, writer: &mut W, catalog: &Catalog, entry: &Entry)
-    ensures { Says (answers.old, W.written writer.old) (answers.new, W.written writer.new) (entry_text catalog.now entry.now) }
+    ensures { Says (answers.old, W.written writer.old) (answers.new, W.written writer.new)
+        (entry_text catalog.now entry.now) }
 {
     what_is_said_adds_up();
     match entry.func {
@@ -73,7 +76,8 @@ fn say_entry<W: Sink>(answers: &mut Answers, writer: &mut W, catalog: &Catalog, 
 
 /// Says entries of a function stack, each in its line.
 fn say_entries<W: Sink>(answers: &mut Answers, writer: &mut W, catalog: &Catalog, entries: &[Entry])
-    ensures { Says (answers.old, W.written writer.old) (answers.new, W.written writer.new) (lines_of (entry_text catalog.now) entries.now) }
+    ensures { Says (answers.old, W.written writer.old) (answers.new, W.written writer.new)
+        (lines_of (entry_text catalog.now) entries.now) }
 {
     what_is_said_adds_up();
     for entry in entries {
@@ -88,7 +92,9 @@ pub(crate) fn say_stack<W: Sink>(
     manager: &Manager,
     site: Site,
 )
-    ensures { Says (answers.old, W.written writer.old) (answers.new, W.written writer.new) (stack_text manager.now.managed.catalog (entries_of (setting_of manager.now.managed) manager.now.managed.state site)) }
+    ensures { Says (answers.old, W.written writer.old) (answers.new, W.written writer.new)
+        (stack_text manager.now.managed.catalog
+        (entries_of (setting_of manager.now.managed) manager.now.managed.state site)) }
 {
     let entries = manager.stack(site);
     if entries.is_empty() {
@@ -101,7 +107,8 @@ pub(crate) fn say_stack<W: Sink>(
 /// Says a version and where it begins. An original has no name here, since it is that of the site that was
 /// asked for.
 fn say_version<W: Sink>(answers: &mut Answers, writer: &mut W, catalog: &Catalog, target: &Target)
-    ensures { Says (answers.old, W.written writer.old) (answers.new, W.written writer.new) (version_text catalog.now target.now.version target.now.address) }
+    ensures { Says (answers.old, W.written writer.old) (answers.new, W.written writer.new)
+        (version_text catalog.now target.now.version target.now.address) }
 {
     what_is_said_adds_up();
     match target.version {

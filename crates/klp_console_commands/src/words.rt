@@ -70,7 +70,8 @@ pub(crate) fn after_prefix<'a>(word: &'a [u8], prefix: &[u8]) -> Option<&'a [u8]
 
 /// The word as UTF-8, which names are kept in. One that isn't UTF-8 is the name of nothing.
 pub(crate) fn text(word: &[u8]) -> Option<&str>
-    ensures { MatchOption result (is_utf8 word.now ≡ false) (λ text. (text.now ≡ word.now) × (is_utf8 word.now ≡ true)) }
+    ensures { MatchOption result (is_utf8 word.now ≡ false)
+        (λ text. (text.now ≡ word.now) × (is_utf8 word.now ≡ true)) }
 {
     match str::from_utf8(word) {
         Ok(text) => Some(text),

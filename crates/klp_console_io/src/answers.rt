@@ -37,8 +37,12 @@ impl Model for Answers {
 /// Writes all bytes, in as many writes as it takes. A write that takes none is a failure, since to try
 /// again might never end.
 fn write_all<W: Sink>(writer: &mut W, bytes: &[u8]) -> Result<(), Failed>
-    ensures ok { OnOk result (Appends (W.written writer.old).taken (W.written writer.new).taken bytes.now × IsWell (W.written writer.old) (W.written writer.new)) }
-    ensures err { OnErr result ((gone rest : List ℕ) × Moves (W.written writer.old) (W.written writer.new) bytes.now gone rest × IsToBlame (W.written writer.old) (W.written writer.new) × (0 < length rest)) }
+    ensures ok { OnOk result
+        (Appends (W.written writer.old).taken (W.written writer.new).taken bytes.now
+        × IsWell (W.written writer.old) (W.written writer.new)) }
+    ensures err { OnErr result
+        ((gone rest : List ℕ) × Moves (W.written writer.old) (W.written writer.new) bytes.now gone rest
+        × IsToBlame (W.written writer.old) (W.written writer.new) × (0 < length rest)) }
 {
     let mut done = 0;
     while done < bytes.len() {
@@ -105,7 +109,8 @@ impl Answers {
     #[tactic(auto, unfolding(crate::specs::Says::Speaks))]
     fn make_room<W: Sink>(&mut self, writer: &mut W, len: usize)
         ensures says { Says (self.old, W.written writer.old) (self.new, W.written writer.new) [] }
-        ensures room { (length self.new.bytes + len ≤ ANSWER_ROOM) ⊎ (self.new.has_failed ≡ false → self.new.bytes ≡ []) }
+        ensures room { (length self.new.bytes + len ≤ ANSWER_ROOM) ⊎
+            (self.new.has_failed ≡ false → self.new.bytes ≡ []) }
     {
         if self.bytes.remaining_capacity() < len {
             self.flush(writer);
@@ -116,7 +121,8 @@ impl Answers {
     /// once, since it would never fit.
     #[tactic(auto, unfolding(crate::specs::Says::Speaks))]
     fn take<W: Sink>(&mut self, writer: &mut W, text: &[u8])
-        requires { (length self.old.bytes + length text.now ≤ ANSWER_ROOM) ⊎ (self.old.has_failed ≡ false → self.old.bytes ≡ []) }
+        requires { (length self.old.bytes + length text.now ≤ ANSWER_ROOM) ⊎
+            (self.old.has_failed ≡ false → self.old.bytes ≡ []) }
         ensures { Says (self.old, W.written writer.old) (self.new, W.written writer.new) text.now }
     {
         if !self.has_failed && self.bytes.try_extend_from_slice(text).is_err() {

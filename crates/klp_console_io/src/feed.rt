@@ -42,7 +42,8 @@ impl<'a, L: Ledger> Feed<'a, L> {
         requires name { blank.name ≡ L.name }
         requires parts { blank.parts ≡ L.parts }
         requires two { 2 ≤ blank.parts }
-        ensures { result ≡ record { left = bytes.now; most = most; fails_in = fails_at; has_ended = false; failures = 0; reads = 0 } }
+        ensures { result
+            ≡ record { left = bytes.now; most = most; fails_in = fails_at; has_ended = false; failures = 0; reads = 0 } }
     {
         let (book, failures, reads) = two_counts(blank);
         Feed {

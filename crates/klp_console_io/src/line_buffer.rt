@@ -89,7 +89,8 @@ impl LineBuffer {
             lines_and_rest (self.old ++ piece.now) ≡ self.new ∷ lines_and_rest rest.now)) }
         ensures shorter { IfOk result (λ heard. IfSome heard (λ rest. length rest.now < length piece.now)) }
 
-        ensures unfinished { IfOk result (λ heard. IfNone heard (lines_and_rest (self.old ++ piece.now) ≡ self.new ∷ [])) }
+        ensures unfinished { IfOk result
+            (λ heard. IfNone heard (lines_and_rest (self.old ++ piece.now) ≡ self.new ∷ [])) }
         ensures heard { IfOk result (λ heard. IfNone heard (self.new ≡ self.old ++ piece.now)) }
 
         // so it is an error exactly where the first line is too long, be it finished or not

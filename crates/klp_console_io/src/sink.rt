@@ -19,8 +19,10 @@ pub trait Sink {
         ensures bound { IfOk result (λ n. n ≤ length bytes.now) }
         ensures ok { IfOk result (λ n. Appends (written self.old).taken (written self.new).taken (take n bytes.now)
             × ((written self.new).failures ≡ (written self.old).failures)) }
-        ensures stall { IfOk result (λ n. n ≡ 0 → 0 < length bytes.now → (written self.new).stalls ≡ (written self.old).stalls + 1) }
-        ensures no_bytes { IfOk result (λ n. length bytes.now ≡ 0 → (written self.new).stalls ≡ (written self.old).stalls) }
+        ensures stall { IfOk result
+            (λ n. n ≡ 0 → 0 < length bytes.now → (written self.new).stalls ≡ (written self.old).stalls + 1) }
+        ensures no_bytes { IfOk result
+            (λ n. length bytes.now ≡ 0 → (written self.new).stalls ≡ (written self.old).stalls) }
         ensures moved { IfOk result (λ n. 0 < n → (written self.new).stalls ≡ (written self.old).stalls) }
         ensures err { OnErr result (Keeps (written self.old).taken (written self.new).taken
             × ((written self.new).failures ≡ (written self.old).failures + 1)

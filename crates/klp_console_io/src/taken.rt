@@ -73,10 +73,13 @@ impl<const ROOM: usize, L: Ledger> Sink for Taken<ROOM, L> {
     /// fails, which takes none.
     fn write(&mut self, bytes: &[u8]) -> Result<usize, Failed>
         ensures bound { IfOk result (λ n. n ≤ length bytes.now) }
-        ensures ok { IfOk result (λ n. Appends (written_of self.old).taken (written_of self.new).taken (take n bytes.now)
+        ensures ok { IfOk result
+            (λ n. Appends (written_of self.old).taken (written_of self.new).taken (take n bytes.now)
             × ((written_of self.new).failures ≡ (written_of self.old).failures)) }
-        ensures stall { IfOk result (λ n. n ≡ 0 → 0 < length bytes.now → (written_of self.new).stalls ≡ (written_of self.old).stalls + 1) }
-        ensures no_bytes { IfOk result (λ n. length bytes.now ≡ 0 → (written_of self.new).stalls ≡ (written_of self.old).stalls) }
+        ensures stall { IfOk result
+            (λ n. n ≡ 0 → 0 < length bytes.now → (written_of self.new).stalls ≡ (written_of self.old).stalls + 1) }
+        ensures no_bytes { IfOk result
+            (λ n. length bytes.now ≡ 0 → (written_of self.new).stalls ≡ (written_of self.old).stalls) }
         ensures moved { IfOk result (λ n. 0 < n → (written_of self.new).stalls ≡ (written_of self.old).stalls) }
         ensures err { OnErr result (Keeps (written_of self.old).taken (written_of self.new).taken
             × ((written_of self.new).failures ≡ (written_of self.old).failures + 1)

@@ -18,7 +18,8 @@ use klp_model::{Event, Refusal, Reply};
 fn append(journal: &mut Journal, event: &Event, reply: &Reply, state: &ManagerState)
     requires room { has_room journal.old ≡ true }
     requires few { state.now.log.room ≡ MAX_RECORDS }
-    ensures appended { journal.new ≡ journal.old ++ record { event = event.now; reply = reply.now; rows = state.now.log.noted } ∷ [] }
+    ensures appended { journal.new
+        ≡ journal.old ++ record { event = event.now; reply = reply.now; rows = state.now.log.noted } ∷ [] }
     ensures few { length state.now.log.noted ≤ MAX_RECORDS }
 {
     let _free = journal.records_free();
@@ -35,7 +36,8 @@ pub(crate) fn take_and_append(
 ) -> Result<Reply, Refusal>
     requires { IsSound state.old catalog.old journal.old }
     ensures sound { IsSound state.new catalog.new journal.new }
-    ensures taken { IsTaken (journaled_of state.old catalog.old journal.old) (journaled_of state.new catalog.new journal.new) event.now result }
+    ensures taken { IsTaken (journaled_of state.old catalog.old journal.old)
+        (journaled_of state.new catalog.new journal.new) event.now result }
 {
     // Asked first, so that the usual way costs one comparison: a full journal alone has to know why else
     // the event would be refused (docs/DECISIONS.md, "Room in the journal").

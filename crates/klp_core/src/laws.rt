@@ -11,7 +11,8 @@ use klp_catalog::laws::sites_lie_in_their_objects;
 /// tasks run (`klp_model`) ask for it, since nothing else gives it (docs/DECISIONS.md, "The object of a
 /// function").
 pub fn functions_stand_with_their_objects()
-    ensures { (managed : Managed) → managed.catalog.names ≡ names_of managed.image.objects → IsInPlace (setting_of managed) }
+    ensures { (managed : Managed) → managed.catalog.names ≡ names_of managed.image.objects
+        → IsInPlace (setting_of managed) }
 {
     sites_lie_in_their_objects();
 }

@@ -54,7 +54,8 @@ impl Manager {
     /// What the `enabled` file of a patch reads: no for one that moves out, as soon as it does. `None`
     /// where the patch isn't installed, since the file isn't there then.
     pub fn enabled(&self, patch: PatchId) -> Option<bool>
-        ensures { result ≡ (if is_installed self.now.managed.state patch then Some (enabled_value self.now.managed.state patch) else None) }
+        ensures { result ≡ (if is_installed self.now.managed.state patch then Some
+            (enabled_value self.now.managed.state patch) else None) }
     {
         if !self.state.world.is_installed(patch) {
             return None;
@@ -64,7 +65,8 @@ impl Manager {
 
     /// Whether the patch is in transition, as its `transition` file reads. `None` where it isn't installed.
     pub fn transition(&self, patch: PatchId) -> Option<bool>
-        ensures { result ≡ (if is_installed self.now.managed.state patch then Some (moves self.now.managed.state.moving patch) else None) }
+        ensures { result ≡ (if is_installed self.now.managed.state patch then Some
+            (moves self.now.managed.state.moving patch) else None) }
     {
         if !self.state.world.is_installed(patch) {
             return None;
@@ -96,7 +98,9 @@ impl Manager {
     pub fn state_of(&self, patch: PatchId, id: u64) -> Option<u64>
         ensures value { result ≡ state_value self.now.managed.state.world patch id }
         // exactly the states that the catalog gives installed patches are there
-        ensures there { is_some result ≡ (is_installed self.now.managed.state patch && list_any (λ own. own == id) (state_ids (setting_of self.now.managed) patch)) }
+        ensures there { is_some result
+            ≡ (is_installed self.now.managed.state patch
+            && list_any (λ own. own == id) (state_ids (setting_of self.now.managed) patch)) }
     {
         installed_patches_have_their_states();
         self.state.world.value(patch, id)
@@ -106,7 +110,9 @@ impl Manager {
     /// The greatest number stays, and `rewind` leaves the count, since what ran did run.
     pub fn callback_runs(&self, patch: PatchId, object: ObjId, which: Which) -> Option<u64>
         ensures runs { result ≡ callback_runs self.now.managed.catalog patch object which }
-        ensures there { is_some result ≡ is_some (option_and_then (λ place. script_at self.now.managed.catalog patch place which) (place_of object (objects_at self.now.managed.catalog patch))) }
+        ensures there { is_some result
+            ≡ is_some (option_and_then (λ place. script_at self.now.managed.catalog patch place which)
+            (place_of object (objects_at self.now.managed.catalog patch))) }
     {
         self.catalog.callback_runs(patch, object, which)
     }
@@ -124,7 +130,8 @@ impl Manager {
     /// The names of the image's objects and symbols, and which objects are loaded: what a line's names are
     /// resolved by.
     pub fn modules(&self) -> &Modules
-        ensures { result.now ≡ record { names = names_of self.now.managed.image.objects; loaded = self.now.managed.state.loaded } }
+        ensures { result.now
+            ≡ record { names = names_of self.now.managed.image.objects; loaded = self.now.managed.state.loaded } }
     {
         &self.state.modules
     }

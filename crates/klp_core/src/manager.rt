@@ -102,7 +102,9 @@ impl Manager {
     /// journal has no room for another event, one that nothing else refuses is refused.
     pub fn apply(&mut self, event: Event) -> Result<Reply, Refusal>
         ensures taken { IsTaken self.old self.new event result }
-        ensures counts { IfOk result (λ reply. AreCounted self.old.managed.catalog self.new.managed.catalog (callbacks_of (setting_of self.old.managed) self.old.managed.state event)) }
+        ensures counts { IfOk result
+            (λ reply. AreCounted self.old.managed.catalog self.new.managed.catalog
+            (callbacks_of (setting_of self.old.managed) self.old.managed.state event)) }
         // runs of callbacks change no more than their counts, so what is proved of a setting goes on
         ensures setting { setting_of self.new.managed ≡ setting_of self.old.managed }
         ensures stands { Stands self.new }

@@ -71,7 +71,8 @@ impl Manager {
 
     /// The two newest entries of a site, and whether the newest one's patch moves.
     fn word(&self, site: Site) -> SiteWord
-        ensures { result ≡ word_of (moving_patch self.now.managed.state.moving) (entries_of (setting_of self.now.managed) self.now.managed.state site) }
+        ensures { result ≡ word_of (moving_patch self.now.managed.state.moving) (entries_of
+            (setting_of self.now.managed) self.now.managed.state site) }
     {
         let moving = patch_of(self.state.moving);
         self.state.sites.word(site, moving)

@@ -50,9 +50,12 @@ impl<'a> TextView<'a> {
     /// A symbol, counted from 0: its name, its address and its bytes. By its number, since several may have
     /// one name.
     pub fn get(&self, number: u16) -> Option<(&str, u64, &[u8])>
-        ensures name { option_map (λ found. found.0.now) result ≡ option_map (λ (s : Symbol). s.name) (slice_get self.now number) }
-        ensures address { option_map (λ found. found.1) result ≡ option_map (λ (s : Symbol). s.address) (slice_get self.now number) }
-        ensures body { option_map (λ found. found.2.now) result ≡ option_map (λ (s : Symbol). s.body) (slice_get self.now number) }
+        ensures name { option_map (λ found. found.0.now) result
+            ≡ option_map (λ (s : Symbol). s.name) (slice_get self.now number) }
+        ensures address { option_map (λ found. found.1) result
+            ≡ option_map (λ (s : Symbol). s.address) (slice_get self.now number) }
+        ensures body { option_map (λ found. found.2.now) result
+            ≡ option_map (λ (s : Symbol). s.body) (slice_get self.now number) }
     {
         let Some((name, address)) = self.image.symbol(self.object, number) else {
             return None;

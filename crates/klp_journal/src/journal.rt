@@ -98,8 +98,11 @@ impl Journal {
     /// event. They are lent, since undoing reads them before the group goes. The cost is constant.
     pub fn newest(&self) -> Option<&[Record]>
         ensures there { is_some result ≡ nat_lt 0 (length self.now) }
-        ensures parted { IfSome result (λ rows. (newest : Group) × (self.now ≡ take (length self.now - 1) self.now ++ newest ∷ []) × (rows.now ≡ newest.rows)) }
-        ensures rows { (older : List Group) (newest : Group) → self.now ≡ older ++ newest ∷ [] → option_map (λ r. r.now) result ≡ Some newest.rows }
+        ensures parted { IfSome result
+            (λ rows. (newest : Group) × (self.now ≡ take (length self.now - 1) self.now ++ newest ∷ [])
+            × (rows.now ≡ newest.rows)) }
+        ensures rows { (older : List Group) (newest : Group) → self.now ≡ older ++ newest ∷ []
+            → option_map (λ r. r.now) result ≡ Some newest.rows }
         ensures empty { IfNone result (self.now ≡ []) }
     {
         let newest = self.groups.last()?;

@@ -14,7 +14,8 @@ use klp_types::{Frames, MAX_TASKS, Mode, ObjId, PatchId, Site, TaskId, Version};
 
 /// The object of a patch's function. It is the catalog's, since a function may have no site to ask.
 fn object_of_function(catalog: &Catalog, patch: PatchId, number: u16) -> Option<ObjId>
-    ensures { result ≡ option_map (λ (f : FunctionOf). f.object) (slice_get (catalog_functions catalog.now patch) number) }
+    ensures { result ≡ option_map (λ (f : FunctionOf). f.object) (slice_get
+        (catalog_functions catalog.now patch) number) }
 {
     let function = catalog.functions(patch).get(usize::from(number))?;
     Some(function.object())
@@ -52,7 +53,8 @@ impl ManagerState {
     /// Whether one of these frames is in the object: a task may be inside of several objects at once.
     fn has_inside(&self, catalog: &Catalog, object: ObjId, frames: &Frames) -> bool
         requires { Invariant self.now catalog.now }
-        ensures { result ≡ list_any (λ v. is_object object (object_of_version (setting_in self.now catalog.now) v)) frames.now }
+        ensures { result
+            ≡ list_any (λ v. is_object object (object_of_version (setting_in self.now catalog.now) v)) frames.now }
     {
         let versions = frames.as_slice();
         for version in versions {

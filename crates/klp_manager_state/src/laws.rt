@@ -27,7 +27,8 @@ use klp_model::laws::{installed_patches_have_their_states, states_stay_allowed};
 /// agree: each installed patch has the states that the catalog gives it, which a manager keeps.
 pub fn previous_states_agree()
     ensures { (managed : Managed) (patch id : ℕ) → IsStated (setting_of managed) managed.state
-        → previous_patch managed.state.world patch id ≡ previous_state managed.catalog patch id (installed_patches managed.state) }
+        → previous_patch managed.state.world patch id
+        ≡ previous_state managed.catalog patch id (installed_patches managed.state) }
 {}
 
 /// What each step keeps. It is one law, so that each event's function calls one instead of three.
@@ -52,9 +53,11 @@ pub fn changes_of_one_kind_are_taken()
 #[tactic(auto, using(crate::proofs::RowLemmas::world_back, crate::proofs::RowLemmas::tasks_back))]
 pub fn what_is_noted_gives_the_rows_back()
     ensures world { (before after : World) (log_before log_after : RecordList) (rows : List Record)
-        → All (λ row. is_of_world row ≡ true) rows → log_after ≡ noting log_before rows → of_world.undone after rows ≡ before
+        → All (λ row. is_of_world row ≡ true) rows → log_after ≡ noting log_before rows
+        → of_world.undone after rows ≡ before
         → WorldGoesBack before after log_before log_after }
     ensures tasks { (before after : Tasks) (log_before log_after : RecordList) (rows : List Record)
-        → All (λ row. is_of_tasks row ≡ true) rows → log_after ≡ noting log_before rows → of_tasks.undone after rows ≡ before
+        → All (λ row. is_of_tasks row ≡ true) rows → log_after ≡ noting log_before rows
+        → of_tasks.undone after rows ≡ before
         → TasksGoBack before after log_before log_after }
 {}

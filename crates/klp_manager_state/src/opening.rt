@@ -10,7 +10,8 @@ use klp_model::laws::{installed_patches_have_their_states, the_opening_state_is_
 /// What the opening state has, which boot has to show: it is allowed, and no patch lacks its states, as
 /// none is installed.
 pub(crate) fn opening_keeps()
-    ensures allowed { (setting : Setting) → is_empty setting.image.objects ≡ false → Allowed setting (opening_state setting) }
+    ensures allowed { (setting : Setting) → is_empty setting.image.objects ≡ false
+        → Allowed setting (opening_state setting) }
     ensures stated { (setting : Setting) → IsStated setting (opening_state setting) }
 {
     the_opening_state_is_allowed();

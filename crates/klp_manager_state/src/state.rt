@@ -78,7 +78,12 @@ impl ManagerState {
     ) -> Result<ManagerState, AllocError>
         requires limits { IsWithinLimits image.image.objects }
         requires image { image ≡ opening image.image.handler image.image.objects }
-        requires modules { modules ≡ record { names = names_of image.image.objects; loaded = slice_set (replicate (length image.image.objects) false) 0 true } }
+        requires modules { modules
+            ≡ record {
+              names = names_of image.image.objects;
+              loaded = slice_set
+                  (replicate (length image.image.objects) false) 0 true;
+            } }
         requires catalog { catalog.now.names ≡ names_of image.image.objects }
         ensures kept { IfOk result (λ manager. Invariant manager catalog.now) }
         ensures opening { IfOk result (λ manager. managed_of manager catalog.now ≡ record {

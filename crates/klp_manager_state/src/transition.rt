@@ -47,7 +47,8 @@ impl ManagerState {
     #[tactic(auto, using(crate::proofs::RowLemmas::moving_back))]
     pub fn set_moving(&mut self, moving: Option<Transition>)
         requires { 0 < spare_of self.old.log }
-        ensures parts { self.new ≡ record self.old { moving = moving; log = noting self.old.log (row_of_moving self.old.moving ∷ []) } }
+        ensures parts { self.new
+            ≡ record self.old { moving = moving; log = noting self.old.log (row_of_moving self.old.moving ∷ []) } }
         ensures noted { rows_before self.new ≡ rows_before self.old }
     {
         self.log.note(row_of_moving(self.moving));

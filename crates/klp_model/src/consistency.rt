@@ -64,14 +64,18 @@ pub fn state_is_that_of_the_events()
 pub fn a_sleeper_holds_the_transition()
     ensures in_place { IsInPlace kernel }
     ensures honest { IsHonestRun kernel start sleeper_run }
-    ensures end { (seen_from kernel start sleeper_run).state ≡ state_of false (0 ∷ []) None (one_task User (negsuc 0) []) }
-    ensures held { is_held (blocked kernel (state_of false (0 ∷ []) towards_1 (one_task Asleep (pos 0) in_original)) (record { patch = 0; target = true })) in_original ≡ true }
+    ensures end { (seen_from kernel start sleeper_run).state
+        ≡ state_of false (0 ∷ []) None (one_task User (negsuc 0) []) }
+    ensures held { is_held (blocked kernel (state_of false (0 ∷ []) towards_1 (one_task Asleep (pos 0) in_original))
+        (record { patch = 0; target = true })) in_original ≡ true }
 {}
 
 /// What isn't honest: to fall asleep and give no frames, to leave the kernel inside of a function, to
 /// unload a module from under a task that runs in it, to call from outside of the kernel.
 pub fn these_are_dishonest()
-    ensures sleep { IsHonestItem kernel (watched (state_of false [] None (one_task Kernel (negsuc 0) [])) (inside 0 (Original 0))) (Happens (Sleep 1 [])) → ⊥ }
+    ensures sleep { IsHonestItem kernel
+        (watched (state_of false [] None (one_task Kernel (negsuc 0) [])) (inside 0 (Original 0)))
+        (Happens (Sleep 1 [])) → ⊥ }
     ensures exit { IsHonestItem kernel late (Happens (ExitToUser 1)) → ⊥ }
     ensures going { IsHonestItem kernel under_a_task (Happens (Going 1)) → ⊥ }
     ensures call { IsHonestItem kernel (watched start no_frames) (Calls 1 0) → ⊥ }
@@ -81,13 +85,16 @@ pub fn these_are_dishonest()
 /// site has: the module has gone from under it.
 pub fn a_stray_function_outlives_its_site()
     ensures honest { IsHonestRun stray_kernel start stray_run }
-    ensures end { seen_from stray_kernel start stray_run ≡ watched (state_of false (0 ∷ []) towards_1 (one_task Kernel (pos 1) [])) (inside 2 (New 0 0)) }
-    ensures version { version_now stray_kernel (state_of false (0 ∷ []) towards_1 (one_task Kernel (pos 1) [])) 1 2 ≡ None }
+    ensures end { seen_from stray_kernel start stray_run
+        ≡ watched (state_of false (0 ∷ []) towards_1 (one_task Kernel (pos 1) [])) (inside 2 (New 0 0)) }
+    ensures version { version_now stray_kernel (state_of false (0 ∷ []) towards_1 (one_task Kernel (pos 1) [])) 1 2
+        ≡ None }
 {}
 
 /// Towards 1 the version below holds a sleeper. If the new version did, the sleeper in the original
 /// would be let through, and be inside of what it doesn't run any more.
 pub fn the_rule_turned_round_lets_a_sleeper_through()
     ensures turned { is_held (New 0 0 ∷ New 0 1 ∷ []) in_original ≡ false }
-    ensures completed { version_now kernel (state_of false (0 ∷ []) None (one_task Asleep (negsuc 0) in_original)) 1 0 ≡ Some (New 0 0) }
+    ensures completed { version_now kernel (state_of false (0 ∷ []) None (one_task Asleep (negsuc 0) in_original)) 1 0
+        ≡ Some (New 0 0) }
 {}

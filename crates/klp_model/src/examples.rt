@@ -25,18 +25,24 @@ ghost use Rattle.klp_model.specs.Examples.{small_kernel, module_kernel, taking_o
 pub fn a_reversal_runs_nothing()
     ensures enabling { calls small_kernel (state_with true (0 ∷ []) (move_of 0 true) []) (SetEnabled 0 false) ≡ [] }
     ensures disabling { calls small_kernel (state_with true (0 ∷ []) (move_of 0 false) []) (SetEnabled 0 true) ≡ [] }
-    ensures reply { (accepted small_kernel (state_with true (0 ∷ []) (move_of 0 true) []) (SetEnabled 0 false)).0 ≡ Reversed }
-    ensures next { (accepted small_kernel (state_with true (0 ∷ []) (move_of 0 true) (in_kernel (pos 1) ∷ [])) (SetEnabled 0 false)).1
+    ensures reply { (accepted small_kernel (state_with true (0 ∷ []) (move_of 0 true) []) (SetEnabled 0 false)).0
+        ≡ Reversed }
+    ensures next { (accepted small_kernel (state_with true (0 ∷ []) (move_of 0 true) (in_kernel (pos 1) ∷ []))
+        (SetEnabled 0 false)).1
         ≡ state_with true (0 ∷ []) (move_of 0 false) (in_kernel (pos 1) ∷ []) }
 {}
 
 /// A disabling starts with pre-unpatch, and every task still runs the patch, since no entry has gone yet.
 pub fn a_disabling_starts_with_pre_unpatch()
-    ensures runs { ran (calls small_kernel (state_with true (0 ∷ []) None []) (SetEnabled 0 false)) ≡ (0, PreUn) ∷ (1, PreUn) ∷ [] }
-    ensures unloaded { ran (calls small_kernel (state_with false (0 ∷ []) None []) (SetEnabled 0 false)) ≡ (0, PreUn) ∷ [] }
-    ensures of_the_patch { ran_by (calls small_kernel (state_with true (0 ∷ 2 ∷ []) None []) (SetEnabled 2 false)) ≡ (2, PreUn) ∷ [] }
+    ensures runs { ran (calls small_kernel (state_with true (0 ∷ []) None []) (SetEnabled 0 false))
+        ≡ (0, PreUn) ∷ (1, PreUn) ∷ [] }
+    ensures unloaded { ran (calls small_kernel (state_with false (0 ∷ []) None []) (SetEnabled 0 false))
+        ≡ (0, PreUn) ∷ [] }
+    ensures of_the_patch { ran_by (calls small_kernel (state_with true (0 ∷ 2 ∷ []) None []) (SetEnabled 2 false))
+        ≡ (2, PreUn) ∷ [] }
     ensures reply { (accepted small_kernel (state_with true (0 ∷ []) None []) (SetEnabled 0 false)).0 ≡ Started }
-    ensures next { (accepted small_kernel (state_with true (0 ∷ []) None (in_kernel (negsuc 0) ∷ [])) (SetEnabled 0 false)).1
+    ensures next { (accepted small_kernel (state_with true (0 ∷ []) None (in_kernel (negsuc 0) ∷ []))
+        (SetEnabled 0 false)).1
         ≡ state_with true (0 ∷ []) (move_of 0 false) (in_kernel (pos 1) ∷ []) }
 {}
 
@@ -44,25 +50,48 @@ pub fn a_disabling_starts_with_pre_unpatch()
 /// post-unpatch, so that each pre-patch that succeeded is cleaned up; objects that aren't loaded take no
 /// part. Then the patch isn't installed, and nothing moves.
 pub fn objects_before_the_one_that_refuses_get_post_unpatch()
-    ensures runs { ran (calls (refusing_in 1) (record { loaded = true ∷ true ∷ true ∷ []; world = (state_with true [] None []).world; moving = None; pinned = false ∷ []; tasks = [] }) (Enable 0))
+    ensures runs { ran
+        (calls (refusing_in 1)
+        (record {
+          loaded = true ∷ true ∷ true
+              ∷ [];
+          world = (state_with true [] None []).world;
+          moving = None;
+          pinned = false ∷ [];
+          tasks = [];
+        }) (Enable 0))
         ≡ (0, Pre) ∷ (1, Pre) ∷ (2, Pre) ∷ (0, PostUn) ∷ (1, PostUn) ∷ [] }
-    ensures unloaded { ran (calls (refusing_in 2) (record { loaded = true ∷ true ∷ false ∷ []; world = (state_with true [] None []).world; moving = None; pinned = false ∷ []; tasks = [] }) (Enable 0))
+    ensures unloaded { ran
+        (calls (refusing_in 2)
+        (record {
+          loaded = true ∷ true ∷ false
+              ∷ [];
+          world = (state_with true [] None []).world;
+          moving = None;
+          pinned = false ∷ [];
+          tasks = [];
+        }) (Enable 0))
         ≡ (1, Pre) ∷ (2, Pre) ∷ [] }
     ensures reply { (accepted small_kernel (state_with true [] None []) (Enable 3)).0 ≡ PreFailed 3 1 (negsuc 11) }
     ensures of_the_patch { ran_by (calls small_kernel (state_with true (0 ∷ []) None []) (Enable 2)) ≡ (2, Pre) ∷ [] }
-    ensures next { (accepted small_kernel (state_with true [] None (in_kernel (negsuc 0) ∷ [])) (Enable 3)).1 ≡ state_with true [] None (in_kernel (negsuc 0) ∷ []) }
+    ensures next { (accepted small_kernel (state_with true [] None (in_kernel (negsuc 0) ∷ [])) (Enable 3)).1
+        ≡ state_with true [] None (in_kernel (negsuc 0) ∷ []) }
 {}
 
 /// When a cumulative patch is complete the older patches leave the list, with the nops over their
 /// functions, since nothing is left below these; a newer patch stays. Where it is withdrawn, it alone
 /// leaves.
 pub fn a_replacement_takes_the_older_patches_out()
-    ensures older { installed_patches (accepted small_kernel (state_with true (0 ∷ 1 ∷ []) (move_of 1 true) []) Poll).1 ≡ 1 ∷ [] }
+    ensures older { installed_patches (accepted small_kernel (state_with true (0 ∷ 1 ∷ []) (move_of 1 true) []) Poll).1
+        ≡ 1 ∷ [] }
     ensures nop { entries_of small_kernel (state_with true (0 ∷ 1 ∷ []) (move_of 1 true) []) 1
         ≡ record { patch = 1; func = None } ∷ record { patch = 0; func = Some 1 } ∷ [] }
-    ensures no_nop { entries_of small_kernel (accepted small_kernel (state_with true (0 ∷ 1 ∷ []) (move_of 1 true) []) Poll).1 1 ≡ [] }
-    ensures newer { installed_patches (accepted small_kernel (state_with true (1 ∷ 2 ∷ []) (move_of 1 true) []) Poll).1 ≡ 1 ∷ 2 ∷ [] }
-    ensures withdrawn { installed_patches (accepted small_kernel (state_with true (0 ∷ 1 ∷ []) (move_of 1 false) []) Poll).1 ≡ 0 ∷ [] }
+    ensures no_nop { entries_of small_kernel
+        (accepted small_kernel (state_with true (0 ∷ 1 ∷ []) (move_of 1 true) []) Poll).1 1 ≡ [] }
+    ensures newer { installed_patches (accepted small_kernel (state_with true (1 ∷ 2 ∷ []) (move_of 1 true) []) Poll).1
+        ≡ 1 ∷ 2 ∷ [] }
+    ensures withdrawn { installed_patches
+        (accepted small_kernel (state_with true (0 ∷ 1 ∷ []) (move_of 1 false) []) Poll).1 ≡ 0 ∷ [] }
 {}
 
 /// While a task isn't at the target a poll completes nothing and runs nothing. A sleeping task that nothing
@@ -70,17 +99,27 @@ pub fn a_replacement_takes_the_older_patches_out()
 /// they next leave the kernel.
 pub fn a_poll_waits_for_tasks()
     ensures runs { calls small_kernel (state_with true (0 ∷ []) (move_of 0 true) (in_kernel (pos 0) ∷ [])) Poll ≡ [] }
-    ensures reply { (accepted small_kernel (state_with true (0 ∷ []) (move_of 0 true) (in_kernel (pos 0) ∷ [])) Poll).0 ≡ Pending 1 }
-    ensures next { (accepted small_kernel (state_with true (0 ∷ []) (move_of 0 true) (in_kernel (pos 0) ∷ asleep_in (pos 0) (Original 2 ∷ []) ∷ asleep_in (pos 0) [] ∷ [])) Poll).1
-        ≡ state_with true (0 ∷ []) (move_of 0 true) (in_kernel (pos 0) ∷ asleep_in (pos 0) (Original 2 ∷ []) ∷ asleep_in (pos 1) [] ∷ []) }
-    ensures in_user_space { accepted small_kernel (state_with true (0 ∷ []) (move_of 0 true) (in_user (pos 0) ∷ [])) Poll
+    ensures reply { (accepted small_kernel (state_with true (0 ∷ []) (move_of 0 true) (in_kernel (pos 0) ∷ [])) Poll).0
+        ≡ Pending 1 }
+    ensures next { (accepted small_kernel
+        (state_with true (0 ∷ []) (move_of 0 true)
+        (in_kernel (pos 0) ∷ asleep_in (pos 0) (Original 2 ∷ []) ∷ asleep_in (pos 0) [] ∷ [])) Poll).1
+        ≡ state_with true (0 ∷ []) (move_of 0 true) (in_kernel (pos 0) ∷ asleep_in (pos 0) (Original 2 ∷ []) ∷ asleep_in
+        (pos 1) [] ∷ []) }
+    ensures in_user_space { accepted small_kernel
+        (state_with true (0 ∷ []) (move_of 0 true) (in_user (pos 0) ∷ [])) Poll
         ≡ (Pending 1, state_with true (0 ∷ []) (move_of 0 true) (in_user (pos 0) ∷ [])) }
-    ensures completed { ran (calls small_kernel (state_with true (0 ∷ []) (move_of 0 true) (in_kernel (pos 1) ∷ [])) Poll) ≡ (0, Post) ∷ (1, Post) ∷ [] }
-    ensures of_the_moving_patch { ran_by (calls small_kernel (state_with true (0 ∷ 2 ∷ []) (move_of 2 true) []) Poll) ≡ (2, Post) ∷ [] }
-    ensures of_the_withdrawn_patch { ran_by (calls small_kernel (state_with true (0 ∷ 2 ∷ []) (move_of 2 false) []) Poll) ≡ (2, PostUn) ∷ [] }
+    ensures completed { ran
+        (calls small_kernel (state_with true (0 ∷ []) (move_of 0 true) (in_kernel (pos 1) ∷ [])) Poll)
+        ≡ (0, Post) ∷ (1, Post) ∷ [] }
+    ensures of_the_moving_patch { ran_by (calls small_kernel (state_with true (0 ∷ 2 ∷ []) (move_of 2 true) []) Poll)
+        ≡ (2, Post) ∷ [] }
+    ensures of_the_withdrawn_patch { ran_by
+        (calls small_kernel (state_with true (0 ∷ 2 ∷ []) (move_of 2 false) []) Poll) ≡ (2, PostUn) ∷ [] }
     ensures at_rest { (accepted small_kernel (state_with true (0 ∷ []) (move_of 0 true) (in_kernel (pos 1) ∷ [])) Poll)
         ≡ (Completed true, state_with true (0 ∷ []) None (in_kernel (negsuc 0) ∷ [])) }
-    ensures withdrawn { accepted small_kernel (state_with true (0 ∷ 2 ∷ []) (move_of 2 false) (in_kernel (pos 0) ∷ [])) Poll
+    ensures withdrawn { accepted small_kernel
+        (state_with true (0 ∷ 2 ∷ []) (move_of 2 false) (in_kernel (pos 0) ∷ [])) Poll
         ≡ (Completed false, state_with true (0 ∷ []) None (in_kernel (negsuc 0) ∷ [])) }
 {}
 
@@ -88,24 +127,35 @@ pub fn a_poll_waits_for_tasks()
 /// patch's own versions: by what it couldn't be inside of once it is switched. This is so under a newer
 /// patch too, and a nop is the original.
 pub fn tasks_are_held_by_what_they_would_leave()
-    ensures to_the_patch { blocked small_kernel (state_with false (0 ∷ []) (move_of 0 true) []) (record { patch = 0; target = true }) ≡ Original 0 ∷ Original 1 ∷ [] }
-    ensures from_the_patch { blocked small_kernel (state_with false (0 ∷ []) (move_of 0 false) []) (record { patch = 0; target = false }) ≡ New 0 0 ∷ New 0 1 ∷ [] }
-    ensures under_another { blocked small_kernel (state_with false (0 ∷ 2 ∷ []) (move_of 0 true) []) (record { patch = 0; target = true }) ≡ Original 0 ∷ Original 1 ∷ [] }
-    ensures over_another { blocked small_kernel (state_with true (0 ∷ 1 ∷ []) (move_of 1 true) []) (record { patch = 1; target = true }) ≡ New 0 0 ∷ New 0 1 ∷ New 0 2 ∷ [] }
-    ensures nops { blocked small_kernel (state_with true (0 ∷ 1 ∷ []) (move_of 1 false) []) (record { patch = 1; target = false }) ≡ New 1 0 ∷ Original 1 ∷ Original 2 ∷ [] }
+    ensures to_the_patch { blocked small_kernel (state_with false (0 ∷ []) (move_of 0 true) [])
+        (record { patch = 0; target = true }) ≡ Original 0 ∷ Original 1 ∷ [] }
+    ensures from_the_patch { blocked small_kernel (state_with false (0 ∷ []) (move_of 0 false) [])
+        (record { patch = 0; target = false }) ≡ New 0 0 ∷ New 0 1 ∷ [] }
+    ensures under_another { blocked small_kernel (state_with false (0 ∷ 2 ∷ []) (move_of 0 true) [])
+        (record { patch = 0; target = true }) ≡ Original 0 ∷ Original 1 ∷ [] }
+    ensures over_another { blocked small_kernel (state_with true (0 ∷ 1 ∷ []) (move_of 1 true) [])
+        (record { patch = 1; target = true }) ≡ New 0 0 ∷ New 0 1 ∷ New 0 2 ∷ [] }
+    ensures nops { blocked small_kernel (state_with true (0 ∷ 1 ∷ []) (move_of 1 false) [])
+        (record { patch = 1; target = false }) ≡ New 1 0 ∷ Original 1 ∷ Original 2 ∷ [] }
 {}
 
 /// A task of state 0 runs what is below the moving patch, since it isn't at the patch yet or any more; any
 /// other runs the newest version, which is the original where that is a nop.
 pub fn tasks_pick_by_their_state()
-    ensures below { pick small_kernel (state_with true (0 ∷ 2 ∷ []) (move_of 2 true) (in_kernel (pos 0) ∷ [])) 0 0 ≡ Some (record { version = New 0 0; address = 0 }) }
-    ensures newest { pick small_kernel (state_with true (0 ∷ 2 ∷ []) (move_of 2 true) (in_kernel (pos 1) ∷ [])) 0 0 ≡ Some (record { version = New 2 0; address = 0 }) }
-    ensures nobody { pick small_kernel (state_with true (0 ∷ 2 ∷ []) (move_of 2 true) (in_kernel (pos 1) ∷ [])) 1 0 ≡ None }
-    ensures below_a_nop { pick small_kernel (state_with true (0 ∷ 1 ∷ []) (move_of 1 true) (in_kernel (pos 0) ∷ [])) 0 1 ≡ Some (record { version = New 0 1; address = 1 }) }
+    ensures below { pick small_kernel (state_with true (0 ∷ 2 ∷ []) (move_of 2 true) (in_kernel (pos 0) ∷ [])) 0 0
+        ≡ Some (record { version = New 0 0; address = 0 }) }
+    ensures newest { pick small_kernel (state_with true (0 ∷ 2 ∷ []) (move_of 2 true) (in_kernel (pos 1) ∷ [])) 0 0
+        ≡ Some (record { version = New 2 0; address = 0 }) }
+    ensures nobody { pick small_kernel (state_with true (0 ∷ 2 ∷ []) (move_of 2 true) (in_kernel (pos 1) ∷ [])) 1 0
+        ≡ None }
+    ensures below_a_nop { pick small_kernel (state_with true (0 ∷ 1 ∷ []) (move_of 1 true) (in_kernel (pos 0) ∷ [])) 0 1
+        ≡ Some (record { version = New 0 1; address = 1 }) }
     ensures nop { pick small_kernel (state_with true (0 ∷ 1 ∷ []) (move_of 1 true) (in_kernel (pos 1) ∷ [])) 0 1
         ≡ Some (record { version = Original 1; address = 0xffff_ffff_8100_2005 }) }
-    ensures unloaded { pick small_kernel (state_with false (0 ∷ 2 ∷ []) (move_of 2 true) (in_kernel (pos 1) ∷ [])) 0 2 ≡ None }
-    ensures no_site { pick small_kernel (state_with true (0 ∷ 2 ∷ []) (move_of 2 true) (in_kernel (pos 1) ∷ [])) 0 3 ≡ None }
+    ensures unloaded { pick small_kernel (state_with false (0 ∷ 2 ∷ []) (move_of 2 true) (in_kernel (pos 1) ∷ [])) 0 2
+        ≡ None }
+    ensures no_site { pick small_kernel (state_with true (0 ∷ 2 ∷ []) (move_of 2 true) (in_kernel (pos 1) ∷ [])) 0 3
+        ≡ None }
 {}
 
 /// An object that isn't loaded, or isn't there, has no entries and no text: a function for it waits for the
@@ -144,34 +194,52 @@ pub fn a_row_tells_the_two_newest_entries()
 /// pre-patch alone, because its post-patch comes with the end of the transition. Where a pre-patch refuses,
 /// the patches before it are cleaned up, and the module isn't loaded.
 pub fn a_module_comes_patch_by_patch()
-    ensures still { ran_by (calls small_kernel (state_with false (0 ∷ []) None []) (Coming 1)) ≡ (0, Pre) ∷ (0, Post) ∷ [] }
-    ensures moving { ran_by (calls small_kernel (state_with false (0 ∷ []) (move_of 0 true) []) (Coming 1)) ≡ (0, Pre) ∷ [] }
-    ensures refused { ran_by (calls small_kernel (state_with false (0 ∷ 3 ∷ []) None []) (Coming 1)) ≡ (0, Pre) ∷ (0, Post) ∷ (3, Pre) ∷ (0, PreUn) ∷ (0, PostUn) ∷ [] }
-    ensures refused_moving { ran_by (calls small_kernel (state_with false (0 ∷ 3 ∷ []) (move_of 0 true) []) (Coming 1)) ≡ (0, Pre) ∷ (3, Pre) ∷ (0, PostUn) ∷ [] }
-    ensures reply { (accepted small_kernel (state_with false (0 ∷ 3 ∷ []) None []) (Coming 1)).0 ≡ PreFailed 3 1 (negsuc 11) }
+    ensures still { ran_by (calls small_kernel (state_with false (0 ∷ []) None []) (Coming 1))
+        ≡ (0, Pre) ∷ (0, Post) ∷ [] }
+    ensures moving { ran_by (calls small_kernel (state_with false (0 ∷ []) (move_of 0 true) []) (Coming 1))
+        ≡ (0, Pre) ∷ [] }
+    ensures refused { ran_by (calls small_kernel (state_with false (0 ∷ 3 ∷ []) None []) (Coming 1))
+        ≡ (0, Pre) ∷ (0, Post) ∷ (3, Pre) ∷ (0, PreUn) ∷ (0, PostUn) ∷ [] }
+    ensures refused_moving { ran_by (calls small_kernel (state_with false (0 ∷ 3 ∷ []) (move_of 0 true) []) (Coming 1))
+        ≡ (0, Pre) ∷ (3, Pre) ∷ (0, PostUn) ∷ [] }
+    ensures reply { (accepted small_kernel (state_with false (0 ∷ 3 ∷ []) None []) (Coming 1)).0
+        ≡ PreFailed 3 1 (negsuc 11) }
     ensures cleaned_oldest_first { ran_by (calls module_kernel (state_with false (0 ∷ 1 ∷ 2 ∷ []) None []) (Coming 1))
-        ≡ (0, Pre) ∷ (0, Post) ∷ (1, Pre) ∷ (1, Post) ∷ (2, Pre) ∷ (0, PreUn) ∷ (0, PostUn) ∷ (1, PreUn) ∷ (1, PostUn) ∷ [] }
-    ensures stays_away { (accepted small_kernel (state_with false (0 ∷ 3 ∷ []) None []) (Coming 1)).1 ≡ state_with false (0 ∷ 3 ∷ []) None [] }
+        ≡ (0, Pre) ∷ (0, Post) ∷ (1, Pre) ∷ (1, Post) ∷ (2, Pre) ∷ (0, PreUn) ∷ (0, PostUn) ∷ (1, PreUn)
+        ∷ (1, PostUn) ∷ [] }
+    ensures stays_away { (accepted small_kernel (state_with false (0 ∷ 3 ∷ []) None []) (Coming 1)).1
+        ≡ state_with false (0 ∷ 3 ∷ []) None [] }
 {}
 
 /// A module that goes gets pre-unpatch and post-unpatch patch by patch, oldest first; a patch that moves
 /// runs post-unpatch alone, since it never ran post-patch or has run pre-unpatch. The module stays while a
 /// task sleeps inside of it, in a function of its own or in a new one for it.
 pub fn a_module_goes_patch_by_patch()
-    ensures still { ran_by (calls small_kernel (state_with true (0 ∷ []) None []) (Going 1)) ≡ (0, PreUn) ∷ (0, PostUn) ∷ [] }
-    ensures moving { ran_by (calls small_kernel (state_with true (0 ∷ []) (move_of 0 false) []) (Going 1)) ≡ (0, PostUn) ∷ [] }
-    ensures oldest_first { ran_by (calls module_kernel (state_with true (0 ∷ 1 ∷ []) None []) (Going 1)) ≡ (0, PreUn) ∷ (0, PostUn) ∷ (1, PreUn) ∷ (1, PostUn) ∷ [] }
-    ensures in_its_own { refusal small_kernel (state_with true (0 ∷ []) None (asleep_in (negsuc 0) (Original 2 ∷ []) ∷ [])) (Going 1) ≡ Some InUse }
-    ensures in_a_new_one { refusal small_kernel (state_with true (0 ∷ []) None (asleep_in (negsuc 0) (New 0 2 ∷ []) ∷ [])) (Going 1) ≡ Some InUse }
+    ensures still { ran_by (calls small_kernel (state_with true (0 ∷ []) None []) (Going 1))
+        ≡ (0, PreUn) ∷ (0, PostUn) ∷ [] }
+    ensures moving { ran_by (calls small_kernel (state_with true (0 ∷ []) (move_of 0 false) []) (Going 1))
+        ≡ (0, PostUn) ∷ [] }
+    ensures oldest_first { ran_by (calls module_kernel (state_with true (0 ∷ 1 ∷ []) None []) (Going 1))
+        ≡ (0, PreUn) ∷ (0, PostUn) ∷ (1, PreUn) ∷ (1, PostUn) ∷ [] }
+    ensures in_its_own { refusal small_kernel
+        (state_with true (0 ∷ []) None (asleep_in (negsuc 0) (Original 2 ∷ []) ∷ [])) (Going 1) ≡ Some InUse }
+    ensures in_a_new_one { refusal small_kernel
+        (state_with true (0 ∷ []) None (asleep_in (negsuc 0) (New 0 2 ∷ []) ∷ [])) (Going 1) ≡ Some InUse }
 {}
 
 /// A transition that is forced brings every task to the target. Away from the patch it pins the patch, to a
 /// cumulative one all others, because a task may still be inside of their functions.
 pub fn who_is_forced_away_is_pinned()
-    ensures away { (accepted small_kernel (state_with true (0 ∷ 2 ∷ []) (move_of 2 false) (in_kernel (pos 1) ∷ [])) (Force 2)).1
-        ≡ record (state_with true (0 ∷ 2 ∷ []) (move_of 2 false) (in_kernel (pos 0) ∷ [])) { pinned = false ∷ false ∷ true ∷ false ∷ [] } }
-    ensures replaced { (accepted small_kernel (state_with true (0 ∷ 2 ∷ 1 ∷ []) (move_of 1 true) []) (Force 1)).1.pinned ≡ true ∷ false ∷ true ∷ false ∷ [] }
-    ensures to_the_patch { (accepted small_kernel (state_with true (0 ∷ 2 ∷ []) (move_of 2 true) []) (Force 2)).1.pinned ≡ false ∷ false ∷ false ∷ false ∷ [] }
+    ensures away { (accepted small_kernel (state_with true (0 ∷ 2 ∷ []) (move_of 2 false) (in_kernel (pos 1) ∷ []))
+        (Force 2)).1
+        ≡ record (state_with true (0 ∷ 2 ∷ []) (move_of 2 false) (in_kernel (pos 0) ∷ [])) {
+          pinned = false ∷ false
+              ∷ true ∷ false ∷ [];
+        } }
+    ensures replaced { (accepted small_kernel (state_with true (0 ∷ 2 ∷ 1 ∷ []) (move_of 1 true) []) (Force 1)).1.pinned
+        ≡ true ∷ false ∷ true ∷ false ∷ [] }
+    ensures to_the_patch { (accepted small_kernel (state_with true (0 ∷ 2 ∷ []) (move_of 2 true) []) (Force 2)).1.pinned
+        ≡ false ∷ false ∷ false ∷ false ∷ [] }
 {}
 
 /// A new task is in user space, and at the target where a patch moves; a forked one is in the kernel with
@@ -180,17 +248,24 @@ pub fn who_is_forced_away_is_pinned()
 pub fn tasks_come_and_go()
     ensures new { accepted small_kernel (state_with true (0 ∷ []) (move_of 0 true) (None ∷ [])) (NewTask 0)
         ≡ (Done, state_with true (0 ∷ []) (move_of 0 true) (in_user (pos 1) ∷ [])) }
-    ensures new_at_rest { accepted small_kernel (state_with true [] None (None ∷ [])) (NewTask 0) ≡ (Done, state_with true [] None (in_user (negsuc 0) ∷ [])) }
-    ensures child { accepted small_kernel (state_with true (0 ∷ []) (move_of 0 true) (in_kernel (pos 0) ∷ None ∷ [])) (Fork 0 1)
+    ensures new_at_rest { accepted small_kernel (state_with true [] None (None ∷ [])) (NewTask 0)
+        ≡ (Done, state_with true [] None (in_user (negsuc 0) ∷ [])) }
+    ensures child { accepted small_kernel (state_with true (0 ∷ []) (move_of 0 true) (in_kernel (pos 0) ∷ None ∷ []))
+        (Fork 0 1)
         ≡ (Done, state_with true (0 ∷ []) (move_of 0 true) (in_kernel (pos 0) ∷ in_kernel (pos 0) ∷ [])) }
-    ensures gone { accepted small_kernel (state_with true [] None (in_user (negsuc 0) ∷ [])) (EndTask 0) ≡ (Done, state_with true [] None (None ∷ [])) }
-    ensures inside { accepted small_kernel (state_with true (0 ∷ []) (move_of 0 true) (in_user (pos 0) ∷ [])) (EnterKernel 0)
+    ensures gone { accepted small_kernel (state_with true [] None (in_user (negsuc 0) ∷ [])) (EndTask 0)
+        ≡ (Done, state_with true [] None (None ∷ [])) }
+    ensures inside { accepted small_kernel (state_with true (0 ∷ []) (move_of 0 true) (in_user (pos 0) ∷ []))
+        (EnterKernel 0)
         ≡ (Done, state_with true (0 ∷ []) (move_of 0 true) (in_kernel (pos 0) ∷ [])) }
-    ensures outside { accepted small_kernel (state_with true (0 ∷ []) (move_of 0 false) (in_kernel (pos 1) ∷ [])) (ExitToUser 0)
+    ensures outside { accepted small_kernel (state_with true (0 ∷ []) (move_of 0 false) (in_kernel (pos 1) ∷ []))
+        (ExitToUser 0)
         ≡ (Done, state_with true (0 ∷ []) (move_of 0 false) (in_user (pos 0) ∷ [])) }
-    ensures asleep { accepted small_kernel (state_with true [] None (in_kernel (negsuc 0) ∷ [])) (Sleep 0 (Original 0 ∷ Original 1 ∷ []))
+    ensures asleep { accepted small_kernel (state_with true [] None (in_kernel (negsuc 0) ∷ []))
+        (Sleep 0 (Original 0 ∷ Original 1 ∷ []))
         ≡ (Done, state_with true [] None (asleep_in (negsuc 0) (Original 0 ∷ Original 1 ∷ []) ∷ [])) }
-    ensures awake { accepted small_kernel (state_with true [] None (asleep_in (negsuc 0) (Original 0 ∷ Original 1 ∷ []) ∷ [])) (Wake 0)
+    ensures awake { accepted small_kernel
+        (state_with true [] None (asleep_in (negsuc 0) (Original 0 ∷ Original 1 ∷ []) ∷ [])) (Wake 0)
         ≡ (Woken (Original 0 ∷ Original 1 ∷ []), state_with true [] None (in_kernel (negsuc 0) ∷ [])) }
 {}
 
@@ -198,15 +273,19 @@ pub fn tasks_come_and_go()
 /// the change at its start: so pre-patch can set a state of its own patch, and post-patch can take over the
 /// value of a patch that is about to be replaced.
 pub fn callbacks_find_the_patches_there()
-    ensures set { state_value (accepted taking_over (with_states (with_state 0 5 ∷ []) None) (Enable 1)).1.world 1 7 ≡ Some 3 }
-    ensures taken { state_value (accepted taking_over (with_states (with_state 0 5 ∷ with_state 1 3 ∷ []) (move_of 1 true)) Poll).1.world 1 7 ≡ Some 5 }
+    ensures set { state_value (accepted taking_over (with_states (with_state 0 5 ∷ []) None) (Enable 1)).1.world 1 7
+        ≡ Some 3 }
+    ensures taken { state_value
+        (accepted taking_over (with_states (with_state 0 5 ∷ with_state 1 3 ∷ []) (move_of 1 true)) Poll).1.world 1 7
+        ≡ Some 5 }
 {}
 
 /// There has to be room for what the callbacks that may run would add, whether they run or not, so that one
 /// can add it up beforehand: at a poll that stays pending, at an enabling that succeeds, for the cleaning
 /// up of a module that comes.
 pub fn room_is_asked_for_all_that_may_run()
-    ensures pending { refusal (crowded Post) (state_with true (0 ∷ []) (move_of 0 true) (in_kernel (pos 0) ∷ [])) Poll ≡ Some Full }
+    ensures pending { refusal (crowded Post) (state_with true (0 ∷ []) (move_of 0 true) (in_kernel (pos 0) ∷ [])) Poll
+        ≡ Some Full }
     ensures enabling { refusal (crowded PostUn) (state_with true [] None []) (Enable 0) ≡ Some Full }
     ensures coming { refusal (crowded PreUn) (state_with false (0 ∷ []) None []) (Coming 1) ≡ Some Full }
 {}
@@ -215,14 +294,21 @@ pub fn room_is_asked_for_all_that_may_run()
 /// reported.
 pub fn refusals_come_in_order()
     ensures no_patch { refusal small_kernel (state_with true (0 ∷ []) (move_of 0 true) []) (Enable 4) ≡ Some NoPatch }
-    ensures there_first { refusal small_kernel (state_with true (0 ∷ []) (move_of 0 true) []) (Enable 0) ≡ Some AlreadyThere }
-    ensures busy { refusal small_kernel (record (state_with true (0 ∷ []) (move_of 0 true) []) { pinned = false ∷ true ∷ false ∷ false ∷ [] }) (Enable 1) ≡ Some Busy }
-    ensures pinned { refusal small_kernel (record (state_with true [] None []) { pinned = true ∷ false ∷ false ∷ false ∷ [] }) (Enable 0) ≡ Some Pinned }
+    ensures there_first { refusal small_kernel (state_with true (0 ∷ []) (move_of 0 true) []) (Enable 0)
+        ≡ Some AlreadyThere }
+    ensures busy { refusal small_kernel
+        (record (state_with true (0 ∷ []) (move_of 0 true) []) { pinned = false ∷ true ∷ false ∷ false ∷ [] })
+        (Enable 1) ≡ Some Busy }
+    ensures pinned { refusal small_kernel
+        (record (state_with true [] None []) { pinned = true ∷ false ∷ false ∷ false ∷ [] }) (Enable 0) ≡ Some Pinned }
     ensures incompatible { refusal lacking (with_states (with_state 0 5 ∷ []) None) (Enable 1) ≡ Some Incompatible }
     ensures not_found { refusal small_kernel (state_with true [] None []) (SetEnabled 0 true) ≡ Some NotFound }
-    ensures same_first { refusal small_kernel (state_with true (0 ∷ 2 ∷ []) (move_of 2 true) []) (SetEnabled 0 true) ≡ Some SameValue }
-    ensures another_moves { refusal small_kernel (state_with true (0 ∷ 2 ∷ []) (move_of 2 true) []) (SetEnabled 0 false) ≡ Some Busy }
-    ensures not_moving { refusal small_kernel (state_with true (0 ∷ 2 ∷ []) (move_of 2 true) []) (Force 0) ≡ Some NotMoving }
+    ensures same_first { refusal small_kernel (state_with true (0 ∷ 2 ∷ []) (move_of 2 true) []) (SetEnabled 0 true)
+        ≡ Some SameValue }
+    ensures another_moves { refusal small_kernel (state_with true (0 ∷ 2 ∷ []) (move_of 2 true) []) (SetEnabled 0 false)
+        ≡ Some Busy }
+    ensures not_moving { refusal small_kernel (state_with true (0 ∷ 2 ∷ []) (move_of 2 true) []) (Force 0)
+        ≡ Some NotMoving }
     ensures at_rest { refusal small_kernel (state_with true (0 ∷ []) None []) Poll ≡ Some NotMoving }
 {}
 
@@ -233,15 +319,25 @@ pub fn modules_and_tasks_are_refused()
     ensures module_there { refusal small_kernel (state_with true [] None []) (Coming 1) ≡ Some AlreadyThere }
     ensures not_loaded { refusal small_kernel (state_with false [] None []) (Going 1) ≡ Some NoModule }
     ensures beyond { refusal small_kernel (state_with true [] None []) (NewTask 64) ≡ Some NoTask }
-    ensures task_there { refusal small_kernel (state_with true [] None (in_kernel (negsuc 0) ∷ [])) (NewTask 0) ≡ Some TaskThere }
-    ensures child_there { refusal small_kernel (state_with true [] None (in_user (negsuc 0) ∷ [])) (Fork 0 0) ≡ Some TaskThere }
-    ensures parent_outside { refusal small_kernel (state_with true [] None (in_user (negsuc 0) ∷ None ∷ [])) (Fork 0 1) ≡ Some WrongMode }
-    ensures ends_asleep { refusal small_kernel (state_with true [] None (asleep_in (negsuc 0) [] ∷ [])) (EndTask 0) ≡ Some WrongMode }
-    ensures enters_twice { refusal small_kernel (state_with true [] None (in_kernel (negsuc 0) ∷ [])) (EnterKernel 0) ≡ Some WrongMode }
-    ensures exits_twice { refusal small_kernel (state_with true [] None (in_user (negsuc 0) ∷ [])) (ExitToUser 0) ≡ Some WrongMode }
-    ensures sleeps_outside { refusal small_kernel (state_with true [] None (in_user (negsuc 0) ∷ [])) (Sleep 0 (Original 3 ∷ [])) ≡ Some WrongMode }
-    ensures bad_frame { refusal small_kernel (state_with true [] None (in_kernel (negsuc 0) ∷ [])) (Sleep 0 (Original 3 ∷ [])) ≡ Some BadFrame }
-    ensures bad_function { refusal small_kernel (state_with true [] None (in_kernel (negsuc 0) ∷ [])) (Sleep 0 (New 0 3 ∷ [])) ≡ Some BadFrame }
-    ensures wakes_twice { refusal small_kernel (state_with true [] None (in_kernel (negsuc 0) ∷ [])) (Wake 0) ≡ Some WrongMode }
+    ensures task_there { refusal small_kernel (state_with true [] None (in_kernel (negsuc 0) ∷ [])) (NewTask 0)
+        ≡ Some TaskThere }
+    ensures child_there { refusal small_kernel (state_with true [] None (in_user (negsuc 0) ∷ [])) (Fork 0 0)
+        ≡ Some TaskThere }
+    ensures parent_outside { refusal small_kernel (state_with true [] None (in_user (negsuc 0) ∷ None ∷ [])) (Fork 0 1)
+        ≡ Some WrongMode }
+    ensures ends_asleep { refusal small_kernel (state_with true [] None (asleep_in (negsuc 0) [] ∷ [])) (EndTask 0)
+        ≡ Some WrongMode }
+    ensures enters_twice { refusal small_kernel (state_with true [] None (in_kernel (negsuc 0) ∷ [])) (EnterKernel 0)
+        ≡ Some WrongMode }
+    ensures exits_twice { refusal small_kernel (state_with true [] None (in_user (negsuc 0) ∷ [])) (ExitToUser 0)
+        ≡ Some WrongMode }
+    ensures sleeps_outside { refusal small_kernel (state_with true [] None (in_user (negsuc 0) ∷ []))
+        (Sleep 0 (Original 3 ∷ [])) ≡ Some WrongMode }
+    ensures bad_frame { refusal small_kernel (state_with true [] None (in_kernel (negsuc 0) ∷ []))
+        (Sleep 0 (Original 3 ∷ [])) ≡ Some BadFrame }
+    ensures bad_function { refusal small_kernel (state_with true [] None (in_kernel (negsuc 0) ∷ []))
+        (Sleep 0 (New 0 3 ∷ [])) ≡ Some BadFrame }
+    ensures wakes_twice { refusal small_kernel (state_with true [] None (in_kernel (negsuc 0) ∷ [])) (Wake 0)
+        ≡ Some WrongMode }
     ensures no_task { refusal small_kernel (state_with true [] None (None ∷ [])) (Wake 0) ≡ Some NoTask }
 {}

@@ -46,34 +46,45 @@ pub fn the_opening_state_is_allowed()
 /// A step leads from an allowed state to an allowed state, and so does a run: so what laws ask of a state
 /// holds of every state that a manager comes to.
 pub fn states_stay_allowed()
-    ensures step { (setting : Setting) (state : State) (event : AnyEvent) → Allowed setting state → Allowed setting (next setting state event) }
-    ensures run { (setting : Setting) (state : State) (events : List AnyEvent) → Allowed setting state → Allowed setting (run setting state events) }
+    ensures step { (setting : Setting) (state : State) (event : AnyEvent) → Allowed setting state
+        → Allowed setting (next setting state event) }
+    ensures run { (setting : Setting) (state : State) (events : List AnyEvent) → Allowed setting state
+        → Allowed setting (run setting state events) }
 {}
 
 /// What an accepted event does to a shadow variable is what the shadow event, or the callbacks that it
 /// runs, do to it: so a variable can be followed through a run without its states.
 pub fn callbacks_make_the_changes()
     ensures { (setting : Setting) (state : State) (event : AnyEvent) (key : ShadowKey)
-        → variable (accepted setting state event).1.world key ≡ variable (after_calls (shadow_changed state.world event) (calls setting state event)) key }
+        → variable (accepted setting state event).1.world key ≡ variable (after_calls (shadow_changed state.world event)
+        (calls setting state event)) key }
 {}
 
 /// What a task runs, by the installed patches alone: one of state 0 runs what it would run if the moving
 /// patch weren't installed, any other, and every task where nothing moves, the newest version. So no task
 /// runs a part of a patch.
 pub fn tasks_run_whole_lists_of_patches()
-    ensures patched { (setting : Setting) (state : State) (own : ℤ) (site : ℕ) → is_site_loaded setting state site ≡ true → is_unpatched own ≡ false
-        → pick_in setting state own site ≡ target_of setting (version_in setting site (reverse (installed_patches state))) }
-    ensures at_rest { (setting : Setting) (state : State) (own : ℤ) (site : ℕ) → is_site_loaded setting state site ≡ true → state.moving ≡ None
-        → pick_in setting state own site ≡ target_of setting (version_in setting site (reverse (installed_patches state))) }
-    ensures unpatched { (setting : Setting) (state : State) (move : Transition) (site : ℕ) → Allowed setting state → is_site_loaded setting state site ≡ true → state.moving ≡ Some move
-        → pick_in setting state (pos 0) site ≡ target_of setting (version_in setting site (reverse (others move.patch (installed_patches state)))) }
+    ensures patched { (setting : Setting) (state : State) (own : ℤ) (site : ℕ)
+        → is_site_loaded setting state site ≡ true → is_unpatched own ≡ false
+        → pick_in setting state own site ≡ target_of setting (version_in setting site
+        (reverse (installed_patches state))) }
+    ensures at_rest { (setting : Setting) (state : State) (own : ℤ) (site : ℕ)
+        → is_site_loaded setting state site ≡ true → state.moving ≡ None
+        → pick_in setting state own site ≡ target_of setting (version_in setting site
+        (reverse (installed_patches state))) }
+    ensures unpatched { (setting : Setting) (state : State) (move : Transition) (site : ℕ) → Allowed setting state
+        → is_site_loaded setting state site ≡ true → state.moving ≡ Some move
+        → pick_in setting state (pos 0) site ≡ target_of setting (version_in setting site
+        (reverse (others move.patch (installed_patches state)))) }
 {}
 
 /// When the moving patch is taken out its own entries are gone, and those of the other patches are as they
 /// were, nops among them. So the stacks needn't be made anew.
 pub fn a_patch_leaves_the_entries_of_the_others()
-    ensures { (setting : Setting) (state : State) (patch : ℕ) (site : ℕ) → Allowed setting state → moves state.moving patch ≡ true
-        → entries_of setting (with_world state (without_patch state.world patch)) site ≡ filter (λ (e : Entry). not (e.patch == patch)) (entries_of setting state site) }
+    ensures { (setting : Setting) (state : State) (patch : ℕ) (site : ℕ) → Allowed setting state
+        → moves state.moving patch ≡ true
+        → entries_of setting (with_world state (without_patch state.world patch)) site ≡ filter (λ
+        (e : Entry). not (e.patch == patch)) (entries_of setting state site) }
 {}
 
 /// Of an event that is accepted none of the cases holds in which it would be refused, and it leads to the
@@ -83,7 +94,8 @@ pub fn events_are_accepted_where_no_case_holds()
     ensures none { (cases : List (Bool × Refusal)) → is_none (first_of cases) ≡ true → NoneHolds cases }
     ensures next { (setting : Setting) (state : State) (event : AnyEvent) → accepts setting state event ≡ true
         → next setting state event ≡ (accepted setting state event).1 }
-    ensures stays { (setting : Setting) (state : State) (event : AnyEvent) → accepts setting state event ≡ false → next setting state event ≡ state }
+    ensures stays { (setting : Setting) (state : State) (event : AnyEvent) → accepts setting state event ≡ false
+        → next setting state event ≡ state }
 {}
 
 /// A history grows by an event that is accepted after it; its front is a history of the base, and what is
@@ -93,17 +105,21 @@ pub fn histories_grow_and_are_cut_at_their_end()
     ensures grown { (setting : Setting) (base : State) (history : History) (event : AnyEvent) (reply : AnyReply)
         → IsLegal setting base history → answer setting (state_after_history setting base history) event ≡ Ok reply
         → IsLegal setting base (history ++ (event, reply) ∷ []) }
-    ensures front { (setting : Setting) (base : State) (first second : History) → IsLegal setting base (first ++ second) → IsLegal setting base first }
-    ensures behind { (setting : Setting) (base : State) (first second : History) → IsLegal setting base (first ++ second)
+    ensures front { (setting : Setting) (base : State) (first second : History) → IsLegal setting base (first ++ second)
+        → IsLegal setting base first }
+    ensures behind { (setting : Setting) (base : State) (first second : History)
+        → IsLegal setting base (first ++ second)
         → IsLegal setting (state_after_history setting base first) second }
-    ensures replies { (setting : Setting) (base : State) (one other : History) → IsLegal setting base one → IsLegal setting base other
+    ensures replies { (setting : Setting) (base : State) (one other : History) → IsLegal setting base one
+        → IsLegal setting base other
         → map (λ (p : AnyEvent × AnyReply). p.0) one ≡ map (λ (p : AnyEvent × AnyReply). p.0) other → one ≡ other }
 {}
 
 /// What a list of events adds to the history is legal, and leads where all of them lead, since those that
 /// are refused change nothing.
 pub fn accepted_events_lead_where_all_lead()
-    ensures legal { (setting : Setting) (state : State) (events : List AnyEvent) → IsLegal setting state (history_of setting state events) }
+    ensures legal { (setting : Setting) (state : State) (events : List AnyEvent)
+        → IsLegal setting state (history_of setting state events) }
     ensures state { (setting : Setting) (state : State) (events : List AnyEvent)
         → state_after_history setting state (history_of setting state events) ≡ run setting state events }
 {}
@@ -111,7 +127,8 @@ pub fn accepted_events_lead_where_all_lead()
 /// Where no task lags, sleepers that are tried change nothing: so a poll may complete without asking who
 /// sleeps.
 pub fn where_none_lags_none_is_switched()
-    ensures { (blocked : List AnyVersion) (target : Bool) (tasks : Tasks) → count_by (lags target) tasks ≡ 0 → map (option_map (switched blocked target)) tasks ≡ tasks }
+    ensures { (blocked : List AnyVersion) (target : Bool) (tasks : Tasks) → count_by (lags target) tasks ≡ 0
+        → map (option_map (switched blocked target)) tasks ≡ tasks }
 {}
 
 /// When a cumulative patch has replaced the older ones, their entries are gone, and so are its own
@@ -119,11 +136,16 @@ pub fn where_none_lags_none_is_switched()
 /// the newest. One that is the oldest itself, disabled and enabled again, may have newer ones, which
 /// stay.
 pub fn a_replacement_takes_the_older_entries_along()
-    ensures older { (setting : Setting) (state : State) (move : Transition) (site : ℕ) → Allowed setting state → state.moving ≡ Some move → replaces setting move.patch ≡ true
+    ensures older { (setting : Setting) (state : State) (move : Transition) (site : ℕ) → Allowed setting state
+        → state.moving ≡ Some move → replaces setting move.patch ≡ true
         → entries_of setting (with_world state (without_older true state.world move.patch)) site
-        ≡ filter (λ (e : Entry). not (is_one_of e.patch (map (λ (i : Installed). i.patch) (installed_before move.patch state.world.installed))) && not (e.patch == move.patch && is_none e.func))
+        ≡ filter
+        (λ (e : Entry). not (is_one_of e.patch
+        (map (λ (i : Installed). i.patch) (installed_before move.patch state.world.installed)))
+        && not (e.patch == move.patch && is_none e.func))
         (entries_of setting state site) }
-    ensures own { (setting : Setting) (state : State) (move : Transition) (site : ℕ) → Allowed setting state → state.moving ≡ Some move → replaces setting move.patch ≡ true
+    ensures own { (setting : Setting) (state : State) (move : Transition) (site : ℕ) → Allowed setting state
+        → state.moving ≡ Some move → replaces setting move.patch ≡ true
         → is_empty (installed_before move.patch state.world.installed) ≡ false
         → entries_of setting (with_world state (without_older true state.world move.patch)) site
         ≡ filter (λ (e : Entry). e.patch == move.patch && is_some e.func) (entries_of setting state site) }
@@ -132,16 +154,19 @@ pub fn a_replacement_takes_the_older_entries_along()
 /// Of the installed patches at most two replace: the oldest, and one that moves. One whose replacement is
 /// complete has no older patch left, since all of them went out with it.
 pub fn at_most_two_patches_replace()
-    ensures { (setting : Setting) (state : State) → Allowed setting state → count_by (replaces setting) (installed_patches state) ≤ 2 }
+    ensures { (setting : Setting) (state : State) → Allowed setting state
+        → count_by (replaces setting) (installed_patches state) ≤ 2 }
 {}
 
 /// In every state that is reached, an installed patch has a value for each system state that the catalog
 /// gives it, and for no other: so to ask for one can fail only for want of the patch or its state.
 pub fn installed_patches_have_their_states()
     ensures opening { (setting : Setting) → IsStated setting (opening_state setting) }
-    ensures step { (setting : Setting) (state : State) (event : AnyEvent) → IsStated setting state → IsStated setting (next setting state event) }
+    ensures step { (setting : Setting) (state : State) (event : AnyEvent) → IsStated setting state
+        → IsStated setting (next setting state event) }
     ensures look { (setting : Setting) (state : State) (patch id : ℕ) → IsStated setting state
-        → is_some (state_value state.world patch id) ≡ (is_installed state patch && list_any (λ own. own == id) (state_ids setting patch)) }
+        → is_some (state_value state.world patch id) ≡ (is_installed state patch && list_any (λ own. own == id)
+        (state_ids setting patch)) }
 {}
 
 /// A site has an entry exactly where its object is loaded and an installed patch has a function for it: a
@@ -157,7 +182,8 @@ pub fn reads_as_built()
     ensures { (setting : Setting) (state : State) (object : ℕ) (number : ℕ)
         → is_loaded state object ≡ true
         → symbol_in (text_of setting state object) number
-        ≡ option_map (patched setting.image.handler (is_hooked setting state (first_site setting.image.objects object + number)))
+        ≡ option_map
+        (patched setting.image.handler (is_hooked setting state (first_site setting.image.objects object + number)))
         (given_symbol setting.image object number) }
 {}
 
@@ -167,7 +193,8 @@ pub fn reads_nop_without_entry()
     ensures { (setting : Setting) (state : State) (object : ℕ) (number : ℕ)
         → is_loaded state object ≡ true
         → is_hooked setting state (first_site setting.image.objects object + number) ≡ false
-        → symbol_in (text_of setting state object) number ≡ option_map resting (given_symbol setting.image object number) }
+        → symbol_in (text_of setting state object) number
+        ≡ option_map resting (given_symbol setting.image object number) }
 {}
 
 /// The text depends on no more than what is loaded and for which sites there are functions: not on the
@@ -176,7 +203,8 @@ pub fn reads_nop_without_entry()
 pub fn same_functions_same_text()
     ensures { (setting : Setting) (a : State) (b : State) (object : ℕ)
         → a.loaded ≡ b.loaded
-        → ((site : ℕ) → list_any (patches_site setting site) (installed_patches a) ≡ list_any (patches_site setting site) (installed_patches b))
+        → ((site : ℕ) → list_any (patches_site setting site) (installed_patches a) ≡ list_any
+        (patches_site setting site) (installed_patches b))
         → text_of setting a object ≡ text_of setting b object }
 {}
 
@@ -186,5 +214,6 @@ pub fn runs_go_on_where_they_end()
     ensures state { (setting : Setting) (state : State) (first second : List AnyEvent)
         → run setting state (first ++ second) ≡ run setting (run setting state first) second }
     ensures answered { (setting : Setting) (state : State) (first second : List AnyEvent)
-        → answers setting state (first ++ second) ≡ answers setting state first ++ answers setting (run setting state first) second }
+        → answers setting state (first ++ second) ≡ answers setting state first ++ answers setting
+        (run setting state first) second }
 {}

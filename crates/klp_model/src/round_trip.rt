@@ -44,7 +44,8 @@ pub fn callbacks_in_rounds()
         → IsFairCompany setting patch start (first ++ second ++ third)
         → is_installed (run setting start first) patch ≡ false
         → is_installed (run setting start (first ++ second)) patch ≡ false
-        → RanInRounds (taking_part setting start patch) (callbacks_of_run setting (run setting start first) second) (enablings second) }
+        → RanInRounds (taking_part setting start patch) (callbacks_of_run setting (run setting start first) second)
+        (enablings second) }
 {}
 
 /// Where there is one enabling between two such moments, the callbacks of each object that takes part ran
@@ -64,11 +65,13 @@ pub fn callbacks_of_the_object_that_refuses()
     ensures refusing { (setting : Setting) (patch : ℕ) (start : State) (first second third : List AnyEvent)
         → IsFairCompany setting patch start (first ++ second ++ third)
         → (object : ℕ × PatchObject) → find refuses (loaded_objects setting start patch) ≡ Some object
-        → kinds_for object.0 (callbacks_of_run setting (run setting start first) second) ≡ repeated (enablings second) (Pre ∷ []) }
+        → kinds_for object.0 (callbacks_of_run setting (run setting start first) second) ≡ repeated (enablings second)
+        (Pre ∷ []) }
     ensures behind { (setting : Setting) (patch : ℕ) (start : State) (first second third : List AnyEvent)
         → IsFairCompany setting patch start (first ++ second ++ third)
         → (object : ℕ × PatchObject) → find refuses (loaded_objects setting start patch) ≡ Some object
-        → (place : ℕ) → object.0 < place → kinds_for place (callbacks_of_run setting (run setting start first) second) ≡ [] }
+        → (place : ℕ) → object.0 < place
+        → kinds_for place (callbacks_of_run setting (run setting start first) second) ≡ [] }
 {}
 
 /// At the end of a fair company at which the patch isn't installed, the footprint is that of the
@@ -91,7 +94,8 @@ pub fn at_the_end_of_a_run()
     ensures outside { (setting : Setting) (patch : ℕ) (start : State) (events : List AnyEvent)
         → IsFairCompany setting patch start (accepted_events setting start events)
         → (key : ShadowKey) → company_keys setting start patch key ≡ false
-        → variable (run setting start events).world key ≡ variable (shadow_changes start.world (accepted_events setting start events)) key }
+        → variable (run setting start events).world key ≡ variable (shadow_changes start.world
+        (accepted_events setting start events)) key }
 {}
 
 /// At every moment of a fair company at which the patch isn't installed, the world is as if the patch had

@@ -30,7 +30,8 @@ pub fn a_variable_that_was_there_is_lost()
     ensures expected { variable (shadow_changes bare.world own_variable_first) (key_of 1 9) ≡ Some 77 }
     ensures of_the_company { company_keys adding bare 0 (key_of 1 9) ≡ true }
     ensures concerned { concerns (ShadowAlloc (key_of 1 9) 77) (key_of 1 9) ≡ true }
-    ensures not_undone { EachUndoes 0 (shadow_changed bare.world (ShadowAlloc (key_of 1 9) 77)) (taking_part adding bare 0) → ⊥ }
+    ensures not_undone { EachUndoes 0 (shadow_changed bare.world (ShadowAlloc (key_of 1 9) 77))
+        (taking_part adding bare 0) → ⊥ }
 {}
 
 /// Two objects whose callbacks share a variable: those of each undo each other, and yet the variable isn't

@@ -82,7 +82,8 @@ impl Modules {
 
     /// How many symbols an object has.
     pub fn symbols(&self, object: ObjId) -> Option<u16>
-        ensures { result ≡ option_map (λ (found : ObjectNames). length found.symbols) (slice_get self.now.names object) }
+        ensures { result ≡ option_map (λ (found : ObjectNames). length found.symbols)
+            (slice_get self.now.names object) }
     {
         let object = self.objects.get(usize::from(object.0))?;
         Some(object.symbols.len() as u16)
@@ -145,9 +146,12 @@ impl Modules {
     /// The symbol of a site: its object, its name, and its position from 1 among the symbols of
     /// that name in the object. Takes no look-up: a table has it by the site.
     pub fn symbol(&self, site: Site) -> Option<(ObjId, &str, u32)>
-        ensures object { option_map (λ found. found.0) result ≡ option_map (λ (s : Named). s.object) (symbol_at_site self.now.names site) }
-        ensures name { option_map (λ found. found.1.now) result ≡ option_map (λ (s : Named). s.name) (symbol_at_site self.now.names site) }
-        ensures position { option_map (λ found. found.2) result ≡ option_map (λ (s : Named). s.position) (symbol_at_site self.now.names site) }
+        ensures object { option_map (λ found. found.0) result
+            ≡ option_map (λ (s : Named). s.object) (symbol_at_site self.now.names site) }
+        ensures name { option_map (λ found. found.1.now) result
+            ≡ option_map (λ (s : Named). s.name) (symbol_at_site self.now.names site) }
+        ensures position { option_map (λ found. found.2) result
+            ≡ option_map (λ (s : Named). s.position) (symbol_at_site self.now.names site) }
     {
         let symbol = self.tables.symbols.get(usize::from(site.0))?;
         Some((

@@ -18,7 +18,8 @@ use klp_types::{MAX_SITES, Site, Transition};
 fn block_at(sites: &Sites, site: Site, moving: &Transition, blocked: &mut VersionSet)
     requires number { AreFunctions (entries_at sites.now.stacks site) }
     requires sites { length sites.now.stacks ≤ MAX_SITES }
-    ensures { (versions : List AnyVersion) → IsSetOf blocked.old versions → IsSetOf blocked.new (versions ++ blocked_among site moving.now (entries_at sites.now.stacks site)) }
+    ensures { (versions : List AnyVersion) → IsSetOf blocked.old versions
+        → IsSetOf blocked.new (versions ++ blocked_among site moving.now (entries_at sites.now.stacks site)) }
 {
     // where the patch has no entry, it holds nobody back, since no task runs anything else afterwards
     if sites.entry(site, moving.patch).is_none() {
@@ -72,7 +73,8 @@ pub fn block(sites: &Sites, catalog: &Catalog, moving: Transition, blocked: &mut
     // only a cumulative patch has entries where it has no function, so its functions are enough for any
     // other
     requires own { (site : ℕ) → has_entry moving.patch (entries_at sites.now.stacks site) ≡ true
-        → (is_some (function_for (functions_in catalog.now moving.patch) site) || is_cumulative catalog.now moving.patch) ≡ true }
+        → (is_some (function_for (functions_in catalog.now moving.patch) site)
+        || is_cumulative catalog.now moving.patch) ≡ true }
     ensures { IsSetOf blocked.new (blocked_at 0 moving sites.now.stacks) }
 {
     blocked.clear();

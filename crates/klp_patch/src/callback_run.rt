@@ -24,7 +24,8 @@ pub(crate) fn run_at(
 ) -> i32
     requires { HasRoomFor world.old log.old (call_at catalog.old patch place which) }
     ensures status { result ≡ status_of (script_at catalog.old patch place which) }
-    ensures ran { HaveRun catalog.old catalog.new world.old world.new log.old log.new (call_at catalog.old patch place which) }
+    ensures ran { HaveRun catalog.old catalog.new world.old world.new log.old log.new
+        (call_at catalog.old patch place which) }
 {
     variables_are_few();
     records_are_few();

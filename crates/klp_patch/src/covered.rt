@@ -30,7 +30,8 @@ pub(crate) fn site_in_scope(
     function: &CatalogFunction,
 ) -> Option<Site>
     requires { LiesInObject (names_of sites.now.image.objects) function.now }
-    ensures site { (site : ℕ) → is_at result site ≡ (covered.is_covered sites.now only.now site && is_at function.now.site site) }
+    ensures site { (site : ℕ)
+        → is_at result site ≡ (covered.is_covered sites.now only.now site && is_at function.now.site site) }
     ensures there { IfSome result (λ site. site < length sites.now.stacks) }
 {
     let Some(site) = function.site() else {
@@ -60,7 +61,10 @@ fn push_object(
     object: ObjId,
 )
     requires { length flags.old.items + symbol_count image.now.image.objects object ≤ MAX_SITES }
-    ensures { flags.new.items ≡ flags.old.items ++ replicate (symbol_count image.now.image.objects object) (covered.is_in_scope only.now image.now.loaded object) }
+    ensures { flags.new.items
+        ≡ flags.old.items
+        ++ replicate (symbol_count image.now.image.objects object)
+        (covered.is_in_scope only.now image.now.loaded object) }
 {
     let symbols = image.symbols(object).unwrap_or(0);
     push_times(flags, is_in_scope(image, *only, object), symbols);

@@ -19,14 +19,19 @@ ghost use Rattle.klp_patch.specs.Calls.{records_of};
 /// Where the stacks are the entries of a state, site by site, what is blocked at the stacks is what is
 /// blocked in the state: so the set may be made of the stacks, which the definitions don't know.
 pub fn the_stacks_tell_what_is_blocked()
-    ensures { (setting : Setting) (state : State) (move : Transition) (stacks : List (List Entry)) → length stacks ≡ length (symbols_of setting.image.objects)
-        → ((site : ℕ) → entries_at stacks site ≡ entries_of setting state site) → blocked_at 0 move stacks ≡ blocked setting state move }
+    ensures { (setting : Setting) (state : State) (move : Transition) (stacks : List (List Entry))
+        → length stacks ≡ length (symbols_of setting.image.objects)
+        → ((site : ℕ) → entries_at stacks site ≡ entries_of setting state site)
+        → blocked_at 0 move stacks ≡ blocked setting state move }
 {}
 
 /// The callbacks that run log no more records than those that may, so room for these is room enough.
 pub fn those_that_run_note_no_more_than_those_that_may()
     ensures enabling { (patch : ℕ) (objects : List (ℕ × PatchObject))
-        → records_of (enable_calls patch objects) ≤ records_of (calls_of patch Pre objects ++ calls_of patch PostUn objects) }
-    ensures coming { (moving : Option Transition) (parts : List Part) → records_of (coming_calls moving parts) ≤ records_of (flat_map (coming_may_run moving) parts) }
-    ensures going { (moving : Option Transition) (parts : List Part) → records_of (going_calls moving parts) ≤ records_of (flat_map (going_may_run moving) parts) }
+        → records_of (enable_calls patch objects) ≤ records_of (calls_of patch Pre objects
+        ++ calls_of patch PostUn objects) }
+    ensures coming { (moving : Option Transition) (parts : List Part)
+        → records_of (coming_calls moving parts) ≤ records_of (flat_map (coming_may_run moving) parts) }
+    ensures going { (moving : Option Transition) (parts : List Part)
+        → records_of (going_calls moving parts) ≤ records_of (flat_map (going_may_run moving) parts) }
 {}

@@ -29,7 +29,8 @@ pub fn allocs_of_coming(
     requires { length installed.now ≤ MAX_PATCHES }
     ensures value { result ≡ allocs_of (flat_map (coming_may_run moving) (parts_in catalog.now object installed.now)) }
     // so they log few records
-    ensures records { records_of (flat_map (coming_may_run moving) (parts_in catalog.now object installed.now)) ≤ 1024 + result }
+    ensures records { records_of (flat_map (coming_may_run moving) (parts_in catalog.now object installed.now))
+        ≤ 1024 + result }
 {
     let mut sum = 0;
     for &patch in installed {
@@ -47,7 +48,8 @@ pub fn allocs_of_going(
 ) -> usize
     requires { length installed.now ≤ MAX_PATCHES }
     ensures value { result ≡ allocs_of (flat_map (going_may_run moving) (parts_in catalog.now object installed.now)) }
-    ensures records { records_of (flat_map (going_may_run moving) (parts_in catalog.now object installed.now)) ≤ 512 + result }
+    ensures records { records_of (flat_map (going_may_run moving) (parts_in catalog.now object installed.now))
+        ≤ 512 + result }
 {
     let mut sum = 0;
     for &patch in installed {
@@ -68,7 +70,8 @@ fn let_go_each(
     log: &mut Records,
 )
     requires { HasRoomFor world.old log.old (going_calls moving.now (parts_in catalog.old object installed.now)) }
-    ensures { HaveRun catalog.old catalog.new world.old world.new log.old log.new (going_calls moving.now (parts_in catalog.old object installed.now)) }
+    ensures { HaveRun catalog.old catalog.new world.old world.new log.old log.new
+        (going_calls moving.now (parts_in catalog.old object installed.now)) }
 {
     runs_add_up();
     for &patch in installed {
@@ -90,9 +93,12 @@ fn bring_each(
     requires { HasRoomFor world.old log.old (bring_calls moving.now (parts_in catalog.old object installed.now)) }
     ensures refused { MatchOption result
         (find part_refuses (parts_in catalog.old object installed.now) ≡ None)
-        (λ r. (r.0 ≤ length installed.now) × (option_map refusal (find part_refuses (parts_in catalog.old object installed.now)) ≡ Some (r.1, r.2))
-        × (parts_before (parts_in catalog.old object installed.now) ≡ parts_in catalog.old object (take r.0 installed.now))) }
-    ensures ran { HaveRun catalog.old catalog.new world.old world.new log.old log.new (bring_calls moving.now (parts_in catalog.old object installed.now)) }
+        (λ r. (r.0 ≤ length installed.now)
+        × (option_map refusal (find part_refuses (parts_in catalog.old object installed.now)) ≡ Some (r.1, r.2))
+        × (parts_before (parts_in catalog.old object installed.now) ≡ parts_in catalog.old object
+        (take r.0 installed.now))) }
+    ensures ran { HaveRun catalog.old catalog.new world.old world.new log.old log.new
+        (bring_calls moving.now (parts_in catalog.old object installed.now)) }
 {
     runs_add_up();
     for (end, &patch) in installed.iter().enumerate() {
@@ -116,10 +122,12 @@ pub fn run_coming(
     log: &mut Records,
 ) -> Option<(PatchId, i32)>
     requires few { length installed.now ≤ MAX_PATCHES }
-    requires room { HasRoomFor world.old log.old (flat_map (coming_may_run moving) (parts_in catalog.old object installed.now)) }
+    requires room { HasRoomFor world.old log.old
+        (flat_map (coming_may_run moving) (parts_in catalog.old object installed.now)) }
     ensures refused { result ≡ option_map (λ (p : Part). (p.0, status_of (script_for Pre p.1.1.callbacks)))
         (find part_refuses (parts_in catalog.old object installed.now)) }
-    ensures ran { HaveRun catalog.old catalog.new world.old world.new log.old log.new (coming_calls moving (parts_in catalog.old object installed.now)) }
+    ensures ran { HaveRun catalog.old catalog.new world.old world.new log.old log.new
+        (coming_calls moving (parts_in catalog.old object installed.now)) }
 {
     runs_add_up();
     let (end, patch, status) = bring_each(catalog, installed, object, &moving, world, log)?;
@@ -138,8 +146,10 @@ pub fn run_going(
     log: &mut Records,
 )
     requires few { length installed.now ≤ MAX_PATCHES }
-    requires room { HasRoomFor world.old log.old (flat_map (going_may_run moving) (parts_in catalog.old object installed.now)) }
-    ensures { HaveRun catalog.old catalog.new world.old world.new log.old log.new (going_calls moving (parts_in catalog.old object installed.now)) }
+    requires room { HasRoomFor world.old log.old
+        (flat_map (going_may_run moving) (parts_in catalog.old object installed.now)) }
+    ensures { HaveRun catalog.old catalog.new world.old world.new log.old log.new
+        (going_calls moving (parts_in catalog.old object installed.now)) }
 {
     let_go_each(catalog, installed, object, &moving, world, log);
 }

@@ -60,7 +60,8 @@ pub(crate) fn allocs_to_bring(
 ) -> usize
     ensures value { result ≡ allocs_of (flat_map (coming_may_run moving.now) (parts_at catalog.now object patch)) }
     ensures limit { result ≤ 64 }
-    ensures records { records_of (flat_map (coming_may_run moving.now) (parts_at catalog.now object patch)) ≤ 64 + result }
+    ensures records { records_of (flat_map (coming_may_run moving.now) (parts_at catalog.now object patch))
+        ≤ 64 + result }
 {
     match catalog.place(patch, object) {
         Some(place) => {
@@ -84,7 +85,8 @@ pub(crate) fn allocs_to_let_go(
 ) -> usize
     ensures value { result ≡ allocs_of (flat_map (going_may_run moving.now) (parts_at catalog.now object patch)) }
     ensures limit { result ≤ 32 }
-    ensures records { records_of (flat_map (going_may_run moving.now) (parts_at catalog.now object patch)) ≤ 32 + result }
+    ensures records { records_of (flat_map (going_may_run moving.now) (parts_at catalog.now object patch))
+        ≤ 32 + result }
 {
     match catalog.place(patch, object) {
         Some(place) => {
@@ -106,7 +108,8 @@ fn run_still(
     log: &mut Records,
 )
     requires { HasRoomFor world.old log.old (still_at moving.now catalog.old patch place which) }
-    ensures { HaveRun catalog.old catalog.new world.old world.new log.old log.new (still_at moving.now catalog.old patch place which) }
+    ensures { HaveRun catalog.old catalog.new world.old world.new log.old log.new
+        (still_at moving.now catalog.old patch place which) }
 {
     if !is_in_transition(moving, patch) {
         run_at(catalog, patch, place, which, world, log);
@@ -124,7 +127,8 @@ fn run_pre_at(
 ) -> Option<i32>
     requires { HasRoomFor world.old log.old (call_at catalog.old patch place Pre) }
     ensures refused { result ≡ refusal_of (status_of (script_at catalog.old patch place Pre)) }
-    ensures ran { HaveRun catalog.old catalog.new world.old world.new log.old log.new (call_at catalog.old patch place Pre) }
+    ensures ran { HaveRun catalog.old catalog.new world.old world.new log.old log.new
+        (call_at catalog.old patch place Pre) }
 {
     match run_at(catalog, patch, place, Which::Pre, world, log) {
         0 => None,
@@ -144,7 +148,8 @@ fn bring_at(
 ) -> Option<i32>
     requires { HasRoomFor world.old log.old (places.bring_at moving.now catalog.old patch place) }
     ensures status { result ≡ refusal_of (status_of (script_at catalog.old patch place Pre)) }
-    ensures ran { HaveRun catalog.old catalog.new world.old world.new log.old log.new (places.bring_at moving.now catalog.old patch place) }
+    ensures ran { HaveRun catalog.old catalog.new world.old world.new log.old log.new
+        (places.bring_at moving.now catalog.old patch place) }
 {
     runs_add_up();
     match run_pre_at(catalog, patch, place, world, log) {
@@ -167,10 +172,12 @@ pub(crate) fn bring(
     log: &mut Records,
 ) -> Option<i32>
     requires { HasRoomFor world.old log.old (bring_calls moving.now (parts_at catalog.old object patch)) }
-    ensures refused { option_map (λ status. (patch, status)) result ≡ option_map refusal (find part_refuses (parts_at catalog.old object patch)) }
+    ensures refused { option_map (λ status. (patch, status)) result
+        ≡ option_map refusal (find part_refuses (parts_at catalog.old object patch)) }
     // nothing of the patch comes before what refuses, since a patch has the module once
     ensures first { is_some result ≡ true → parts_before (parts_at catalog.old object patch) ≡ [] }
-    ensures ran { HaveRun catalog.old catalog.new world.old world.new log.old log.new (bring_calls moving.now (parts_at catalog.old object patch)) }
+    ensures ran { HaveRun catalog.old catalog.new world.old world.new log.old log.new
+        (bring_calls moving.now (parts_at catalog.old object patch)) }
 {
     let place = catalog.place(patch, object)?;
     bring_at(catalog, patch, place, moving, world, log)
@@ -187,7 +194,8 @@ fn let_go_at(
     log: &mut Records,
 )
     requires { HasRoomFor world.old log.old (places.let_go_at moving.now catalog.old patch place) }
-    ensures { HaveRun catalog.old catalog.new world.old world.new log.old log.new (places.let_go_at moving.now catalog.old patch place) }
+    ensures { HaveRun catalog.old catalog.new world.old world.new log.old log.new
+        (places.let_go_at moving.now catalog.old patch place) }
 {
     runs_add_up();
     run_still(catalog, patch, place, Which::PreUn, moving, world, log);
@@ -205,7 +213,8 @@ pub(crate) fn let_go(
     log: &mut Records,
 )
     requires { HasRoomFor world.old log.old (going_calls moving.now (parts_at catalog.old object patch)) }
-    ensures { HaveRun catalog.old catalog.new world.old world.new log.old log.new (going_calls moving.now (parts_at catalog.old object patch)) }
+    ensures { HaveRun catalog.old catalog.new world.old world.new log.old log.new
+        (going_calls moving.now (parts_at catalog.old object patch)) }
 {
     if let Some(place) = catalog.place(patch, object) {
         let_go_at(catalog, patch, place, moving, world, log);

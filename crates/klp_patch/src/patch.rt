@@ -26,11 +26,13 @@ fn put_functions(
     requires number { patch < MAX_PATCHES }
     requires sites { length sites.old.stacks ≤ MAX_SITES }
     requires names { catalog.now.names ≡ names_of sites.old.image.objects }
-    requires fresh { (site : ℕ) → is_covered sites.old only.now site ≡ true → has_entry patch (entries_at sites.old.stacks site) ≡ false }
+    requires fresh { (site : ℕ) → is_covered sites.old only.now site ≡ true
+        → has_entry patch (entries_at sites.old.stacks site) ≡ false }
     requires records { length (functions_in catalog.now patch) + MAX_SITES ≤ spare_of log.old + hooked_count sites.old }
     ensures entries { AreMade sites.old sites.new (is_covered sites.old only.now)
         (λ site entries. entry_of patch (function_for (functions_in catalog.now patch) site) false ++ entries) }
-    ensures notes { Notes sites.old sites.new log.old log.new (length (functions_in catalog.now patch)) (hooked_count sites.old) (hooked_count sites.new) }
+    ensures notes { Notes sites.old sites.new log.old log.new (length (functions_in catalog.now patch))
+        (hooked_count sites.old) (hooked_count sites.new) }
 {
     let functions = catalog.functions(patch);
     for number in 0..functions.len() {
@@ -48,7 +50,8 @@ fn put_nops(sites: &mut Sites, patch: PatchId, only: Option<ObjId>, log: &mut Re
     requires sites { length sites.old.stacks ≤ MAX_SITES }
     requires records { length sites.old.stacks + MAX_SITES ≤ spare_of log.old + hooked_count sites.old }
     ensures entries { AreMade sites.old sites.new (is_covered sites.old only) (λ site entries. with_nop patch entries) }
-    ensures notes { Notes sites.old sites.new log.old log.new (length sites.old.stacks) (hooked_count sites.old) (hooked_count sites.new) }
+    ensures notes { Notes sites.old sites.new log.old log.new (length sites.old.stacks) (hooked_count sites.old)
+        (hooked_count sites.new) }
 {
     let covered = covered_sites(sites, only);
     for site in 0..covered.len() {
@@ -70,8 +73,10 @@ fn take_functions(
     requires names { catalog.now.names ≡ names_of sites.old.image.objects }
     requires records { length (functions_in catalog.now patch) + hooked_count sites.old ≤ spare_of log.old }
     ensures entries { AreMade sites.old sites.new
-        (λ site. is_covered sites.old only.now site && is_some (function_for (functions_in catalog.now patch) site)) (λ site entries. entries_of_others patch entries) }
-    ensures notes { Notes sites.old sites.new log.old log.new (length (functions_in catalog.now patch)) (hooked_count sites.new) (hooked_count sites.old) }
+        (λ site. is_covered sites.old only.now site && is_some (function_for (functions_in catalog.now patch) site))
+        (λ site entries. entries_of_others patch entries) }
+    ensures notes { Notes sites.old sites.new log.old log.new (length (functions_in catalog.now patch))
+        (hooked_count sites.new) (hooked_count sites.old) }
 {
     let functions = catalog.functions(patch);
     for number in 0..functions.len() {
@@ -86,8 +91,10 @@ fn take_functions(
 fn take_all(sites: &mut Sites, patch: PatchId, only: Option<ObjId>, log: &mut Records)
     requires sites { length sites.old.stacks ≤ MAX_SITES }
     requires records { length sites.old.stacks + hooked_count sites.old ≤ spare_of log.old }
-    ensures entries { AreMade sites.old sites.new (is_covered sites.old only) (λ site entries. entries_of_others patch entries) }
-    ensures notes { Notes sites.old sites.new log.old log.new (length sites.old.stacks) (hooked_count sites.new) (hooked_count sites.old) }
+    ensures entries { AreMade sites.old sites.new (is_covered sites.old only)
+        (λ site entries. entries_of_others patch entries) }
+    ensures notes { Notes sites.old sites.new log.old log.new (length sites.old.stacks) (hooked_count sites.new)
+        (hooked_count sites.old) }
 {
     let covered = covered_sites(sites, only);
     for site in 0..covered.len() {
@@ -111,10 +118,12 @@ pub fn patch_sites(
     requires number { patch < MAX_PATCHES }
     requires sites { length sites.old.stacks ≤ MAX_SITES }
     requires names { catalog.now.names ≡ names_of sites.old.image.objects }
-    requires fresh { (site : ℕ) → is_covered sites.old only site ≡ true → has_entry patch (entries_at sites.old.stacks site) ≡ false }
+    requires fresh { (site : ℕ) → is_covered sites.old only site ≡ true
+        → has_entry patch (entries_at sites.old.stacks site) ≡ false }
     requires records { most_entries catalog.now patch sites.old + MAX_SITES ≤ spare_of log.old }
     ensures entries { AreMade sites.old sites.new (is_covered sites.old only) (with_entry catalog.now patch) }
-    ensures notes { Notes sites.old sites.new log.old log.new (most_entries catalog.now patch sites.old) (hooked_count sites.old) (hooked_count sites.new) }
+    ensures notes { Notes sites.old sites.new log.old log.new (most_entries catalog.now patch sites.old)
+        (hooked_count sites.old) (hooked_count sites.new) }
 {
     put_functions(sites, catalog, patch, &only, log);
     if catalog.is_cumulative(patch) {
@@ -137,11 +146,14 @@ pub fn unpatch_sites(
     requires names { catalog.now.names ≡ names_of sites.old.image.objects }
     // only a cumulative patch has entries where it has no function, so its functions are enough for any
     // other
-    requires own { (site : ℕ) → is_covered sites.old only site ≡ true → has_entry patch (entries_at sites.old.stacks site) ≡ true
+    requires own { (site : ℕ) → is_covered sites.old only site ≡ true
+        → has_entry patch (entries_at sites.old.stacks site) ≡ true
         → (is_some (function_for (functions_in catalog.now patch) site) || is_cumulative catalog.now patch) ≡ true }
     requires records { most_entries catalog.now patch sites.old + MAX_SITES ≤ spare_of log.old }
-    ensures entries { AreMade sites.old sites.new (is_covered sites.old only) (λ site entries. entries_of_others patch entries) }
-    ensures notes { Notes sites.old sites.new log.old log.new (most_entries catalog.now patch sites.old) (hooked_count sites.new) (hooked_count sites.old) }
+    ensures entries { AreMade sites.old sites.new (is_covered sites.old only)
+        (λ site entries. entries_of_others patch entries) }
+    ensures notes { Notes sites.old sites.new log.old log.new (most_entries catalog.now patch sites.old)
+        (hooked_count sites.new) (hooked_count sites.old) }
 {
     if catalog.is_cumulative(patch) {
         take_all(sites, patch, only, log);
@@ -156,7 +168,8 @@ pub fn drop_nops(sites: &mut Sites, patch: PatchId, log: &mut Records)
     requires sites { length sites.old.stacks ≤ MAX_SITES }
     requires records { length sites.old.stacks + MAX_SITES ≤ spare_of log.old }
     ensures entries { AreMade sites.old sites.new (λ site. true) (λ site entries. without_nop patch entries) }
-    ensures notes { Notes sites.old sites.new log.old log.new (length sites.old.stacks) (hooked_count sites.new) (hooked_count sites.old) }
+    ensures notes { Notes sites.old sites.new log.old log.new (length sites.old.stacks) (hooked_count sites.new)
+        (hooked_count sites.old) }
 {
     for site in 0..sites.sites() {
         take_nop(sites, Site(site as u16), patch, log);

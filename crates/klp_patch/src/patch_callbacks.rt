@@ -63,7 +63,8 @@ fn run_where_loaded(
 ) -> i32
     requires { HasRoomFor world.old log.old (loaded_call catalog.old modules.now patch which place) }
     ensures status { result ≡ loaded_status catalog.old modules.now patch which place }
-    ensures ran { HaveRun catalog.old catalog.new world.old world.new log.old log.new (loaded_call catalog.old modules.now patch which place) }
+    ensures ran { HaveRun catalog.old catalog.new world.old world.new log.old log.new
+        (loaded_call catalog.old modules.now patch which place) }
 {
     match catalog.target(patch, place) {
         Some(object) if modules.is_loaded(object) => {
@@ -86,7 +87,8 @@ fn run_first(
 )
     requires end { end ≤ length (objects_at catalog.old patch) }
     requires room { HasRoomFor world.old log.old (loaded_calls catalog.old modules.now patch which end) }
-    ensures { HaveRun catalog.old catalog.new world.old world.new log.old log.new (loaded_calls catalog.old modules.now patch which end) }
+    ensures { HaveRun catalog.old catalog.new world.old world.new log.old log.new
+        (loaded_calls catalog.old modules.now patch which end) }
 {
     runs_add_up();
     for place in 0..end {
@@ -105,7 +107,8 @@ pub fn run_callbacks(
     log: &mut Records,
 )
     requires room { HasRoomFor world.old log.old (calls_of patch which (loaded_in catalog.old modules.now patch)) }
-    ensures { HaveRun catalog.old catalog.new world.old world.new log.old log.new (calls_of patch which (loaded_in catalog.old modules.now patch)) }
+    ensures { HaveRun catalog.old catalog.new world.old world.new log.old log.new
+        (calls_of patch which (loaded_in catalog.old modules.now patch)) }
 {
     let end = catalog.target_len(patch);
     run_first(catalog, modules, patch, which, end, world, log);
@@ -123,7 +126,8 @@ fn run_pre(
 ) -> Option<i32>
     requires { HasRoomFor world.old log.old (loaded_call catalog.old modules.now patch Pre place) }
     ensures status { result ≡ refusal_of (loaded_status catalog.old modules.now patch Pre place) }
-    ensures ran { HaveRun catalog.old catalog.new world.old world.new log.old log.new (loaded_call catalog.old modules.now patch Pre place) }
+    ensures ran { HaveRun catalog.old catalog.new world.old world.new log.old log.new
+        (loaded_call catalog.old modules.now patch Pre place) }
 {
     match run_where_loaded(catalog, modules, patch, Which::Pre, place, world, log) {
         0 => None,
@@ -143,7 +147,8 @@ fn pre_patch(
     requires { HasRoomFor world.old log.old (pre_calls patch (loaded_in catalog.old modules.now patch)) }
     ensures refused { MatchOption result
         (find refuses (loaded_in catalog.old modules.now patch) ≡ None)
-        (λ r. (o : ObjectOf) × (slice_get (objects_at catalog.old patch) r.0 ≡ Some o) × (r.1 ≡ status_of (script_for Pre o.callbacks))
+        (λ r. (o : ObjectOf) × (slice_get (objects_at catalog.old patch) r.0 ≡ Some o)
+        × (r.1 ≡ status_of (script_for Pre o.callbacks))
         × (find refuses (loaded_in catalog.old modules.now patch) ≡ Some (r.0, o))) }
     ensures ran { HaveRun catalog.old catalog.new world.old world.new log.old log.new
         (pre_calls patch (loaded_in catalog.old modules.now patch)) }
@@ -168,10 +173,12 @@ pub fn run_pre_patch(
     log: &mut Records,
 ) -> Option<(ObjId, i32)>
     requires { HasRoomFor world.old log.old
-        (calls_of patch Pre (loaded_in catalog.old modules.now patch) ++ calls_of patch PostUn (loaded_in catalog.old modules.now patch)) }
+        (calls_of patch Pre (loaded_in catalog.old modules.now patch) ++ calls_of patch PostUn
+        (loaded_in catalog.old modules.now patch)) }
     ensures refused { result ≡ option_map (λ (o : ℕ × ObjectOf). (o.1.object, status_of (script_for Pre o.1.callbacks)))
         (find refuses (loaded_in catalog.old modules.now patch)) }
-    ensures ran { HaveRun catalog.old catalog.new world.old world.new log.old log.new (enable_calls patch (loaded_in catalog.old modules.now patch)) }
+    ensures ran { HaveRun catalog.old catalog.new world.old world.new log.old log.new
+        (enable_calls patch (loaded_in catalog.old modules.now patch)) }
 {
     runs_add_up();
     let (place, status) = pre_patch(catalog, modules, patch, world, log)?;

@@ -43,7 +43,8 @@ pub(crate) fn put_nop(sites: &mut Sites, site: Site, patch: PatchId, log: &mut R
 #[tactic(auto, using(crate::proofs::SiteLemmas::none_of_sites, crate::proofs::SiteLemmas::take_of_sites))]
 pub(crate) fn take(sites: &mut Sites, site: Site, patch: PatchId, log: &mut Records)
     requires { 1 + hooked_count sites.old ≤ spare_of log.old }
-    ensures entries { AreMade sites.old sites.new (λ other. site == other) (λ other entries. entries_of_others patch entries) }
+    ensures entries { AreMade sites.old sites.new (λ other. site == other)
+        (λ other entries. entries_of_others patch entries) }
     ensures notes { Notes sites.old sites.new log.old log.new 1 (hooked_count sites.new) (hooked_count sites.old) }
 {
     if sites.entry(site, patch).is_some() {
@@ -55,7 +56,8 @@ pub(crate) fn take(sites: &mut Sites, site: Site, patch: PatchId, log: &mut Reco
 #[tactic(auto, using(crate::proofs::SiteLemmas::none_of_sites))]
 pub(crate) fn take_nop(sites: &mut Sites, site: Site, patch: PatchId, log: &mut Records)
     requires { 1 + hooked_count sites.old ≤ spare_of log.old }
-    ensures entries { AreMade sites.old sites.new (λ other. site == other) (λ other entries. without_nop patch entries) }
+    ensures entries { AreMade sites.old sites.new (λ other. site == other)
+        (λ other entries. without_nop patch entries) }
     ensures notes { Notes sites.old sites.new log.old log.new 1 (hooked_count sites.new) (hooked_count sites.old) }
 {
     let Some(entry) = sites.entry(site, patch) else {

@@ -168,8 +168,11 @@ fn switch_sleepers(manager: &mut ManagerState, catalog: &Catalog, moving: &Trans
 fn complete(manager: &mut ManagerState, catalog: &mut Catalog, moving: &Transition)
     requires kept { Invariant manager.old catalog.old }
     requires moving { manager.old.moving ≡ Some moving.now }
-    requires variables { finite.len manager.old.world.shadow + allocs_of (end_calls (setting_in manager.old catalog.old) (state_in manager.old catalog.old) (Some moving.now)) ≤ MAX_VARIABLES }
-    requires calls { records_of (end_calls (setting_in manager.old catalog.old) (state_in manager.old catalog.old) (Some moving.now)) ≤ 256 }
+    requires variables { finite.len manager.old.world.shadow
+        + allocs_of (end_calls (setting_in manager.old catalog.old) (state_in manager.old catalog.old)
+        (Some moving.now)) ≤ MAX_VARIABLES }
+    requires calls { records_of
+        (end_calls (setting_in manager.old catalog.old) (state_in manager.old catalog.old) (Some moving.now)) ≤ 256 }
     requires records { length manager.old.log.noted ≤ 64 }
     ensures completed { IsCompleted manager.old manager.new catalog.old catalog.new moving.now }
     ensures noted { rows_before manager.new ≡ rows_before manager.old }
@@ -192,7 +195,8 @@ fn rest(manager: &mut ManagerState)
     requires tasks { length manager.old.tasks ≡ MAX_TASKS }
     requires records { length manager.old.log.noted ≤ 4000 }
     requires log { manager.old.log.room ≡ MAX_RECORDS }
-    ensures parts { manager.new ≡ record manager.old { tasks = all_in at_rest manager.old.tasks; moving = None; log = manager.new.log } }
+    ensures parts { manager.new
+        ≡ record manager.old { tasks = all_in at_rest manager.old.tasks; moving = None; log = manager.new.log } }
     ensures noted { rows_before manager.new ≡ rows_before manager.old }
     ensures log { manager.new.log.room ≡ MAX_RECORDS }
 {
@@ -212,7 +216,8 @@ fn settle_sites(manager: &mut ManagerState, catalog: &Catalog, moving: &Transiti
     ensures loaded { manager.new.sites.loaded ≡ manager.old.sites.loaded }
     ensures entries { (site : ℕ) → entries_at manager.new.sites.stacks site
         ≡ entries_of (setting_in manager.old catalog.now)
-        (with_world (state_in manager.old catalog.now) (settled (setting_in manager.old catalog.now) manager.old.world moving.now)) site }
+        (with_world (state_in manager.old catalog.now)
+        (settled (setting_in manager.old catalog.now) manager.old.world moving.now)) site }
     ensures noted { rows_before manager.new ≡ rows_before manager.old }
     ensures records { length manager.new.log.noted ≤ 2400 }
     ensures log { manager.new.log.room ≡ MAX_RECORDS }
@@ -265,7 +270,12 @@ fn replace_sites(manager: &mut ManagerState, catalog: &Catalog, moving: &Transit
 fn settle_list(manager: &mut ManagerState, catalog: &Catalog, moving: &Transition)
     requires records { length manager.old.log.noted ≤ 3500 }
     requires log { manager.old.log.room ≡ MAX_RECORDS }
-    ensures parts { manager.new ≡ record manager.old { world = settled (setting_in manager.old catalog.now) manager.old.world moving.now; log = manager.new.log } }
+    ensures parts { manager.new
+        ≡ record manager.old {
+          world = settled
+              (setting_in manager.old catalog.now) manager.old.world moving.now;
+          log = manager.new.log;
+        } }
     ensures noted { rows_before manager.new ≡ rows_before manager.old }
     ensures records { length manager.new.log.noted ≤ 3800 }
     ensures log { manager.new.log.room ≡ MAX_RECORDS }

@@ -50,7 +50,8 @@ pub fn set_refusal(
 ) -> Option<Refusal>
     requires { Invariant manager.now catalog.now }
     ensures refusal { result ≡ refused_in manager.now catalog.now (SetEnabled patch value) }
-    ensures records { records_of (disable_calls (setting_in manager.now catalog.now) (state_in manager.now catalog.now) patch) ≤ 256 }
+    ensures records { records_of
+        (disable_calls (setting_in manager.now catalog.now) (state_in manager.now catalog.now) patch) ≤ 256 }
 {
     let lacks_room = lacks_room_to_set(manager, catalog, patch, value);
     if patch.0 >= catalog.patches() {
@@ -73,7 +74,8 @@ pub fn set_refusal(
 fn lacks_room_to_set(manager: &ManagerState, catalog: &Catalog, patch: PatchId, value: bool) -> bool
     requires { Invariant manager.now catalog.now }
     ensures room { result ≡ lacks_room_in manager.now catalog.now (SetEnabled patch value) }
-    ensures records { records_of (disable_calls (setting_in manager.now catalog.now) (state_in manager.now catalog.now) patch) ≤ 256 }
+    ensures records { records_of
+        (disable_calls (setting_in manager.now catalog.now) (state_in manager.now catalog.now) patch) ≤ 256 }
 {
     let pre_un = if is_in_transition(&manager.moving, patch) {
         0
@@ -87,7 +89,8 @@ fn lacks_room_to_set(manager: &ManagerState, catalog: &Catalog, patch: PatchId, 
 fn turn(manager: &mut ManagerState, catalog: &mut Catalog, patch: PatchId, value: bool) -> Reply
     requires kept { Invariant manager.old catalog.old }
     requires free { refused_in manager.old catalog.old (SetEnabled patch value) ≡ None }
-    requires records { records_of (disable_calls (setting_in manager.old catalog.old) (state_in manager.old catalog.old) patch) ≤ 256 }
+    requires records { records_of
+        (disable_calls (setting_in manager.old catalog.old) (state_in manager.old catalog.old) patch) ≤ 256 }
     ensures accepted { AcceptsEvent manager.old manager.new catalog.old catalog.new (SetEnabled patch value) result }
     ensures noted { rows_before manager.new ≡ rows_in manager.old }
 {
@@ -108,7 +111,8 @@ fn turn(manager: &mut ManagerState, catalog: &mut Catalog, patch: PatchId, value
 fn disable(manager: &mut ManagerState, catalog: &mut Catalog, patch: PatchId, value: bool) -> Reply
     requires kept { Invariant manager.old catalog.old }
     requires free { refused_in manager.old catalog.old (SetEnabled patch value) ≡ None }
-    requires records { records_of (disable_calls (setting_in manager.old catalog.old) (state_in manager.old catalog.old) patch) ≤ 256 }
+    requires records { records_of
+        (disable_calls (setting_in manager.old catalog.old) (state_in manager.old catalog.old) patch) ≤ 256 }
     requires rests { moves manager.old.moving patch ≡ false }
     ensures accepted { AcceptsEvent manager.old manager.new catalog.old catalog.new (SetEnabled patch value) result }
     ensures noted { rows_before manager.new ≡ rows_in manager.old }

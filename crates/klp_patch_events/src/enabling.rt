@@ -51,7 +51,8 @@ fn lacks_site(modules: &Modules, function: &CatalogFunction) -> bool
 /// Whether one of these functions is for a loaded object and names no site: the patch has nothing to hook
 /// then.
 fn lack_symbol(modules: &Modules, functions: &[CatalogFunction]) -> bool
-    ensures { result ≡ list_any (λ (f : FunctionOf). slice_index_or modules.now.loaded f.object false && is_none f.site) functions.now }
+    ensures { result ≡ list_any (λ (f : FunctionOf). slice_index_or modules.now.loaded f.object false
+        && is_none f.site) functions.now }
 {
     functions
         .iter()
@@ -190,7 +191,12 @@ fn put_last(manager: &mut ManagerState, catalog: &Catalog, patch: PatchId)
     requires fresh { is_among patch manager.old.world.installed ≡ false }
     requires room { length manager.old.world.installed < MAX_PATCHES }
     requires log { manager.old.log.room ≡ MAX_RECORDS }
-    ensures parts { manager.new ≡ record manager.old { world = with_patch manager.old.world patch (state_ids catalog.now patch); log = manager.new.log } }
+    ensures parts { manager.new
+        ≡ record manager.old {
+          world = with_patch manager.old.world patch
+              (state_ids catalog.now patch);
+          log = manager.new.log;
+        } }
     ensures noted { rows_before manager.new ≡ rows_in manager.old }
     ensures records { length manager.new.log.noted ≤ 17 }
     ensures log { manager.new.log.room ≡ MAX_RECORDS }
@@ -204,7 +210,8 @@ fn put_last(manager: &mut ManagerState, catalog: &Catalog, patch: PatchId)
 /// Takes a patch out again after a refusal, with its states and the values that callbacks gave these.
 fn take_out(manager: &mut ManagerState, patch: PatchId)
     requires { length manager.old.log.noted + 17 ≤ manager.old.log.room }
-    ensures parts { manager.new ≡ record manager.old { world = without_patch manager.old.world patch; log = manager.new.log } }
+    ensures parts { manager.new
+        ≡ record manager.old { world = without_patch manager.old.world patch; log = manager.new.log } }
     ensures noted { rows_before manager.new ≡ rows_before manager.old }
     ensures log { manager.new.log.room ≡ manager.old.log.room }
 {
@@ -223,7 +230,8 @@ fn start(manager: &mut ManagerState, catalog: &Catalog, patch: PatchId)
     requires tasks { length manager.old.tasks ≡ MAX_TASKS }
     requires records { length manager.old.log.noted ≤ 2048 }
     requires log { manager.old.log.room ≡ MAX_RECORDS }
-    ensures entries { AreMade manager.old.sites manager.new.sites (is_covered manager.old.sites None) (with_entry catalog.now patch) }
+    ensures entries { AreMade manager.old.sites manager.new.sites (is_covered manager.old.sites None)
+        (with_entry catalog.now patch) }
     ensures parts { manager.new ≡ record manager.old {
       sites = manager.new.sites;
       tasks = all_in (at_target false) manager.old.tasks;

@@ -34,7 +34,8 @@ fn lacks_site(function: &CatalogFunction, object: ObjId) -> bool
 
 /// Whether a patch has a function for this object that names no site of it.
 fn lacks_symbol(catalog: &Catalog, patch: PatchId, object: ObjId) -> bool
-    ensures { result ≡ list_any (λ (f : FunctionOf). f.object == object && is_none f.site) (catalog_functions catalog.now patch) }
+    ensures { result ≡ list_any (λ (f : FunctionOf). f.object == object && is_none f.site)
+        (catalog_functions catalog.now patch) }
 {
     catalog
         .functions(patch)
@@ -45,7 +46,8 @@ fn lacks_symbol(catalog: &Catalog, patch: PatchId, object: ObjId) -> bool
 /// Whether one of these patches has a function for this object that names no site of it. It was enabled
 /// while the module wasn't loaded, so nobody has asked before.
 fn some_lacks_symbol(catalog: &Catalog, patches: &[PatchId], object: ObjId) -> bool
-    ensures { result ≡ list_any (λ patch. list_any (λ (f : FunctionOf). f.object == object && is_none f.site) (catalog_functions catalog.now patch)) patches.now }
+    ensures { result ≡ list_any (λ patch. list_any (λ (f : FunctionOf). f.object == object && is_none f.site)
+        (catalog_functions catalog.now patch)) patches.now }
 {
     for &patch in patches {
         if lacks_symbol(catalog, patch, object) {
@@ -97,7 +99,8 @@ pub fn going(
 pub fn coming_refusal(manager: &ManagerState, catalog: &Catalog, object: ObjId) -> Option<Refusal>
     requires { Invariant manager.now catalog.now }
     ensures refusal { result ≡ refused_in manager.now catalog.now (Coming object) }
-    ensures records { records_of (may_run_in manager.now catalog.now (Coming object)) ≤ 1024 + allocs_of (may_run_in manager.now catalog.now (Coming object)) }
+    ensures records { records_of (may_run_in manager.now catalog.now (Coming object))
+        ≤ 1024 + allocs_of (may_run_in manager.now catalog.now (Coming object)) }
 {
     let lacks_symbol = part_lacks_symbol(manager, catalog, object);
     let lacks_room = lacks_room_to_come(manager, catalog, object);
@@ -119,7 +122,8 @@ pub fn coming_refusal(manager: &ManagerState, catalog: &Catalog, object: ObjId) 
 pub fn going_refusal(manager: &ManagerState, catalog: &Catalog, object: ObjId) -> Option<Refusal>
     requires { Invariant manager.now catalog.now }
     ensures refusal { result ≡ refused_in manager.now catalog.now (Going object) }
-    ensures records { records_of (may_run_in manager.now catalog.now (Going object)) ≤ 512 + allocs_of (may_run_in manager.now catalog.now (Going object)) }
+    ensures records { records_of (may_run_in manager.now catalog.now (Going object))
+        ≤ 512 + allocs_of (may_run_in manager.now catalog.now (Going object)) }
 {
     let is_in_use = manager.is_in_use(catalog, object);
     let lacks_room = lacks_room_to_go(manager, catalog, object);
@@ -143,7 +147,8 @@ fn is_module(manager: &ManagerState, object: ObjId) -> bool
 
 /// Whether an installed patch has a function for the module that names no site of it.
 fn part_lacks_symbol(manager: &ManagerState, catalog: &Catalog, object: ObjId) -> bool
-    ensures { result ≡ part_lacks_symbol (setting_in manager.now catalog.now) (state_in manager.now catalog.now) object }
+    ensures { result
+        ≡ part_lacks_symbol (setting_in manager.now catalog.now) (state_in manager.now catalog.now) object }
 {
     some_lacks_symbol(catalog, manager.world.installed(), object)
 }
@@ -151,7 +156,8 @@ fn part_lacks_symbol(manager: &ManagerState, catalog: &Catalog, object: ObjId) -
 /// Whether there is no room for what the callbacks add when the module comes, whether they run or not.
 fn lacks_room_to_come(manager: &ManagerState, catalog: &Catalog, object: ObjId) -> bool
     ensures room { result ≡ lacks_room_in manager.now catalog.now (Coming object) }
-    ensures records { records_of (may_run_in manager.now catalog.now (Coming object)) ≤ 1024 + allocs_of (may_run_in manager.now catalog.now (Coming object)) }
+    ensures records { records_of (may_run_in manager.now catalog.now (Coming object))
+        ≤ 1024 + allocs_of (may_run_in manager.now catalog.now (Coming object)) }
 {
     let added = allocs_of_coming(catalog, manager.world.installed(), object, manager.moving);
     added > MAX_VARIABLES - usize::from(manager.world.count())
@@ -160,7 +166,8 @@ fn lacks_room_to_come(manager: &ManagerState, catalog: &Catalog, object: ObjId) 
 /// Whether there is no room for what the callbacks add when the module goes.
 fn lacks_room_to_go(manager: &ManagerState, catalog: &Catalog, object: ObjId) -> bool
     ensures room { result ≡ lacks_room_in manager.now catalog.now (Going object) }
-    ensures records { records_of (may_run_in manager.now catalog.now (Going object)) ≤ 512 + allocs_of (may_run_in manager.now catalog.now (Going object)) }
+    ensures records { records_of (may_run_in manager.now catalog.now (Going object))
+        ≤ 512 + allocs_of (may_run_in manager.now catalog.now (Going object)) }
 {
     let added = allocs_of_going(catalog, manager.world.installed(), object, manager.moving);
     added > MAX_VARIABLES - usize::from(manager.world.count())
@@ -186,7 +193,8 @@ fn installed_patches(manager: &ManagerState, catalog: &Catalog) -> ArrayVec<Patc
 fn come(manager: &mut ManagerState, catalog: &mut Catalog, object: ObjId) -> Reply
     requires kept { Invariant manager.old catalog.old }
     requires free { refused_in manager.old catalog.old (Coming object) ≡ None }
-    requires records { records_of (may_run_in manager.old catalog.old (Coming object)) ≤ 1024 + allocs_of (may_run_in manager.old catalog.old (Coming object)) }
+    requires records { records_of (may_run_in manager.old catalog.old (Coming object))
+        ≤ 1024 + allocs_of (may_run_in manager.old catalog.old (Coming object)) }
     ensures accepted { AcceptsEvent manager.old manager.new catalog.old catalog.new (Coming object) result }
     ensures noted { rows_before manager.new ≡ rows_in manager.old }
 {
@@ -223,7 +231,8 @@ fn come(manager: &mut ManagerState, catalog: &mut Catalog, object: ObjId) -> Rep
 fn go(manager: &mut ManagerState, catalog: &mut Catalog, object: ObjId) -> Reply
     requires kept { Invariant manager.old catalog.old }
     requires free { refused_in manager.old catalog.old (Going object) ≡ None }
-    requires records { records_of (may_run_in manager.old catalog.old (Going object)) ≤ 512 + allocs_of (may_run_in manager.old catalog.old (Going object)) }
+    requires records { records_of (may_run_in manager.old catalog.old (Going object))
+        ≤ 512 + allocs_of (may_run_in manager.old catalog.old (Going object)) }
     ensures accepted { AcceptsEvent manager.old manager.new catalog.old catalog.new (Going object) result }
     ensures noted { rows_before manager.new ≡ rows_in manager.old }
 {

@@ -33,7 +33,8 @@ fn stacks_are_few(sites: &Sites)
 /// contract.
 fn entries_are_few(sites: &Sites, catalog: &Catalog, patch: PatchId)
     requires { length sites.now.stacks ≤ MAX_SITES }
-    ensures { most_entries catalog.now patch sites.now ≤ MAX_FUNCTIONS + MAX_SITES * count_by (is_cumulative catalog.now) (patch ∷ []) }
+    ensures { most_entries catalog.now patch sites.now
+        ≤ MAX_FUNCTIONS + MAX_SITES * count_by (is_cumulative catalog.now) (patch ∷ []) }
 {
     let _functions = catalog.functions(patch);
 }
@@ -53,14 +54,16 @@ pub(crate) fn patch_object(
     requires replace { count_by (is_cumulative catalog.now) patches.now ≤ 2 }
     requires sites { site_count sites.old.image ≤ MAX_SITES }
     requires names { catalog.now.names ≡ names_of sites.old.image.objects }
-    requires bare { (site : ℕ) → is_covered sites.old (Some object) site ≡ true → entries_at sites.old.stacks site ≡ [] }
+    requires bare { (site : ℕ) → is_covered sites.old (Some object) site ≡ true
+        → entries_at sites.old.stacks site ≡ [] }
     requires records { length log.old.noted ≤ 2048 }
     requires room { log.old.room ≡ MAX_RECORDS }
     ensures image { sites.new.image ≡ sites.old.image }
     ensures loaded { sites.new.loaded ≡ sites.old.loaded }
     ensures entries { (site : ℕ) → entries_at sites.new.stacks site
         ≡ (if is_covered sites.old (Some object) site
-        then entries_from (record { image = sites.old.image; patches = patches_of catalog.now }) site (reverse patches.now)
+        then entries_from (record { image = sites.old.image; patches = patches_of catalog.now }) site
+        (reverse patches.now)
         else entries_at sites.old.stacks site) }
     ensures noted { SitesGoBack sites.old sites.new log.old log.new }
     ensures room { log.new.room ≡ MAX_RECORDS }

@@ -47,15 +47,18 @@ pub(crate) fn unpatch_each(
     requires sites { site_count sites.old.image ≤ MAX_SITES }
     requires names { catalog.now.names ≡ names_of sites.old.image.objects }
     requires own { AreOwn catalog.now sites.old.stacks }
-    requires records { length log.old.noted + hooked_count sites.old + 64 * length patches.now + 256 * count_by (is_cumulative catalog.now) patches.now ≤ 3000 }
+    requires records { length log.old.noted + hooked_count sites.old + 64 * length patches.now
+        + 256 * count_by (is_cumulative catalog.now) patches.now ≤ 3000 }
     requires log { log.old.room ≡ MAX_RECORDS }
     ensures image { sites.new.image ≡ sites.old.image }
     ensures loaded { sites.new.loaded ≡ sites.old.loaded }
     ensures entries { (site : ℕ) → entries_at sites.new.stacks site
-        ≡ (if is_covered sites.old None site then filter (λ (e : Entry). not (is_one_of e.patch patches.now)) (entries_at sites.old.stacks site) else entries_at sites.old.stacks site) }
+        ≡ (if is_covered sites.old None site then filter (λ (e : Entry). not (is_one_of e.patch patches.now))
+        (entries_at sites.old.stacks site) else entries_at sites.old.stacks site) }
     ensures noted { SitesGoBack sites.old sites.new log.old log.new }
     ensures records { length log.new.noted + hooked_count sites.new
-        ≤ length log.old.noted + hooked_count sites.old + 64 * length patches.now + 256 * count_by (is_cumulative catalog.now) patches.now }
+        ≤ length log.old.noted + hooked_count sites.old + 64 * length patches.now
+        + 256 * count_by (is_cumulative catalog.now) patches.now }
     ensures log { log.new.room ≡ MAX_RECORDS }
 {
     for &patch in patches {

@@ -25,7 +25,9 @@ pub fn boot(alloc: Global, mut plan: Plan, callbacks: Vec<Boxed>) -> Result<Mana
     requires targets { AreTargetsWithin (length plan.objects) plan.patches }
     requires callbacks { callbacks.items ≡ map never_ran (scripts_of plan.patches) }
     ensures booted { IfOk result (λ manager. IsBootedOver plan manager) }
-    ensures sound { OnOk result ((image_fault plan.handler plan.objects ≡ None) × (some_same_site (names_of plan.objects) plan.patches ≡ false)) }
+    ensures sound { OnOk result
+        ((image_fault plan.handler plan.objects ≡ None)
+        × (some_same_site (names_of plan.objects) plan.patches ≡ false)) }
     ensures fault { IfErr result (λ fault. IsBootFault plan fault) }
 {
     let objects = plan.take_objects();

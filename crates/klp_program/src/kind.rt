@@ -41,7 +41,8 @@ pub(crate) fn callback_of(
     plan: &Plan,
     number: usize,
 ) -> Result<Option<Kind>, AllocError>
-    ensures { IfOk result (λ kind. option_map told_by kind ≡ option_map never_ran (slice_get (scripts_of plan.now.patches) number)) }
+    ensures { IfOk result (λ kind. option_map told_by kind ≡ option_map never_ran
+        (slice_get (scripts_of plan.now.patches) number)) }
 {
     match plan.script(number) {
         Some(script) => Ok(Some(kind_of(alloc, script)?)),

@@ -76,7 +76,8 @@ impl Sites {
         requires fresh { has_entry entry.patch (entries_at self.old.stacks site) ≡ false }
         requires number { entry.patch < MAX_PATCHES }
         requires records { length (rows_of_push self.old site entry) ≤ spare_of log.old }
-        ensures changes { Changes self.old self.new log.old log.new (pushed self.old site entry) (rows_of_push self.old site entry) }
+        ensures changes { Changes self.old self.new log.old log.new (pushed self.old site entry)
+            (rows_of_push self.old site entry) }
     {
         let was_hooked = is_hooked(&self.stacks, site);
         log.note(self.stacks.push(site, entry));
@@ -91,7 +92,8 @@ impl Sites {
     pub fn take(&mut self, site: Site, patch: PatchId, log: &mut Records)
         requires there { has_entry patch (entries_at self.old.stacks site) ≡ true }
         requires records { length (rows_of_take self.old site patch) ≤ spare_of log.old }
-        ensures changes { Changes self.old self.new log.old log.new (taken self.old site patch) (rows_of_take self.old site patch) }
+        ensures changes { Changes self.old self.new log.old log.new (taken self.old site patch)
+            (rows_of_take self.old site patch) }
     {
         log.note(self.stacks.take(site, patch));
         if !is_hooked(&self.stacks, site) {

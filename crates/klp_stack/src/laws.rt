@@ -10,5 +10,6 @@ ghost use Rattle.klp_stack.specs.Pick.{picked};
 /// newest one's patch may be in transition and be passed over.
 pub fn the_word_is_enough()
     ensures { (site : ℕ) (moving : Option Transition) (task : ℤ) (entries : List Entry)
-        → picked site (word_of (moving_patch moving) entries) task ≡ newest_version site (entries_for moving task entries) }
+        → picked site (word_of (moving_patch moving) entries) task ≡ newest_version site
+        (entries_for moving task entries) }
 {}

@@ -51,7 +51,8 @@ impl Stacks {
         requires fresh { has_entry entry.patch (entries_at self.old site) ≡ false }
         requires number { entry.patch < MAX_PATCHES }
         ensures row { result ≡ Record.StackEntry site entry.patch None }
-        ensures changes { Changes self.old self.new result (slice_set self.old site (entry ∷ entries_at self.old site)) }
+        ensures changes { Changes self.old self.new result
+            (slice_set self.old site (entry ∷ entries_at self.old site)) }
     {
         let Entry { patch, func: _ } = entry;
         let stack = &mut self.stacks[usize::from(site.0)];
@@ -68,7 +69,8 @@ impl Stacks {
     pub fn take(&mut self, site: Site, patch: PatchId) -> Record
         requires { has_entry patch (entries_at self.old site) ≡ true }
         ensures row { result ≡ Record.StackEntry site patch (place_of patch (entries_at self.old site)) }
-        ensures changes { Changes self.old self.new result (slice_set self.old site (entries_of_others patch (entries_at self.old site))) }
+        ensures changes { Changes self.old self.new result
+            (slice_set self.old site (entries_of_others patch (entries_at self.old site))) }
     {
         let stack = &mut self.stacks[usize::from(site.0)];
         let was = stack.take(patch);

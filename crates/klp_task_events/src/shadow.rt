@@ -51,7 +51,8 @@ pub fn shadow_alloc(
 
 /// Why a variable isn't added, whatever its value: that it is there comes before want of room.
 pub fn shadow_alloc_refusal(manager: &ManagerState, key: ShadowKey) -> Option<Refusal>
-    ensures refusal { (catalog : AnyCatalog) (value : ℕ) → result ≡ refused_in manager.now catalog (ShadowAlloc key value) }
+    ensures refusal { (catalog : AnyCatalog) (value : ℕ)
+        → result ≡ refused_in manager.now catalog (ShadowAlloc key value) }
     ensures room { IfNone result (finite.len manager.now.world.shadow < MAX_VARIABLES) }
 {
     if manager.world.get(key).is_some() {
@@ -89,8 +90,10 @@ pub fn shadow_get_or_alloc(
 
 /// Why a variable that isn't there isn't added, whatever its value. One that is there needs no room.
 pub fn shadow_get_or_alloc_refusal(manager: &ManagerState, key: ShadowKey) -> Option<Refusal>
-    ensures refusal { (catalog : AnyCatalog) (value : ℕ) → result ≡ refused_in manager.now catalog (ShadowGetOrAlloc key value) }
-    ensures room { IfNone result (variable manager.now.world key ≡ None → finite.len manager.now.world.shadow < MAX_VARIABLES) }
+    ensures refusal { (catalog : AnyCatalog) (value : ℕ)
+        → result ≡ refused_in manager.now catalog (ShadowGetOrAlloc key value) }
+    ensures room { IfNone result
+        (variable manager.now.world key ≡ None → finite.len manager.now.world.shadow < MAX_VARIABLES) }
 {
     if manager.world.get(key).is_none() && is_full(manager) {
         Some(Refusal::Full)

@@ -265,7 +265,9 @@ pub fn wake_refusal(manager: &ManagerState, task: TaskId) -> Option<Refusal>
 
 /// Why a task isn't there in this mode: that it isn't there comes first.
 fn refusal_unless_in(manager: &ManagerState, task: TaskId, mode: Mode) -> Option<Refusal>
-    ensures refusal { result ≡ first_of ((not (is_some (task_at manager.now.tasks task)), NoTask) ∷ (not (is_in mode (task_at manager.now.tasks task)), WrongMode) ∷ []) }
+    ensures refusal { result
+        ≡ first_of ((not (is_some (task_at manager.now.tasks task)), NoTask)
+        ∷ (not (is_in mode (task_at manager.now.tasks task)), WrongMode) ∷ []) }
     ensures there { IfNone result (is_some (task_at manager.now.tasks task) ≡ true) }
 {
     if !is_there(manager, task) {

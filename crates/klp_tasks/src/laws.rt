@@ -18,7 +18,8 @@ pub fn rows_change_as_the_step_says()
 
 /// No more rows are logged than there are tasks' numbers, so 64 records are room enough for any switch.
 pub fn records_are_few()
-    ensures { (number : ℕ) (before : Tasks) (after : Tasks) → length (records_switched number before after) ≤ length before }
+    ensures { (number : ℕ) (before : Tasks) (after : Tasks)
+        → length (records_switched number before after) ≤ length before }
 {}
 
 /// Each set has exactly the versions of some list: so what is proved of sets over their lists holds of

@@ -137,7 +137,8 @@ impl Tasks {
     /// Whether a task sleeps inside of one of the versions, asked without switching anybody. It looks at
     /// all rows and their frames.
     pub fn sleeps_in(&self, versions: &VersionSet) -> bool
-        ensures { (test : AnyVersion → Bool) → ArePassing versions.now test → result ≡ list_any (sleeps_where test) self.now }
+        ensures { (test : AnyVersion → Bool) → ArePassing versions.now test
+            → result ≡ list_any (sleeps_where test) self.now }
     {
         self.holds_sleeper(versions)
     }
@@ -164,7 +165,12 @@ impl Tasks {
         requires number { child < MAX_TASKS }
         requires free { is_some (task_at self.old child) ≡ false }
         ensures { Changes self.old self.new child result
-            (with_task self.old child (Some (record { state = state_of_task (task_at self.old parent); mode = Kernel; frames = [] }))) }
+            (with_task self.old child (Some (record {
+              state = state_of_task
+                  (task_at self.old parent);
+              mode = Kernel;
+              frames = [];
+            }))) }
     {
         let forked = Task {
             state: self.there(parent).state,
@@ -185,7 +191,8 @@ impl Tasks {
     /// A task enters the kernel. Its state stays, because it switches when it leaves and not when it comes.
     pub fn enter(&mut self, task: TaskId) -> Record
         requires { is_some (task_at self.old task) ≡ true }
-        ensures { Changes self.old self.new task result (changed self.old task (λ (t : AnyTask). record t { mode = Kernel })) }
+        ensures { Changes self.old self.new task result
+            (changed self.old task (λ (t : AnyTask). record t { mode = Kernel })) }
     {
         let entered = Task {
             mode: Mode::Kernel,
@@ -215,7 +222,8 @@ impl Tasks {
     /// A task falls asleep inside of these frames, by which alone it can be switched while it sleeps.
     pub fn sleep(&mut self, task: TaskId, frames: Frames) -> Record
         requires { is_some (task_at self.old task) ≡ true }
-        ensures { Changes self.old self.new task result (changed self.old task (λ (t : AnyTask). record t { mode = Asleep; frames = frames })) }
+        ensures { Changes self.old self.new task result
+            (changed self.old task (λ (t : AnyTask). record t { mode = Asleep; frames = frames })) }
     {
         let asleep = Task {
             mode: Mode::Asleep,
@@ -229,7 +237,8 @@ impl Tasks {
     /// of.
     pub fn wake(&mut self, task: TaskId) -> Record
         requires { is_some (task_at self.old task) ≡ true }
-        ensures { Changes self.old self.new task result (changed self.old task (λ (t : AnyTask). record t { mode = Kernel; frames = [] })) }
+        ensures { Changes self.old self.new task result
+            (changed self.old task (λ (t : AnyTask). record t { mode = Kernel; frames = [] })) }
     {
         let woken = Task {
             mode: Mode::Kernel,
@@ -248,7 +257,8 @@ impl Tasks {
         blocked: &VersionSet,
         target: bool,
     ) -> Option<Record>
-        ensures tasks { (versions : List AnyVersion) → IsSetOf blocked.now versions → self.new ≡ changed self.old task (switched versions target) }
+        ensures tasks { (versions : List AnyVersion) → IsSetOf blocked.now versions
+            → self.new ≡ changed self.old task (switched versions target) }
         ensures row { result ≡ record_if_switched task (task_at self.old task) (task_at self.new task) }
         ensures undo { undone self.new (option_to_list result) ≡ self.old }
     {
@@ -264,7 +274,8 @@ impl Tasks {
     /// numbers. It looks at all rows.
     pub fn try_all(&mut self, blocked: &VersionSet, target: bool, log: &mut Records)
         requires { length self.old ≤ spare_of log.old }
-        ensures tasks { (versions : List AnyVersion) → IsSetOf blocked.now versions → self.new ≡ map (option_map (switched versions target)) self.old }
+        ensures tasks { (versions : List AnyVersion) → IsSetOf blocked.now versions
+            → self.new ≡ map (option_map (switched versions target)) self.old }
         ensures records { log.new ≡ record log.old { noted = log.old.noted ++ records_switched 0 self.old self.new } }
         ensures undo { undone self.new (records_switched 0 self.old self.new) ≡ self.old }
     {
@@ -281,7 +292,8 @@ impl Tasks {
     pub fn set_all(&mut self, state: i8, log: &mut Records)
         requires { length (records_switched 0 self.old (all_in state self.old)) ≤ spare_of log.old }
         ensures tasks { self.new ≡ all_in state self.old }
-        ensures records { log.new ≡ record log.old { noted = log.old.noted ++ records_switched 0 self.old (all_in state self.old) } }
+        ensures records { log.new
+            ≡ record log.old { noted = log.old.noted ++ records_switched 0 self.old (all_in state self.old) } }
         ensures undo { undone self.new (records_switched 0 self.old (all_in state self.old)) ≡ self.old }
     {
         for number in 0..self.rows.len() as u8 {

@@ -37,7 +37,8 @@ fn is_set(flags: &[bool], number: u16) -> bool
 /// Sets the flag of a number, which has to be in range: what is put in comes from the catalog.
 fn set(flags: &mut [bool], number: u16)
     requires { number < length flags.old }
-    ensures { (other : ℕ) → slice_index_or flags.new other false ≡ (slice_index_or flags.old other false || other == number) }
+    ensures { (other : ℕ) → slice_index_or flags.new other false ≡ (slice_index_or flags.old other false
+        || other == number) }
 {
     flags[usize::from(number)] = true;
 }
@@ -57,7 +58,8 @@ impl VersionSet {
     pub fn insert(&mut self, version: Version)
         requires { IsWithin version }
         ensures version { (other : AnyVersion) → has self.new other ≡ (has self.old other || is_version other version) }
-        ensures list { (versions : List AnyVersion) → IsSetOf self.old versions → IsSetOf self.new (versions ++ version ∷ []) }
+        ensures list { (versions : List AnyVersion) → IsSetOf self.old versions
+            → IsSetOf self.new (versions ++ version ∷ []) }
     {
         match version {
             Version::Original(site) => set(&mut self.originals, site.0),

@@ -122,7 +122,8 @@ fn symbol_fault(
     symbols: &[SymbolText],
     symbol: &SymbolText,
 ) -> Option<ImageFault>
-    ensures { result ≡ faults.first_fault (faults.symbol_tests handler (symbols_of objects.now ++ symbols.now) symbol.now) }
+    ensures { result ≡ faults.first_fault (faults.symbol_tests handler
+        (symbols_of objects.now ++ symbols.now) symbol.now) }
 {
     if symbol.body.len() < ENTRY_SITE_END {
         Some(ImageFault::ShortSymbol)

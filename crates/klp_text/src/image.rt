@@ -61,7 +61,8 @@ impl Image {
     pub fn new(alloc: Global, objects: Vec<ObjectText>, handler: u64) -> Result<Image, ImageFault>
         ensures ok { IfOk result (λ image.
             (faults.image_fault handler objects.items ≡ None) × (image ≡ opening handler objects.items)) }
-        ensures fault { IfErr result (λ fault. (fault ≡ NoMemory) ⊎ (faults.image_fault handler objects.items ≡ Some fault)) }
+        ensures fault { IfErr result
+            (λ fault. (fault ≡ NoMemory) ⊎ (faults.image_fault handler objects.items ≡ Some fault)) }
         ensures limits { OnOk result (IsWithinLimits objects.items) }
     {
         if let Some(fault) = image_fault(handler, objects.as_slice()) {
@@ -179,7 +180,8 @@ impl Image {
 
     /// How many symbols an object has, loaded or not: the catalog is resolved before modules come.
     pub fn symbols(&self, object: ObjId) -> Option<u16>
-        ensures { result ≡ option_map (λ (found : Object). length found.symbols) (slice_get self.now.image.objects object) }
+        ensures { result ≡ option_map (λ (found : Object). length found.symbols)
+            (slice_get self.now.image.objects object) }
     {
         let object = self.objects.get(usize::from(object.0))?;
         Some(object.symbols.len() as u16)

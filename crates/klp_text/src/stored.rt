@@ -39,7 +39,8 @@ impl StoredSymbol {
         requires near { FitsSigned w32 (displacement handler self.old.address) }
         ensures address { self.new.address ≡ self.old.address }
         ensures flag { self.new.hooked ≡ hooked }
-        ensures body { self.new.body.items ≡ with_entry (entry_bytes handler self.old.address hooked) self.old.body.items }
+        ensures body { self.new.body.items
+            ≡ with_entry (entry_bytes handler self.old.address hooked) self.old.body.items }
     {
         let entry = if hooked {
             call(handler, self.address)

@@ -11,8 +11,10 @@ ghost use Rattle.klp_types.specs.Examples.{patched_kernel, objects_refusing_in, 
 /// A cumulative patch puts a nop on a site for which it has no function and an older patch has one, because
 /// it takes the older one's function back; and nothing where no older patch has one.
 pub fn a_nop_stands_over_an_older_patch()
-    ensures nop { entries_from patched_kernel 1 (1 ∷ 0 ∷ []) ≡ record { patch = 1; func = None } ∷ record { patch = 0; func = Some 1 } ∷ [] }
-    ensures own { entries_from patched_kernel 0 (1 ∷ 0 ∷ []) ≡ record { patch = 1; func = Some 0 } ∷ record { patch = 0; func = Some 0 } ∷ [] }
+    ensures nop { entries_from patched_kernel 1 (1 ∷ 0 ∷ [])
+        ≡ record { patch = 1; func = None } ∷ record { patch = 0; func = Some 1 } ∷ [] }
+    ensures own { entries_from patched_kernel 0 (1 ∷ 0 ∷ [])
+        ≡ record { patch = 1; func = Some 0 } ∷ record { patch = 0; func = Some 0 } ∷ [] }
     ensures oldest { entries_from patched_kernel 1 (1 ∷ []) ≡ [] }
     ensures newer { entries_from patched_kernel 1 (0 ∷ 1 ∷ []) ≡ record { patch = 0; func = Some 1 } ∷ [] }
 {}
@@ -20,17 +22,27 @@ pub fn a_nop_stands_over_an_older_patch()
 /// A task that isn't brought to the moving patch passes over its entry; another one doesn't, and runs
 /// the original where that is a nop.
 pub fn tasks_pass_over_the_moving_entry()
-    ensures older { newest_version 0 (entries_for (Some (record { patch = 1; target = true })) (pos 0) (entries_from patched_kernel 0 (1 ∷ 0 ∷ []))) ≡ New 0 0 }
-    ensures newest { newest_version 0 (entries_for (Some (record { patch = 1; target = true })) (pos 1) (entries_from patched_kernel 0 (1 ∷ 0 ∷ []))) ≡ New 1 0 }
-    ensures below_a_nop { newest_version 1 (entries_for (Some (record { patch = 1; target = true })) (pos 0) (entries_from patched_kernel 1 (1 ∷ 0 ∷ []))) ≡ New 0 1 }
-    ensures nop { newest_version 1 (entries_for (Some (record { patch = 1; target = true })) (pos 1) (entries_from patched_kernel 1 (1 ∷ 0 ∷ []))) ≡ Original 1 }
+    ensures older { newest_version 0
+        (entries_for (Some (record { patch = 1; target = true })) (pos 0) (entries_from patched_kernel 0 (1 ∷ 0 ∷ [])))
+        ≡ New 0 0 }
+    ensures newest { newest_version 0
+        (entries_for (Some (record { patch = 1; target = true })) (pos 1) (entries_from patched_kernel 0 (1 ∷ 0 ∷ [])))
+        ≡ New 1 0 }
+    ensures below_a_nop { newest_version 1
+        (entries_for (Some (record { patch = 1; target = true })) (pos 0) (entries_from patched_kernel 1 (1 ∷ 0 ∷ [])))
+        ≡ New 0 1 }
+    ensures nop { newest_version 1
+        (entries_for (Some (record { patch = 1; target = true })) (pos 1) (entries_from patched_kernel 1 (1 ∷ 0 ∷ [])))
+        ≡ Original 1 }
 {}
 
 /// A new function begins at its own address, an original behind its entry site, so that it doesn't call the
 /// handler again. What isn't there begins nowhere.
 pub fn versions_begin_where_their_code_does()
-    ensures new { target_of patched_kernel (New 0 1) ≡ Some (record { version = New 0 1; address = 0xffff_ffff_c000_1100 }) }
-    ensures original { target_of patched_kernel (Original 1) ≡ Some (record { version = Original 1; address = 0xffff_ffff_8100_2005 }) }
+    ensures new { target_of patched_kernel (New 0 1)
+        ≡ Some (record { version = New 0 1; address = 0xffff_ffff_c000_1100 }) }
+    ensures original { target_of patched_kernel (Original 1)
+        ≡ Some (record { version = Original 1; address = 0xffff_ffff_8100_2005 }) }
     ensures no_site { target_of patched_kernel (Original 3) ≡ None }
     ensures no_function { target_of patched_kernel (New 0 3) ≡ None }
 {}
@@ -39,7 +51,8 @@ pub fn versions_begin_where_their_code_does()
 /// get post-unpatch.
 pub fn enabling_stops_at_the_object_that_refuses()
     ensures first { ran (enable_calls 0 (objects_refusing_in 2)) ≡ (0, Pre) ∷ [] }
-    ensures last { ran (enable_calls 0 (objects_refusing_in 1)) ≡ (0, Pre) ∷ (1, Pre) ∷ (2, Pre) ∷ (0, PostUn) ∷ (1, PostUn) ∷ [] }
+    ensures last { ran (enable_calls 0 (objects_refusing_in 1))
+        ≡ (0, Pre) ∷ (1, Pre) ∷ (2, Pre) ∷ (0, PostUn) ∷ (1, PostUn) ∷ [] }
     ensures none { ran (enable_calls 0 (objects_refusing_in 3)) ≡ (0, Pre) ∷ (1, Pre) ∷ (2, Pre) ∷ [] }
 {}
 
@@ -47,5 +60,6 @@ pub fn enabling_stops_at_the_object_that_refuses()
 /// order of the patch's objects.
 pub fn transitions_end_with_the_callbacks_of_their_target()
     ensures patched { ran (calls_of 0 (end_of true) (objects_refusing_in 3)) ≡ (0, Post) ∷ (1, Post) ∷ (2, Post) ∷ [] }
-    ensures withdrawn { ran (calls_of 0 (end_of false) (objects_refusing_in 3)) ≡ (0, PostUn) ∷ (1, PostUn) ∷ (2, PostUn) ∷ [] }
+    ensures withdrawn { ran (calls_of 0 (end_of false) (objects_refusing_in 3))
+        ≡ (0, PostUn) ∷ (1, PostUn) ∷ (2, PostUn) ∷ [] }
 {}

@@ -29,7 +29,8 @@ use crate::limits::{
 pub fn text_is_as_built_but_for_entry_sites()
     ensures { (image : Image) (hooked : ℕ → Bool) (object : ℕ) (number : ℕ)
         → symbol_in (text_where image hooked object) number
-        ≡ option_map (patched image.handler (hooked (first_site image.objects object + number))) (given_symbol image object number) }
+        ≡ option_map (patched image.handler (hooked (first_site image.objects object + number)))
+        (given_symbol image object number) }
 {}
 
 /// A function whose site isn't hooked reads the NOP, and behind it as it was built: so a function that no
@@ -51,21 +52,26 @@ pub fn keys_are_in_order()
 
 /// Where shadow variables are taken out, no more are left than there were: so a removal never wants room.
 pub fn no_more_variables_are_left()
-    ensures { (shadow : Shadow) (keep : ShadowKey → Bool) → finite.len (finite.retain_keys shadow keep) ≤ finite.len shadow }
+    ensures { (shadow : Shadow) (keep : ShadowKey → Bool)
+        → finite.len (finite.retain_keys shadow keep) ≤ finite.len shadow }
 {}
 
 /// An edit changes each shadow variable by itself, and so do edits one after another. What a script does to
 /// one variable so follows without all others.
 pub fn edits_go_key_by_key()
-    ensures each { (patch : ℕ) (world : World) (edit : Edit) (key : ShadowKey) → variable (edited patch world edit) key ≡ edited_at key (variable world key) edit }
-    ensures all { (patch : ℕ) (world : World) (edits : List Edit) (key : ShadowKey) → variable (edited_by patch world edits) key ≡ made_of key (variable world key) edits }
+    ensures each { (patch : ℕ) (world : World) (edit : Edit) (key : ShadowKey)
+        → variable (edited patch world edit) key ≡ edited_at key (variable world key) edit }
+    ensures all { (patch : ℕ) (world : World) (edits : List Edit) (key : ShadowKey)
+        → variable (edited_by patch world edits) key ≡ made_of key (variable world key) edits }
 {}
 
 /// A shadow variable that no edit touches stays as it is, and one that a script doesn't touch. So what a
 /// patch's callbacks can have changed is known from their scripts.
 pub fn untouched_variables_stay()
-    ensures edits { (edits : List Edit) (key : ShadowKey) (was : Option ShadowValue) → list_any (edit_touches key) edits ≡ false → made_of key was edits ≡ was }
-    ensures script { (patch : ℕ) (world : World) (script : Script) (key : ShadowKey) → touches script key ≡ false → variable (effect patch world script) key ≡ variable world key }
+    ensures edits { (edits : List Edit) (key : ShadowKey) (was : Option ShadowValue)
+        → list_any (edit_touches key) edits ≡ false → made_of key was edits ≡ was }
+    ensures script { (patch : ℕ) (world : World) (script : Script) (key : ShadowKey) → touches script key ≡ false
+        → variable (effect patch world script) key ≡ variable world key }
 {}
 
 /// Two scripts that touch no common shadow variable leave the same shadow variables in either order. Of the
@@ -77,19 +83,23 @@ pub fn scripts_apart_commute()
 
 /// A script leaves the states of every patch but its own: no edit names another patch.
 pub fn states_of_others_stay()
-    ensures { (patch other : ℕ) (world : World) (script : Script) → (other ≡ patch → ⊥) → states_of other (effect patch world script).installed ≡ states_of other world.installed }
+    ensures { (patch other : ℕ) (world : World) (script : Script) → (other ≡ patch → ⊥)
+        → states_of other (effect patch world script).installed ≡ states_of other world.installed }
 {}
 
 /// A script leaves which patches are installed, and in which order, so callbacks can't enable or disable.
 pub fn installed_patches_stay()
-    ensures { (patch : ℕ) (world : World) (script : Script) → map (λ (i : Installed). i.patch) (effect patch world script).installed ≡ map (λ (i : Installed). i.patch) world.installed }
+    ensures { (patch : ℕ) (world : World) (script : Script)
+        → map (λ (i : Installed). i.patch) (effect patch world script).installed
+        ≡ map (λ (i : Installed). i.patch) world.installed }
 {}
 
 /// Where there is room for the shadow variables that edits add, the first of them leaves room for those
 /// that the others add. So room is asked for once, before the first edit.
 pub fn edits_keep_to_their_room()
     ensures { (patch : ℕ) (world : World) (edit : Edit) (edits : List Edit)
-        → finite.len (edited patch world edit).shadow + alloc_count edits ≤ finite.len world.shadow + alloc_count (edit ∷ edits) }
+        → finite.len (edited patch world edit).shadow + alloc_count edits ≤ finite.len world.shadow + alloc_count (edit
+        ∷ edits) }
 {}
 
 /// A script adds no more shadow variables than it has edits that add one; fewer where a variable is there
@@ -109,8 +119,10 @@ pub fn allocs_are_edits()
 /// Which shadow variables callbacks leave depends on those that were there, and on nothing else of
 /// the world: a value that is taken over is a state's, and leaves them.
 pub fn variables_go_by_variables_alone()
-    ensures taken { (world : World) (patch id : ℕ) (value : Option ℕ) → (value_taken world patch id value).shadow ≡ world.shadow }
-    ensures after { (a b : World) (calls : List Call) → a.shadow ≡ b.shadow → (after_calls a calls).shadow ≡ (after_calls b calls).shadow }
+    ensures taken { (world : World) (patch id : ℕ) (value : Option ℕ)
+        → (value_taken world patch id value).shadow ≡ world.shadow }
+    ensures after { (a b : World) (calls : List Call) → a.shadow ≡ b.shadow
+        → (after_calls a calls).shadow ≡ (after_calls b calls).shadow }
 {}
 
 /// The sites of an image are the symbols of its objects, one object after another: so an object's sites are
@@ -126,7 +138,8 @@ pub fn sites_go_object_by_object()
 /// The sites of an object are next to each other, from its first site on, so that a walk over them is a
 /// count.
 pub fn sites_of_an_object_stand_together()
-    ensures symbols { (objects : List Object) (index place : ℕ) (object : Object) → slice_get objects index ≡ Some object → place < length object.symbols
+    ensures symbols { (objects : List Object) (index place : ℕ) (object : Object)
+        → slice_get objects index ≡ Some object → place < length object.symbols
         → slice_get (symbols_of objects) (first_site objects index + place) ≡ slice_get object.symbols place }
     ensures within { (objects : List Object) (index : ℕ) (object : Object) → slice_get objects index ≡ Some object
         → first_site objects index + length object.symbols ≤ length (symbols_of objects) }
@@ -134,7 +147,8 @@ pub fn sites_of_an_object_stand_together()
 
 /// Patches put an entry on a site exactly where one of them has a function for it: nops alone hook nothing.
 pub fn entries_stand_where_functions_are()
-    ensures { (setting : Setting) (site : ℕ) (patches : List ℕ) → not (is_empty (entries_from setting site patches)) ≡ list_any (patches_site setting site) patches }
+    ensures { (setting : Setting) (site : ℕ) (patches : List ℕ)
+        → not (is_empty (entries_from setting site patches)) ≡ list_any (patches_site setting site) patches }
 {}
 
 /// A patch that is put last gets its entry on top of those of the older patches: its function, or a nop
@@ -142,7 +156,8 @@ pub fn entries_stand_where_functions_are()
 pub fn the_newest_entry_is_on_top()
     ensures { (setting : Setting) (site patch : ℕ) (older : List ℕ)
         → entries_from setting site (patch ∷ older)
-        ≡ entry_of patch (function_for (functions_of setting patch) site) (replaces setting patch && not (is_empty (entries_from setting site older)))
+        ≡ entry_of patch (function_for (functions_of setting patch) site) (replaces setting patch
+        && not (is_empty (entries_from setting site older)))
         ++ entries_from setting site older }
 {}
 
@@ -150,12 +165,14 @@ pub fn the_newest_entry_is_on_top()
 /// entry that isn't a nop names a function that its patch has.
 pub fn entries_are_of_their_patches()
     ensures installed { (setting : Setting) (site patch : ℕ) (patches : List ℕ)
-        → list_any (λ (e : Entry). e.patch == patch) (entries_from setting site patches) ≡ true → list_any (λ p. p == patch) patches ≡ true }
+        → list_any (λ (e : Entry). e.patch == patch) (entries_from setting site patches) ≡ true
+        → list_any (λ p. p == patch) patches ≡ true }
     ensures own { (setting : Setting) (site patch : ℕ) (patches : List ℕ)
         → list_any (λ (e : Entry). e.patch == patch) (entries_from setting site patches) ≡ true
         → (is_some (function_for (functions_of setting patch) site) || replaces setting patch) ≡ true }
     ensures functions { (setting : Setting) (site : ℕ) (patches : List ℕ)
-        → All (λ (e : Entry). IfSome e.func (λ f. f < length (functions_of setting e.patch))) (entries_from setting site patches) }
+        → All (λ (e : Entry). IfSome e.func (λ f. f < length (functions_of setting e.patch)))
+        (entries_from setting site patches) }
 {}
 
 /// How much there may be of everything, and where an entry site is. Definitions and code name the limits

@@ -147,7 +147,8 @@ impl Records {
 
     /// Takes the newest record out, if there is one: undoing takes the list apart from its end.
     pub fn take_last(&mut self) -> Option<Record>
-        ensures newest { IfSome result (λ newest. self.old ≡ record self.new { noted = self.new.noted ++ newest ∷ [] }) }
+        ensures newest { IfSome result
+            (λ newest. self.old ≡ record self.new { noted = self.new.noted ++ newest ∷ [] }) }
         ensures empty { IfNone result (self.old.noted ≡ []) }
         ensures unchanged { IfNone result (self.new ≡ self.old) }
     {

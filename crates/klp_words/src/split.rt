@@ -66,7 +66,8 @@ impl<'a> Words<'a> {
 /// and that of what separates it from the front.
 pub fn first_word(line: &[u8], separators: Separators) -> Option<(&[u8], &[u8])>
     ensures { MatchOption result (words_between (separates separators) line.now ≡ [])
-        (λ found. words_between (separates separators) line.now ≡ found.0.now ∷ words_between (separates separators) found.1.now) }
+        (λ found. words_between (separates separators) line.now ≡ found.0.now ∷ words_between
+        (separates separators) found.1.now) }
 {
     let (_, line) = line.split_at(gap_len(line, separators));
     let (word, rest) = line.split_at(word_len(line, separators));

@@ -16,19 +16,22 @@ use klp_types::MAX_VARIABLES;
 /// id logs each variable that it takes out.
 pub fn records_are_few()
     ensures { (patch : ℕ) (world : World) (script : Script)
-        → length (rows_of_script patch world script) + finite.len (effect patch world script).shadow ≤ finite.len world.shadow + length script.edits + alloc_count script.edits }
+        → length (rows_of_script patch world script) + finite.len (effect patch world script).shadow
+        ≤ finite.len world.shadow + length script.edits + alloc_count script.edits }
 {}
 
 /// The shadow variables of an id, each of which a removal logs, and those that are left are all. So a
 /// removal logs no more than it takes out.
 pub fn freed_and_left_are_all()
-    ensures { (world : World) (id : ℕ) → length (rows_of_free_all world id) + finite.len (without_id world id).shadow ≡ finite.len world.shadow }
+    ensures { (world : World) (id : ℕ)
+        → length (rows_of_free_all world id) + finite.len (without_id world id).shadow ≡ finite.len world.shadow }
 {}
 
 /// The records of a script give back the world before it, where that has room for all that the script adds:
 /// a variable that is put back needs its place too.
 pub fn scripts_are_undone()
-    ensures { (patch : ℕ) (world : World) (script : Script) → finite.len world.shadow + alloc_count script.edits ≤ MAX_VARIABLES
+    ensures { (patch : ℕ) (world : World) (script : Script)
+        → finite.len world.shadow + alloc_count script.edits ≤ MAX_VARIABLES
         → undone (effect patch world script) (rows_of_script patch world script) ≡ world }
 {}
 
@@ -41,5 +44,6 @@ pub fn what_is_noted_is_of_the_world()
     ensures free_all { (world : World) (id : ℕ) → All (λ row. is_of_world row ≡ true) (rows_of_free_all world id) }
     ensures add { (patch : ℕ) (ids : List ℕ) → All (λ row. is_of_world row ≡ true) (rows_of_add patch ids) }
     ensures drop { (world : World) (patch : ℕ) → All (λ row. is_of_world row ≡ true) (rows_of_drop world patch) }
-    ensures script { (patch : ℕ) (world : World) (script : Script) → All (λ row. is_of_world row ≡ true) (rows_of_script patch world script) }
+    ensures script { (patch : ℕ) (world : World) (script : Script)
+        → All (λ row. is_of_world row ≡ true) (rows_of_script patch world script) }
 {}

@@ -166,7 +166,8 @@ impl World {
         requires room { variable self.old key ≡ None → finite.len self.old.shadow < MAX_VARIABLES }
         requires records { length (rows_of_alloc self.old key) ≤ spare_of log.old }
         ensures answer { result ≡ is_none (variable self.old key) }
-        ensures changes { Changes self.old self.new log.old log.new (allocated self.old key value (variable self.old key)) (rows_of_alloc self.old key) }
+        ensures changes { Changes self.old self.new log.old log.new
+            (allocated self.old key value (variable self.old key)) (rows_of_alloc self.old key) }
     {
         if self.shadow.get(key).is_some() {
             return false;
@@ -187,7 +188,8 @@ impl World {
         requires room { variable self.old key ≡ None → finite.len self.old.shadow < MAX_VARIABLES }
         requires records { length (rows_of_alloc self.old key) ≤ spare_of log.old }
         ensures answer { result ≡ unwrap_or (variable self.old key) value }
-        ensures changes { Changes self.old self.new log.old log.new (allocated self.old key value (variable self.old key)) (rows_of_alloc self.old key) }
+        ensures changes { Changes self.old self.new log.old log.new
+            (allocated self.old key value (variable self.old key)) (rows_of_alloc self.old key) }
     {
         let there = self.get(key);
         self.alloc(key, value, log);
@@ -199,7 +201,8 @@ impl World {
     pub fn free(&mut self, key: ShadowKey, log: &mut Records) -> bool
         requires { length (rows_of_free self.old key) ≤ spare_of log.old }
         ensures answer { result ≡ is_some (variable self.old key) }
-        ensures changes { Changes self.old self.new log.old log.new (without_variable self.old key) (rows_of_free self.old key) }
+        ensures changes { Changes self.old self.new log.old log.new (without_variable self.old key)
+            (rows_of_free self.old key) }
     {
         let Some(was) = self.shadow.remove(key) else {
             return false;
@@ -218,7 +221,8 @@ impl World {
         requires { length (rows_of_free_all self.old id) ≤ spare_of log.old }
         ensures answer { result ≡ length (rows_of_free_all self.old id) }
         ensures count { result + finite.len self.new.shadow ≡ finite.len self.old.shadow }
-        ensures changes { Changes self.old self.new log.old log.new (without_id self.old id) (rows_of_free_all self.old id) }
+        ensures changes { Changes self.old self.new log.old log.new (without_id self.old id)
+            (rows_of_free_all self.old id) }
     {
         let before = self.shadow.len();
         self.shadow.remove_id(id, log);
@@ -232,7 +236,8 @@ impl World {
         requires room { length self.old.installed < MAX_PATCHES }
         requires states { length ids.now ≤ MAX_STATES }
         requires records { length (rows_of_add patch ids.now) ≤ spare_of log.old }
-        ensures changes { Changes self.old self.new log.old log.new (with_patch self.old patch ids.now) (rows_of_add patch ids.now) }
+        ensures changes { Changes self.old self.new log.old log.new (with_patch self.old patch ids.now)
+            (rows_of_add patch ids.now) }
     {
         log.note(Record::InstalledPatch { patch, place: None });
         let mut installed = InstalledPatch::new(patch);
@@ -251,7 +256,8 @@ impl World {
     /// states are logged before the patch, so that the patch is back before they are.
     pub fn drop_states(&mut self, patch: PatchId, log: &mut Records)
         requires { length (rows_of_drop self.old patch) ≤ spare_of log.old }
-        ensures changes { Changes self.old self.new log.old log.new (without_patch self.old patch) (rows_of_drop self.old patch) }
+        ensures changes { Changes self.old self.new log.old log.new (without_patch self.old patch)
+            (rows_of_drop self.old patch) }
     {
         let Some(place) = place_of_patch(&self.patches, patch) else {
             return;
@@ -280,7 +286,8 @@ impl World {
     /// installed or doesn't name the state, since to name a state is what makes it the patch's.
     pub fn set_value(&mut self, patch: PatchId, id: u64, value: u64, log: &mut Records)
         requires { length (rows_of_set self.old patch id value) ≤ spare_of log.old }
-        ensures changes { Changes self.old self.new log.old log.new (with_value self.old patch id value) (rows_of_set self.old patch id value) }
+        ensures changes { Changes self.old self.new log.old log.new (with_value self.old patch id value)
+            (rows_of_set self.old patch id value) }
     {
         if let Some(was) = self.replace_value(patch, id, value) {
             // A value that is set again is no change (docs/DECISIONS.md, "No record of an unchanged row").
