@@ -1,11 +1,10 @@
-//! What only calls tell of a catalog: looks by number, what system states decide, and which faults
-//! another number of callbacks has. What a catalog and a script show stands beside the examples.
-use crate::shown::outcome;
+//! What no line of the console tells of a catalog: functions for no site, which patch had a system state
+//! before, what there is beyond its patches and objects, and the faults of another number of callbacks.
+use crate::shown::{Given, outcome};
 use klp_catalog::{AssembleFault, Catalog};
 use klp_program::Fault;
 use klp_types::{ObjId, PatchId, Site};
-use std::alloc::{AllocError, Global};
-use std::test::Fail;
+use std::alloc::Global;
 
 /// Two objects with a symbol of one name, and a name that two symbols of the first one have.
 const OBJECTS: &str = "handler ffffffff81000000
@@ -33,173 +32,6 @@ patch y
 state 7 1
 ";
 
-/// A catalog's text: the objects, and then these patches.
-fn text_of(alloc: Global, patches: &str) -> Result<String, AllocError> {
-    let mut text = String::from_str(alloc, OBJECTS)?;
-    text.push_str(patches)?;
-    Ok(text)
-}
-
-/// The number of a patch by its name, its name by its number, and whether it is cumulative.
-fn is_told(catalog: &Catalog, number: u8, name: &str, replaces: bool) -> bool {
-    let patch = PatchId(number);
-    catalog.patch(name) == Some(patch)
-        && catalog.patch_name(patch) == Some(name)
-        && catalog.replaces(patch) == Some(replaces)
-}
-
-/// Whether the five patches are told so.
-fn are_named(catalog: &Catalog) -> bool {
-    catalog.patches() == 5
-        && is_told(catalog, 0, "p", false)
-        && is_told(catalog, 1, "q", false)
-        && is_told(catalog, 2, "c", true)
-        && is_told(catalog, 3, "x", true)
-        && is_told(catalog, 4, "y", false)
-}
-
-/// How many symbols objects have, one more than there are.
-fn are_counted(catalog: &Catalog) -> bool {
-    let symbols = [
-        catalog.symbols(ObjId(0)),
-        catalog.symbols(ObjId(1)),
-        catalog.symbols(ObjId(2)),
-    ];
-    symbols == [Some(3), Some(1), None]
-}
-
-/// The objects of the first patch, one more than it has, and the first of a patch that isn't there.
-fn are_targets(catalog: &Catalog) -> bool {
-    let objects = [
-        catalog.target(PatchId(0), 0),
-        catalog.target(PatchId(0), 1),
-        catalog.target(PatchId(0), 2),
-        catalog.target(PatchId(5), 0),
-    ];
-    objects == [Some(ObjId(1)), Some(ObjId(0)), None, None]
-}
-
-/// A function of the first patch.
-fn is_function(
-    catalog: &Catalog,
-    number: u16,
-    site: Option<Site>,
-    name: &str,
-    address: u64,
-) -> bool {
-    catalog.function(PatchId(0), number) == Some((site, name, address))
-}
-
-/// A function as it stands in the catalog: its name, its symbol and the symbol's position.
-fn is_of_symbol(catalog: &Catalog, number: u16, name: &str, symbol: &str, sympos: u32) -> bool {
-    match catalog.functions(PatchId(0)).get(usize::from(number)) {
-        Some(function) => {
-            function.new_name() == name
-                && function.symbol() == symbol
-                && function.sympos() == sympos
-        }
-        None => false,
-    }
-}
-
-/// The functions of the first patch, and no more of them.
-fn are_functions(catalog: &Catalog) -> bool {
-    is_function(catalog, 0, Some(Site(3)), "f_m", 1)
-        && is_function(catalog, 1, Some(Site(2)), "d_p", 2)
-        // two symbols have its name
-        && is_function(catalog, 2, None, "unresolved", 3)
-        && catalog.function(PatchId(0), 3).is_none()
-        && is_of_symbol(catalog, 0, "f_m", "f", 0)
-        && is_of_symbol(catalog, 1, "d_p", "d", 2)
-        && is_of_symbol(catalog, 2, "unresolved", "d", 0)
-}
-
-/// Whether a patch can be installed beside two others, where all three are there.
-fn goes_with(catalog: &Catalog, patch: u8, first: u8, second: u8) -> Option<bool> {
-    let patches = catalog.patches();
-    if patch >= patches || first >= patches || second >= patches {
-        return None;
-    }
-    Some(catalog.is_compatible(PatchId(patch), &[PatchId(first), PatchId(second)]))
-}
-
-/// The newest patch before this one that names the state, where y, p, q and c are installed.
-fn newest_before(catalog: &Catalog, patch: u8, id: u64) -> Option<PatchId> {
-    let patches = catalog.patches();
-    if patch >= patches || patches <= 4 {
-        return None;
-    }
-    catalog.previous_state(
-        PatchId(patch),
-        id,
-        &[PatchId(4), PatchId(0), PatchId(1), PatchId(2)],
-    )
-}
-
-/// Which of the patches p, q, c, x and y go with two others.
-fn are_compatible(catalog: &Catalog) -> bool {
-    let compatible = [
-        goes_with(catalog, 0, 0, 1),
-        goes_with(catalog, 1, 0, 0),
-        goes_with(catalog, 2, 0, 1),
-        goes_with(catalog, 3, 0, 1),
-        goes_with(catalog, 4, 0, 1),
-        // a higher version will do, and each of the others counts
-        goes_with(catalog, 0, 4, 1),
-        goes_with(catalog, 3, 1, 4),
-        goes_with(catalog, 3, 1, 1),
-    ];
-    compatible
-        == [
-            Some(true),
-            Some(true),
-            Some(true),
-            Some(false),
-            Some(false),
-            Some(true),
-            Some(false),
-            Some(true),
-        ]
-}
-
-/// The patches before each one that name a state.
-fn have_previous(catalog: &Catalog) -> bool {
-    let previous = [
-        newest_before(catalog, 2, 7),
-        newest_before(catalog, 1, 7),
-        newest_before(catalog, 0, 7),
-        newest_before(catalog, 4, 7),
-        // it isn't installed: all are before it
-        newest_before(catalog, 3, 7),
-        newest_before(catalog, 2, 8),
-    ];
-    let (p, y, c) = (PatchId(0), PatchId(4), PatchId(2));
-    previous == [Some(p), Some(p), Some(y), None, Some(c), None]
-}
-
-/// Whether a catalog tells its patches, symbols, objects and functions and what system states decide
-/// as one over `PATCHES` has to.
-pub fn told(catalog: &Catalog) -> [bool; 6] {
-    [
-        are_named(catalog),
-        are_counted(catalog),
-        are_targets(catalog),
-        are_functions(catalog),
-        are_compatible(catalog),
-        have_previous(catalog),
-    ]
-}
-
-#[test]
-fn patches_and_functions_have_numbers_and_system_states_decide(
-    rt: HostRuntime,
-) -> Result<(), Fail> {
-    let text = text_of(rt.alloc(), PATCHES)?;
-    let shown = outcome(rt.alloc(), text.as_str(), 0, &[])?;
-    assert_eq!(rt; shown.told, [true; 6]);
-    Ok(())
-}
-
 /// Two functions for one site, and a callback.
 const TWICE: &str = "patch p
 target vmlinux
@@ -217,26 +49,126 @@ target m
 pre 0
 ";
 
-/// The fault of patches with so many callbacks.
-fn fault_with(alloc: Global, patches: &str, callbacks: usize) -> Result<Option<Fault>, AllocError> {
-    let text = text_of(alloc, patches)?;
-    Ok(outcome(alloc, text.as_str(), callbacks, &[]).err())
+const P: PatchId = PatchId(0);
+
+const Q: PatchId = PatchId(1);
+
+const C: PatchId = PatchId(2);
+
+const X: PatchId = PatchId(3);
+
+const Y: PatchId = PatchId(4);
+
+/// The number of a patch by its name, its name by its number, and whether it is cumulative.
+fn is_named(catalog: &Catalog, patch: PatchId, name: &str, replaces: bool) -> bool {
+    catalog.patch(name) == Some(patch)
+        && catalog.patch_name(patch) == Some(name)
+        && catalog.replaces(patch) == Some(replaces)
+}
+
+fn are_named(catalog: &Catalog) -> bool {
+    catalog.patches() == 5
+        && is_named(catalog, P, "p", false)
+        && is_named(catalog, Q, "q", false)
+        && is_named(catalog, C, "c", true)
+        && is_named(catalog, X, "x", true)
+        && is_named(catalog, Y, "y", false)
+}
+
+/// How many symbols objects have, the objects of the first patch, and nothing beyond.
+fn ends(catalog: &Catalog) -> bool {
+    let symbols = [
+        catalog.symbols(ObjId(0)),
+        catalog.symbols(ObjId(1)),
+        catalog.symbols(ObjId(2)),
+    ];
+    let targets = [
+        catalog.target(P, 0),
+        catalog.target(P, 1),
+        catalog.target(P, 2),
+        catalog.target(PatchId(5), 0),
+    ];
+    symbols == [Some(3), Some(1), None]
+        && targets == [Some(ObjId(1)), Some(ObjId(0)), None, None]
+        && catalog.function(P, 3).is_none()
+}
+
+/// The functions of the first patch: their sites, names and addresses.
+fn are_functions(catalog: &Catalog) -> bool {
+    catalog.function(P, 0) == Some((Some(Site(3)), "f_m", 1))
+        && catalog.function(P, 1) == Some((Some(Site(2)), "d_p", 2))
+        // two symbols have its name
+        && catalog.function(P, 2) == Some((None, "unresolved", 3))
+}
+
+/// Their symbols and positions.
+fn are_of_symbols(catalog: &Catalog) -> bool {
+    let [first, second, third] = catalog.functions(P) else {
+        return false;
+    };
+    (first.symbol(), first.sympos()) == ("f", 0)
+        && (second.symbol(), second.sympos()) == ("d", 2)
+        && (third.symbol(), third.sympos()) == ("d", 0)
+}
+
+/// The newest patch before each one that names a state, where y, p, q and c are installed; and that p goes
+/// with its own states.
+fn have_previous(catalog: &Catalog) -> bool {
+    if catalog.patches() <= 4 {
+        return false;
+    }
+    let installed = [Y, P, Q, C];
+    let previous = [
+        catalog.previous_state(C, 7, &installed),
+        catalog.previous_state(Q, 7, &installed),
+        catalog.previous_state(P, 7, &installed),
+        catalog.previous_state(Y, 7, &installed),
+        // it isn't installed: all are before it
+        catalog.previous_state(X, 7, &installed),
+        catalog.previous_state(C, 8, &installed),
+    ];
+    previous == [Some(P), Some(P), Some(Y), None, Some(C), None]
+        && catalog.is_compatible(P, &[P, Q])
+}
+
+/// Whether a catalog tells of its patches and objects what one over `PATCHES` has to.
+pub fn told(catalog: &Catalog) -> bool {
+    are_named(catalog)
+        && ends(catalog)
+        && are_functions(catalog)
+        && are_of_symbols(catalog)
+        && have_previous(catalog)
+}
+
+/// What a catalog of these patches with so many callbacks tells, or its fault.
+fn told_of(alloc: Global, patches: &str, callbacks: usize) -> Result<bool, Fault> {
+    let mut text = String::from_str(alloc, OBJECTS)?;
+    text.push_str(patches)?;
+    let given = Given {
+        text: text.as_str(),
+        callbacks,
+        runs: 0,
+    };
+    Ok(outcome(alloc, given, &[])?.told)
 }
 
 #[test]
-fn another_number_of_callbacks_is_told_first(rt: HostRuntime) -> Result<(), Fail> {
-    let wrong = Some(Fault::Assemble(AssembleFault::WrongCallbacks));
-    let same = Some(Fault::Assemble(AssembleFault::SameSite));
-    for (patches, callbacks, wanted) in [
-        (THREE, 3, None),
+fn catalogs_are_told_and_another_number_of_callbacks_is_refused(rt: HostRuntime) {
+    let wrong = Err(Fault::Assemble(AssembleFault::WrongCallbacks));
+    for (number, (patches, callbacks, wanted)) in [
+        (PATCHES, 0, Ok(true)),
+        (THREE, 3, Ok(false)),
         (THREE, 2, wrong),
         (THREE, 4, wrong),
-        (TWICE, 1, same),
+        // another number is told first
+        (TWICE, 1, Err(Fault::Assemble(AssembleFault::SameSite))),
         (TWICE, 0, wrong),
         (TWICE, 2, wrong),
-    ] {
-        let told = fault_with(rt.alloc(), patches, callbacks)?;
-        assert!(rt; told == wanted);
+    ]
+    .into_iter()
+    .enumerate()
+    {
+        let told = told_of(rt.alloc(), patches, callbacks);
+        assert!(rt; told == wanted, "case {number}");
     }
-    Ok(())
 }

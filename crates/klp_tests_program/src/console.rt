@@ -8,20 +8,9 @@ use klp_program::{CATALOG, Fault, served};
 use std::alloc::{AllocError, Global};
 use std::marker::Brand;
 use std::sync::ledger::{Blank, Ledger};
-use std::test::Fail;
 
-/// How many bytes a call gives or takes at most, and the number of the one that fails.
-#[derive(Clone, Copy)]
-struct Calls {
-    most: usize,
-    fails_at: Option<u32>,
-}
-
-/// Calls of few bytes, of which none fails.
-const SOUND: Calls = Calls {
-    most: 7,
-    fails_at: None,
-};
+/// How many bytes a call gives or takes at most.
+const MOST: usize = 7;
 
 /// How many bytes of answers there is room for.
 const ROOM: usize = 512;
@@ -33,20 +22,20 @@ struct Outcome {
     answers: Vec<u8>,
 }
 
-/// Serves the script over the built-in catalog.
+/// Serves the script over the built-in catalog, where these calls fail.
 fn serve_in_memory<L: Ledger, M: Ledger>(
     alloc: Global,
     script: &[u8],
-    reads: Calls,
-    writes: Calls,
+    read: Option<u32>,
+    write: Option<u32>,
     for_reads: Blank,
     for_writes: Blank,
 ) -> Result<Outcome, AllocError>
     requires reads { (for_reads.name ≡ L.name) × (for_reads.parts ≡ L.parts) × (2 ≤ for_reads.parts) }
     requires writes { (for_writes.name ≡ M.name) × (for_writes.parts ≡ M.parts) × (2 ≤ for_writes.parts) }
 {
-    let mut feed = Feed::<L>::new(script, reads.most.max(1), reads.fails_at, for_reads);
-    let mut taken = Taken::<ROOM, M>::new(writes.most.max(1), writes.fails_at, for_writes);
+    let mut feed = Feed::<L>::new(script, MOST, read, for_reads);
+    let mut taken = Taken::<ROOM, M>::new(MOST, write, for_writes);
     let ended = served(alloc, CATALOG, &mut feed, &mut taken);
     let answers = Vec::from_slice(alloc, taken.bytes())?;
     Ok(Outcome { ended, answers })
@@ -55,12 +44,12 @@ fn serve_in_memory<L: Ledger, M: Ledger>(
 fn serve_script(
     alloc: Global,
     script: &[u8],
-    reads: Calls,
-    writes: Calls,
+    read: Option<u32>,
+    write: Option<u32>,
 ) -> Result<Outcome, AllocError> {
     let for_reads = Blank::new(2);
     let for_writes = Blank::new(2);
-    serve_in_memory::<Brand, Brand>(alloc, script, reads, writes, for_reads, for_writes)
+    serve_in_memory::<Brand, Brand>(alloc, script, read, write, for_reads, for_writes)
 }
 
 /// Lines, each with its one line of answer.
@@ -104,29 +93,23 @@ const REWOUND: Script = &[
     ("cat /proc/1/patch_state", "error 2 NoTask"),
 ];
 
-/// The lines of a script, or their answers, as one text.
-fn text_of(alloc: Global, script: Script, of_answers: bool) -> Result<Vec<u8>, AllocError> {
-    let mut text = Vec::new(alloc);
-    for (line, answer) in script {
-        let one = if of_answers { answer } else { line };
-        text.extend_from_slice(one.as_bytes())?;
-        text.push(b'\n')?;
-    }
-    Ok(text)
+/// The lines of a script, and their answers.
+#[derive(Drop)]
+struct Texts {
+    lines: Vec<u8>,
+    answers: Vec<u8>,
 }
 
-/// As much of a text as its first lines have.
-fn first_lines(text: &[u8], lines: usize) -> &[u8] {
-    let mut left = lines;
-    for (index, byte) in text.iter().enumerate() {
-        if left == 0 {
-            return &text[..index];
-        }
-        if *byte == b'\n' {
-            left -= 1;
-        }
+fn texts_of(alloc: Global, script: Script) -> Result<Texts, AllocError> {
+    let mut lines = Vec::new(alloc);
+    let mut answers = Vec::new(alloc);
+    for (line, answer) in script {
+        lines.extend_from_slice(line.as_bytes())?;
+        lines.push(b'\n')?;
+        answers.extend_from_slice(answer.as_bytes())?;
+        answers.push(b'\n')?;
     }
-    text
+    Ok(Texts { lines, answers })
 }
 
 fn line_feeds(text: &[u8]) -> usize {
@@ -134,121 +117,115 @@ fn line_feeds(text: &[u8]) -> usize {
 }
 
 /// Whether the k-th read that fails is told, with all lines before it answered and no other.
-fn is_read_failure_told(alloc: Global, script: Script, k: usize) -> Result<bool, AllocError> {
-    let lines = text_of(alloc, script, false)?;
-    let answers = text_of(alloc, script, true)?;
-    let reads = Calls {
-        fails_at: u32::try_from(k).ok(),
-        ..SOUND
-    };
-    let ran = serve_script(alloc, &lines, reads, SOUND)?;
-    let heard = k.saturating_mul(SOUND.most).min(lines.len());
-    let wanted = first_lines(&answers, line_feeds(&lines[..heard]));
+fn is_read_failure_told(alloc: Global, texts: &Texts, k: usize) -> Result<bool, AllocError> {
+    let ran = serve_script(alloc, &texts.lines, u32::try_from(k).ok(), None)?;
+    let heard = k.saturating_mul(MOST).min(texts.lines.len());
     let is_told = ran.ended == Err(Fault::Serve(ServeFault::Read));
-    Ok(is_told && ran.answers.as_slice() == wanted)
+    Ok(
+        is_told
+            && texts.answers.starts_with(&ran.answers)
+            && line_feeds(&ran.answers) == line_feeds(&texts.lines[..heard])
+            && (ran.answers.is_empty() || ran.answers.ends_with(b"\n")),
+    )
 }
 
 /// Whether the k-th write that fails is told, and only a front of the answers was written.
-fn is_write_failure_told(alloc: Global, script: Script, k: usize) -> Result<bool, AllocError> {
-    let lines = text_of(alloc, script, false)?;
-    let answers = text_of(alloc, script, true)?;
-    let writes = Calls {
-        fails_at: u32::try_from(k).ok(),
-        ..SOUND
-    };
-    let ran = serve_script(alloc, &lines, SOUND, writes)?;
+fn is_write_failure_told(alloc: Global, texts: &Texts, k: usize) -> Result<bool, AllocError> {
+    let ran = serve_script(alloc, &texts.lines, None, u32::try_from(k).ok())?;
     let is_told = ran.ended == Err(Fault::Serve(ServeFault::Write));
-    let is_front = answers.starts_with(ran.answers.as_slice());
-    Ok(is_told && is_front && ran.answers.len() <= k.saturating_mul(SOUND.most))
+    Ok(
+        is_told
+            && texts.answers.starts_with(&ran.answers)
+            && ran.answers.len() <= k.saturating_mul(MOST),
+    )
 }
 
-#[test]
-fn all_lines_are_answered_where_nothing_fails(rt: HostRuntime) -> Result<(), Fail> {
-    for (script, lines, refused) in [(SLEEPER, 14, 0), (REWOUND, 18, 3)] {
-        let input = text_of(rt.alloc(), script, false)?;
-        let answers = text_of(rt.alloc(), script, true)?;
-        let ran = serve_script(rt.alloc(), &input, SOUND, SOUND)?;
-        assert!(rt; ran.ended == Ok(Served { lines, refused }));
-        assert_eq!(rt; ran.answers.as_slice(), answers.as_slice());
+/// Whether each read and each write that fails is told, one after another. The read behind the last byte
+/// fails too, and there are at least as many writes as all at once would take.
+fn are_failures_told(alloc: Global, script: Script) -> Result<bool, AllocError> {
+    let texts = texts_of(alloc, script)?;
+    let mut right = true;
+    for k in 0..=texts.lines.len().div_ceil(MOST) {
+        right = is_read_failure_told(alloc, &texts, k)? && right;
     }
-    Ok(())
+    for k in 0..texts.answers.len().div_ceil(MOST) {
+        right = is_write_failure_told(alloc, &texts, k)? && right;
+    }
+    Ok(right)
 }
 
 #[test]
-fn each_read_fails_in_its_turn(rt: HostRuntime) -> Result<(), Fail> {
+fn each_read_and_each_write_fails_in_its_turn(rt: HostRuntime) {
     for script in [SLEEPER, REWOUND] {
-        let len = text_of(rt.alloc(), script, false)?.len();
-        // the read behind the last byte fails too
-        for k in 0..=len.div_ceil(SOUND.most) {
-            let is_told = is_read_failure_told(rt.alloc(), script, k)?;
-            assert!(rt; is_told, "read {k}");
-        }
+        let told = are_failures_told(rt.alloc(), script);
+        assert!(rt; told == Ok(true));
     }
-    Ok(())
 }
 
-#[test]
-fn each_write_fails_in_its_turn(rt: HostRuntime) -> Result<(), Fail> {
-    for script in [SLEEPER, REWOUND] {
-        // there are at least as many writes as all at once would take
-        let len = text_of(rt.alloc(), script, true)?.len();
-        for k in 0..len.div_ceil(SOUND.most) {
-            let is_told = is_write_failure_told(rt.alloc(), script, k)?;
-            assert!(rt; is_told, "write {k}");
-        }
-    }
-    Ok(())
+/// Whether serving these lines comes to this.
+fn comes_to(
+    alloc: Global,
+    lines: &[u8],
+    ended: Result<Served, ServeFault>,
+    answers: &[u8],
+) -> Result<bool, AllocError> {
+    let ran = serve_script(alloc, lines, None, None)?;
+    Ok(ran.ended == ended.map_err(Fault::Serve) && ran.answers.as_slice() == answers)
 }
 
-/// The line `mark`, with spaces behind it to so many bytes.
-fn padded(alloc: Global, len: usize, is_ended: bool) -> Result<Vec<u8>, AllocError> {
+/// Whether all lines of a script are answered, of which so many are refused.
+fn are_answered(alloc: Global, script: Script, refused: u64) -> Result<bool, AllocError> {
+    let texts = texts_of(alloc, script)?;
+    let lines = script.len() as u64;
+    let ended = Ok(Served { lines, refused });
+    comes_to(alloc, &texts.lines, ended, &texts.answers)
+}
+
+/// The line `mark` twice, the second time with spaces behind it to so many bytes.
+fn padded(alloc: Global, len: usize, end: &[u8]) -> Result<Vec<u8>, AllocError> {
     let mut line = Vec::from_slice(alloc, b"mark\nmark")?;
     for _ in 4..len {
         line.push(b' ')?;
     }
-    if is_ended {
-        line.push(b'\n')?;
-    }
+    line.extend_from_slice(end)?;
     Ok(line)
 }
 
-#[test]
-fn a_line_has_256_bytes_at_most(rt: HostRuntime) -> Result<(), Fail> {
-    for is_ended in [false, true] {
-        let fits = serve_script(
-            rt.alloc(),
-            &padded(rt.alloc(), 256, is_ended)?,
-            SOUND,
-            SOUND,
-        )?;
-        assert!(rt;
-            fits.ended
-                == Ok(Served {
-                    lines: 2,
-                    refused: 0
-                })
-        );
-        assert_eq!(rt; fits.answers.as_slice(), b"0\n0\n".as_slice());
-        let long = serve_script(
-            rt.alloc(),
-            &padded(rt.alloc(), 257, is_ended)?,
-            SOUND,
-            SOUND,
-        )?;
-        assert!(rt; long.ended == Err(Fault::Serve(ServeFault::LineTooLong)));
-        assert_eq!(rt; long.answers.as_slice(), b"0\n".as_slice());
+/// Whether a line has 256 bytes at most, with a line feed behind it or none.
+fn are_lines_long(alloc: Global, end: &[u8]) -> Result<bool, AllocError> {
+    let both = Ok(Served {
+        lines: 2,
+        refused: 0,
+    });
+    let fits = comes_to(alloc, &padded(alloc, 256, end)?, both, b"0\n0\n")?;
+    let long = Err(ServeFault::LineTooLong);
+    Ok(comes_to(alloc, &padded(alloc, 257, end)?, long, b"0\n")? && fits)
+}
+
+/// Whether a sink without room for the last answer is a failed write.
+fn is_room_told(alloc: Global) -> Result<bool, AllocError> {
+    let mut lines = Vec::new(alloc);
+    let mut answers = Vec::new(alloc);
+    for _ in 0..ROOM / 2 {
+        lines.extend_from_slice(b"mark\n")?;
+        answers.extend_from_slice(b"0\n")?;
     }
-    Ok(())
+    lines.extend_from_slice(b"mark\n")?;
+    comes_to(alloc, &lines, Err(ServeFault::Write), &answers)
+}
+
+fn told(alloc: Global) -> Result<[bool; 5], AllocError> {
+    Ok([
+        are_answered(alloc, SLEEPER, 0)?,
+        are_answered(alloc, REWOUND, 3)?,
+        are_lines_long(alloc, b"")?,
+        are_lines_long(alloc, b"\n")?,
+        is_room_told(alloc)?,
+    ])
 }
 
 #[test]
-fn a_sink_without_room_is_a_failed_write(rt: HostRuntime) -> Result<(), Fail> {
-    let mut input = Vec::new(rt.alloc());
-    for _ in 0..=ROOM / 2 {
-        input.extend_from_slice(b"mark\n")?;
-    }
-    let ran = serve_script(rt.alloc(), &input, SOUND, SOUND)?;
-    assert!(rt; ran.ended == Err(Fault::Serve(ServeFault::Write)));
-    assert_eq!(rt; ran.answers.len(), ROOM);
-    Ok(())
+fn all_lines_are_answered_that_fit(rt: HostRuntime) {
+    let told = told(rt.alloc());
+    assert!(rt; told == Ok([true; 5]));
 }

@@ -1,11 +1,10 @@
-//! What fills a manager's journal, and what `seal` and `rewind` make of it then: more events than a
-//! script has lines for.
-use crate::shown::{Step, Told, outcome_of};
+//! What fills a manager's journal, and what `seal` and `rewind` make of it then: how many events were accepted
+//! and refused, how many stand, and how many records are free.
+use crate::shown::{Given, Look, Step, outcome};
 use klp_model::Event;
-use klp_program::CATALOG;
+use klp_program::Fault;
 use klp_types::{PatchId, TaskId};
 use std::alloc::{AllocError, Global};
-use std::test::Fail;
 
 /// Callbacks of each kind, which undo each other.
 const CALLBACKS: &str = "\
@@ -15,47 +14,88 @@ preun 0 free:1:10
 postun 0 free:1:9
 ";
 
-/// How many functions the patch has, which is as many as there may be.
+/// How many functions each of two patches has, which is as many as there may be.
 const FUNCTIONS: u64 = 64;
 
 const TASK: TaskId = TaskId(1);
 
-const PATCH: PatchId = PatchId(0);
+/// The patch with callbacks, and the one without.
+const CALLING: PatchId = PatchId(0);
 
-/// The patch comes and goes. That is noted in 262 records: that it is installed, an entry and a hook for
-/// each of 64 functions, and that it moves; that nothing moves; that it moves again; and once more as
-/// many as at first.
+const SILENT: PatchId = PatchId(1);
+
+/// The patch without callbacks comes and goes. That is noted in 262 records: that it is installed, an entry
+/// and a hook for each of 64 functions, and that it moves; that nothing moves; that it moves again; and once
+/// more as many as at first.
 const CYCLE: [Event; 4] = [
-    Event::Enable(PATCH),
+    Event::Enable(SILENT),
     Event::Poll,
-    Event::SetEnabled(PATCH, false),
+    Event::SetEnabled(SILENT, false),
     Event::Poll,
 ];
 
-/// It is turned round twice on its way.
+/// The other is turned round twice on its way.
 const ROUND: [Event; 6] = [
-    Event::Enable(PATCH),
-    Event::SetEnabled(PATCH, false),
-    Event::SetEnabled(PATCH, true),
+    Event::Enable(CALLING),
+    Event::SetEnabled(CALLING, false),
+    Event::SetEnabled(CALLING, true),
     Event::Poll,
-    Event::SetEnabled(PATCH, false),
+    Event::SetEnabled(CALLING, false),
     Event::Poll,
 ];
 
-/// A kernel, and a patch of all of its functions, with these callbacks.
-fn catalog(alloc: Global, callbacks: &str) -> Result<String, AllocError> {
-    let mut text = String::from_str(alloc, "handler 1000\nobject vmlinux\n")?;
+/// How many events were accepted and refused, how many stand, and how many records are free.
+type Told = ((u64, u64), u32, u32);
+
+/// What is told while task events fill the journal: a step for each.
+const FILLED: [Told; 10] = [
+    ((4_096, 0), 4_096, 12_288),
+    ((0, 1), 4_096, 12_288),
+    // what would be refused anyway is refused as ever
+    ((0, 1), 4_096, 12_288),
+    // there aren't 4,097 events, but 4,095
+    ((0, 0), 4_096, 12_288),
+    ((0, 0), 4_095, 12_289),
+    ((1, 0), 4_096, 12_288),
+    ((0, 0), 0, 16_384),
+    ((1, 0), 1, 16_383),
+    ((1, 0), 2, 16_382),
+    ((0, 0), 0, 16_384),
+];
+
+/// What is told at the end of cycles, 16,384 less 44 times 262 being 4,856, while task events leave fewer than
+/// 4,096 records.
+const NEARLY_FILLED: [Told; 5] = [
+    ((4, 0), 176, 4_856),
+    ((760, 0), 936, 4_096),
+    ((1, 0), 937, 4_095),
+    ((0, 1), 937, 4_095),
+    ((0, 0), 0, 16_384),
+];
+
+/// The functions of the kernel, or those of a patch, a line each.
+fn put_lines(alloc: Global, text: &mut String, of_patch: bool) -> Result<(), AllocError> {
     for site in 0..FUNCTIONS {
         let address = 0x2000 + site * 16;
-        let line = format!(in alloc; "symbol f{site} {address:x} e800000000c3\n")?;
+        let line = if of_patch {
+            format!(in alloc; "func .klp.sym.vmlinux.f{site},0 n{site} 9000\n")?
+        } else {
+            format!(in alloc; "symbol f{site} {address:x} e800000000c3\n")?
+        };
         text.push_str(line.as_str())?;
     }
+    Ok(())
+}
+
+/// A kernel, and two patches of all of its functions, the first with callbacks.
+fn catalog(alloc: Global) -> Result<String, AllocError> {
+    let mut text = String::from_str(alloc, "handler 1000\nobject vmlinux\n")?;
+    put_lines(alloc, &mut text, false)?;
     text.push_str("patch p\ntarget vmlinux\n")?;
-    for site in 0..FUNCTIONS {
-        let line = format!(in alloc; "func .klp.sym.vmlinux.f{site},0 n{site} 9000\n")?;
-        text.push_str(line.as_str())?;
-    }
-    text.push_str(callbacks)?;
+    put_lines(alloc, &mut text, true)?;
+    text.push_str(CALLBACKS)?;
+    text.push_str("patch q\ntarget vmlinux\n")?;
+    put_lines(alloc, &mut text, true)?;
     Ok(text)
 }
 
@@ -73,98 +113,103 @@ fn turns(alloc: Global, count: u32) -> Result<Vec<Event>, AllocError> {
     Ok(events)
 }
 
-const fn told(counts: (u64, u64), mark: u32, free: u32) -> Told {
-    Told { counts, mark, free }
-}
-
-#[test]
-fn the_journal_takes_4096_events(rt: HostRuntime) -> Result<(), Fail> {
-    let events = turns(rt.alloc(), 4_096)?;
-    // the last of them entered the kernel
-    let next = [Event::ExitToUser(TASK)];
-    let there = [Event::NewTask(TASK)];
-    let again = [Event::EnterKernel(TASK)];
-    let steps = [
-        Step::Events(&events),
-        Step::Events(&next),
-        // what would be refused anyway is refused as ever
-        Step::Events(&there),
+/// What a manager shows that fills the journal with task events, then with records, and then goes round and
+/// seals its journal 200 times.
+fn looks(alloc: Global) -> Result<Vec<Look>, Fault> {
+    let text = catalog(alloc)?;
+    let most = turns(alloc, 4_096)?;
+    let some = turns(alloc, 760)?;
+    let cycle = CYCLE;
+    let round = ROUND;
+    let (begin, enter) = ([Event::NewTask(TASK)], [Event::EnterKernel(TASK)]);
+    let (exit, end) = ([Event::ExitToUser(TASK)], [Event::EndTask(TASK)]);
+    let mut steps = Vec::new(alloc);
+    // task events fill the journal, of which the last entered the kernel, and it is sealed
+    for step in [
+        Step::Events(&most),
+        Step::Events(&exit),
+        Step::Events(&begin),
         Step::Rewind(4_097),
         Step::Rewind(4_095),
-        Step::Events(&again),
+        Step::Events(&enter),
         Step::Seal,
-        Step::Events(&next),
-    ];
-    let sample = str::from_utf8(CATALOG).unwrap_or("");
-    let seen = outcome_of(rt.alloc(), sample, 0, &steps)?;
-    let expected = [
-        told((4_096, 0), 4_096, 12_288),
-        told((0, 1), 4_096, 12_288),
-        told((0, 1), 4_096, 12_288),
-        told((0, 0), 4_096, 12_288),
-        told((0, 0), 4_095, 12_289),
-        told((1, 0), 4_096, 12_288),
-        told((0, 0), 0, 16_384),
-        told((1, 0), 1, 16_383),
-    ];
-    assert!(rt; seen.steps.as_slice() == &expected[..]);
-    Ok(())
-}
-
-#[test]
-fn the_last_events_find_4096_records(rt: HostRuntime) -> Result<(), Fail> {
-    let text = catalog(rt.alloc(), "")?;
-    let cycle = CYCLE;
-    let exit = [Event::ExitToUser(TASK)];
-    let enter = [Event::EnterKernel(TASK)];
-    let events = turns(rt.alloc(), 760)?;
-    let mut steps = Vec::new(rt.alloc());
-    // 16,384 less 44 times 262 are 4,856
+        Step::Events(&exit),
+        Step::Events(&end),
+        Step::Seal,
+    ] {
+        steps.push(step)?;
+    }
     for _ in 0..44 {
         steps.push(Step::Events(&cycle))?;
     }
-    steps.push(Step::Events(&events))?;
-    steps.push(Step::Events(&exit))?;
-    steps.push(Step::Events(&enter))?;
-    steps.push(Step::Rewind(0))?;
-    let seen = outcome_of(rt.alloc(), text.as_str(), 0, &steps)?;
-    let expected = [
-        told((4, 0), 176, 4_856),
-        told((760, 0), 936, 4_096),
-        told((1, 0), 937, 4_095),
-        told((0, 1), 937, 4_095),
-        told((0, 0), 0, 16_384),
-    ];
-    let last = seen.steps.get(43..).unwrap_or(&[]);
-    assert!(rt; last == &expected[..]);
-    assert!(rt; seen.is_bare);
-    assert!(rt; seen.installed.is_empty());
-    Ok(())
-}
-
-#[test]
-fn sealed_rounds_leave_what_was(rt: HostRuntime) -> Result<(), Fail> {
-    let text = catalog(rt.alloc(), CALLBACKS)?;
-    let round = ROUND;
-    let mut steps = Vec::new(rt.alloc());
+    for step in [
+        Step::Events(&some),
+        Step::Events(&exit),
+        Step::Events(&enter),
+        Step::Rewind(0),
+    ] {
+        steps.push(step)?;
+    }
     for _ in 0..200 {
         steps.push(Step::Events(&round))?;
         steps.push(Step::Seal)?;
     }
-    let seen = outcome_of(rt.alloc(), text.as_str(), 4, &steps)?;
-    let accepted = seen
-        .steps
-        .iter()
-        .filter(|step| step.counts == (6, 0) && step.mark == 6);
-    assert!(rt; accepted.count() == 200);
-    let sealed = seen
-        .steps
-        .iter()
-        .filter(|step| **step == told((0, 0), 0, 16_384));
-    assert!(rt; sealed.count() == 200);
-    assert!(rt; seen.is_bare);
-    assert!(rt; seen.installed.is_empty());
-    assert!(rt; seen.variables == [None; 2]);
-    assert!(rt; seen.runs == [Some(200); 4]);
-    Ok(())
+    let given = Given {
+        text: text.as_str(),
+        callbacks: 4,
+        runs: 0,
+    };
+    Ok(outcome(alloc, given, &steps)?.looks)
+}
+
+/// Whether these looks tell that.
+fn are_told(looks: &[Look], wanted: &[Told]) -> bool {
+    let mut right = looks.len() == wanted.len();
+    for (look, wanted) in looks.iter().zip(wanted) {
+        right = right && (look.counts, look.mark, look.free) == *wanted;
+    }
+    right
+}
+
+/// Whether these are looks of 200 rounds, each of six events, and of the seal behind each.
+fn are_rounds(looks: &[Look]) -> bool {
+    let mut right = looks.len() == 400;
+    for (number, look) in looks.iter().enumerate() {
+        right = right
+            && if number % 2 == 0 {
+                look.counts == (6, 0) && look.mark == 6
+            } else {
+                look.counts == (0, 0) && look.mark == 0 && look.free == 16_384
+            };
+    }
+    right
+}
+
+/// Whether nothing is left behind the events that were taken back, and behind the last round, in which each
+/// callback ran for the 200th time.
+fn are_bare(looks: &[Look]) -> bool {
+    let (Some(taken_back), Some(last)) = (looks.get(57), looks.last()) else {
+        return false;
+    };
+    taken_back.is_bare && last.is_bare && last.runs == [Some(200); 4]
+}
+
+fn is_right(alloc: Global) -> Result<bool, Fault> {
+    let looks = looks(alloc)?;
+    let looks = looks.as_slice();
+    let filled = looks.get(..10).unwrap_or(&[]);
+    let nearly = looks.get(53..58).unwrap_or(&[]);
+    let rounds = looks.get(58..).unwrap_or(&[]);
+    Ok(
+        are_told(filled, &FILLED)
+            && are_told(nearly, &NEARLY_FILLED)
+            && are_rounds(rounds)
+            && are_bare(looks),
+    )
+}
+
+#[test]
+fn the_journal_has_room_for_4096_events_and_16384_records(rt: HostRuntime) {
+    let right = is_right(rt.alloc());
+    assert!(rt; right == Ok(true));
 }

@@ -1,7 +1,7 @@
-//! Tests of what no contract says, up to the program: values from outside, printed names, the program's
-//! words, its catalog's file, streams that fail, end early or never end while its console is served, and
-//! calls that succeed where memory is there. They stand above all crates, so that what they test is proved
-//! once.
+//! Tests of what no contract says and no example shows, up to the program: faults of another number of
+//! callbacks, values of system states, how full a journal is, names and numbers of faults, the program's
+//! words, and streams that fail, end early or never end while its console is served. They stand above all
+//! crates, so that what they test is proved once.
 #![tactic(auto)]
 
 #[cfg(test)]
@@ -11,22 +11,12 @@ mod catalog;
 #[cfg(test)]
 mod console;
 #[cfg(test)]
-mod file;
-#[cfg(test)]
 mod journal;
-#[cfg(test)]
-mod manager;
-#[cfg(test)]
-mod modules;
 #[cfg(test)]
 mod names;
 #[cfg(test)]
 mod program;
 #[cfg(test)]
-mod records;
-#[cfg(test)]
 mod shown;
 #[cfg(test)]
-mod text;
-#[cfg(test)]
-mod world;
+mod values;

@@ -1,5 +1,6 @@
-//! The numbers of faults and refusals, and the names that faults print.
+//! The numbers of faults and refusals, and the names that faults print: most of them stand in no example.
 use klp_catalog::AssembleFault;
+use klp_catalog_text::TextFaultKind;
 use klp_core::BootFault;
 use klp_model::Refusal;
 use klp_modules::SymbolFault;
@@ -7,6 +8,24 @@ use klp_text::ImageFault;
 use std::alloc::Global;
 use std::fmt;
 use std::fmt::{Display, Write};
+
+const TEXT: [TextFaultKind; 15] = [
+    TextFaultKind::NotAscii,
+    TextFaultKind::LineTooLong,
+    TextFaultKind::UnknownWord,
+    TextFaultKind::WrongCount,
+    TextFaultKind::BadNumber,
+    TextFaultKind::BadHex,
+    TextFaultKind::BadName,
+    TextFaultKind::BadSymbol,
+    TextFaultKind::BadEdit,
+    TextFaultKind::OutOfPlace,
+    TextFaultKind::Twice,
+    TextFaultKind::UnknownObject,
+    TextFaultKind::TooMany,
+    TextFaultKind::Missing,
+    TextFaultKind::NoMemory,
+];
 
 const IMAGE: [ImageFault; 7] = [
     ImageFault::Overlap,
@@ -30,74 +49,106 @@ const ASSEMBLE: [AssembleFault; 3] = [
     AssembleFault::NoMemory,
 ];
 
-const IMAGE_NAMES: &str =
-    " Overlap ShortSymbol Displacement DuplicateObject TooMany NoMemory NoKernel";
+const NAMES: &str =
+    " NotAscii LineTooLong UnknownWord WrongCount BadNumber BadHex BadName BadSymbol \
+BadEdit OutOfPlace Twice UnknownObject TooMany Missing NoMemory \
+Overlap ShortSymbol Displacement DuplicateObject TooMany NoMemory NoKernel \
+Missing Ambiguous NoPosition WrongCallbacks SameSite NoMemory";
 
-const SYMBOL_NAMES: &str = " Missing Ambiguous NoPosition";
-
-const ASSEMBLE_NAMES: &str = " WrongCallbacks SameSite NoMemory";
-
-fn print<T: Display>(out: &mut String, faults: &[T]) -> Result<(), fmt::Error> {
+/// Writes their names, each behind a space.
+fn put<T: Display>(out: &mut String, faults: &[T]) -> Result<(), fmt::Error> {
     for fault in faults {
         write!(out, " {fault}")?;
     }
     Ok(())
 }
 
-/// Whether these print so, each behind a space.
-fn prints<T: Display>(alloc: Global, faults: &[T], names: &str) -> bool {
+fn put_all(out: &mut String) -> Result<(), fmt::Error> {
+    put(out, &TEXT)?;
+    put(out, &IMAGE)?;
+    put(out, &SYMBOL)?;
+    put(out, &ASSEMBLE)
+}
+
+fn is_printed(alloc: Global) -> bool {
     let mut out = String::new(alloc);
-    print(&mut out, faults).is_ok() && out.as_str() == names
+    put_all(&mut out).is_ok() && out.as_str() == NAMES
 }
 
-#[test]
-fn faults_print_their_names(rt: HostRuntime) {
-    let image = prints(rt.alloc(), &IMAGE, IMAGE_NAMES);
-    let symbol = prints(rt.alloc(), &SYMBOL, SYMBOL_NAMES);
-    let assemble = prints(rt.alloc(), &ASSEMBLE, ASSEMBLE_NAMES);
-    assert!(rt; image && symbol && assemble);
-}
-
-/// The numbers of faults and refusals, and what they have to be.
-const NUMBERS: [(u8, u8); 33] = [
-    (ImageFault::Overlap as u8, 1),
-    (ImageFault::ShortSymbol as u8, 2),
-    (ImageFault::Displacement as u8, 3),
-    (ImageFault::DuplicateObject as u8, 4),
-    (ImageFault::TooMany as u8, 5),
-    (ImageFault::NoMemory as u8, 6),
-    (ImageFault::NoKernel as u8, 7),
-    (SymbolFault::Missing as u8, 1),
-    (SymbolFault::Ambiguous as u8, 2),
-    (SymbolFault::NoPosition as u8, 3),
-    (AssembleFault::WrongCallbacks as u8, 1),
-    (AssembleFault::SameSite as u8, 2),
-    (AssembleFault::NoMemory as u8, 3),
-    (BootFault::Mismatch as u8, 1),
-    (BootFault::NoMemory as u8, 2),
-    (Refusal::NoPatch as u8, 1),
-    (Refusal::Busy as u8, 2),
-    (Refusal::AlreadyThere as u8, 3),
-    (Refusal::Pinned as u8, 4),
-    (Refusal::Incompatible as u8, 5),
-    (Refusal::NoSymbol as u8, 6),
-    (Refusal::NoModule as u8, 7),
-    (Refusal::InUse as u8, 8),
-    (Refusal::NoTask as u8, 9),
-    (Refusal::TaskThere as u8, 10),
-    (Refusal::WrongMode as u8, 11),
-    (Refusal::BadFrame as u8, 12),
-    (Refusal::Full as u8, 13),
-    (Refusal::JournalFull as u8, 14),
-    (Refusal::NotMoving as u8, 15),
-    (Refusal::Exists as u8, 16),
-    (Refusal::NotFound as u8, 17),
-    (Refusal::SameValue as u8, 18),
+/// The numbers of faults and refusals, each kind from 1.
+const NUMBERS: [&[u8]; 6] = [
+    &[
+        TextFaultKind::NotAscii as u8,
+        TextFaultKind::LineTooLong as u8,
+        TextFaultKind::UnknownWord as u8,
+        TextFaultKind::WrongCount as u8,
+        TextFaultKind::BadNumber as u8,
+        TextFaultKind::BadHex as u8,
+        TextFaultKind::BadName as u8,
+        TextFaultKind::BadSymbol as u8,
+        TextFaultKind::BadEdit as u8,
+        TextFaultKind::OutOfPlace as u8,
+        TextFaultKind::Twice as u8,
+        TextFaultKind::UnknownObject as u8,
+        TextFaultKind::TooMany as u8,
+        TextFaultKind::Missing as u8,
+        TextFaultKind::NoMemory as u8,
+    ],
+    &[
+        ImageFault::Overlap as u8,
+        ImageFault::ShortSymbol as u8,
+        ImageFault::Displacement as u8,
+        ImageFault::DuplicateObject as u8,
+        ImageFault::TooMany as u8,
+        ImageFault::NoMemory as u8,
+        ImageFault::NoKernel as u8,
+    ],
+    &[
+        SymbolFault::Missing as u8,
+        SymbolFault::Ambiguous as u8,
+        SymbolFault::NoPosition as u8,
+    ],
+    &[
+        AssembleFault::WrongCallbacks as u8,
+        AssembleFault::SameSite as u8,
+        AssembleFault::NoMemory as u8,
+    ],
+    &[BootFault::Mismatch as u8, BootFault::NoMemory as u8],
+    &[
+        Refusal::NoPatch as u8,
+        Refusal::Busy as u8,
+        Refusal::AlreadyThere as u8,
+        Refusal::Pinned as u8,
+        Refusal::Incompatible as u8,
+        Refusal::NoSymbol as u8,
+        Refusal::NoModule as u8,
+        Refusal::InUse as u8,
+        Refusal::NoTask as u8,
+        Refusal::TaskThere as u8,
+        Refusal::WrongMode as u8,
+        Refusal::BadFrame as u8,
+        Refusal::Full as u8,
+        Refusal::JournalFull as u8,
+        Refusal::NotMoving as u8,
+        Refusal::Exists as u8,
+        Refusal::NotFound as u8,
+        Refusal::SameValue as u8,
+    ],
 ];
 
-#[test]
-fn faults_and_refusals_keep_their_numbers(rt: HostRuntime) {
-    for (number, wanted) in NUMBERS {
-        assert!(rt; number == wanted);
+fn are_numbered() -> bool {
+    let mut right = true;
+    for numbers in NUMBERS {
+        for (before, number) in numbers.iter().enumerate() {
+            right = right && usize::from(*number) == before.saturating_add(1);
+        }
     }
+    right
+}
+
+#[test]
+fn faults_and_refusals_keep_their_names_and_numbers(rt: HostRuntime) {
+    let printed = is_printed(rt.alloc());
+    let numbered = are_numbered();
+    assert!(rt; printed && numbered);
 }

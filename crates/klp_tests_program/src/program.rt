@@ -4,7 +4,27 @@ use klp_program::{CATALOG, Words, console, words};
 use std::alloc::{AllocError, Global};
 use std::io;
 use std::io::{Read, Write};
-use std::test::Fail;
+
+/// Words, and the catalog that they name, or the status.
+type Case = (&'static [&'static str], Result<Option<&'static str>, u8>);
+
+const CASES: [Case; 15] = [
+    (&[], Ok(None)),
+    (&["console"], Ok(None)),
+    (&["console", "fix.catalog"], Ok(Some("fix.catalog"))),
+    (&["console", "-"], Ok(Some("-"))),
+    (&["console", "--", "-x"], Ok(Some("-x"))),
+    (&["--help"], Err(2)),
+    (&["-h"], Err(2)),
+    (&["help"], Err(2)),
+    (&["-V"], Err(2)),
+    (&["--version"], Err(2)),
+    (&["fix.catalog"], Err(2)),
+    (&["console", "fix.catalog", "more"], Err(2)),
+    (&["console", "--help"], Err(2)),
+    (&["console", "-x"], Err(2)),
+    (&["live", "fix.catalog", "steps"], Err(2)),
+];
 
 fn strings(alloc: Global, given: &[&str]) -> Result<Vec<String>, AllocError> {
     let mut strings = Vec::new(alloc);
@@ -14,12 +34,11 @@ fn strings(alloc: Global, given: &[&str]) -> Result<Vec<String>, AllocError> {
     Ok(strings)
 }
 
-/// Whether these words are answered so: the catalog or the status, and what is written to `err`.
+/// Whether these words are answered so. Where they are refused, and only then, a line says so.
 fn is_answer(
     alloc: Global,
     given: &[&str],
     wanted: Result<Option<&str>, u8>,
-    printed: &[u8],
 ) -> Result<bool, AllocError> {
     let given = strings(alloc, given)?;
     let mut err = Vec::new(alloc);
@@ -29,54 +48,34 @@ fn is_answer(
         Ok(Words::Console(None)) => Ok(None),
         Err(status) => Err(*status),
     };
+    let printed = if wanted.is_ok() {
+        b"".as_slice()
+    } else {
+        b"klpsim: usage\n".as_slice()
+    };
     Ok(told == wanted && err.as_slice() == printed)
 }
 
 #[test]
-fn words_name_a_catalog_or_none(rt: HostRuntime) -> Result<(), Fail> {
-    let cases: [(&[&str], Option<&str>); 5] = [
-        (&[], None),
-        (&["console"], None),
-        (&["console", "fix.catalog"], Some("fix.catalog")),
-        (&["console", "-"], Some("-")),
-        (&["console", "--", "-x"], Some("-x")),
-    ];
-    for (given, want) in cases {
-        let right = is_answer(rt.alloc(), given, Ok(want), b"")?;
-        assert!(rt; right);
+fn words_name_a_catalog_or_none_or_are_refused(rt: HostRuntime) {
+    for (number, (given, wanted)) in CASES.iter().enumerate() {
+        let told = is_answer(rt.alloc(), given, *wanted);
+        assert!(rt; told == Ok(true), "case {number}");
     }
-    Ok(())
 }
 
-#[test]
-fn other_words_are_refused(rt: HostRuntime) -> Result<(), Fail> {
-    let cases: [&[&str]; 10] = [
-        &["--help"],
-        &["-h"],
-        &["help"],
-        &["-V"],
-        &["--version"],
-        &["fix.catalog"],
-        &["console", "fix.catalog", "more"],
-        &["console", "--help"],
-        &["console", "-x"],
-        &["live", "fix.catalog", "steps"],
-    ];
-    for given in cases {
-        let right = is_answer(rt.alloc(), given, Err(2), b"klpsim: usage\n")?;
-        assert!(rt; right);
-    }
-    Ok(())
-}
-
-/// Fails at each write, and at each read behind these lines.
+/// Fails at each write, and at each read behind these lines, or else gives an empty line at each read.
 #[derive(Drop)]
 struct Broken {
     lines: &'static [u8],
+    is_endless: bool,
 }
 
 impl Read for Broken {
     fn read(&mut self, buf: &mut [u8]) -> io::Result<usize> {
+        if self.is_endless {
+            return b"\n".as_slice().read(buf);
+        }
         if self.lines.is_empty() {
             return Err(io::Error::from(io::ErrorKind::Other));
         }
@@ -94,46 +93,20 @@ impl Write for Broken {
     }
 }
 
-/// The status, and whether this is written to `err`, where writes fail, and reads behind these lines.
-fn ends_with(alloc: Global, lines: &'static [u8], printed: &[u8]) -> (u8, bool) {
+/// Whether the console ends with status 1 and this line on `err`.
+fn ends_with(alloc: Global, lines: &'static [u8], is_endless: bool, printed: &[u8]) -> bool {
     let mut err = Vec::new(alloc);
-    let mut input = Broken { lines };
-    let mut out = Broken { lines: b"" };
+    let mut input = Broken { lines, is_endless };
+    let mut out = Broken { lines, is_endless };
     let status = console(alloc, CATALOG, &mut input, &mut out, &mut err);
-    (status, err.as_slice() == printed)
-}
-
-/// An input of empty lines that never ends, one at a time.
-#[derive(Drop)]
-struct Endless;
-
-impl Read for Endless {
-    fn read(&mut self, buf: &mut [u8]) -> io::Result<usize> {
-        match buf.first_mut() {
-            Some(first) => {
-                *first = b'\n';
-                Ok(1)
-            }
-            None => Ok(0),
-        }
-    }
+    status == 1 && err.as_slice() == printed
 }
 
 #[test]
-fn an_input_that_never_ends_is_a_failed_read(rt: HostRuntime) -> Result<(), Fail> {
-    let mut err = Vec::new(rt.alloc());
-    let mut out = Vec::new(rt.alloc());
-    let status = console(rt.alloc(), CATALOG, &mut Endless, &mut out, &mut err);
-    assert!(rt; status == 1 && out.is_empty());
-    assert_eq!(rt; err.as_slice(), b"klpsim: Read\n".as_slice());
-    Ok(())
-}
-
-#[test]
-fn a_read_and_a_write_that_fail_are_told(rt: HostRuntime) -> Result<(), Fail> {
-    let read = ends_with(rt.alloc(), b"", b"klpsim: Read\n");
-    assert!(rt; read == (1, true));
-    let write = ends_with(rt.alloc(), b"load p\n", b"klpsim: Write\n");
-    assert!(rt; write == (1, true));
-    Ok(())
+fn streams_that_fail_or_never_end_are_told(rt: HostRuntime) {
+    let read = ends_with(rt.alloc(), b"", false, b"klpsim: Read\n");
+    let write = ends_with(rt.alloc(), b"load p\n", false, b"klpsim: Write\n");
+    // an empty line has no answer, so no write fails
+    let endless = ends_with(rt.alloc(), b"", true, b"klpsim: Read\n");
+    assert!(rt; read && write && endless);
 }

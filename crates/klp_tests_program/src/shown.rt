@@ -1,13 +1,13 @@
-//! What a catalog's text leads to: a fault, or what a manager over it shows. The tests of catalogs
-//! and managers share it, since a function that owns one of these is dear to prove: each way out that
-//! it has then is proved anew, so what is owned is split among functions with few of them.
+//! What a catalog's text leads to: a fault, or what a manager over it shows that no line of the console does.
+//! All tests of managers share it, since a function that owns one is dear to prove: each way out that it has
+//! then is proved anew, so what is owned is split among functions with few of them.
 ghost use Rattle.std.specs.Prelude.{length};
 ghost use Rattle.klp_catalog_text.specs.Within.{AreTargetsWithin};
 
-use crate::callback::copy_of;
+use crate::callback::{Watched, copy_of};
 use crate::catalog;
 use arrayvec::ArrayVec;
-use klp_callback::{Boxed, Scripted};
+use klp_callback::Boxed;
 use klp_catalog::Catalog;
 use klp_catalog_text::Plan;
 use klp_core::Manager;
@@ -15,12 +15,22 @@ use klp_model::Event;
 use klp_modules::Modules;
 use klp_program::Fault;
 use klp_text::Image;
-use klp_types::{MAX_PATCHES, ObjId, PatchId, ShadowKey, Site, Which};
+use klp_types::{ObjId, PatchId, ShadowKey, Site, Which};
 use klp_world::Script;
-use std::alloc::Global;
+use std::alloc::{AllocError, Global};
+use std::sync::Arc;
+use std::sync::atomic::{AtomicU64, Ordering};
 
 /// The five bytes of an entry site that isn't hooked.
 const NOP: &[u8] = &[0x0f, 0x1f, 0x44, 0x00, 0x00];
+
+/// What a manager is booted over: a catalog's text, with so many callbacks, each of which ran so often.
+#[derive(Clone, Copy)]
+pub struct Given<'a> {
+    pub text: &'a str,
+    pub callbacks: usize,
+    pub runs: u64,
+}
 
 /// What is done with a manager.
 #[derive(Clone, Copy)]
@@ -31,43 +41,35 @@ pub enum Step<'a> {
     Rewind(u32),
 }
 
-/// What a manager tells once a step is done.
-#[derive(Clone, Copy, Debug, PartialEq, Eq)]
-pub struct Told {
+/// What a manager shows once a step is done.
+#[derive(Clone, Copy)]
+pub struct Look {
     /// How many events were accepted and refused; none where it took no events.
     pub counts: (u64, u64),
     /// How many events stand.
     pub mark: u32,
     /// How many records are free.
     pub free: u32,
-}
-
-/// What a manager shows once all steps are done.
-#[derive(Drop)]
-pub struct Shown {
-    /// What it told after each step.
-    pub steps: Vec<Told>,
-    pub installed: ArrayVec<PatchId, MAX_PATCHES>,
-    /// The value of the state 3 of the patches 0, 1 and 2, and that of the state 4 of patch 1.
-    pub states: [Option<u64>; 4],
-    /// The shadow variables 9 and 10 of the parent object 1.
-    pub variables: [Option<u64>; 2],
+    /// The value of the state 3 of the patches 0 and 1, and that of the state 4 of patch 1.
+    pub states: [Option<u64>; 3],
     /// How often the callbacks of patch 0 for `vmlinux` ran: pre-patch, post-patch, pre-unpatch and
     /// post-unpatch.
     pub runs: [Option<u64>; 4],
-    /// Whether each of the first 64 functions of `vmlinux` that are there has nothing on its stack and
-    /// a NOP at its entry site.
+    /// Whether no patch is installed, none of the variables that callbacks of the tests add is there, and
+    /// each of the first 64 functions of `vmlinux` that are there has nothing on its stack and a NOP at its
+    /// entry site.
     pub is_bare: bool,
-    /// Whether the catalog tells of its patches what `catalog::told` looks for.
-    pub told: [bool; 6],
 }
 
-impl Shown {
-    /// How many events were accepted and refused in the first step.
-    pub fn counts(&self) -> Option<(u64, u64)> {
-        let first = self.steps.first()?;
-        Some(first.counts)
-    }
+/// What a manager showed.
+#[derive(Drop)]
+pub struct Shown {
+    /// After each step.
+    pub looks: Vec<Look>,
+    /// Whether the catalog tells of its patches what `catalog::told` looks for.
+    pub told: bool,
+    /// How often callbacks ran, as they counted themselves outside of their boxes.
+    pub seen: u64,
 }
 
 /// Boots a manager over a plan with these callbacks, as many as they may be.
@@ -92,6 +94,17 @@ fn script_at(plan: &Plan, number: usize) -> Script {
     }
 }
 
+/// A callback with this script, which ran so often.
+fn watched(
+    alloc: Global,
+    script: Script,
+    runs: u64,
+    seen: &Arc<AtomicU64>,
+) -> Result<Box<Watched>, AllocError> {
+    let seen = seen.clone()?;
+    Ok(Box::new(alloc, Watched { script, runs, seen })?)
+}
+
 /// Whether a function of `vmlinux`, if it is there, has nothing on its stack and a NOP at its entry site.
 fn is_bare_at(manager: &Manager, site: u16) -> bool {
     let Some(text) = manager.text(ObjId(0)) else {
@@ -104,14 +117,20 @@ fn is_bare_at(manager: &Manager, site: u16) -> bool {
     is_nop && manager.stack(Site(site)).is_empty()
 }
 
-/// Whether that holds of the first 64.
+/// Whether this shadow variable isn't there.
+fn is_gone(manager: &Manager, obj: u64, id: u64) -> bool {
+    manager.shadow_get(ShadowKey { obj, id }).is_none()
+}
+
 fn is_bare(manager: &Manager) -> bool {
+    let mut bare = manager.installed().is_empty()
+        && is_gone(manager, 1, 9)
+        && is_gone(manager, 1, 10)
+        && is_gone(manager, 2, 9);
     for site in 0..64 {
-        if !is_bare_at(manager, site) {
-            return false;
-        }
+        bare = bare && is_bare_at(manager, site);
     }
-    true
+    bare
 }
 
 /// How often the callback of this kind ran, of patch 0 for `vmlinux`.
@@ -119,19 +138,15 @@ fn runs(manager: &Manager, which: Which) -> Option<u64> {
     manager.callback_runs(PatchId(0), ObjId(0), which)
 }
 
-fn looks(manager: &Manager, steps: Vec<Told>) -> Shown {
-    Shown {
-        steps,
-        installed: manager.installed(),
+fn looked(manager: &Manager, counts: (u64, u64)) -> Look {
+    Look {
+        counts,
+        mark: manager.mark(),
+        free: manager.records_free(),
         states: [
             manager.state_of(PatchId(0), 3),
             manager.state_of(PatchId(1), 3),
-            manager.state_of(PatchId(2), 3),
             manager.state_of(PatchId(1), 4),
-        ],
-        variables: [
-            manager.shadow_get(ShadowKey { obj: 1, id: 9 }),
-            manager.shadow_get(ShadowKey { obj: 1, id: 10 }),
         ],
         runs: [
             runs(manager, Which::Pre),
@@ -140,15 +155,22 @@ fn looks(manager: &Manager, steps: Vec<Told>) -> Shown {
             runs(manager, Which::PostUn),
         ],
         is_bare: is_bare(manager),
-        told: catalog::told(manager.catalog()),
     }
 }
 
-/// What a manager shows after these steps. There is room to tell of each.
+fn at_the_end(manager: &Manager, looks: Vec<Look>) -> Shown {
+    Shown {
+        looks,
+        told: catalog::told(manager.catalog()),
+        seen: 0,
+    }
+}
+
+/// What a manager shows after these steps. There is room for each look.
 fn after(
     booted: Result<Manager, Fault>,
     steps: &[Step<'_>],
-    mut told: Vec<Told>,
+    mut looks: Vec<Look>,
 ) -> Result<Shown, Fault> {
     let mut manager = booted?;
     for step in steps {
@@ -163,38 +185,23 @@ fn after(
                 (0, 0)
             }
         };
-        let mark = manager.mark();
-        let free = manager.records_free();
-        let _ = told.push(Told { counts, mark, free });
+        let _ = looks.push(looked(&manager, counts));
     }
-    Ok(looks(&manager, told))
+    Ok(at_the_end(&manager, looks))
 }
 
-/// What a manager over a catalog's text shows after these events, where the catalog is made with so
-/// many callbacks. Where memory for a box is refused, a callback is missing.
-pub fn outcome(
-    alloc: Global,
-    text: &str,
-    callbacks: usize,
-    events: &[Event],
-) -> Result<Shown, Fault> {
-    outcome_of(alloc, text, callbacks, &[Step::Events(events)])
-}
-
-/// The same after these steps.
-pub fn outcome_of(
-    alloc: Global,
-    text: &str,
-    callbacks: usize,
-    steps: &[Step<'_>],
-) -> Result<Shown, Fault> {
-    let plan = Catalog::read(alloc, text.as_bytes())?;
-    let told = Vec::with_capacity(alloc, steps.len())?;
+/// What a manager shows after these steps. Where memory for a box is refused, a callback is missing.
+pub fn outcome(alloc: Global, given: Given<'_>, steps: &[Step<'_>]) -> Result<Shown, Fault> {
+    let plan = Catalog::read(alloc, given.text.as_bytes())?;
+    let looks = Vec::with_capacity(alloc, steps.len())?;
+    let seen = Arc::new(alloc, AtomicU64::new(0))?;
     let mut boxes = Vec::new(alloc);
-    for number in 0..callbacks {
-        if let Ok(callback) = Box::new(alloc, Scripted::new(script_at(&plan, number))) {
+    for number in 0..given.callbacks {
+        if let Ok(callback) = watched(alloc, script_at(&plan, number), given.runs, &seen) {
             let _ = boxes.push(Boxed::new(callback));
         }
     }
-    after(booted(alloc, plan, boxes), steps, told)
+    let mut told = after(booted(alloc, plan, boxes), steps, looks)?;
+    told.seen = seen.load(Ordering::SeqCst);
+    Ok(told)
 }
