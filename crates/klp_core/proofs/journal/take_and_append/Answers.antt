@@ -25,3 +25,6 @@ returns-clause-taken g c =
           (appended c.args.state.now c.take.new.state c.args.catalog.now c.take.new.catalog c.args.journal.now c.args.event.now c.in_ok-reply.reply taken noted c.append.ensures.few one);
       refused = tt;
     }
+
+pub returns-then-not-has_room-clause-taken : goal.returns-then-not-has_room-clause-taken
+returns-then-not-has_room-clause-taken g c = search rules

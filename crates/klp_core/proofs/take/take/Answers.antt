@@ -1,3 +1,4 @@
+use Rattle.std.proofs.Common.{rules}
 use Rattle.klp_core.proofs.take.take.Goals as goal
 
 pub returns-in-NewTask-clause-taken : goal.returns-in-NewTask-clause-taken
@@ -17,3 +18,6 @@ returns-in-ExitToUser-clause-taken g c = rw c.in-ExitToUser.is (c.exit_to_user.e
 
 pub returns-in-Wake-clause-taken : goal.returns-in-Wake-clause-taken
 returns-in-Wake-clause-taken g c = rw c.in-Wake.is (c.wake.ensures.taken c.args.catalog.now c.requires)
+
+pub returns-in-Enable-clause-taken : goal.returns-in-Enable-clause-taken
+returns-in-Enable-clause-taken g c = search rules

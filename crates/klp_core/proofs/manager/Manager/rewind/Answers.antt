@@ -1,4 +1,4 @@
-use Rattle.std.proofs.Common.{length, ap, subst, arith}
+use Rattle.std.proofs.Common.{rules, length, ap, subst, arith}
 use Rattle.klp_core.specs.Journaled.{Journaled, journaled_of, Stands}
 use Rattle.klp_core.specs.Rewinding.{IsRewound}
 use Rattle.klp_core.proofs.JournalLemmas.{sound_stands, rewound}
@@ -18,3 +18,6 @@ returns-clause-rewound g c =
 
 pub returns-clause-stands : goal.returns-clause-stands
 returns-clause-stands g c = sound_stands c.rewind_to.new.state c.self.inside.catalog c.rewind_to.new.journal c.rewind_to.ensures.sound
+
+pub returns-then-mark-clause-bad_mark : goal.returns-then-mark-clause-bad_mark
+returns-then-mark-clause-bad_mark g c = search rules
