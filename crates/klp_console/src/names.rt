@@ -11,7 +11,7 @@ use klp_types::{ObjId, PatchId};
 
 /// The name of a patch of a catalog. One that isn't there has the empty name, which is never said of a
 /// manager's own. Takes no look-up.
-pub fn patch_name(catalog: &Catalog, patch: PatchId) -> &str
+pub(crate) fn patch_name(catalog: &Catalog, patch: PatchId) -> &str
     ensures { result.now ≡ patch_name catalog.now patch }
 {
     catalog.patch_name(patch).unwrap_or("")
@@ -19,7 +19,7 @@ pub fn patch_name(catalog: &Catalog, patch: PatchId) -> &str
 
 /// The name of an object, loaded or not. One that isn't there has the empty name, so that no caller has a
 /// case for it. Takes no look-up.
-pub fn object_name(modules: &Modules, object: ObjId) -> &str
+pub(crate) fn object_name(modules: &Modules, object: ObjId) -> &str
     ensures { result.now ≡ object_name modules.now.names object }
 {
     modules.object_name(object).unwrap_or("")
@@ -55,7 +55,7 @@ fn say_function<W: Sink>(
 /// Says a new function of a patch, by its place over the patch's objects from 0: the patch, the
 /// function's name and where it begins, as 16 hexadecimal digits. Nothing where the patch or the
 /// function isn't there.
-pub fn say_new_function<W: Sink>(
+pub(crate) fn say_new_function<W: Sink>(
     answers: &mut Answers,
     writer: &mut W,
     catalog: &Catalog,

@@ -65,7 +65,7 @@ fn show<W: Sink>(
 /// The files are those of the kernel (livepatch, Sysfs). A switch is 1 or 0, an address 16 hexadecimal
 /// digits, a position is counted from 1, and a count of runs stays at the greatest number. It costs as
 /// much as what it says.
-pub fn say_query<W: Sink>(
+pub(crate) fn say_query<W: Sink>(
     answers: &mut Answers,
     writer: &mut W,
     manager: &Manager,
@@ -86,7 +86,7 @@ pub fn say_query<W: Sink>(
 /// Says what is answered to a 0 that is written to the `force` file of a patch: that it is done, though it
 /// does nothing, as in the kernel (`force_store`), or `NotFound` where the patch isn't installed. A refusal
 /// is said, and answered too.
-pub fn say_force_nothing<W: Sink>(
+pub(crate) fn say_force_nothing<W: Sink>(
     answers: &mut Answers,
     writer: &mut W,
     manager: &Manager,

@@ -37,7 +37,7 @@ fn refusal_line(refusal: Refusal) -> &'static [u8]
 /// Says why an event was refused, as `error NUMBER NAME`. The number is that of an error of Linux with a
 /// like meaning: 2 is `ENOENT`, 12 `ENOMEM`, 16 `EBUSY` and 22 `EINVAL`. Which number a refusal has is this
 /// project's own choice. Says one text, of at most 22 bytes, so it is gathered in one go.
-pub fn say_refusal<W: Sink>(answers: &mut Answers, writer: &mut W, refusal: Refusal)
+pub(crate) fn say_refusal<W: Sink>(answers: &mut Answers, writer: &mut W, refusal: Refusal)
     ensures { Says (answers.old, W.written writer.old) (answers.new, W.written writer.new) (refusal_text refusal) }
 {
     answers.say(writer, refusal_line(refusal));
@@ -45,7 +45,7 @@ pub fn say_refusal<W: Sink>(answers: &mut Answers, writer: &mut W, refusal: Refu
 
 /// Says why a line asks for nothing: `error 22 BadLine`, `error 22 BadValue`, or the refusal of a name
 /// that isn't known.
-pub fn say_fault<W: Sink>(answers: &mut Answers, writer: &mut W, fault: &LineFault)
+pub(crate) fn say_fault<W: Sink>(answers: &mut Answers, writer: &mut W, fault: &LineFault)
     ensures { Says (answers.old, W.written writer.old) (answers.new, W.written writer.new) (fault_text fault.now) }
 {
     match *fault {
@@ -56,7 +56,7 @@ pub fn say_fault<W: Sink>(answers: &mut Answers, writer: &mut W, fault: &LineFau
 }
 
 /// Says that there are not so many events in the journal to go back to, as `error 22 BadMark`.
-pub fn say_bad_mark<W: Sink>(answers: &mut Answers, writer: &mut W)
+pub(crate) fn say_bad_mark<W: Sink>(answers: &mut Answers, writer: &mut W)
     ensures { Says (answers.old, W.written writer.old) (answers.new, W.written writer.new) bad_mark_text }
 {
     answers.say(writer, b"error 22 BadMark\n");

@@ -15,7 +15,7 @@ use klp_types::{Frames, ObjId, PatchId, Site, Version};
 
 /// Says that a line was done which has no more to report, as `ok`, so that each line with words has an
 /// answer.
-pub fn say_done<W: Sink>(answers: &mut Answers, writer: &mut W)
+pub(crate) fn say_done<W: Sink>(answers: &mut Answers, writer: &mut W)
     ensures { Says (answers.old, W.written writer.old) (answers.new, W.written writer.new) done_text }
 {
     answers.say(writer, b"ok\n");
@@ -199,7 +199,7 @@ fn say_reply<W: Sink>(
 /// A function that a task was inside of is spelled as a livepatch symbol, with the position from 1
 /// (livepatch module ELF format, livepatch symbols), or as `PATCH:INDEX`, by its place over the patch's
 /// objects from 0. It takes time that is linear in what it says, and no look-up.
-pub fn say_answer<W: Sink>(
+pub(crate) fn say_answer<W: Sink>(
     answers: &mut Answers,
     writer: &mut W,
     catalog: &Catalog,
