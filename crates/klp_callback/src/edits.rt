@@ -4,9 +4,7 @@ ghost use Rattle.klp_types.specs.Script.{alloc_count, is_alloc, edited, edited_b
 ghost use Rattle.klp_world.specs.Noted.{noting, rows_of_edit, rows_of_edits, rows_of_script};
 ghost use Rattle.klp_world.specs.Changes.{Changes, HasRoom};
 
-use klp_types::laws::edits_keep_to_their_room;
 use klp_types::{Edit, PatchId, Records};
-use klp_world::laws::scripts_are_undone;
 use klp_world::{MAX_EDITS, Script, World};
 
 /// Makes one edit for the patch. What an edit finds (a variable that is there, a state that isn't) is no
@@ -51,7 +49,7 @@ fn make_edits(edits: &[Edit], patch: PatchId, world: &mut World, log: &mut Recor
     ensures world { world.new ≡ edited_by patch world.old edits.now }
     ensures noted { log.new ≡ noting log.old (rows_of_edits patch world.old edits.now) }
 {
-    edits_keep_to_their_room();
+    klp_types::laws::edits_keep_to_their_room();
     for edit in edits {
         make_edit(*edit, patch, world, log);
     }
@@ -66,7 +64,7 @@ pub fn run_script(script: &Script, patch: PatchId, world: &mut World, log: &mut 
     ensures changes { Changes world.old world.new log.old log.new (effect patch world.old script.now)
         (rows_of_script patch world.old script.now) }
 {
-    scripts_are_undone();
+    klp_world::laws::scripts_are_undone();
     if script.status == 0 {
         make_edits(&script.edits, patch, world, log);
     }

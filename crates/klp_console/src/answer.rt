@@ -11,7 +11,7 @@ use crate::refusals::{say_bad_mark, say_fault};
 use crate::replies::{say_answer, say_done};
 use crate::served::Served;
 use klp_console_commands::{LineFault, Request, request_of};
-use klp_console_io::{Answers, Sink, what_is_said_adds_up};
+use klp_console_io::{Answers, Sink};
 use klp_core::Manager;
 use klp_model::Event;
 
@@ -86,7 +86,7 @@ fn done_if<W: Sink>(
     ensures { IsSaid (IsDoneIf manager.old manager.new request.now) (answers.old, W.written writer.old)
         (answers.new, W.written writer.new) result }
 {
-    what_is_said_adds_up();
+    klp_console_io::laws::what_is_said_adds_up();
     match request {
         None => false,
         Some(Ok(request)) => done(manager, request, answers, writer),

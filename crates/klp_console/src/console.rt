@@ -10,9 +10,7 @@ ghost use Rattle.klp_console.specs.Served.{ComesTo};
 use crate::answer::answer_line;
 use crate::hear::hear_lines;
 use crate::served::{ServeFault, Served};
-use klp_console_io::{
-    Answers, Failed, LineBuffer, Sink, Source, lines_add_up, what_is_said_adds_up,
-};
+use klp_console_io::{Answers, Failed, LineBuffer, Sink, Source};
 use klp_core::Manager;
 use klp_types::{MAX_READS, READ_ROOM};
 
@@ -39,7 +37,7 @@ fn hear<W: Sink>(
     ensures room { IfOk result (λ _. served.new.lines ≤ served.old.lines + length piece.now) }
     ensures written { answers.new.has_failed ≡ false → answers.new.bytes ≡ [] }
 {
-    what_is_said_adds_up();
+    klp_console_io::laws::what_is_said_adds_up();
     let heard = hear_lines(manager, line, piece, served, answers, writer);
     answers.flush(writer);
     if answers.has_failed() {
@@ -68,7 +66,7 @@ fn end<W: Sink>(
     ensures written { IfOk result (λ _. (answers.new.has_failed ≡ false) × (answers.new.bytes ≡ [])) }
     ensures failed { IfErr result (λ fault. (fault ≡ Write) × (answers.new.has_failed ≡ true)) }
 {
-    what_is_said_adds_up();
+    klp_console_io::laws::what_is_said_adds_up();
     let last = line.bytes();
     if last.is_empty() {
         return Ok(());
@@ -96,8 +94,8 @@ pub fn serve<R: Source, W: Sink>(
     ensures { ComesTo (record { supply = R.supply reader.old; written = W.written writer.old; manager = manager.old })
         (record { supply = R.supply reader.new; written = W.written writer.new; manager = manager.new }) result }
 {
-    what_is_said_adds_up();
-    lines_add_up();
+    klp_console_io::laws::what_is_said_adds_up();
+    klp_console_io::laws::lines_add_up();
     let mut line = LineBuffer::new();
     let mut served = Served {
         lines: 0,

@@ -14,7 +14,7 @@ ghost use Rattle.klp_console.specs.Queries.{lines_of, switch_text, patch_line, o
 
 use crate::names::{object_name, patch_name, say_name};
 use klp_catalog::{Catalog, CatalogFunction};
-use klp_console_io::{Answers, Sink, what_is_said_adds_up};
+use klp_console_io::{Answers, Sink};
 use klp_core::Manager;
 use klp_model::Refusal;
 use klp_types::{ObjId, PatchId, TaskId};
@@ -37,7 +37,7 @@ pub(crate) fn has_object(catalog: &Catalog, patch: PatchId, object: ObjId) -> bo
 fn say_line<W: Sink>(answers: &mut Answers, writer: &mut W, name: &str)
     ensures { Says (answers.old, W.written writer.old) (answers.new, W.written writer.new) (name.now ++ codes "\n") }
 {
-    what_is_said_adds_up();
+    klp_console_io::laws::what_is_said_adds_up();
     say_name(answers, writer, name);
     answers.say(writer, b"\n");
 }
@@ -64,7 +64,7 @@ pub(crate) fn say_enabled<W: Sink>(
         (result_unwrap_or (look_text manager.now (look.Enabled patch)) []) }
     ensures result { result ≡ result_and (look_text manager.now (look.Enabled patch)) (Ok tt) }
 {
-    what_is_said_adds_up();
+    klp_console_io::laws::what_is_said_adds_up();
     let value = manager.enabled(patch).ok_or(Refusal::NotFound)?;
     say_switch(answers, writer, value);
     Ok(())
@@ -81,7 +81,7 @@ pub(crate) fn say_transition<W: Sink>(
         (result_unwrap_or (look_text manager.now (look.Transition patch)) []) }
     ensures result { result ≡ result_and (look_text manager.now (look.Transition patch)) (Ok tt) }
 {
-    what_is_said_adds_up();
+    klp_console_io::laws::what_is_said_adds_up();
     let value = manager.transition(patch).ok_or(Refusal::NotFound)?;
     say_switch(answers, writer, value);
     Ok(())
@@ -98,7 +98,7 @@ pub(crate) fn say_patch_state<W: Sink>(
         (result_unwrap_or (look_text manager.now (look.PatchState task)) []) }
     ensures result { result ≡ result_and (look_text manager.now (look.PatchState task)) (Ok tt) }
 {
-    what_is_said_adds_up();
+    klp_console_io::laws::what_is_said_adds_up();
     let state = manager.patch_state(task).ok_or(Refusal::NoTask)?;
     answers.signed(writer, i64::from(state));
     answers.say(writer, b"\n");
@@ -115,7 +115,7 @@ fn say_patch_lines<W: Sink>(
     ensures { Says (answers.old, W.written writer.old) (answers.new, W.written writer.new)
         (lines_of (patch_line catalog.now) patches.now) }
 {
-    what_is_said_adds_up();
+    klp_console_io::laws::what_is_said_adds_up();
     for patch in patches {
         say_line(answers, writer, patch_name(catalog, *patch));
     }
@@ -140,7 +140,7 @@ fn say_object_lines<W: Sink>(
     ensures { Says (answers.old, W.written writer.old) (answers.new, W.written writer.new)
         (lines_of (object_line manager.now.managed.catalog) (objects_at manager.now.managed.catalog patch)) }
 {
-    what_is_said_adds_up();
+    klp_console_io::laws::what_is_said_adds_up();
     let catalog = manager.catalog();
     for place in 0..catalog.target_len(patch) {
         if let Some(object) = catalog.target(patch, place) {
@@ -154,7 +154,7 @@ fn say_files<W: Sink>(answers: &mut Answers, writer: &mut W, manager: &Manager, 
     ensures { Says (answers.old, W.written writer.old) (answers.new, W.written writer.new)
         (directory_text manager.now.managed.catalog patch) }
 {
-    what_is_said_adds_up();
+    klp_console_io::laws::what_is_said_adds_up();
     answers.say(writer, b"enabled\nforce\ntransition\n");
     say_object_lines(answers, writer, manager, patch);
 }
@@ -170,7 +170,7 @@ pub(crate) fn say_directory<W: Sink>(
         (result_unwrap_or (look_text manager.now (look.Patch patch)) []) }
     ensures result { result ≡ result_and (look_text manager.now (look.Patch patch)) (Ok tt) }
 {
-    what_is_said_adds_up();
+    klp_console_io::laws::what_is_said_adds_up();
     if !is_installed(manager, patch) {
         return Err(Refusal::NotFound);
     }
@@ -183,7 +183,7 @@ fn say_position<W: Sink>(answers: &mut Answers, writer: &mut W, symbol: &str, po
     ensures { Says (answers.old, W.written writer.old) (answers.new, W.written writer.new)
         (symbol.now ++ codes "," ++ decimal position ++ codes "\n") }
 {
-    what_is_said_adds_up();
+    klp_console_io::laws::what_is_said_adds_up();
     say_name(answers, writer, symbol);
     answers.say(writer, b",");
     answers.number(writer, position);
@@ -210,7 +210,7 @@ fn say_positions<W: Sink>(
     ensures { Says (answers.old, W.written writer.old) (answers.new, W.written writer.new)
         (lines_of position_text (filter (λ (f : FunctionValue). f.object == object) functions.now)) }
 {
-    what_is_said_adds_up();
+    klp_console_io::laws::what_is_said_adds_up();
     for function in functions {
         if function.object() == object {
             say_function(answers, writer, function);
@@ -231,7 +231,7 @@ pub(crate) fn say_functions<W: Sink>(
         (result_unwrap_or (look_text manager.now (look.Object patch object)) []) }
     ensures result { result ≡ result_and (look_text manager.now (look.Object patch object)) (Ok tt) }
 {
-    what_is_said_adds_up();
+    klp_console_io::laws::what_is_said_adds_up();
     if !is_installed(manager, patch) || !has_object(manager.catalog(), patch, object) {
         return Err(Refusal::NotFound);
     }

@@ -7,7 +7,7 @@ ghost use Rattle.klp_console.specs.Said.{Hears, Serves};
 
 use crate::answer::answer_line;
 use crate::served::{ServeFault, Served};
-use klp_console_io::{Answers, LineBuffer, Sink, TooLong, what_is_said_adds_up};
+use klp_console_io::{Answers, LineBuffer, Sink, TooLong};
 use klp_core::Manager;
 
 /// Hears a piece, and answers each line that it ends. After a failure of the sink no further line is done.
@@ -31,7 +31,7 @@ pub(crate) fn hear_lines<W: Sink>(
     ensures few { IfOk result (λ _. served.new.refused ≤ served.new.lines) }
     ensures room { IfOk result (λ _. served.new.lines ≤ served.old.lines + length piece.now) }
 {
-    what_is_said_adds_up();
+    klp_console_io::laws::what_is_said_adds_up();
     let mut rest = piece;
     while !rest.is_empty() {
         match line.hear(rest) {

@@ -5,7 +5,7 @@ ghost use Rattle.klp_console_io.specs.Texts.{address_text};
 ghost use Rattle.klp_console.specs.Names.{patch_name, object_name, new_function_text};
 
 use klp_catalog::Catalog;
-use klp_console_io::{Answers, Sink, what_is_said_adds_up};
+use klp_console_io::{Answers, Sink};
 use klp_modules::Modules;
 use klp_types::{ObjId, PatchId};
 
@@ -43,7 +43,7 @@ fn say_function<W: Sink>(
     ensures { Says (answers.old, W.written writer.old) (answers.new, W.written writer.new)
         (patch.now ++ codes " " ++ new_name.now ++ codes " " ++ address_text address ++ codes "\n") }
 {
-    what_is_said_adds_up();
+    klp_console_io::laws::what_is_said_adds_up();
     say_name(answers, writer, patch);
     answers.say(writer, b" ");
     say_name(answers, writer, new_name);
@@ -65,7 +65,7 @@ pub(crate) fn say_new_function<W: Sink>(
     ensures { Says (answers.old, W.written writer.old) (answers.new, W.written writer.new)
         (new_function_text catalog.now patch number) }
 {
-    what_is_said_adds_up();
+    klp_console_io::laws::what_is_said_adds_up();
     if let Some((_, new_name, address)) = catalog.function(patch, number) {
         say_function(
             answers,

@@ -14,7 +14,7 @@ use crate::replies::say_done;
 use crate::runs::{say_mark, say_runs, say_variable};
 use crate::text::{say_pick, say_stack, say_text};
 use klp_console_commands::Query;
-use klp_console_io::{Answers, Sink, what_is_said_adds_up};
+use klp_console_io::{Answers, Sink};
 use klp_core::Manager;
 use klp_model::Refusal;
 use klp_types::PatchId;
@@ -75,7 +75,7 @@ pub(crate) fn say_query<W: Sink>(
         (seen_text (look_text manager.now look.now)) }
     ensures result { result ≡ result_and (look_text manager.now look.now) (Ok tt) }
 {
-    what_is_said_adds_up();
+    klp_console_io::laws::what_is_said_adds_up();
     let result = show(answers, writer, manager, look);
     if let Err(refusal) = result {
         say_refusal(answers, writer, refusal);

@@ -8,7 +8,7 @@ ghost use Rattle.klp_console.specs.Replies.{done_text, original_text, frame_text
 use crate::names::{object_name, patch_name, say_name};
 use crate::refusals::say_refusal;
 use klp_catalog::Catalog;
-use klp_console_io::{Answers, Sink, what_is_said_adds_up};
+use klp_console_io::{Answers, Sink};
 use klp_model::{Refusal, Reply};
 use klp_modules::Modules;
 use klp_types::{Frames, ObjId, PatchId, Site, Version};
@@ -26,7 +26,7 @@ fn say_number<W: Sink>(answers: &mut Answers, writer: &mut W, word: &[u8], numbe
     ensures { Says (answers.old, W.written writer.old) (answers.new, W.written writer.new)
         (word.now ++ decimal number ++ codes "\n") }
 {
-    what_is_said_adds_up();
+    klp_console_io::laws::what_is_said_adds_up();
     answers.say(writer, word);
     answers.number(writer, number);
     answers.say(writer, b"\n");
@@ -45,7 +45,7 @@ fn say_pre_failed<W: Sink>(
         (codes "prefailed " ++ patch.now ++ codes " " ++ object.now ++ codes " " ++ signed_decimal status
         ++ codes "\n") }
 {
-    what_is_said_adds_up();
+    klp_console_io::laws::what_is_said_adds_up();
     answers.say(writer, b"prefailed ");
     say_name(answers, writer, patch);
     answers.say(writer, b" ");
@@ -67,7 +67,7 @@ fn say_symbol<W: Sink>(
     ensures { Says (answers.old, W.written writer.old) (answers.new, W.written writer.new)
         (codes " .klp.sym." ++ object.now ++ codes "." ++ symbol.now ++ codes "," ++ decimal position) }
 {
-    what_is_said_adds_up();
+    klp_console_io::laws::what_is_said_adds_up();
     answers.say(writer, b" .klp.sym.");
     say_name(answers, writer, object);
     answers.say(writer, b".");
@@ -81,7 +81,7 @@ fn say_original<W: Sink>(answers: &mut Answers, writer: &mut W, modules: &Module
     ensures { Says (answers.old, W.written writer.old) (answers.new, W.written writer.new)
         (original_text modules.now.names (symbol_at_site modules.now.names site)) }
 {
-    what_is_said_adds_up();
+    klp_console_io::laws::what_is_said_adds_up();
     if let Some((object, symbol, position)) = modules.symbol(site) {
         say_symbol(
             answers,
@@ -98,7 +98,7 @@ fn say_new<W: Sink>(answers: &mut Answers, writer: &mut W, patch: &str, function
     ensures { Says (answers.old, W.written writer.old) (answers.new, W.written writer.new)
         (codes " " ++ patch.now ++ codes ":" ++ decimal function) }
 {
-    what_is_said_adds_up();
+    klp_console_io::laws::what_is_said_adds_up();
     answers.say(writer, b" ");
     say_name(answers, writer, patch);
     answers.say(writer, b":");
@@ -138,7 +138,7 @@ fn say_frames<W: Sink>(
     ensures { Says (answers.old, W.written writer.old) (answers.new, W.written writer.new)
         (frames_text catalog.now frames.now) }
 {
-    what_is_said_adds_up();
+    klp_console_io::laws::what_is_said_adds_up();
     let versions = frames.as_slice();
     for place in 0..versions.len() {
         say_frame(answers, writer, catalog, modules, versions[place]);
@@ -157,7 +157,7 @@ fn say_woken<W: Sink>(
     ensures { Says (answers.old, W.written writer.old) (answers.new, W.written writer.new)
         (reply_text catalog.now (Reply.Woken frames.now)) }
 {
-    what_is_said_adds_up();
+    klp_console_io::laws::what_is_said_adds_up();
     answers.say(writer, b"woken");
     say_frames(answers, writer, catalog, modules, frames);
     answers.say(writer, b"\n");

@@ -10,7 +10,7 @@ ghost use Rattle.klp_console.specs.Queries.{lines_of, variable_text, count_text,
 
 use crate::files::has_object;
 use klp_catalog::Catalog;
-use klp_console_io::{Answers, Sink, what_is_said_adds_up};
+use klp_console_io::{Answers, Sink};
 use klp_core::Manager;
 use klp_model::Refusal;
 use klp_types::{ObjId, PatchId, ShadowKey, Which};
@@ -29,7 +29,7 @@ pub(crate) fn say_variable<W: Sink>(
     ensures { Says (answers.old, W.written writer.old) (answers.new, W.written writer.new)
         (variable_text (variable manager.now.managed.state.world key)) }
 {
-    what_is_said_adds_up();
+    klp_console_io::laws::what_is_said_adds_up();
     match manager.shadow_get(key) {
         None => answers.say(writer, b"none\n"),
         Some(value) => {
@@ -45,7 +45,7 @@ pub(crate) fn say_variable<W: Sink>(
 fn say_count<W: Sink>(answers: &mut Answers, writer: &mut W, count: Option<u64>)
     ensures { Says (answers.old, W.written writer.old) (answers.new, W.written writer.new) (count_text count) }
 {
-    what_is_said_adds_up();
+    klp_console_io::laws::what_is_said_adds_up();
     match count {
         None => answers.say(writer, b" -"),
         Some(count) => {
@@ -67,7 +67,7 @@ fn say_counts<W: Sink>(
     ensures { Says (answers.old, W.written writer.old) (answers.new, W.written writer.new)
         (lines_of (λ which. count_text (callback_runs catalog.now patch object which)) kinds.now) }
 {
-    what_is_said_adds_up();
+    klp_console_io::laws::what_is_said_adds_up();
     for which in kinds {
         say_count(
             answers,
@@ -88,7 +88,7 @@ fn say_all_counts<W: Sink>(
     ensures { Says (answers.old, W.written writer.old) (answers.new, W.written writer.new)
         (runs_text catalog.now patch object) }
 {
-    what_is_said_adds_up();
+    klp_console_io::laws::what_is_said_adds_up();
     answers.say(writer, b"runs");
     say_counts(answers, writer, catalog, patch, object, &KINDS);
     answers.say(writer, b"\n");
@@ -107,7 +107,7 @@ pub(crate) fn say_runs<W: Sink>(
         (result_unwrap_or (look_text manager.now (look.Runs patch object)) []) }
     ensures result { result ≡ result_and (look_text manager.now (look.Runs patch object)) (Ok tt) }
 {
-    what_is_said_adds_up();
+    klp_console_io::laws::what_is_said_adds_up();
     if !has_object(manager.catalog(), patch, object) {
         return Err(Refusal::NotFound);
     }
@@ -120,7 +120,7 @@ pub(crate) fn say_mark<W: Sink>(answers: &mut Answers, writer: &mut W, manager: 
     ensures { Says (answers.old, W.written writer.old) (answers.new, W.written writer.new)
         (decimal (length manager.now.groups) ++ codes "\n") }
 {
-    what_is_said_adds_up();
+    klp_console_io::laws::what_is_said_adds_up();
     answers.number(writer, u64::from(manager.mark()));
     answers.say(writer, b"\n");
 }

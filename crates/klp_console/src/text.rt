@@ -9,7 +9,7 @@ ghost use Rattle.klp_console.specs.Queries.{lines_of, symbol_text, entry_text, s
 
 use crate::names::{patch_name, say_name, say_new_function};
 use klp_catalog::Catalog;
-use klp_console_io::{Answers, Sink, what_is_said_adds_up};
+use klp_console_io::{Answers, Sink};
 use klp_core::{Manager, TextView};
 use klp_model::Refusal;
 use klp_types::{Entry, ObjId, Site, Target, TaskId, Version};
@@ -20,7 +20,7 @@ fn say_symbol<W: Sink>(answers: &mut Answers, writer: &mut W, name: &str, addres
     ensures { Says (answers.old, W.written writer.old) (answers.new, W.written writer.new)
         (symbol_text (record { name = name.now; address = address; body = body.now })) }
 {
-    what_is_said_adds_up();
+    klp_console_io::laws::what_is_said_adds_up();
     say_name(answers, writer, name);
     answers.say(writer, b" ");
     answers.address(writer, address);
@@ -34,7 +34,7 @@ fn say_symbols<W: Sink>(answers: &mut Answers, writer: &mut W, text: &TextView<'
     ensures { Says (answers.old, W.written writer.old) (answers.new, W.written writer.new)
         (lines_of symbol_text text.now) }
 {
-    what_is_said_adds_up();
+    klp_console_io::laws::what_is_said_adds_up();
     for number in 0..text.len() {
         if let Some((name, address, body)) = text.get(number) {
             say_symbol(answers, writer, name, address, body);
@@ -53,7 +53,7 @@ pub(crate) fn say_text<W: Sink>(
         (result_unwrap_or (look_text manager.now (look.Text object)) []) }
     ensures result { result ≡ result_and (look_text manager.now (look.Text object)) (Ok tt) }
 {
-    what_is_said_adds_up();
+    klp_console_io::laws::what_is_said_adds_up();
     let text = manager.text(object).ok_or(Refusal::NoModule)?;
     say_symbols(answers, writer, &text);
     Ok(())
@@ -64,7 +64,7 @@ fn say_entry<W: Sink>(answers: &mut Answers, writer: &mut W, catalog: &Catalog, 
     ensures { Says (answers.old, W.written writer.old) (answers.new, W.written writer.new)
         (entry_text catalog.now entry.now) }
 {
-    what_is_said_adds_up();
+    klp_console_io::laws::what_is_said_adds_up();
     match entry.func {
         None => {
             say_name(answers, writer, patch_name(catalog, entry.patch));
@@ -79,7 +79,7 @@ fn say_entries<W: Sink>(answers: &mut Answers, writer: &mut W, catalog: &Catalog
     ensures { Says (answers.old, W.written writer.old) (answers.new, W.written writer.new)
         (lines_of (entry_text catalog.now) entries.now) }
 {
-    what_is_said_adds_up();
+    klp_console_io::laws::what_is_said_adds_up();
     for entry in entries {
         say_entry(answers, writer, catalog, entry);
     }
@@ -110,7 +110,7 @@ fn say_version<W: Sink>(answers: &mut Answers, writer: &mut W, catalog: &Catalog
     ensures { Says (answers.old, W.written writer.old) (answers.new, W.written writer.new)
         (version_text catalog.now target.now.version target.now.address) }
 {
-    what_is_said_adds_up();
+    klp_console_io::laws::what_is_said_adds_up();
     match target.version {
         Version::Original(_) => {
             answers.say(writer, b"original ");
@@ -135,7 +135,7 @@ pub(crate) fn say_pick<W: Sink>(
         (result_unwrap_or (look_text manager.now (look.Pick task site)) []) }
     ensures result { result ≡ result_and (look_text manager.now (look.Pick task site)) (Ok tt) }
 {
-    what_is_said_adds_up();
+    klp_console_io::laws::what_is_said_adds_up();
     if manager.patch_state(task).is_none() {
         return Err(Refusal::NoTask);
     }

@@ -3,7 +3,7 @@
 //! **In.** A [`Source`] gives bytes. A read into room gives a front of the bytes left, and none only at
 //! their end. A line may be cut across reads: a [`LineBuffer`] gathers its bytes in room of a fixed size,
 //! and takes no memory. Its model is its bytes, at most 256 and no line feed among them. What was heard
-//! piece by piece has the lines of all its bytes together ([`lines_add_up`]). [`LineBuffer::hear`] takes a
+//! piece by piece has the lines of all its bytes together (`laws::lines_add_up`). [`LineBuffer::hear`] takes a
 //! piece up to its first line feed and hands back the rest: the lines of both together are this line and
 //! those of the rest; or, without a line feed, this one, which goes on. It is an `Err` exactly where that
 //! first line is longer than 256 bytes, finished or not, and then nothing changes. What comes next leaves
@@ -12,7 +12,7 @@
 //! **Out.** [`Answers`] are gathered in room of a fixed size, and written to a [`Sink`], which takes a front
 //! of what it is given. Whoever writes to them need not ask after each word whether it was taken: a failure
 //! of the sink is kept, and after it nothing more is gathered or written. What was said so far is one text
-//! ([`what_is_said_adds_up`]). Each call promises one fact, `Says` (`specs/Says`, `Written`): the sink took
+//! (`laws::what_is_said_adds_up`). Each call promises one fact, `Says` (`specs/Says`, `Written`): the sink took
 //! a front of what was gathered and of the text, and the rest, at most 4,096 bytes, is gathered; or the
 //! sink failed or took nothing once, and the rest, a byte at least, is lost. After a failure nothing
 //! changes. After `flush` nothing is gathered, unless the sink failed. Numbers, bytes and addresses have
@@ -30,7 +30,7 @@ mod answers;
 mod count;
 mod due;
 mod feed;
-mod laws;
+pub mod laws;
 mod line_buffer;
 mod over_read;
 mod over_write;
@@ -40,7 +40,6 @@ mod taken;
 
 pub use answers::Answers;
 pub use feed::Feed;
-pub use laws::{addresses_have_16_digits, lines_add_up, what_is_said_adds_up};
 pub use line_buffer::{LineBuffer, TooLong};
 pub use over_read::OverRead;
 pub use over_write::OverWrite;

@@ -4,8 +4,6 @@ ghost use Rattle.klp_model.specs.InPlace.{IsInPlace};
 ghost use Rattle.klp_modules.specs.Names.{names_of};
 ghost use Rattle.klp_manager_state.specs.Managed.{Managed, setting_of};
 
-use klp_catalog::laws::sites_lie_in_their_objects;
-
 /// Where the catalog was assembled over the names of the image, as `Manager::catalog` promises of every
 /// manager, each function of a patch that names a site is in the object of that site. The laws of what
 /// tasks run (`klp_model`) ask for it, since nothing else gives it (docs/DECISIONS.md, "The object of a
@@ -14,5 +12,5 @@ pub fn functions_stand_with_their_objects()
     ensures { (managed : Managed) → managed.catalog.names ≡ names_of managed.image.objects
         → IsInPlace (setting_of managed) }
 {
-    sites_lie_in_their_objects();
+    klp_catalog::laws::sites_lie_in_their_objects();
 }

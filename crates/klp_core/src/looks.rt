@@ -19,7 +19,6 @@ use crate::manager::Manager;
 use crate::view::TextView;
 use arrayvec::ArrayVec;
 use klp_catalog::Catalog;
-use klp_model::laws::installed_patches_have_their_states;
 use klp_modules::Modules;
 use klp_types::{Entry, MAX_PATCHES, ObjId, PatchId, ShadowKey, ShadowValue, Site, TaskId, Which};
 
@@ -102,7 +101,7 @@ impl Manager {
             ≡ (is_installed self.now.managed.state patch
             && list_any (λ own. own == id) (state_ids (setting_of self.now.managed) patch)) }
     {
-        installed_patches_have_their_states();
+        klp_model::laws::installed_patches_have_their_states();
         self.state.world.value(patch, id)
     }
 

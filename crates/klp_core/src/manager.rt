@@ -17,7 +17,6 @@ use crate::boot::state_over;
 use crate::fault::{BadMark, BootFault};
 use crate::journal::{rewind_to, take_and_append};
 use klp_catalog::Catalog;
-use klp_catalog::laws::{counts_grow_by_runs, runs_add_up};
 use klp_journal::Journal;
 use klp_manager_state::ManagerState;
 use klp_model::round_trip::{gone_at_the_end, only_shadow_events_outside};
@@ -109,7 +108,7 @@ impl Manager {
         ensures setting { setting_of self.new.managed ≡ setting_of self.old.managed }
         ensures stands { Stands self.new }
     {
-        counts_grow_by_runs();
+        klp_catalog::laws::counts_grow_by_runs();
         take_and_append(
             &mut self.state,
             &mut self.catalog,
@@ -128,7 +127,7 @@ impl Manager {
         ensures setting { setting_of self.new.managed ≡ setting_of self.old.managed }
         ensures stands { Stands self.new }
     {
-        runs_add_up();
+        klp_catalog::laws::runs_add_up();
         gone_at_the_end();
         only_shadow_events_outside();
         let _standing = self.mark();

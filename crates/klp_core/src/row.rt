@@ -10,7 +10,6 @@ ghost use Rattle.klp_model.specs.Entries.{entries_of};
 ghost use Rattle.klp_manager_state.specs.Managed.{setting_of};
 
 use crate::manager::Manager;
-use klp_stack::laws::the_word_is_enough;
 use klp_stack::version_of;
 use klp_types::{
     ENTRY_SITE_END, Entry, PatchId, Site, SiteRow, SiteWord, Target, TaskId, Transition, Version,
@@ -49,7 +48,7 @@ impl Manager {
     pub fn pick(&self, task: TaskId, site: Site) -> Option<Target>
         ensures { result ≡ pick (setting_of self.now.managed) self.now.managed.state task site }
     {
-        the_word_is_enough();
+        klp_stack::laws::the_word_is_enough();
         let state = self.patch_state(task)?;
         if !self.is_site_loaded(site) {
             return None;

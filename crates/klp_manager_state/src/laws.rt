@@ -19,9 +19,6 @@ ghost use Rattle.klp_model.specs.Stated.{IsStated};
 ghost use Rattle.klp_catalog.specs.States.{previous_state};
 ghost use Rattle.klp_manager_state.specs.Managed.{Managed, setting_of};
 
-use klp_catalog::laws::runs_add_up;
-use klp_model::laws::{installed_patches_have_their_states, states_stay_allowed};
-
 /// The patch whose state a callback takes over is the one that the catalog says: the newest of the patches
 /// installed before that names the state. The world answers it from its rows, and this is why the two
 /// agree: each installed patch has the states that the catalog gives it, which a manager keeps.
@@ -35,9 +32,9 @@ pub fn previous_states_agree()
 pub fn steps_keep()
     ensures { StepLaws }
 {
-    states_stay_allowed();
-    installed_patches_have_their_states();
-    runs_add_up();
+    klp_model::laws::states_stay_allowed();
+    klp_model::laws::installed_patches_have_their_states();
+    klp_catalog::laws::runs_add_up();
 }
 
 /// An event that nothing refuses, that runs no callback and changes one kind of rows alone, is taken by

@@ -5,8 +5,6 @@ ghost use Rattle.klp_model.specs.Allowed.{Allowed};
 ghost use Rattle.klp_model.specs.Opening.{opening_state};
 ghost use Rattle.klp_model.specs.Stated.{IsStated};
 
-use klp_model::laws::{installed_patches_have_their_states, the_opening_state_is_allowed};
-
 /// What the opening state has, which boot has to show: it is allowed, and no patch lacks its states, as
 /// none is installed.
 pub(crate) fn opening_keeps()
@@ -14,6 +12,6 @@ pub(crate) fn opening_keeps()
         → Allowed setting (opening_state setting) }
     ensures stated { (setting : Setting) → IsStated setting (opening_state setting) }
 {
-    the_opening_state_is_allowed();
-    installed_patches_have_their_states();
+    klp_model::laws::the_opening_state_is_allowed();
+    klp_model::laws::installed_patches_have_their_states();
 }

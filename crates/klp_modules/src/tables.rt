@@ -1,6 +1,7 @@
 //! The tables that look-ups go by. Each is made once, from the objects, since these never change.
 
 ghost use Rattle.std.specs.Prelude.{◌≡◌, ◌+◌, ◌≤◌, ◌++◌, ◌==◌, length, count_by, IfOk, OnOk};
+ghost use Rattle.klp_types.specs.declared.limits.TheConstants.{MAX_OBJECTS, MAX_SITES};
 ghost use Rattle.klp_modules.specs.Kept.{symbol_count};
 ghost use Rattle.klp_modules.specs.Tables.{HasObjects, IsSiteTable, HasSites, AreTabled, placed, placed_symbols};
 
@@ -23,8 +24,8 @@ pub struct Tables {
 impl Tables {
     /// Makes the tables for these objects.
     pub fn new(alloc: Global, objects: &[NumberedObject]) -> Result<Tables, AllocError>
-        requires few_objects { length objects.now ≤ 17 }
-        requires few_symbols { symbol_count objects.now ≤ 256 }
+        requires few_objects { length objects.now ≤ MAX_OBJECTS }
+        requires few_symbols { symbol_count objects.now ≤ MAX_SITES }
         ensures { IfOk result (AreTabled objects.now) }
     {
         let named = objects_by_name(alloc, objects)?;
@@ -44,7 +45,7 @@ fn objects_by_name(
     alloc: Global,
     objects: &[NumberedObject],
 ) -> Result<IndexMap<usize, ObjId>, AllocError>
-    requires { length objects.now ≤ 17 }
+    requires { length objects.now ≤ MAX_OBJECTS }
     ensures { IfOk result (HasObjects objects.now) }
 {
     let mut table = IndexMap::new(alloc);
@@ -59,7 +60,7 @@ fn sites_by_object(
     alloc: Global,
     objects: &[NumberedObject],
 ) -> Result<Vec<IndexMap<usize, Vec<Site>>>, AllocError>
-    requires { symbol_count objects.now ≤ 256 }
+    requires { symbol_count objects.now ≤ MAX_SITES }
     ensures { IfOk result (λ tables. HasSites objects.now tables.items) }
 {
     let mut tables = Vec::new(alloc);
@@ -78,7 +79,7 @@ fn sites_by_name(
     first: u16,
     symbols: &[usize],
 ) -> Result<IndexMap<usize, Vec<Site>>, AllocError>
-    requires { first + length symbols.now ≤ 256 }
+    requires { first + length symbols.now ≤ MAX_SITES }
     ensures { IfOk result (IsSiteTable first symbols.now) }
 {
     let mut table = IndexMap::new(alloc);
@@ -94,8 +95,8 @@ fn symbols_by_site(
     alloc: Global,
     objects: &[NumberedObject],
 ) -> Result<Vec<NumberedSymbol>, AllocError>
-    requires few_objects { length objects.now ≤ 17 }
-    requires few_symbols { symbol_count objects.now ≤ 256 }
+    requires few_objects { length objects.now ≤ MAX_OBJECTS }
+    requires few_symbols { symbol_count objects.now ≤ MAX_SITES }
     ensures { IfOk result (λ table. table.items ≡ placed_symbols 0 objects.now) }
 {
     let mut table = Vec::new(alloc);
@@ -112,7 +113,7 @@ fn add_symbols(
     object: ObjId,
     symbols: &[usize],
 ) -> Result<(), AllocError>
-    requires { length symbols.now ≤ 256 }
+    requires { length symbols.now ≤ MAX_SITES }
     ensures { OnOk result (table.new.items ≡ table.old.items ++ placed object 0 symbols.now symbols.now) }
 {
     for (place, name) in symbols.iter().enumerate() {

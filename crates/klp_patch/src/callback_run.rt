@@ -7,10 +7,8 @@ ghost use Rattle.klp_patch.specs.Calls.{HaveRun, HasRoomFor};
 ghost use Rattle.klp_patch.specs.Places.{call_at};
 
 use klp_catalog::Catalog;
-use klp_types::laws::{installed_patches_stay, variables_are_few};
 use klp_types::{PatchId, Records, Which};
 use klp_world::World;
-use klp_world::laws::records_are_few;
 
 /// Runs the callback of a patch for its object at this place, and answers its status: 0 where there is no
 /// such callback. The laws that every run needs are called here, so that no walk over callbacks has to.
@@ -27,8 +25,8 @@ pub(crate) fn run_at(
     ensures ran { HaveRun catalog.old catalog.new world.old world.new log.old log.new
         (call_at catalog.old patch place which) }
 {
-    variables_are_few();
-    records_are_few();
-    installed_patches_stay();
+    klp_types::laws::variables_are_few();
+    klp_world::laws::records_are_few();
+    klp_types::laws::installed_patches_stay();
     catalog.run(patch, place, which, world, log).unwrap_or(0)
 }

@@ -3,7 +3,7 @@
 ghost use Rattle.std.specs.Prelude.{◌≡◌, ℕ, ◌+◌, ◌≤◌, find, length, take, None, Some, option_map, MatchOption};
 ghost use Rattle.std.specs.List.{flat_map};
 ghost use Rattle.klp_types.specs.declared.callback.Which.TheVariants.{Pre};
-ghost use Rattle.klp_types.specs.declared.limits.TheConstants.{MAX_PATCHES};
+ghost use Rattle.klp_types.specs.declared.limits.TheConstants.{MAX_COMING_EDITS, MAX_GOING_EDITS, MAX_PATCHES};
 ghost use Rattle.klp_types.specs.Callbacks.{script_for, allocs_of};
 ghost use Rattle.klp_model.specs.Callbacks.{status_of};
 ghost use Rattle.klp_model.specs.ModuleCalls.{Part, part_refuses, parts_before, coming_calls, going_calls};
@@ -14,7 +14,6 @@ ghost use Rattle.klp_patch.specs.Calls.{HaveRun, HasRoomFor, records_of};
 
 use crate::module_share::{allocs_to_bring, allocs_to_let_go, bring, let_go};
 use klp_catalog::Catalog;
-use klp_catalog::laws::runs_add_up;
 use klp_types::{ObjId, PatchId, Records, Transition};
 use klp_world::World;
 
@@ -30,7 +29,7 @@ pub fn allocs_of_coming(
     ensures value { result ≡ allocs_of (flat_map (coming_may_run moving) (parts_in catalog.now object installed.now)) }
     // so they log few records
     ensures records { records_of (flat_map (coming_may_run moving) (parts_in catalog.now object installed.now))
-        ≤ 1024 + result }
+        ≤ MAX_COMING_EDITS + result }
 {
     let mut sum = 0;
     for &patch in installed {
@@ -49,7 +48,7 @@ pub fn allocs_of_going(
     requires { length installed.now ≤ MAX_PATCHES }
     ensures value { result ≡ allocs_of (flat_map (going_may_run moving) (parts_in catalog.now object installed.now)) }
     ensures records { records_of (flat_map (going_may_run moving) (parts_in catalog.now object installed.now))
-        ≤ 512 + result }
+        ≤ MAX_GOING_EDITS + result }
 {
     let mut sum = 0;
     for &patch in installed {
@@ -73,7 +72,7 @@ fn let_go_each(
     ensures { HaveRun catalog.old catalog.new world.old world.new log.old log.new
         (going_calls moving.now (parts_in catalog.old object installed.now)) }
 {
-    runs_add_up();
+    klp_catalog::laws::runs_add_up();
     for &patch in installed {
         let_go(catalog, patch, object, moving, world, log);
     }
@@ -100,7 +99,7 @@ fn bring_each(
     ensures ran { HaveRun catalog.old catalog.new world.old world.new log.old log.new
         (bring_calls moving.now (parts_in catalog.old object installed.now)) }
 {
-    runs_add_up();
+    klp_catalog::laws::runs_add_up();
     for (end, &patch) in installed.iter().enumerate() {
         if let Some(status) = bring(catalog, patch, object, moving, world, log) {
             return Some((end, patch, status));
@@ -129,7 +128,7 @@ pub fn run_coming(
     ensures ran { HaveRun catalog.old catalog.new world.old world.new log.old log.new
         (coming_calls moving (parts_in catalog.old object installed.now)) }
 {
-    runs_add_up();
+    klp_catalog::laws::runs_add_up();
     let (end, patch, status) = bring_each(catalog, installed, object, &moving, world, log)?;
     let_go_each(catalog, &installed[..end], object, &moving, world, log);
     Some((patch, status))

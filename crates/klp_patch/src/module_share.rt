@@ -1,8 +1,9 @@
 //! The callbacks of one patch for a module that comes or goes.
 //!
 //! The patch in transition is lent, since it is asked for each callback.
-ghost use Rattle.std.specs.Prelude.{◌≡◌, ◌+◌, ◌≤◌, [], find, option_map, is_some, true};
+ghost use Rattle.std.specs.Prelude.{◌≡◌, ◌+◌, ◌*◌, ◌≤◌, [], find, option_map, is_some, true};
 ghost use Rattle.std.specs.List.{flat_map};
+ghost use Rattle.klp_types.specs.declared.limits.TheConstants.{MAX_EDITS};
 ghost use Rattle.klp_types.specs.declared.callback.Which.TheVariants.{Pre};
 ghost use Rattle.klp_types.specs.Callbacks.{allocs_of};
 ghost use Rattle.klp_model.specs.Callbacks.{status_of};
@@ -18,15 +19,14 @@ ghost use Rattle.klp_patch.specs.Calls.{HaveRun, HasRoomFor, records_of};
 
 use crate::callback_run::run_at;
 use klp_catalog::Catalog;
-use klp_catalog::laws::runs_add_up;
 use klp_types::{ObjId, PatchId, Records, Transition, Which, is_in_transition};
 use klp_world::World;
 
 /// How many shadow variables a callback adds at most; none where there is no such callback.
 fn allocs_at(catalog: &Catalog, patch: PatchId, place: u8, which: Which) -> usize
     ensures value { result ≡ allocs_of (call_at catalog.now patch place which) }
-    ensures limit { result ≤ 16 }
-    ensures records { records_of (call_at catalog.now patch place which) ≤ 16 + result }
+    ensures limit { result ≤ MAX_EDITS }
+    ensures records { records_of (call_at catalog.now patch place which) ≤ MAX_EDITS + result }
 {
     usize::from(catalog.allocs(patch, place, which))
 }
@@ -40,8 +40,8 @@ fn allocs_still(
     moving: &Option<Transition>,
 ) -> usize
     ensures value { result ≡ allocs_of (still_at moving.now catalog.now patch place which) }
-    ensures limit { result ≤ 16 }
-    ensures records { records_of (still_at moving.now catalog.now patch place which) ≤ 16 + result }
+    ensures limit { result ≤ MAX_EDITS }
+    ensures records { records_of (still_at moving.now catalog.now patch place which) ≤ MAX_EDITS + result }
 {
     if is_in_transition(moving, patch) {
         0
@@ -59,9 +59,9 @@ pub(crate) fn allocs_to_bring(
     moving: &Option<Transition>,
 ) -> usize
     ensures value { result ≡ allocs_of (flat_map (coming_may_run moving.now) (parts_at catalog.now object patch)) }
-    ensures limit { result ≤ 64 }
+    ensures limit { result ≤ 4 * MAX_EDITS }
     ensures records { records_of (flat_map (coming_may_run moving.now) (parts_at catalog.now object patch))
-        ≤ 64 + result }
+        ≤ 4 * MAX_EDITS + result }
 {
     match catalog.place(patch, object) {
         Some(place) => {
@@ -84,9 +84,9 @@ pub(crate) fn allocs_to_let_go(
     moving: &Option<Transition>,
 ) -> usize
     ensures value { result ≡ allocs_of (flat_map (going_may_run moving.now) (parts_at catalog.now object patch)) }
-    ensures limit { result ≤ 32 }
+    ensures limit { result ≤ 2 * MAX_EDITS }
     ensures records { records_of (flat_map (going_may_run moving.now) (parts_at catalog.now object patch))
-        ≤ 32 + result }
+        ≤ 2 * MAX_EDITS + result }
 {
     match catalog.place(patch, object) {
         Some(place) => {
@@ -151,7 +151,7 @@ fn bring_at(
     ensures ran { HaveRun catalog.old catalog.new world.old world.new log.old log.new
         (places.bring_at moving.now catalog.old patch place) }
 {
-    runs_add_up();
+    klp_catalog::laws::runs_add_up();
     match run_pre_at(catalog, patch, place, world, log) {
         None => {
             run_still(catalog, patch, place, Which::Post, moving, world, log);
@@ -197,7 +197,7 @@ fn let_go_at(
     ensures { HaveRun catalog.old catalog.new world.old world.new log.old log.new
         (places.let_go_at moving.now catalog.old patch place) }
 {
-    runs_add_up();
+    klp_catalog::laws::runs_add_up();
     run_still(catalog, patch, place, Which::PreUn, moving, world, log);
     run_at(catalog, patch, place, Which::PostUn, world, log);
 }

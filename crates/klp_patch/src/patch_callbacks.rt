@@ -1,5 +1,6 @@
 //! The callbacks of a patch, object by object, in the order in which the patch has its objects.
-ghost use Rattle.std.specs.Prelude.{◌≡◌, ℕ, ◌≤◌, ◌++◌, length, slice_get, find, None, Some, option_map, MatchOption};
+ghost use Rattle.std.specs.Prelude.{◌≡◌, ℕ, ◌*◌, ◌≤◌, ◌++◌, length, slice_get, find, None, Some, option_map, MatchOption};
+ghost use Rattle.klp_types.specs.declared.limits.TheConstants.{MAX_CALLBACK_RECORDS, MAX_EDITS, MAX_KIND_RECORDS, MAX_TARGETS};
 ghost use Rattle.klp_types.specs.declared.callback.Which.TheVariants.{Pre, PostUn};
 ghost use Rattle.klp_types.specs.Setting.{PatchObject as ObjectOf};
 ghost use Rattle.klp_types.specs.Callbacks.{script_for, calls_of, enable_calls, refuses, allocs_of};
@@ -11,7 +12,6 @@ ghost use Rattle.klp_patch.specs.Calls.{HaveRun, HasRoomFor, records_of};
 
 use crate::callback_run::run_at;
 use klp_catalog::Catalog;
-use klp_catalog::laws::runs_add_up;
 use klp_modules::Modules;
 use klp_types::{ObjId, PatchId, Records, Which};
 use klp_world::World;
@@ -26,8 +26,8 @@ fn allocs_where_loaded(
     place: u8,
 ) -> u16
     ensures value { result ≡ allocs_of (loaded_call catalog.now modules.now patch which place) }
-    ensures limit { result ≤ 16 }
-    ensures records { records_of (loaded_call catalog.now modules.now patch which place) ≤ 32 }
+    ensures limit { result ≤ MAX_EDITS }
+    ensures records { records_of (loaded_call catalog.now modules.now patch which place) ≤ MAX_CALLBACK_RECORDS }
 {
     match catalog.target(patch, place) {
         Some(object) if modules.is_loaded(object) => catalog.allocs(patch, place, which),
@@ -39,9 +39,9 @@ fn allocs_where_loaded(
 /// that are there already and those that are removed aren't counted against them.
 pub fn allocs(catalog: &Catalog, modules: &Modules, patch: PatchId, which: Which) -> usize
     ensures value { result ≡ allocs_of (calls_of patch which (loaded_in catalog.now modules.now patch)) }
-    ensures limit { result ≤ 128 }
+    ensures limit { result ≤ MAX_TARGETS * MAX_EDITS }
     // so they log few records
-    ensures records { records_of (calls_of patch which (loaded_in catalog.now modules.now patch)) ≤ 256 }
+    ensures records { records_of (calls_of patch which (loaded_in catalog.now modules.now patch)) ≤ MAX_KIND_RECORDS }
 {
     let mut sum = 0;
     for place in 0..catalog.target_len(patch) {
@@ -90,7 +90,7 @@ fn run_first(
     ensures { HaveRun catalog.old catalog.new world.old world.new log.old log.new
         (loaded_calls catalog.old modules.now patch which end) }
 {
-    runs_add_up();
+    klp_catalog::laws::runs_add_up();
     for place in 0..end {
         run_where_loaded(catalog, modules, patch, which, place, world, log);
     }
@@ -153,7 +153,7 @@ fn pre_patch(
     ensures ran { HaveRun catalog.old catalog.new world.old world.new log.old log.new
         (pre_calls patch (loaded_in catalog.old modules.now patch)) }
 {
-    runs_add_up();
+    klp_catalog::laws::runs_add_up();
     for place in 0..catalog.target_len(patch) {
         if let Some(status) = run_pre(catalog, modules, patch, place, world, log) {
             return Some((place, status));
@@ -180,7 +180,7 @@ pub fn run_pre_patch(
     ensures ran { HaveRun catalog.old catalog.new world.old world.new log.old log.new
         (enable_calls patch (loaded_in catalog.old modules.now patch)) }
 {
-    runs_add_up();
+    klp_catalog::laws::runs_add_up();
     let (place, status) = pre_patch(catalog, modules, patch, world, log)?;
     let object = catalog.target(patch, place).unwrap();
     run_first(catalog, modules, patch, Which::PostUn, place, world, log);

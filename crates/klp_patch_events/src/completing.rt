@@ -3,7 +3,7 @@
 //! patches that leave.
 ghost use Rattle.std.specs.Prelude.{◌≡◌, ℕ, ◌+◌, ◌*◌, ◌≤◌, true, [], None, Some, ◌==◌, length};
 ghost use Rattle.std.specs.FinMap as finite;
-ghost use Rattle.klp_types.specs.declared.limits.TheConstants.{MAX_SITES, MAX_RECORDS, MAX_TASKS, MAX_VARIABLES};
+ghost use Rattle.klp_types.specs.declared.limits.TheConstants.{MAX_KIND_RECORDS, MAX_RECORDS, MAX_SITES, MAX_TASKS, MAX_VARIABLES, RECORDS_AFTER_CALLBACKS, RECORDS_AFTER_LIST, RECORDS_AFTER_SITES};
 ghost use Rattle.klp_types.specs.Callbacks.{end_of, allocs_of};
 ghost use Rattle.klp_model.specs.declared.event.Event.TheVariants.{Poll};
 ghost use Rattle.klp_model.specs.declared.event.Reply.TheVariants.{Completed};
@@ -29,18 +29,9 @@ ghost use Rattle.klp_manager_state.specs.Rows.{rows_in, rows_before, IsNoted};
 use crate::replacing::{drop_older, older_than, unpatch_each};
 use klp_catalog::Catalog;
 use klp_manager_state::ManagerState;
-use klp_manager_state::laws::steps_keep;
-use klp_model::laws::{
-    a_patch_leaves_the_entries_of_the_others, a_replacement_takes_the_older_entries_along,
-    at_most_two_patches_replace, where_none_lags_none_is_switched,
-};
 use klp_model::{Refusal, Reply};
-use klp_patch::laws::the_stacks_tell_what_is_blocked;
 use klp_patch::{allocs, block, drop_nops, run_callbacks, unpatch_sites};
-use klp_tasks::laws::records_are_few;
-use klp_types::laws::entries_are_of_their_patches;
 use klp_types::{MAX_FUNCTIONS, MAX_PATCHES, MAX_SITES, MAX_VARIABLES, PatchId, Transition, Which};
-use klp_world::laws::what_is_noted_is_of_the_world;
 
 /// The kind of callback that runs at the end of a transition to this target: post-patch where the patch is
 /// in, post-unpatch where it is out.
@@ -70,7 +61,7 @@ pub fn poll(manager: &mut ManagerState, catalog: &mut Catalog) -> Result<Reply, 
 pub fn poll_refusal(manager: &ManagerState, catalog: &Catalog) -> Option<Refusal>
     requires { Invariant manager.now catalog.now }
     ensures refusal { result ≡ refused_in manager.now catalog.now Poll }
-    ensures records { records_of (may_run_in manager.now catalog.now Poll) ≤ 256 }
+    ensures records { records_of (may_run_in manager.now catalog.now Poll) ≤ MAX_KIND_RECORDS }
 {
     let Some(moving) = manager.moving else {
         return Some(Refusal::NotMoving);
@@ -93,11 +84,11 @@ pub fn poll_refusal(manager: &ManagerState, catalog: &Catalog) -> Option<Refusal
 fn try_once_more(manager: &mut ManagerState, catalog: &mut Catalog) -> Reply
     requires kept { Invariant manager.old catalog.old }
     requires free { refused_in manager.old catalog.old Poll ≡ None }
-    requires records { records_of (may_run_in manager.old catalog.old Poll) ≤ 256 }
+    requires records { records_of (may_run_in manager.old catalog.old Poll) ≤ MAX_KIND_RECORDS }
     ensures accepted { AcceptsEvent manager.old manager.new catalog.old catalog.new Poll result }
     ensures noted { rows_before manager.new ≡ rows_in manager.old }
 {
-    steps_keep();
+    klp_manager_state::laws::steps_keep();
     let Some(moving) = manager.moving else {
         // Can't be: where nothing moves, the poll is refused.
         return Reply::Completed(false);
@@ -123,9 +114,9 @@ fn try_tasks(manager: &mut ManagerState, catalog: &Catalog, moving: &Transition)
     ensures left { result ≡ pending (setting_in manager.old catalog.now) (state_in manager.old catalog.now) moving.now }
     ensures kept { Invariant manager.new catalog.now }
     ensures noted { rows_before manager.new ≡ rows_in manager.old }
-    ensures records { length manager.new.log.noted ≤ 64 }
+    ensures records { length manager.new.log.noted ≤ MAX_TASKS }
 {
-    where_none_lags_none_is_switched();
+    klp_model::laws::where_none_lags_none_is_switched();
     manager.log.clear();
     if manager.tasks.lagging(moving.target) == 0 {
         return 0;
@@ -148,12 +139,12 @@ fn switch_sleepers(manager: &mut ManagerState, catalog: &Catalog, moving: &Trans
       log = manager.new.log;
     } }
     ensures noted { rows_before manager.new ≡ rows_in manager.old }
-    ensures records { length manager.new.log.noted ≤ 64 }
+    ensures records { length manager.new.log.noted ≤ MAX_TASKS }
     ensures log { manager.new.log.room ≡ MAX_RECORDS }
 {
-    entries_are_of_their_patches();
-    the_stacks_tell_what_is_blocked();
-    records_are_few();
+    klp_types::laws::entries_are_of_their_patches();
+    klp_patch::laws::the_stacks_tell_what_is_blocked();
+    klp_tasks::laws::records_are_few();
     prove!(usize::from(catalog.patches()) <= MAX_PATCHES);
     prove!(manager.sites.sites() <= MAX_SITES);
     block(&manager.sites, catalog, *moving, &mut manager.blocked);
@@ -172,8 +163,8 @@ fn complete(manager: &mut ManagerState, catalog: &mut Catalog, moving: &Transiti
         + allocs_of (end_calls (setting_in manager.old catalog.old) (state_in manager.old catalog.old)
         (Some moving.now)) ≤ MAX_VARIABLES }
     requires calls { records_of
-        (end_calls (setting_in manager.old catalog.old) (state_in manager.old catalog.old) (Some moving.now)) ≤ 256 }
-    requires records { length manager.old.log.noted ≤ 64 }
+        (end_calls (setting_in manager.old catalog.old) (state_in manager.old catalog.old) (Some moving.now)) ≤ MAX_KIND_RECORDS }
+    requires records { length manager.old.log.noted ≤ MAX_TASKS }
     ensures completed { IsCompleted manager.old manager.new catalog.old catalog.new moving.now }
     ensures noted { rows_before manager.new ≡ rows_before manager.old }
 {
@@ -193,14 +184,14 @@ fn complete(manager: &mut ManagerState, catalog: &mut Catalog, moving: &Transiti
 /// Nothing moves any more: each task has the state -1, as `/proc/<pid>/patch_state` shows it at rest.
 fn rest(manager: &mut ManagerState)
     requires tasks { length manager.old.tasks ≡ MAX_TASKS }
-    requires records { length manager.old.log.noted ≤ 4000 }
+    requires records { length manager.old.log.noted ≤ RECORDS_AFTER_LIST }
     requires log { manager.old.log.room ≡ MAX_RECORDS }
     ensures parts { manager.new
         ≡ record manager.old { tasks = all_in at_rest manager.old.tasks; moving = None; log = manager.new.log } }
     ensures noted { rows_before manager.new ≡ rows_before manager.old }
     ensures log { manager.new.log.room ≡ MAX_RECORDS }
 {
-    records_are_few();
+    klp_tasks::laws::records_are_few();
     manager.tasks.set_all(-1, &mut manager.log);
     manager.set_moving(None);
 }
@@ -210,7 +201,7 @@ fn rest(manager: &mut ManagerState)
 fn settle_sites(manager: &mut ManagerState, catalog: &Catalog, moving: &Transition)
     requires kept { Invariant manager.old catalog.now }
     requires moving { manager.old.moving ≡ Some moving.now }
-    requires records { length manager.old.log.noted ≤ 64 }
+    requires records { length manager.old.log.noted ≤ MAX_TASKS }
     ensures parts { manager.new ≡ record manager.old { sites = manager.new.sites; log = manager.new.log } }
     ensures image { manager.new.sites.image ≡ manager.old.sites.image }
     ensures loaded { manager.new.sites.loaded ≡ manager.old.sites.loaded }
@@ -219,11 +210,11 @@ fn settle_sites(manager: &mut ManagerState, catalog: &Catalog, moving: &Transiti
         (with_world (state_in manager.old catalog.now)
         (settled (setting_in manager.old catalog.now) manager.old.world moving.now)) site }
     ensures noted { rows_before manager.new ≡ rows_before manager.old }
-    ensures records { length manager.new.log.noted ≤ 2400 }
+    ensures records { length manager.new.log.noted ≤ RECORDS_AFTER_SITES }
     ensures log { manager.new.log.room ≡ MAX_RECORDS }
 {
-    a_patch_leaves_the_entries_of_the_others();
-    entries_are_of_their_patches();
+    klp_model::laws::a_patch_leaves_the_entries_of_the_others();
+    klp_types::laws::entries_are_of_their_patches();
     prove!(manager.sites.sites() <= MAX_SITES);
     if !moving.target {
         prove!(catalog.functions(moving.patch).len() <= MAX_FUNCTIONS);
@@ -245,7 +236,7 @@ fn replace_sites(manager: &mut ManagerState, catalog: &Catalog, moving: &Transit
     requires kept { Invariant manager.old catalog.now }
     requires moving { manager.old.moving ≡ Some moving.now }
     requires replaces { is_cumulative catalog.now moving.now.patch ≡ true }
-    requires records { length manager.old.log.noted ≤ 64 }
+    requires records { length manager.old.log.noted ≤ MAX_TASKS }
     ensures parts { manager.new ≡ record manager.old { sites = manager.new.sites; log = manager.new.log } }
     ensures image { manager.new.sites.image ≡ manager.old.sites.image }
     ensures loaded { manager.new.sites.loaded ≡ manager.old.sites.loaded }
@@ -253,12 +244,12 @@ fn replace_sites(manager: &mut ManagerState, catalog: &Catalog, moving: &Transit
         ≡ entries_of (setting_in manager.old catalog.now)
         (with_world (state_in manager.old catalog.now) (without_older true manager.old.world moving.now.patch)) site }
     ensures noted { rows_before manager.new ≡ rows_before manager.old }
-    ensures records { length manager.new.log.noted ≤ 2400 }
+    ensures records { length manager.new.log.noted ≤ RECORDS_AFTER_SITES }
     ensures log { manager.new.log.room ≡ MAX_RECORDS }
 {
-    a_replacement_takes_the_older_entries_along();
-    at_most_two_patches_replace();
-    entries_are_of_their_patches();
+    klp_model::laws::a_replacement_takes_the_older_entries_along();
+    klp_model::laws::at_most_two_patches_replace();
+    klp_types::laws::entries_are_of_their_patches();
     prove!(manager.sites.sites() <= MAX_SITES);
     let older = older_than(moving.patch, manager.world.installed());
     unpatch_each(&mut manager.sites, catalog, older, &mut manager.log);
@@ -268,7 +259,7 @@ fn replace_sites(manager: &mut ManagerState, catalog: &Catalog, moving: &Transit
 
 /// Leaves the patches that stay in the list, and the values of their states with them.
 fn settle_list(manager: &mut ManagerState, catalog: &Catalog, moving: &Transition)
-    requires records { length manager.old.log.noted ≤ 3500 }
+    requires records { length manager.old.log.noted ≤ RECORDS_AFTER_CALLBACKS }
     requires log { manager.old.log.room ≡ MAX_RECORDS }
     ensures parts { manager.new
         ≡ record manager.old {
@@ -277,10 +268,10 @@ fn settle_list(manager: &mut ManagerState, catalog: &Catalog, moving: &Transitio
           log = manager.new.log;
         } }
     ensures noted { rows_before manager.new ≡ rows_before manager.old }
-    ensures records { length manager.new.log.noted ≤ 3800 }
+    ensures records { length manager.new.log.noted ≤ RECORDS_AFTER_LIST }
     ensures log { manager.new.log.room ≡ MAX_RECORDS }
 {
-    what_is_noted_is_of_the_world();
+    klp_world::laws::what_is_noted_is_of_the_world();
     if !moving.target {
         prove!(manager.world.drop_records(moving.patch) <= manager.log.spare());
         manager.world.drop_states(moving.patch, &mut manager.log);

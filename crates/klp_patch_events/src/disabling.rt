@@ -1,6 +1,7 @@
 //! A patch is disabled, or its transition turns round (livepatch, Disabling; callbacks, the case of a
 //! transition that is reversed).
 ghost use Rattle.std.specs.Prelude.{◌≡◌, ◌≤◌, true, false, None};
+ghost use Rattle.klp_types.specs.declared.limits.TheConstants.{MAX_KIND_RECORDS};
 ghost use Rattle.klp_types.specs.Pick.{moves};
 ghost use Rattle.klp_model.specs.declared.event.Event.TheVariants.{SetEnabled};
 ghost use Rattle.klp_model.specs.Refusals.{refusal};
@@ -13,10 +14,8 @@ ghost use Rattle.klp_manager_state.specs.Rows.{rows_in, rows_before, IsNoted};
 
 use klp_catalog::Catalog;
 use klp_manager_state::ManagerState;
-use klp_manager_state::laws::steps_keep;
 use klp_model::{Refusal, Reply};
 use klp_patch::{allocs, run_callbacks};
-use klp_tasks::laws::records_are_few;
 use klp_tasks::target_state;
 use klp_types::{MAX_VARIABLES, PatchId, Transition, Which, is_in_transition};
 
@@ -51,7 +50,7 @@ pub fn set_refusal(
     requires { Invariant manager.now catalog.now }
     ensures refusal { result ≡ refused_in manager.now catalog.now (SetEnabled patch value) }
     ensures records { records_of
-        (disable_calls (setting_in manager.now catalog.now) (state_in manager.now catalog.now) patch) ≤ 256 }
+        (disable_calls (setting_in manager.now catalog.now) (state_in manager.now catalog.now) patch) ≤ MAX_KIND_RECORDS }
 {
     let lacks_room = lacks_room_to_set(manager, catalog, patch, value);
     if patch.0 >= catalog.patches() {
@@ -75,7 +74,7 @@ fn lacks_room_to_set(manager: &ManagerState, catalog: &Catalog, patch: PatchId, 
     requires { Invariant manager.now catalog.now }
     ensures room { result ≡ lacks_room_in manager.now catalog.now (SetEnabled patch value) }
     ensures records { records_of
-        (disable_calls (setting_in manager.now catalog.now) (state_in manager.now catalog.now) patch) ≤ 256 }
+        (disable_calls (setting_in manager.now catalog.now) (state_in manager.now catalog.now) patch) ≤ MAX_KIND_RECORDS }
 {
     let pre_un = if is_in_transition(&manager.moving, patch) {
         0
@@ -90,11 +89,11 @@ fn turn(manager: &mut ManagerState, catalog: &mut Catalog, patch: PatchId, value
     requires kept { Invariant manager.old catalog.old }
     requires free { refused_in manager.old catalog.old (SetEnabled patch value) ≡ None }
     requires records { records_of
-        (disable_calls (setting_in manager.old catalog.old) (state_in manager.old catalog.old) patch) ≤ 256 }
+        (disable_calls (setting_in manager.old catalog.old) (state_in manager.old catalog.old) patch) ≤ MAX_KIND_RECORDS }
     ensures accepted { AcceptsEvent manager.old manager.new catalog.old catalog.new (SetEnabled patch value) result }
     ensures noted { rows_before manager.new ≡ rows_in manager.old }
 {
-    steps_keep();
+    klp_manager_state::laws::steps_keep();
     if is_in_transition(&manager.moving, patch) {
         manager.log.clear();
         manager.set_moving(Some(Transition {
@@ -112,13 +111,13 @@ fn disable(manager: &mut ManagerState, catalog: &mut Catalog, patch: PatchId, va
     requires kept { Invariant manager.old catalog.old }
     requires free { refused_in manager.old catalog.old (SetEnabled patch value) ≡ None }
     requires records { records_of
-        (disable_calls (setting_in manager.old catalog.old) (state_in manager.old catalog.old) patch) ≤ 256 }
+        (disable_calls (setting_in manager.old catalog.old) (state_in manager.old catalog.old) patch) ≤ MAX_KIND_RECORDS }
     requires rests { moves manager.old.moving patch ≡ false }
     ensures accepted { AcceptsEvent manager.old manager.new catalog.old catalog.new (SetEnabled patch value) result }
     ensures noted { rows_before manager.new ≡ rows_in manager.old }
 {
-    steps_keep();
-    records_are_few();
+    klp_manager_state::laws::steps_keep();
+    klp_tasks::laws::records_are_few();
     manager.log.clear();
     run_callbacks(
         catalog,

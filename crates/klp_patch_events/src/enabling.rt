@@ -1,6 +1,7 @@
 //! A patch is enabled (livepatch, Enabling; callbacks, pre-patch; cumulative-patches).
 ghost use Rattle.std.specs.Prelude.{◌≡◌, ℕ, ◌+◌, ◌<◌, ◌≤◌, true, false, None, length, slice_index_or, is_none, ◌&&◌};
 ghost use Rattle.std.specs.List.{list_any};
+ghost use Rattle.klp_types.specs.declared.limits.TheConstants.{MAX_ENABLING_RECORDS, MAX_LIST_RECORDS, RECORDS_BEFORE_SITES};
 ghost use Rattle.klp_types.specs.World.{with_patch, without_patch};
 ghost use Rattle.klp_model.specs.declared.event.Event.TheVariants.{Enable};
 ghost use Rattle.klp_model.specs.declared.event.Reply.TheVariants.{PreFailed};
@@ -24,20 +25,14 @@ ghost use Rattle.klp_manager_state.specs.Rows.{rows_in, rows_before, IsNoted};
 
 use klp_catalog::{Catalog, CatalogFunction};
 use klp_manager_state::ManagerState;
-use klp_manager_state::laws::steps_keep;
-use klp_model::laws::events_are_accepted_where_no_case_holds;
 use klp_model::{Refusal, Reply};
 use klp_modules::Modules;
-use klp_patch::laws::those_that_run_note_no_more_than_those_that_may;
 use klp_patch::{allocs, patch_sites, run_pre_patch};
-use klp_tasks::laws::records_are_few;
 use klp_tasks::target_state;
-use klp_types::laws::{entries_are_of_their_patches, the_newest_entry_is_on_top};
 use klp_types::{
     MAX_FUNCTIONS, MAX_PATCHES, MAX_RECORDS, MAX_SITES, MAX_TASKS, MAX_VARIABLES, ObjId, PatchId,
     Transition, Which,
 };
-use klp_world::laws::what_is_noted_is_of_the_world;
 
 /// Whether the function is for a loaded object and names no site. One for an object that isn't loaded may,
 /// since it is looked at when the module comes (docs/DECISIONS.md, "Symbols of objects that aren't
@@ -91,7 +86,7 @@ pub fn enable(
 pub fn enable_refusal(manager: &ManagerState, catalog: &Catalog, patch: PatchId) -> Option<Refusal>
     requires { Invariant manager.now catalog.now }
     ensures refusal { result ≡ refused_in manager.now catalog.now (Enable patch) }
-    ensures records { records_of (may_run_in manager.now catalog.now (Enable patch)) ≤ 512 }
+    ensures records { records_of (may_run_in manager.now catalog.now (Enable patch)) ≤ MAX_ENABLING_RECORDS }
 {
     // Computed before the refusals, though it comes last, since its proof bounds the records on every
     // way out (docs/DECISIONS.md, "Room computed before the refusals").
@@ -139,7 +134,7 @@ fn lacks_symbol(manager: &ManagerState, catalog: &Catalog, patch: PatchId) -> bo
 fn lacks_room_to_enable(manager: &ManagerState, catalog: &Catalog, patch: PatchId) -> bool
     requires { Invariant manager.now catalog.now }
     ensures room { result ≡ lacks_room_in manager.now catalog.now (Enable patch) }
-    ensures records { records_of (may_run_in manager.now catalog.now (Enable patch)) ≤ 512 }
+    ensures records { records_of (may_run_in manager.now catalog.now (Enable patch)) ≤ MAX_ENABLING_RECORDS }
 {
     // Both kinds count, whatever the statuses are, so that one can add it up from the catalog
     // (docs/DECISIONS.md, "Room for the callbacks that may run").
@@ -153,15 +148,15 @@ fn lacks_room_to_enable(manager: &ManagerState, catalog: &Catalog, patch: PatchI
 fn install(manager: &mut ManagerState, catalog: &mut Catalog, patch: PatchId) -> Reply
     requires kept { Invariant manager.old catalog.old }
     requires free { refused_in manager.old catalog.old (Enable patch) ≡ None }
-    requires records { records_of (may_run_in manager.old catalog.old (Enable patch)) ≤ 512 }
+    requires records { records_of (may_run_in manager.old catalog.old (Enable patch)) ≤ MAX_ENABLING_RECORDS }
     ensures accepted { AcceptsEvent manager.old manager.new catalog.old catalog.new (Enable patch) result }
     ensures noted { rows_before manager.new ≡ rows_in manager.old }
 {
-    steps_keep();
-    events_are_accepted_where_no_case_holds();
-    those_that_run_note_no_more_than_those_that_may();
-    entries_are_of_their_patches();
-    the_newest_entry_is_on_top();
+    klp_manager_state::laws::steps_keep();
+    klp_model::laws::events_are_accepted_where_no_case_holds();
+    klp_patch::laws::those_that_run_note_no_more_than_those_that_may();
+    klp_types::laws::entries_are_of_their_patches();
+    klp_types::laws::the_newest_entry_is_on_top();
     prove!(usize::from(catalog.patches()) <= MAX_PATCHES);
     prove!(manager.sites.sites() <= MAX_SITES);
     put_last(manager, catalog, patch);
@@ -198,10 +193,10 @@ fn put_last(manager: &mut ManagerState, catalog: &Catalog, patch: PatchId)
           log = manager.new.log;
         } }
     ensures noted { rows_before manager.new ≡ rows_in manager.old }
-    ensures records { length manager.new.log.noted ≤ 17 }
+    ensures records { length manager.new.log.noted ≤ MAX_LIST_RECORDS }
     ensures log { manager.new.log.room ≡ MAX_RECORDS }
 {
-    what_is_noted_is_of_the_world();
+    klp_world::laws::what_is_noted_is_of_the_world();
     manager.log.clear();
     let ids = catalog.state_ids(patch);
     manager.world.add_states(patch, &ids, &mut manager.log);
@@ -209,13 +204,13 @@ fn put_last(manager: &mut ManagerState, catalog: &Catalog, patch: PatchId)
 
 /// Takes a patch out again after a refusal, with its states and the values that callbacks gave these.
 fn take_out(manager: &mut ManagerState, patch: PatchId)
-    requires { length manager.old.log.noted + 17 ≤ manager.old.log.room }
+    requires { length manager.old.log.noted + MAX_LIST_RECORDS ≤ manager.old.log.room }
     ensures parts { manager.new
         ≡ record manager.old { world = without_patch manager.old.world patch; log = manager.new.log } }
     ensures noted { rows_before manager.new ≡ rows_before manager.old }
     ensures log { manager.new.log.room ≡ manager.old.log.room }
 {
-    what_is_noted_is_of_the_world();
+    klp_world::laws::what_is_noted_is_of_the_world();
     prove!(manager.world.drop_records(patch) <= manager.log.spare());
     manager.world.drop_states(patch, &mut manager.log);
 }
@@ -228,7 +223,7 @@ fn start(manager: &mut ManagerState, catalog: &Catalog, patch: PatchId)
     requires names { catalog.now.names ≡ names_of manager.old.sites.image.objects }
     requires fresh { (site : ℕ) → has_entry patch (entries_at manager.old.sites.stacks site) ≡ false }
     requires tasks { length manager.old.tasks ≡ MAX_TASKS }
-    requires records { length manager.old.log.noted ≤ 2048 }
+    requires records { length manager.old.log.noted ≤ RECORDS_BEFORE_SITES }
     requires log { manager.old.log.room ≡ MAX_RECORDS }
     ensures entries { AreMade manager.old.sites manager.new.sites (is_covered manager.old.sites None)
         (with_entry catalog.now patch) }
@@ -241,7 +236,7 @@ fn start(manager: &mut ManagerState, catalog: &Catalog, patch: PatchId)
     ensures noted { rows_before manager.new ≡ rows_before manager.old }
     ensures log { manager.new.log.room ≡ MAX_RECORDS }
 {
-    records_are_few();
+    klp_tasks::laws::records_are_few();
     prove!(manager.sites.sites() <= MAX_SITES);
     prove!(catalog.functions(patch).len() <= MAX_FUNCTIONS);
     patch_sites(&mut manager.sites, catalog, patch, None, &mut manager.log);

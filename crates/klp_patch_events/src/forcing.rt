@@ -10,9 +10,7 @@ ghost use Rattle.klp_manager_state.specs.Rows.{rows_before, IsNoted};
 
 use klp_catalog::Catalog;
 use klp_manager_state::ManagerState;
-use klp_manager_state::laws::steps_keep;
 use klp_model::{Refusal, Reply};
-use klp_tasks::laws::records_are_few;
 use klp_tasks::target_state;
 use klp_types::{MAX_PATCHES, PatchId, Transition, is_in_transition};
 
@@ -29,8 +27,8 @@ pub fn force(
     ensures taken { TakesEvent manager.old manager.new catalog.now catalog.now (Force patch) result }
     ensures noted { IsNoted manager.old manager.new result }
 {
-    steps_keep();
-    records_are_few();
+    klp_manager_state::laws::steps_keep();
+    klp_tasks::laws::records_are_few();
     if let Some(refusal) = force_refusal(manager, catalog, patch) {
         return Err(refusal);
     }

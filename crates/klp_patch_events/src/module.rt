@@ -1,7 +1,7 @@
 //! A module is loaded, or unloaded (livepatch, Livepatch life-cycle; callbacks, the cases of modules).
 ghost use Rattle.std.specs.Prelude.{◌≡◌, ◌+◌, ◌<◌, ◌≤◌, ◌==◌, ◌&&◌, not, nat_lt, true, false, length, is_none, Some, None};
 ghost use Rattle.std.specs.List.{All, count_by, list_any};
-ghost use Rattle.klp_types.specs.declared.limits.TheConstants.{MAX_PATCHES};
+ghost use Rattle.klp_types.specs.declared.limits.TheConstants.{MAX_COMING_EDITS, MAX_GOING_EDITS, MAX_PATCHES};
 ghost use Rattle.klp_types.specs.Callbacks.{allocs_of};
 ghost use Rattle.klp_model.specs.declared.event.Event.TheVariants.{Coming, Going};
 ghost use Rattle.klp_model.specs.EventCalls.{lacks_room};
@@ -19,8 +19,6 @@ use crate::module_sites::{patch_object, unpatch_object};
 use arrayvec::ArrayVec;
 use klp_catalog::{Catalog, CatalogFunction};
 use klp_manager_state::ManagerState;
-use klp_manager_state::laws::steps_keep;
-use klp_model::laws::at_most_two_patches_replace;
 use klp_model::{Refusal, Reply};
 use klp_patch::{allocs_of_coming, allocs_of_going, run_coming, run_going};
 use klp_types::{MAX_PATCHES, MAX_VARIABLES, ObjId, PatchId};
@@ -100,7 +98,7 @@ pub fn coming_refusal(manager: &ManagerState, catalog: &Catalog, object: ObjId) 
     requires { Invariant manager.now catalog.now }
     ensures refusal { result ≡ refused_in manager.now catalog.now (Coming object) }
     ensures records { records_of (may_run_in manager.now catalog.now (Coming object))
-        ≤ 1024 + allocs_of (may_run_in manager.now catalog.now (Coming object)) }
+        ≤ MAX_COMING_EDITS + allocs_of (may_run_in manager.now catalog.now (Coming object)) }
 {
     let lacks_symbol = part_lacks_symbol(manager, catalog, object);
     let lacks_room = lacks_room_to_come(manager, catalog, object);
@@ -123,7 +121,7 @@ pub fn going_refusal(manager: &ManagerState, catalog: &Catalog, object: ObjId) -
     requires { Invariant manager.now catalog.now }
     ensures refusal { result ≡ refused_in manager.now catalog.now (Going object) }
     ensures records { records_of (may_run_in manager.now catalog.now (Going object))
-        ≤ 512 + allocs_of (may_run_in manager.now catalog.now (Going object)) }
+        ≤ MAX_GOING_EDITS + allocs_of (may_run_in manager.now catalog.now (Going object)) }
 {
     let is_in_use = manager.is_in_use(catalog, object);
     let lacks_room = lacks_room_to_go(manager, catalog, object);
@@ -157,7 +155,7 @@ fn part_lacks_symbol(manager: &ManagerState, catalog: &Catalog, object: ObjId) -
 fn lacks_room_to_come(manager: &ManagerState, catalog: &Catalog, object: ObjId) -> bool
     ensures room { result ≡ lacks_room_in manager.now catalog.now (Coming object) }
     ensures records { records_of (may_run_in manager.now catalog.now (Coming object))
-        ≤ 1024 + allocs_of (may_run_in manager.now catalog.now (Coming object)) }
+        ≤ MAX_COMING_EDITS + allocs_of (may_run_in manager.now catalog.now (Coming object)) }
 {
     let added = allocs_of_coming(catalog, manager.world.installed(), object, manager.moving);
     added > MAX_VARIABLES - usize::from(manager.world.count())
@@ -167,7 +165,7 @@ fn lacks_room_to_come(manager: &ManagerState, catalog: &Catalog, object: ObjId) 
 fn lacks_room_to_go(manager: &ManagerState, catalog: &Catalog, object: ObjId) -> bool
     ensures room { result ≡ lacks_room_in manager.now catalog.now (Going object) }
     ensures records { records_of (may_run_in manager.now catalog.now (Going object))
-        ≤ 512 + allocs_of (may_run_in manager.now catalog.now (Going object)) }
+        ≤ MAX_GOING_EDITS + allocs_of (may_run_in manager.now catalog.now (Going object)) }
 {
     let added = allocs_of_going(catalog, manager.world.installed(), object, manager.moving);
     added > MAX_VARIABLES - usize::from(manager.world.count())
@@ -182,7 +180,7 @@ fn installed_patches(manager: &ManagerState, catalog: &Catalog) -> ArrayVec<Patc
     ensures numbers { All (λ p. p < MAX_PATCHES) result.items }
     ensures replace { count_by (is_cumulative catalog.now) result.items ≤ 2 }
 {
-    at_most_two_patches_replace();
+    klp_model::laws::at_most_two_patches_replace();
     let _patches = catalog.patches();
     manager.world.installed_list()
 }
@@ -194,11 +192,11 @@ fn come(manager: &mut ManagerState, catalog: &mut Catalog, object: ObjId) -> Rep
     requires kept { Invariant manager.old catalog.old }
     requires free { refused_in manager.old catalog.old (Coming object) ≡ None }
     requires records { records_of (may_run_in manager.old catalog.old (Coming object))
-        ≤ 1024 + allocs_of (may_run_in manager.old catalog.old (Coming object)) }
+        ≤ MAX_COMING_EDITS + allocs_of (may_run_in manager.old catalog.old (Coming object)) }
     ensures accepted { AcceptsEvent manager.old manager.new catalog.old catalog.new (Coming object) result }
     ensures noted { rows_before manager.new ≡ rows_in manager.old }
 {
-    steps_keep();
+    klp_manager_state::laws::steps_keep();
     let installed = installed_patches(manager, catalog);
     manager.log.clear();
     match run_coming(
@@ -232,11 +230,11 @@ fn go(manager: &mut ManagerState, catalog: &mut Catalog, object: ObjId) -> Reply
     requires kept { Invariant manager.old catalog.old }
     requires free { refused_in manager.old catalog.old (Going object) ≡ None }
     requires records { records_of (may_run_in manager.old catalog.old (Going object))
-        ≤ 512 + allocs_of (may_run_in manager.old catalog.old (Going object)) }
+        ≤ MAX_GOING_EDITS + allocs_of (may_run_in manager.old catalog.old (Going object)) }
     ensures accepted { AcceptsEvent manager.old manager.new catalog.old catalog.new (Going object) result }
     ensures noted { rows_before manager.new ≡ rows_in manager.old }
 {
-    steps_keep();
+    klp_manager_state::laws::steps_keep();
     let installed = installed_patches(manager, catalog);
     manager.log.clear();
     run_going(

@@ -2,7 +2,7 @@
 //! beside is how many records that logs at most.
 ghost use Rattle.std.specs.Prelude.{◌≡◌, ℕ, ◌+◌, ◌*◌, ◌∷◌, ◌<◌, ◌≤◌, true, [], length, reverse, Some, if◌then◌else◌};
 ghost use Rattle.std.specs.List.{All, count_by};
-ghost use Rattle.klp_types.specs.declared.limits.TheConstants.{MAX_FUNCTIONS, MAX_PATCHES, MAX_RECORDS, MAX_SITES};
+ghost use Rattle.klp_types.specs.declared.limits.TheConstants.{MAX_FUNCTIONS, MAX_PATCHES, MAX_RECORDS, MAX_SITES, RECORDS_BEFORE_SITES};
 ghost use Rattle.klp_types.specs.Entries.{entries_from};
 ghost use Rattle.klp_model.specs.Allowed.{AreDistinct};
 ghost use Rattle.klp_text.specs.TextImage.{site_count};
@@ -17,7 +17,6 @@ ghost use Rattle.klp_manager_state.specs.Rows.{SitesGoBack};
 use klp_catalog::Catalog;
 use klp_patch::{patch_sites, unpatch_sites};
 use klp_sites::Sites;
-use klp_types::laws::{entries_are_of_their_patches, the_newest_entry_is_on_top};
 use klp_types::{MAX_PATCHES, ObjId, PatchId, Records};
 
 /// Each site has one stack. The call is made for its contract, which bounds their number.
@@ -56,7 +55,7 @@ pub(crate) fn patch_object(
     requires names { catalog.now.names ≡ names_of sites.old.image.objects }
     requires bare { (site : ℕ) → is_covered sites.old (Some object) site ≡ true
         → entries_at sites.old.stacks site ≡ [] }
-    requires records { length log.old.noted ≤ 2048 }
+    requires records { length log.old.noted ≤ RECORDS_BEFORE_SITES }
     requires room { log.old.room ≡ MAX_RECORDS }
     ensures image { sites.new.image ≡ sites.old.image }
     ensures loaded { sites.new.loaded ≡ sites.old.loaded }
@@ -68,8 +67,8 @@ pub(crate) fn patch_object(
     ensures noted { SitesGoBack sites.old sites.new log.old log.new }
     ensures room { log.new.room ≡ MAX_RECORDS }
 {
-    the_newest_entry_is_on_top();
-    entries_are_of_their_patches();
+    klp_types::laws::the_newest_entry_is_on_top();
+    klp_types::laws::entries_are_of_their_patches();
     stacks_are_few(sites);
     for &patch in patches {
         stacks_are_few(sites);
@@ -93,7 +92,7 @@ pub(crate) fn unpatch_object(
     requires names { catalog.now.names ≡ names_of sites.old.image.objects }
     requires own { (site : ℕ) → is_covered sites.old (Some object) site ≡ true
         → entries_at sites.old.stacks site ≡ entries_from (record { image = sites.old.image; patches = patches_of catalog.now }) site (reverse patches.now) }
-    requires records { length log.old.noted ≤ 2048 }
+    requires records { length log.old.noted ≤ RECORDS_BEFORE_SITES }
     requires room { log.old.room ≡ MAX_RECORDS }
     ensures image { sites.new.image ≡ sites.old.image }
     ensures loaded { sites.new.loaded ≡ sites.old.loaded }
@@ -103,7 +102,7 @@ pub(crate) fn unpatch_object(
     ensures records { length log.new.noted < MAX_RECORDS }
     ensures room { log.new.room ≡ MAX_RECORDS }
 {
-    entries_are_of_their_patches();
+    klp_types::laws::entries_are_of_their_patches();
     stacks_are_few(sites);
     for &patch in patches {
         stacks_are_few(sites);

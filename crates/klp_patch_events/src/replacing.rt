@@ -1,7 +1,7 @@
 //! What a cumulative patch takes along when its transition is complete (cumulative-patches).
 ghost use Rattle.std.specs.Prelude.{◌≡◌, ℕ, ◌+◌, ◌*◌, ◌≤◌, true, None, Some, not, ◌==◌, length, map, slice_get, if◌then◌else◌};
 ghost use Rattle.std.specs.List.{filter, count_by};
-ghost use Rattle.klp_types.specs.declared.limits.TheConstants.{MAX_SITES, MAX_RECORDS};
+ghost use Rattle.klp_types.specs.declared.limits.TheConstants.{MAX_RECORDS, MAX_SITES, RECORDS_AFTER_CALLBACKS, RECORDS_AFTER_LIST, RECORDS_AFTER_SITES};
 ghost use Rattle.klp_types.specs.declared.version.Entry.{Entry};
 ghost use Rattle.klp_types.specs.World.{Installed};
 ghost use Rattle.klp_model.specs.Allowed.{is_one_of};
@@ -20,7 +20,6 @@ use klp_patch::unpatch_sites;
 use klp_sites::Sites;
 use klp_types::{MAX_FUNCTIONS, MAX_SITES, PatchId, Records};
 use klp_world::World;
-use klp_world::laws::what_is_noted_is_of_the_world;
 
 /// Of these patches those before this one, all of them where it isn't among them. There may be none, and
 /// newer ones behind it, where a cumulative patch is enabled again after others: these stay
@@ -47,8 +46,8 @@ pub(crate) fn unpatch_each(
     requires sites { site_count sites.old.image ≤ MAX_SITES }
     requires names { catalog.now.names ≡ names_of sites.old.image.objects }
     requires own { AreOwn catalog.now sites.old.stacks }
-    requires records { length log.old.noted + hooked_count sites.old + 64 * length patches.now
-        + 256 * count_by (is_cumulative catalog.now) patches.now ≤ 3000 }
+    requires records { length log.old.noted + hooked_count sites.old + MAX_FUNCTIONS * length patches.now
+        + MAX_SITES * count_by (is_cumulative catalog.now) patches.now ≤ RECORDS_AFTER_SITES }
     requires log { log.old.room ≡ MAX_RECORDS }
     ensures image { sites.new.image ≡ sites.old.image }
     ensures loaded { sites.new.loaded ≡ sites.old.loaded }
@@ -57,8 +56,8 @@ pub(crate) fn unpatch_each(
         (entries_at sites.old.stacks site) else entries_at sites.old.stacks site) }
     ensures noted { SitesGoBack sites.old sites.new log.old log.new }
     ensures records { length log.new.noted + hooked_count sites.new
-        ≤ length log.old.noted + hooked_count sites.old + 64 * length patches.now
-        + 256 * count_by (is_cumulative catalog.now) patches.now }
+        ≤ length log.old.noted + hooked_count sites.old + MAX_FUNCTIONS * length patches.now
+        + MAX_SITES * count_by (is_cumulative catalog.now) patches.now }
     ensures log { log.new.room ≡ MAX_RECORDS }
 {
     for &patch in patches {
@@ -78,14 +77,14 @@ fn oldest(world: &World) -> Option<PatchId>
 /// Takes the patches before this one out of the list, oldest first, so that the one to go is always the
 /// first.
 pub(crate) fn drop_older(world: &mut World, patch: PatchId, log: &mut Records)
-    requires records { length log.old.noted ≤ 3500 }
+    requires records { length log.old.noted ≤ RECORDS_AFTER_CALLBACKS }
     requires log { log.old.room ≡ MAX_RECORDS }
     ensures world { world.new ≡ without_older true world.old patch }
     ensures noted { WorldGoesBack world.old world.new log.old log.new }
-    ensures records { length log.new.noted ≤ 3800 }
+    ensures records { length log.new.noted ≤ RECORDS_AFTER_LIST }
     ensures log { log.new.room ≡ MAX_RECORDS }
 {
-    what_is_noted_is_of_the_world();
+    klp_world::laws::what_is_noted_is_of_the_world();
     for _dropped in 0..world.installed().len() {
         let Some(oldest) = oldest(world) else {
             return;

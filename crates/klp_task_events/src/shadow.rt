@@ -18,12 +18,8 @@ ghost use Rattle.klp_manager_state.specs.Rows.{IsNoted};
 
 use klp_catalog::Catalog;
 use klp_manager_state::ManagerState;
-use klp_manager_state::laws::{
-    changes_of_one_kind_are_taken, steps_keep, what_is_noted_gives_the_rows_back,
-};
 use klp_model::{Refusal, Reply};
 use klp_types::{MAX_VARIABLES, ShadowKey, ShadowValue};
-use klp_world::laws::{freed_and_left_are_all, what_is_noted_is_of_the_world};
 
 /// A variable that isn't there is added. One that is there is a refusal, where the kernel warns and gives
 /// nothing (`klp_shadow_alloc`).
@@ -37,10 +33,10 @@ pub fn shadow_alloc(
     ensures taken { TakesEvent manager.old manager.new catalog.now catalog.now (ShadowAlloc key value) result }
     ensures noted { IsNoted manager.old manager.new result }
 {
-    steps_keep();
-    changes_of_one_kind_are_taken();
-    what_is_noted_gives_the_rows_back();
-    what_is_noted_is_of_the_world();
+    klp_manager_state::laws::steps_keep();
+    klp_manager_state::laws::changes_of_one_kind_are_taken();
+    klp_manager_state::laws::what_is_noted_gives_the_rows_back();
+    klp_world::laws::what_is_noted_is_of_the_world();
     if let Some(refusal) = shadow_alloc_refusal(manager, key) {
         return Err(refusal);
     }
@@ -76,10 +72,10 @@ pub fn shadow_get_or_alloc(
     ensures taken { TakesEvent manager.old manager.new catalog.now catalog.now (ShadowGetOrAlloc key value) result }
     ensures noted { IsNoted manager.old manager.new result }
 {
-    steps_keep();
-    changes_of_one_kind_are_taken();
-    what_is_noted_gives_the_rows_back();
-    what_is_noted_is_of_the_world();
+    klp_manager_state::laws::steps_keep();
+    klp_manager_state::laws::changes_of_one_kind_are_taken();
+    klp_manager_state::laws::what_is_noted_gives_the_rows_back();
+    klp_world::laws::what_is_noted_is_of_the_world();
     if let Some(refusal) = shadow_get_or_alloc_refusal(manager, key) {
         return Err(refusal);
     }
@@ -113,10 +109,10 @@ pub fn shadow_free(
     ensures taken { TakesEvent manager.old manager.new catalog.now catalog.now (ShadowFree key) result }
     ensures noted { IsNoted manager.old manager.new result }
 {
-    steps_keep();
-    changes_of_one_kind_are_taken();
-    what_is_noted_gives_the_rows_back();
-    what_is_noted_is_of_the_world();
+    klp_manager_state::laws::steps_keep();
+    klp_manager_state::laws::changes_of_one_kind_are_taken();
+    klp_manager_state::laws::what_is_noted_gives_the_rows_back();
+    klp_world::laws::what_is_noted_is_of_the_world();
     manager.log.clear();
     let was_there = manager.world.free(key, &mut manager.log);
     Ok(Reply::Freed(u16::from(was_there)))
@@ -133,11 +129,11 @@ pub fn shadow_free_all(
     ensures taken { TakesEvent manager.old manager.new catalog.now catalog.now (ShadowFreeAll id) result }
     ensures noted { IsNoted manager.old manager.new result }
 {
-    steps_keep();
-    changes_of_one_kind_are_taken();
-    what_is_noted_gives_the_rows_back();
-    what_is_noted_is_of_the_world();
-    freed_and_left_are_all();
+    klp_manager_state::laws::steps_keep();
+    klp_manager_state::laws::changes_of_one_kind_are_taken();
+    klp_manager_state::laws::what_is_noted_gives_the_rows_back();
+    klp_world::laws::what_is_noted_is_of_the_world();
+    klp_world::laws::freed_and_left_are_all();
     manager.log.clear();
     let freed = manager.world.free_all(id, &mut manager.log);
     Ok(Reply::Freed(freed))

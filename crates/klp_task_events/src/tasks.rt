@@ -22,11 +22,7 @@ ghost use Rattle.klp_manager_state.specs.Rows.{IsNoted};
 
 use klp_catalog::Catalog;
 use klp_manager_state::ManagerState;
-use klp_manager_state::laws::{
-    changes_of_one_kind_are_taken, steps_keep, what_is_noted_gives_the_rows_back,
-};
 use klp_model::{Refusal, Reply};
-use klp_tasks::laws::rows_change_as_the_step_says;
 use klp_types::{Frames, MAX_TASKS, Mode, Record, TaskId, Transition, Version};
 
 /// A task begins, in user space, at the target of whatever moves, since it has run nothing yet.
@@ -36,9 +32,9 @@ pub fn new_task(manager: &mut ManagerState, task: TaskId) -> Result<Reply, Refus
     ensures noted { IsNoted manager.old manager.new result }
     ensures one { IfOk result (λ reply. length manager.new.log.noted ≡ 1) }
 {
-    steps_keep();
-    changes_of_one_kind_are_taken();
-    what_is_noted_gives_the_rows_back();
+    klp_manager_state::laws::steps_keep();
+    klp_manager_state::laws::changes_of_one_kind_are_taken();
+    klp_manager_state::laws::what_is_noted_gives_the_rows_back();
     if let Some(refusal) = new_task_refusal(manager, task) {
         return Err(refusal);
     }
@@ -70,9 +66,9 @@ pub fn fork(manager: &mut ManagerState, parent: TaskId, child: TaskId) -> Result
     ensures noted { IsNoted manager.old manager.new result }
     ensures one { IfOk result (λ reply. length manager.new.log.noted ≡ 1) }
 {
-    steps_keep();
-    changes_of_one_kind_are_taken();
-    what_is_noted_gives_the_rows_back();
+    klp_manager_state::laws::steps_keep();
+    klp_manager_state::laws::changes_of_one_kind_are_taken();
+    klp_manager_state::laws::what_is_noted_gives_the_rows_back();
     if let Some(refusal) = fork_refusal(manager, parent, child) {
         return Err(refusal);
     }
@@ -107,9 +103,9 @@ pub fn end_task(manager: &mut ManagerState, task: TaskId) -> Result<Reply, Refus
     ensures noted { IsNoted manager.old manager.new result }
     ensures one { IfOk result (λ reply. length manager.new.log.noted ≡ 1) }
 {
-    steps_keep();
-    changes_of_one_kind_are_taken();
-    what_is_noted_gives_the_rows_back();
+    klp_manager_state::laws::steps_keep();
+    klp_manager_state::laws::changes_of_one_kind_are_taken();
+    klp_manager_state::laws::what_is_noted_gives_the_rows_back();
     if let Some(refusal) = end_task_refusal(manager, task) {
         return Err(refusal);
     }
@@ -139,10 +135,10 @@ pub fn enter_kernel(manager: &mut ManagerState, task: TaskId) -> Result<Reply, R
     ensures noted { IsNoted manager.old manager.new result }
     ensures one { IfOk result (λ reply. length manager.new.log.noted ≡ 1) }
 {
-    steps_keep();
-    changes_of_one_kind_are_taken();
-    what_is_noted_gives_the_rows_back();
-    rows_change_as_the_step_says();
+    klp_manager_state::laws::steps_keep();
+    klp_manager_state::laws::changes_of_one_kind_are_taken();
+    klp_manager_state::laws::what_is_noted_gives_the_rows_back();
+    klp_tasks::laws::rows_change_as_the_step_says();
     if let Some(refusal) = enter_kernel_refusal(manager, task) {
         return Err(refusal);
     }
@@ -167,10 +163,10 @@ pub fn exit_to_user(manager: &mut ManagerState, task: TaskId) -> Result<Reply, R
     ensures noted { IsNoted manager.old manager.new result }
     ensures one { IfOk result (λ reply. length manager.new.log.noted ≡ 1) }
 {
-    steps_keep();
-    changes_of_one_kind_are_taken();
-    what_is_noted_gives_the_rows_back();
-    rows_change_as_the_step_says();
+    klp_manager_state::laws::steps_keep();
+    klp_manager_state::laws::changes_of_one_kind_are_taken();
+    klp_manager_state::laws::what_is_noted_gives_the_rows_back();
+    klp_tasks::laws::rows_change_as_the_step_says();
     if let Some(refusal) = exit_to_user_refusal(manager, task) {
         return Err(refusal);
     }
@@ -200,10 +196,10 @@ pub fn sleep(
     ensures noted { IsNoted manager.old manager.new result }
     ensures one { IfOk result (λ reply. length manager.new.log.noted ≡ 1) }
 {
-    steps_keep();
-    changes_of_one_kind_are_taken();
-    what_is_noted_gives_the_rows_back();
-    rows_change_as_the_step_says();
+    klp_manager_state::laws::steps_keep();
+    klp_manager_state::laws::changes_of_one_kind_are_taken();
+    klp_manager_state::laws::what_is_noted_gives_the_rows_back();
+    klp_tasks::laws::rows_change_as_the_step_says();
     if let Some(refusal) = sleep_refusal(manager, catalog, task, &frames) {
         return Err(refusal);
     }
@@ -242,10 +238,10 @@ pub fn wake(manager: &mut ManagerState, task: TaskId) -> Result<Reply, Refusal>
     ensures noted { IsNoted manager.old manager.new result }
     ensures one { IfOk result (λ reply. length manager.new.log.noted ≡ 1) }
 {
-    steps_keep();
-    changes_of_one_kind_are_taken();
-    what_is_noted_gives_the_rows_back();
-    rows_change_as_the_step_says();
+    klp_manager_state::laws::steps_keep();
+    klp_manager_state::laws::changes_of_one_kind_are_taken();
+    klp_manager_state::laws::what_is_noted_gives_the_rows_back();
+    klp_tasks::laws::rows_change_as_the_step_says();
     if let Some(refusal) = wake_refusal(manager, task) {
         return Err(refusal);
     }

@@ -3,6 +3,7 @@ ghost use Rattle.klp_types.specs.Image.{Symbol, Object, given_symbol, symbol_of,
 ghost use Rattle.klp_types.specs.Bytes.{entry_end};
 ghost use Rattle.klp_text.specs.TextImage.{opening, bytes_at, site_count, IsWithinLimits};
 ghost use Rattle.std.specs.List.{All, AllZip};
+ghost use Rattle.klp_types.specs.declared.limits.TheConstants.{MAX_SITES};
 ghost use Rattle.klp_text.specs.Faults as faults;
 ghost use Rattle.klp_text.specs.Kept.{IsLong, IsResting, first_sites_from};
 ghost use Rattle.klp_text.specs.declared.fault.ImageFault.TheVariants.{NoMemory};
@@ -216,7 +217,7 @@ impl Image {
 
 /// By object, the site of its first symbol. 16 bits do, since there are at most 256 sites.
 fn first_sites(alloc: Global, objects: &[ObjectText]) -> Result<Vec<u16>, AllocError>
-    requires { length (symbols_of objects.now) ≤ 256 }
+    requires { length (symbols_of objects.now) ≤ MAX_SITES }
     ensures { IfOk result (λ sites. sites.items ≡ first_sites_from 0 objects.now) }
 {
     let mut sites = Vec::new(alloc);

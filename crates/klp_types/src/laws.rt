@@ -18,10 +18,12 @@ ghost use Rattle.klp_types.specs.Callbacks.{Call, after_calls};
 
 use crate::limits::{
     ANSWER_ROOM, ENTRY_SITE_END, ENTRY_SITE_LEN, ENTRY_SITE_OFFSET, MAX_ADDRESS_DIGITS, MAX_BODY,
-    MAX_CONSOLE_LINE, MAX_EDITS, MAX_FRAMES, MAX_FUNCTIONS, MAX_GROUPS, MAX_INDEX,
-    MAX_JOURNAL_RECORDS, MAX_LINE, MAX_MARK, MAX_NAME, MAX_OBJECTS, MAX_PATCHES, MAX_READS,
-    MAX_RECORDS, MAX_SITES, MAX_STATES, MAX_SYMBOL_NAME, MAX_TARGETS, MAX_TASK_NUMBER, MAX_TASKS,
-    MAX_VARIABLES, READ_ROOM,
+    MAX_CALLBACK_RECORDS, MAX_COMING_EDITS, MAX_CONSOLE_LINE, MAX_EDITS, MAX_ENABLING_RECORDS,
+    MAX_FRAMES, MAX_FUNCTIONS, MAX_GOING_EDITS, MAX_GROUPS, MAX_INDEX, MAX_JOURNAL_RECORDS,
+    MAX_KIND_RECORDS, MAX_LINE, MAX_LIST_RECORDS, MAX_MARK, MAX_NAME, MAX_OBJECTS, MAX_PATCHES,
+    MAX_READS, MAX_RECORDS, MAX_SITES, MAX_STATES, MAX_SYMBOL_NAME, MAX_TARGETS, MAX_TASK_NUMBER,
+    MAX_TASKS, MAX_VARIABLES, READ_ROOM, RECORDS_AFTER_CALLBACKS, RECORDS_AFTER_LIST,
+    RECORDS_AFTER_SITES, RECORDS_BEFORE_SITES,
 };
 
 /// In the text of an object each function reads as it was built, but for its entry site: so nothing that
@@ -193,6 +195,16 @@ pub fn limits_are_these()
     ensures tasks { MAX_TASKS ≡ 64 }
     ensures frames { MAX_FRAMES ≡ 32 }
     ensures records { MAX_RECORDS ≡ 4096 }
+    ensures list_records { MAX_LIST_RECORDS ≡ 17 }
+    ensures callback_records { MAX_CALLBACK_RECORDS ≡ 32 }
+    ensures kind_records { MAX_KIND_RECORDS ≡ 256 }
+    ensures enabling_records { MAX_ENABLING_RECORDS ≡ 512 }
+    ensures coming_edits { MAX_COMING_EDITS ≡ 1024 }
+    ensures going_edits { MAX_GOING_EDITS ≡ 512 }
+    ensures before_sites { RECORDS_BEFORE_SITES ≡ 2048 }
+    ensures after_sites { RECORDS_AFTER_SITES ≡ 2400 }
+    ensures after_callbacks { RECORDS_AFTER_CALLBACKS ≡ 3500 }
+    ensures after_list { RECORDS_AFTER_LIST ≡ 3800 }
     ensures groups { MAX_GROUPS ≡ 4096 }
     ensures journal_records { MAX_JOURNAL_RECORDS ≡ 16384 }
     ensures line { MAX_LINE ≡ 2048 }

@@ -56,6 +56,42 @@ pub const MAX_FRAMES: usize = 32;
 /// them once it has begun (docs/DECISIONS.md, "Room for 4,096 records").
 pub const MAX_RECORDS: usize = 4096;
 
+/// How many records a patch logs that is put last in the list of installed patches, or taken out of it: its
+/// own, and one for each of its states.
+pub const MAX_LIST_RECORDS: usize = 1 + MAX_STATES;
+
+/// How many records one run of a callback logs: one for each edit, and one more for each that adds a
+/// variable, which then pays for its removal. Variables that were there before pay by their own number.
+pub const MAX_CALLBACK_RECORDS: usize = 2 * MAX_EDITS;
+
+/// How many the callbacks of one kind log, over all objects of a patch.
+pub const MAX_KIND_RECORDS: usize = MAX_TARGETS * MAX_CALLBACK_RECORDS;
+
+/// How many the callbacks of an enabling log: pre-patch, and post-unpatch to clean up.
+pub const MAX_ENABLING_RECORDS: usize = 2 * MAX_KIND_RECORDS;
+
+/// How many edits the callbacks of one object have that may run when it comes, over all patches: all four
+/// kinds, since a patch that came in may be cleaned up again.
+pub const MAX_COMING_EDITS: usize = 4 * MAX_EDITS * MAX_PATCHES;
+
+/// How many edits the callbacks of one object have that may run when it goes, over all patches: pre-unpatch
+/// and post-unpatch.
+pub const MAX_GOING_EDITS: usize = 2 * MAX_EDITS * MAX_PATCHES;
+
+/// How many records an event may have logged before it changes the first site. What sites log fits into
+/// the rest, so callbacks and patches keep to this.
+pub const RECORDS_BEFORE_SITES: usize = 2048;
+
+/// How many records a completion may have logged once entries have left the sites: round, and above all
+/// entries of all patches with one for each task.
+pub const RECORDS_AFTER_SITES: usize = 2400;
+
+/// How many once its callbacks have run after that, which may remove each shadow variable too.
+pub const RECORDS_AFTER_CALLBACKS: usize = 3500;
+
+/// How many once all patches that leave are out of the list after that. One for each task has still room.
+pub const RECORDS_AFTER_LIST: usize = 3800;
+
 /// How many accepted events the journal has room for. `seal` empties it.
 pub const MAX_GROUPS: usize = 4096;
 
