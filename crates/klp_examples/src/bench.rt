@@ -2,8 +2,8 @@
 
 use crate::Fault;
 use crate::events::catalog;
-use crate::measured::{Scene, scenes};
-use crate::whole::wholes;
+use crate::measured::{SCENES, Scene};
+use crate::whole::{TIMES, Whole, Work};
 use klp_catalog::Catalog;
 use klp_core::Manager;
 use klp_program::boot;
@@ -54,42 +54,86 @@ fn round<R: Clock>(rt: &R, alloc: Global, text: &str, scene: &mut Scene) -> Resu
     ended
 }
 
-// What lists of events cost.
-fn measure_events<R: Clock + Print>(rt: &R, alloc: Global, rounds: u32) -> Result<(), Fault> {
-    let text = catalog(alloc)?;
-    for mut scene in scenes(alloc)? {
-        for _ in 0..rounds {
-            round(rt, alloc, text.as_str(), &mut scene)?;
-        }
-        for list in &scene.lists {
-            println!(rt; "{list}")?;
-            if rounds > 1 {
-                println!(rt; "{} ns, the best of {} slices", list.best(), list.taken())?;
-            }
+// What the lists of a scene cost.
+fn measure_scene<R: Clock + Print>(
+    rt: &R,
+    alloc: Global,
+    text: &str,
+    rounds: u32,
+    scene: &mut Scene,
+) -> Result<(), Fault> {
+    for _ in 0..rounds {
+        round(rt, alloc, text, scene)?;
+    }
+    for list in &scene.lists {
+        println!(rt; "{list}")?;
+        if rounds > 1 {
+            println!(rt; "{} ns, the best of {} slices", list.best(), list.taken())?;
         }
     }
     Ok(())
 }
 
-// What the program costs as a whole.
-fn measure_program<R: Clock + Files + Print + AllocGlobal>(
+// What lists of events cost, over this catalog.
+fn measure_events<R: Clock + Print>(
+    rt: &R,
+    alloc: Global,
+    text: &str,
+    rounds: u32,
+) -> Result<(), Fault> {
+    for rows in SCENES {
+        let mut scene = Scene::new(alloc, rows)?;
+        measure_scene(rt, alloc, text, rounds, &mut scene)?;
+    }
+    Ok(())
+}
+
+// What one piece of work costs.
+fn measure_whole<R: Clock + Print>(
     rt: &R,
     alloc: Global,
     rounds: u32,
+    whole: &mut Whole,
 ) -> Result<(), Fault> {
-    let large = catalog(alloc)?;
-    let small = fs::read(rt, SMALL)?;
-    let script = fs::read(rt, SCRIPT)?;
-    for mut whole in wholes(alloc, large.as_bytes(), &small, &script)? {
-        for _ in 0..rounds {
-            whole.round(rt, alloc)?;
-        }
-        println!(rt; "{whole}")?;
-        if rounds > 1 {
-            println!(rt; "{} ns, the best of {rounds} rounds", whole.best())?;
-        }
+    for _ in 0..rounds {
+        whole.round(rt, alloc)?;
+    }
+    println!(rt; "{whole}")?;
+    if rounds > 1 {
+        println!(rt; "{} ns, the best of {rounds} rounds", whole.best())?;
     }
     Ok(())
+}
+
+// What the program costs as a whole, with this large catalog, a small one and a script.
+fn measure_program<R: Clock + Print>(
+    rt: &R,
+    alloc: Global,
+    [large, small, script]: [&[u8]; 3],
+    rounds: u32,
+) -> Result<(), Fault> {
+    for work in [Work::Read, Work::Boot, Work::Serve] {
+        let mut whole = match work {
+            Work::Read => Whole::new(alloc, work, large, b"", 0)?,
+            Work::Boot => Whole::new(alloc, work, small, b"", 0)?,
+            Work::Serve => Whole::new(alloc, work, small, script, TIMES)?,
+        };
+        measure_whole(rt, alloc, rounds, &mut whole)?;
+    }
+    Ok(())
+}
+
+// Measures over the catalogs, which are borrowed: each way out would drop them.
+fn measure_both<R: Clock + Print>(
+    rt: &R,
+    alloc: Global,
+    large: &str,
+    small: &[u8],
+    script: &[u8],
+    rounds: u32,
+) -> Result<(), Fault> {
+    measure_events(rt, alloc, large, rounds)?;
+    measure_program(rt, alloc, [large.as_bytes(), small, script], rounds)
 }
 
 /// Measures so many rounds. What was accepted, refused and answered is told, and the time only of several.
@@ -98,6 +142,8 @@ pub(crate) fn run<R: Clock + Files + Print + AllocGlobal>(
     alloc: Global,
     rounds: u32,
 ) -> Result<(), Fault> {
-    measure_events(rt, alloc, rounds)?;
-    measure_program(rt, alloc, rounds)
+    let large = catalog(alloc)?;
+    let small = fs::read(rt, SMALL)?;
+    let script = fs::read(rt, SCRIPT)?;
+    measure_both(rt, alloc, large.as_str(), &small, &script, rounds)
 }

@@ -27,31 +27,95 @@ const TASKS: u8 = 8;
 /// How often one task enters the kernel and leaves it.
 const TURNS: u64 = 2_047;
 
+fn add_symbol(alloc: Global, text: &mut String, site: u16) -> Result<(), AllocError> {
+    let address = HANDLER + 0x1000 + u64::from(site) * 16;
+    let line = format!(in alloc; "symbol f{site} {address:x} 0000000000000000\n")?;
+    text.push_str(line.as_str())
+}
+
+fn add_function(alloc: Global, text: &mut String, site: u16) -> Result<(), AllocError> {
+    let line = format!(in alloc; "func .klp.sym.vmlinux.f{site},0 n{site} ffffffffc0000000\n")?;
+    text.push_str(line.as_str())
+}
+
+fn add_patch(alloc: Global, text: &mut String, patch: u8) -> Result<(), AllocError> {
+    let line = format!(in alloc; "patch p{patch}\ntarget vmlinux\n")?;
+    text.push_str(line.as_str())?;
+    let first = u16::from(patch % 4) * FUNCTIONS;
+    for site in first..first + FUNCTIONS {
+        add_function(alloc, text, site)?;
+    }
+    Ok(())
+}
+
+fn add_all(alloc: Global, text: &mut String) -> Result<(), AllocError> {
+    for site in 0..SITES {
+        add_symbol(alloc, text, site)?;
+    }
+    for patch in 0..PATCHES {
+        add_patch(alloc, text, patch)?;
+    }
+    Ok(())
+}
+
 /// A kernel of as many functions as there may be, of eight bytes each, and as many patches as there
 /// may be, each with as many functions as it may have: four of them cover the kernel.
 pub(crate) fn catalog(alloc: Global) -> Result<String, AllocError> {
     let mut text = format!(in alloc; "handler {HANDLER:x}\nobject vmlinux\n")?;
-    for site in 0..SITES {
-        let address = HANDLER + 0x1000 + u64::from(site) * 16;
-        let line = format!(in alloc; "symbol f{site} {address:x} 0000000000000000\n")?;
-        text.push_str(line.as_str())?;
-    }
-    for patch in 0..PATCHES {
-        let line = format!(in alloc; "patch p{patch}\ntarget vmlinux\n")?;
-        text.push_str(line.as_str())?;
-        let first = u16::from(patch % 4) * FUNCTIONS;
-        for site in first..first + FUNCTIONS {
-            let line = format!(in alloc;
-                "func .klp.sym.vmlinux.f{site},0 n{site} ffffffffc0000000\n"
-            )?;
-            text.push_str(line.as_str())?;
-        }
-    }
+    add_all(alloc, &mut text)?;
     Ok(text)
 }
 
-/// Each patch is enabled and its transition completed.
-pub(crate) fn enabled(alloc: Global) -> Result<Vec<Event>, AllocError> {
+/// Lists of events.
+#[derive(Clone, Copy)]
+pub(crate) enum Events {
+    /// Each patch is enabled and its transition completed.
+    Enabled,
+    /// Where all patches are installed, each of these is refused.
+    Refused,
+    /// The shadow variables of these numbers are added, from the first up to the second.
+    Added(u64, u64),
+    /// A shadow variable between the others comes and goes.
+    Pairs,
+    /// Tasks begin.
+    Begun,
+    /// They enter the kernel and leave it in turn.
+    Entered,
+    /// A task begins, and enters the kernel and leaves it in turn: one event less than the journal takes.
+    Turns,
+    /// A patch is enabled, disabled and gone again.
+    Cycle,
+    /// As many tasks as there may be fall asleep, and beside them the first patch comes and goes, and
+    /// shadow variables do.
+    Mixed,
+    /// As many tasks as there may be fall asleep inside of many functions, the innermost of this site.
+    Asleep(u16),
+    /// The transition of the first patch starts.
+    Started,
+    /// The transition is tried again and again.
+    Polls,
+}
+
+impl Events {
+    pub(crate) fn list(self, alloc: Global) -> Result<Vec<Event>, AllocError> {
+        match self {
+            Events::Enabled => enabled(alloc),
+            Events::Refused => refused(alloc),
+            Events::Added(first, end) => added(alloc, first..end),
+            Events::Pairs => pairs(alloc),
+            Events::Begun => begun(alloc),
+            Events::Entered => entered(alloc),
+            Events::Turns => turns(alloc),
+            Events::Cycle => cycle(alloc),
+            Events::Mixed => mixed(alloc),
+            Events::Asleep(site) => asleep(alloc, Version::Original(Site(site))),
+            Events::Started => started(alloc),
+            Events::Polls => polls(alloc),
+        }
+    }
+}
+
+fn enabled(alloc: Global) -> Result<Vec<Event>, AllocError> {
     let mut events = Vec::new(alloc);
     for patch in 0..PATCHES {
         events.push(Event::Enable(PatchId(patch)))?;
@@ -60,8 +124,7 @@ pub(crate) fn enabled(alloc: Global) -> Result<Vec<Event>, AllocError> {
     Ok(events)
 }
 
-/// Where all patches are installed, each of these is refused.
-pub(crate) fn refused(alloc: Global) -> Result<Vec<Event>, AllocError> {
+fn refused(alloc: Global) -> Result<Vec<Event>, AllocError> {
     let mut events = Vec::new(alloc);
     for patch in 0..32 {
         events.push(Event::Enable(PatchId(patch)))?;
@@ -70,8 +133,7 @@ pub(crate) fn refused(alloc: Global) -> Result<Vec<Event>, AllocError> {
     Ok(events)
 }
 
-/// Adds the shadow variables of these numbers.
-pub(crate) fn added(alloc: Global, numbers: Range<u64>) -> Result<Vec<Event>, AllocError> {
+fn added(alloc: Global, numbers: Range<u64>) -> Result<Vec<Event>, AllocError> {
     let mut events = Vec::new(alloc);
     for obj in numbers {
         events.push(Event::ShadowAlloc(ShadowKey { obj, id: 1 }, obj))?;
@@ -79,8 +141,7 @@ pub(crate) fn added(alloc: Global, numbers: Range<u64>) -> Result<Vec<Event>, Al
     Ok(events)
 }
 
-/// A shadow variable between the others comes and goes.
-pub(crate) fn pairs(alloc: Global) -> Result<Vec<Event>, AllocError> {
+fn pairs(alloc: Global) -> Result<Vec<Event>, AllocError> {
     let mut events = Vec::new(alloc);
     for pair in 0..PAIRS {
         let key = ShadowKey {
@@ -93,8 +154,7 @@ pub(crate) fn pairs(alloc: Global) -> Result<Vec<Event>, AllocError> {
     Ok(events)
 }
 
-/// Tasks begin.
-pub(crate) fn begun(alloc: Global) -> Result<Vec<Event>, AllocError> {
+fn begun(alloc: Global) -> Result<Vec<Event>, AllocError> {
     let mut events = Vec::new(alloc);
     for task in 0..TASKS {
         events.push(Event::NewTask(TaskId(task)))?;
@@ -102,8 +162,7 @@ pub(crate) fn begun(alloc: Global) -> Result<Vec<Event>, AllocError> {
     Ok(events)
 }
 
-/// They enter the kernel and leave it in turn.
-pub(crate) fn entered(alloc: Global) -> Result<Vec<Event>, AllocError> {
+fn entered(alloc: Global) -> Result<Vec<Event>, AllocError> {
     let mut events = Vec::new(alloc);
     for _ in 0..PAIRS {
         for task in 0..TASKS {
@@ -114,8 +173,7 @@ pub(crate) fn entered(alloc: Global) -> Result<Vec<Event>, AllocError> {
     Ok(events)
 }
 
-/// A task begins, and enters the kernel and leaves it in turn: one event less than the journal takes.
-pub(crate) fn turns(alloc: Global) -> Result<Vec<Event>, AllocError> {
+fn turns(alloc: Global) -> Result<Vec<Event>, AllocError> {
     let mut events = Vec::new(alloc);
     events.push(Event::NewTask(TaskId(0)))?;
     for _ in 0..TURNS {
@@ -125,8 +183,7 @@ pub(crate) fn turns(alloc: Global) -> Result<Vec<Event>, AllocError> {
     Ok(events)
 }
 
-/// A patch is enabled, disabled and gone again.
-pub(crate) fn cycle(alloc: Global) -> Result<Vec<Event>, AllocError> {
+fn cycle(alloc: Global) -> Result<Vec<Event>, AllocError> {
     let mut events = Vec::new(alloc);
     for _ in 0..PAIRS {
         events.push(Event::Enable(PatchId(0)))?;
@@ -137,9 +194,7 @@ pub(crate) fn cycle(alloc: Global) -> Result<Vec<Event>, AllocError> {
     Ok(events)
 }
 
-/// As many tasks as there may be fall asleep, and beside them the first patch comes and goes, and shadow
-/// variables do.
-pub(crate) fn mixed(alloc: Global) -> Result<Vec<Event>, AllocError> {
+fn mixed(alloc: Global) -> Result<Vec<Event>, AllocError> {
     let mut events = asleep(alloc, Version::Original(Site(FUNCTIONS)))?;
     for obj in 0..PAIRS {
         let key = ShadowKey { obj, id: 1 };
@@ -164,8 +219,7 @@ fn frames(innermost: Version) -> Frames {
     frames
 }
 
-/// As many tasks as there may be fall asleep inside of these functions.
-pub(crate) fn asleep(alloc: Global, innermost: Version) -> Result<Vec<Event>, AllocError> {
+fn asleep(alloc: Global, innermost: Version) -> Result<Vec<Event>, AllocError> {
     let frames = frames(innermost);
     let mut events = Vec::new(alloc);
     for task in 0..MAX_TASKS as u8 {
@@ -176,15 +230,13 @@ pub(crate) fn asleep(alloc: Global, innermost: Version) -> Result<Vec<Event>, Al
     Ok(events)
 }
 
-/// The transition of the first patch starts.
-pub(crate) fn started(alloc: Global) -> Result<Vec<Event>, AllocError> {
+fn started(alloc: Global) -> Result<Vec<Event>, AllocError> {
     let mut events = Vec::new(alloc);
     events.push(Event::Enable(PatchId(0)))?;
     Ok(events)
 }
 
-/// The transition is tried again and again.
-pub(crate) fn polls(alloc: Global) -> Result<Vec<Event>, AllocError> {
+fn polls(alloc: Global) -> Result<Vec<Event>, AllocError> {
     let mut events = Vec::new(alloc);
     for _ in 0..PAIRS {
         events.push(Event::Poll)?;

@@ -85,32 +85,77 @@ fn catalog_of<R: Files + AllocGlobal>(rt: &R, name: &str) -> Result<Vec<u8>, Fau
     Ok(catalog_in(rt, path)?)
 }
 
-// Whether the script over the catalog prints what it is to print, however it is cut. Each cut with
-// which it doesn't is told.
-fn holds<R: Files + Print + AllocGlobal>(rt: &R, name: &str, catalog: &str) -> Result<bool, Fault> {
-    let alloc = rt.alloc();
-    let text = catalog_of(rt, catalog)?;
-    let output = fs::read(rt, format!(in alloc; "{name}.output")?.as_str())?;
-    let script = fs::read(rt, format!(in alloc; "{name}.script")?.as_str())?;
+// A file of an example.
+fn file_of<R: Files + AllocGlobal>(rt: &R, name: &str, ending: &str) -> Result<Vec<u8>, Fault> {
+    Ok(fs::read(rt, format!(in rt.alloc(); "{name}.{ending}")?.as_str())?)
+}
+
+// What is served, and what it is to print.
+#[derive(Drop)]
+struct Example {
+    catalog: Vec<u8>,
+    script: Vec<u8>,
+    output: Vec<u8>,
+}
+
+fn example_of<R: Files + AllocGlobal>(rt: &R, name: &str, catalog: &str) -> Result<Example, Fault> {
+    let catalog = catalog_of(rt, catalog)?;
+    let script = file_of(rt, name, "script")?;
+    let output = file_of(rt, name, "output")?;
+    Ok(Example {
+        catalog,
+        script,
+        output,
+    })
+}
+
+// Whether the example prints what it is to print, cut so.
+fn holds_cut(alloc: Global, example: &Example, cut: Cut) -> bool {
+    let ran = served(alloc, &example.catalog, &example.script, cut);
+    ran.status == 0 && ran.out == example.output && ran.err.is_empty()
+}
+
+// Whether the example prints what it is to print, however it is cut. Each cut with which it doesn't is
+// told. The example is borrowed, since each way out would drop it.
+fn holds_all<R: Print + AllocGlobal>(
+    rt: &R,
+    title: &str,
+    example: &Example,
+) -> Result<bool, Fault> {
     let mut all = true;
     for cut in CUTS {
-        let ran = served(alloc, &text, &script, cut);
-        if ran.status != 0 || ran.out != output || !ran.err.is_empty() {
+        if !holds_cut(rt.alloc(), example, cut) {
             all = false;
-            println!(rt; "{name} over {catalog}, {}: differs", cut.name)?;
+            println!(rt; "{title}, {}: differs", cut.name)?;
         }
     }
     Ok(all)
 }
 
+// Whether the example of this line of the index holds: a script, and a catalog where that has another name.
+fn holds<R: Files + Print + AllocGlobal>(rt: &R, line: &str) -> Result<bool, Fault> {
+    let (script, catalog) = line.split_once(' ').unwrap_or((line, line));
+    let example = example_of(rt, script, catalog)?;
+    holds_all(rt, line, &example)
+}
+
+// Counts the examples of the index that hold.
+fn count_all<R: Files + Print + AllocGlobal>(
+    rt: &R,
+    index: &str,
+    tally: &mut Tally,
+) -> Result<(), Fault> {
+    for line in index.lines().filter(|line| !line.starts_with('#')) {
+        let holds = holds(rt, line)?;
+        tally.counts(holds);
+    }
+    Ok(())
+}
+
 fn run_scripts<R: Files + Print + AllocGlobal>(rt: &R) -> Result<Tally, Fault> {
     let mut tally = Tally::new();
     let index = fs::read_to_string(rt, INDEX)?;
-    for line in index.as_str().lines().filter(|line| !line.starts_with('#')) {
-        let (script, catalog) = line.split_once(' ').unwrap_or((line, line));
-        let holds = holds(rt, script, catalog)?;
-        tally.counts(holds);
-    }
+    count_all(rt, index.as_str(), &mut tally)?;
     Ok(tally)
 }
 

@@ -1,12 +1,8 @@
 //! What is measured: lists of events that a manager takes, slice after slice.
 
 use crate::Fault;
-use crate::events::{
-    FEW, MANY, added, asleep, begun, cycle, enabled, entered, mixed, pairs, polls, refused,
-    started, turns,
-};
+use crate::events::{Events, FEW, MANY};
 use klp_model::Event;
-use klp_types::{Site, Version};
 use std::alloc::{AllocError, Global};
 use std::time::Instant;
 use std::{fmt, io};
@@ -16,6 +12,148 @@ const SLICES: u64 = 64;
 
 /// How often a list is taken back.
 const SLICES_TAKEN_BACK: u64 = 4;
+
+/// A list that is measured: its name, how often a round takes it, and its events.
+#[derive(Clone, Copy)]
+pub(crate) struct Row {
+    name: &'static str,
+    slices: u64,
+    events: Events,
+}
+
+/// The lists that one manager takes, in order, and whether they are taken back each time, which alone is
+/// measured then.
+#[derive(Clone, Copy)]
+pub(crate) struct Rows {
+    rows: &'static [Row],
+    is_taken_back: bool,
+}
+
+const PATCHES_AND_VARIABLES: [Row; 6] = [
+    Row {
+        name: "enable and poll",
+        slices: 1,
+        events: Events::Enabled,
+    },
+    Row {
+        name: "the same again",
+        slices: 1,
+        events: Events::Refused,
+    },
+    Row {
+        name: "10 shadow variables",
+        slices: 1,
+        events: Events::Added(0, FEW),
+    },
+    Row {
+        name: "one more comes and goes",
+        slices: SLICES,
+        events: Events::Pairs,
+    },
+    Row {
+        name: "490 more of them",
+        slices: 1,
+        events: Events::Added(FEW, MANY),
+    },
+    Row {
+        name: "one more comes and goes",
+        slices: SLICES,
+        events: Events::Pairs,
+    },
+];
+
+const CYCLES: [Row; 3] = [
+    Row {
+        name: "enable, poll, disable, poll",
+        slices: SLICES,
+        events: Events::Cycle,
+    },
+    Row {
+        name: "8 tasks begin",
+        slices: 1,
+        events: Events::Begun,
+    },
+    Row {
+        name: "they enter and exit",
+        slices: SLICES,
+        events: Events::Entered,
+    },
+];
+
+/// 64 tasks sleep inside of 32 functions each, the innermost of which the patch changes.
+const HELD: [Row; 3] = [
+    Row {
+        name: "64 tasks fall asleep",
+        slices: 1,
+        events: Events::Asleep(0),
+    },
+    Row {
+        name: "a transition starts",
+        slices: 1,
+        events: Events::Started,
+    },
+    Row {
+        name: "a poll that they hold up",
+        slices: SLICES,
+        events: Events::Polls,
+    },
+];
+
+/// The same inside of functions that the patch doesn't change.
+const NOT_HELD: [Row; 2] = [
+    Row {
+        name: "64 tasks fall asleep",
+        slices: 1,
+        events: Events::Asleep(100),
+    },
+    Row {
+        name: "enable, poll, disable, poll beside them",
+        slices: SLICES,
+        events: Events::Cycle,
+    },
+];
+
+const TAKEN_BACK: [Row; 3] = [
+    Row {
+        name: "task events taken back",
+        slices: SLICES_TAKEN_BACK,
+        events: Events::Turns,
+    },
+    Row {
+        name: "enable, poll, disable, poll taken back",
+        slices: SLICES_TAKEN_BACK,
+        events: Events::Cycle,
+    },
+    Row {
+        name: "sleepers, a patch and variables taken back",
+        slices: SLICES_TAKEN_BACK,
+        events: Events::Mixed,
+    },
+];
+
+/// What is measured, each with a manager of its own.
+pub(crate) const SCENES: [Rows; 5] = [
+    Rows {
+        rows: &PATCHES_AND_VARIABLES,
+        is_taken_back: false,
+    },
+    Rows {
+        rows: &CYCLES,
+        is_taken_back: false,
+    },
+    Rows {
+        rows: &HELD,
+        is_taken_back: false,
+    },
+    Rows {
+        rows: &NOT_HELD,
+        is_taken_back: false,
+    },
+    Rows {
+        rows: &TAKEN_BACK,
+        is_taken_back: true,
+    },
+];
 
 /// A list of events, and what taking it came to.
 #[derive(Debug, Drop)]
@@ -33,24 +171,17 @@ pub(crate) struct Measured {
 }
 
 impl Measured {
-    fn new(name: &'static str, slices: u64, events: Vec<Event>) -> Self {
+    fn new(row: &Row, is_taken_back: bool, events: Vec<Event>) -> Self {
         Self {
-            name,
+            name: row.name,
             events,
-            slices,
-            is_taken_back: false,
+            slices: row.slices,
+            is_taken_back,
             accepted: 0,
             refused: 0,
             taken: 0,
             best: u128::MAX,
         }
-    }
-
-    /// A list that is taken back in each slice.
-    fn taken_back(name: &'static str, events: Vec<Event>) -> Self {
-        let mut list = Self::new(name, SLICES_TAKEN_BACK, events);
-        list.is_taken_back = true;
-        list
     }
 
     /// Counts what a slice came to, between these two moments.
@@ -97,63 +228,12 @@ pub(crate) struct Scene {
     pub(crate) lists: Vec<Measured>,
 }
 
-fn patches_and_variables(alloc: Global) -> Result<Scene, AllocError> {
-    let mut lists = Vec::new(alloc);
-    lists.push(Measured::new("enable and poll", 1, enabled(alloc)?))?;
-    lists.push(Measured::new("the same again", 1, refused(alloc)?))?;
-    lists.push(Measured::new("10 shadow variables", 1, added(alloc, 0..FEW)?))?;
-    lists.push(Measured::new("one more comes and goes", SLICES, pairs(alloc)?))?;
-    lists.push(Measured::new("490 more of them", 1, added(alloc, FEW..MANY)?))?;
-    lists.push(Measured::new("one more comes and goes", SLICES, pairs(alloc)?))?;
-    Ok(Scene { lists })
-}
-
-fn cycles(alloc: Global) -> Result<Scene, AllocError> {
-    let mut lists = Vec::new(alloc);
-    lists.push(Measured::new("enable, poll, disable, poll", SLICES, cycle(alloc)?))?;
-    lists.push(Measured::new("8 tasks begin", 1, begun(alloc)?))?;
-    lists.push(Measured::new("they enter and exit", SLICES, entered(alloc)?))?;
-    Ok(Scene { lists })
-}
-
-// 64 tasks sleep inside of 32 functions each, the innermost of which the patch changes.
-fn held(alloc: Global) -> Result<Scene, AllocError> {
-    let asleep = asleep(alloc, Version::Original(Site(0)))?;
-    let mut lists = Vec::new(alloc);
-    lists.push(Measured::new("64 tasks fall asleep", 1, asleep))?;
-    lists.push(Measured::new("a transition starts", 1, started(alloc)?))?;
-    lists.push(Measured::new("a poll that they hold up", SLICES, polls(alloc)?))?;
-    Ok(Scene { lists })
-}
-
-// The same inside of functions that the patch doesn't change.
-fn not_held(alloc: Global) -> Result<Scene, AllocError> {
-    let asleep = asleep(alloc, Version::Original(Site(100)))?;
-    let mut lists = Vec::new(alloc);
-    lists.push(Measured::new("64 tasks fall asleep", 1, asleep))?;
-    lists.push(Measured::new(
-        "enable, poll, disable, poll beside them",
-        SLICES,
-        cycle(alloc)?,
-    ))?;
-    Ok(Scene { lists })
-}
-
-fn taken_back(alloc: Global) -> Result<Scene, AllocError> {
-    let mut lists = Vec::new(alloc);
-    lists.push(Measured::taken_back("task events taken back", turns(alloc)?))?;
-    lists.push(Measured::taken_back("enable, poll, disable, poll taken back", cycle(alloc)?))?;
-    lists.push(Measured::taken_back("sleepers, a patch and variables taken back", mixed(alloc)?))?;
-    Ok(Scene { lists })
-}
-
-/// What is measured, each with a manager of its own.
-pub(crate) fn scenes(alloc: Global) -> Result<Vec<Scene>, AllocError> {
-    let mut scenes = Vec::new(alloc);
-    scenes.push(patches_and_variables(alloc)?)?;
-    scenes.push(cycles(alloc)?)?;
-    scenes.push(held(alloc)?)?;
-    scenes.push(not_held(alloc)?)?;
-    scenes.push(taken_back(alloc)?)?;
-    Ok(scenes)
+impl Scene {
+    pub(crate) fn new(alloc: Global, scene: Rows) -> Result<Self, AllocError> {
+        let mut lists = Vec::new(alloc);
+        for row in scene.rows {
+            lists.push(Measured::new(row, scene.is_taken_back, row.events.list(alloc)?))?;
+        }
+        Ok(Scene { lists })
+    }
 }

@@ -37,20 +37,22 @@ fn is_refused(alloc: Global, catalog: &[u8], fault: &str) -> bool {
         && err.strip_suffix(b"\n") == Some(fault.as_bytes())
 }
 
-// The catalogs. Each that isn't refused so is told.
-fn run_catalogs<R: Files + Print + AllocGlobal>(rt: &R) -> io::Result<Tally> {
-    let mut tally = Tally::new();
-    for case in fs::read_to_string(rt, CATALOGS)?
-        .as_str()
-        .split(CATALOG_MARK)
-        .skip(1)
-    {
+// The catalogs of a text. Each that isn't refused so is told.
+fn run_cases<R: Print + AllocGlobal>(rt: &R, text: &str, tally: &mut Tally) -> io::Result<()> {
+    for case in text.split(CATALOG_MARK).skip(1) {
         let (fault, catalog) = case.split_once('\n').unwrap_or((case, ""));
         let holds = is_refused(rt.alloc(), catalog.as_bytes(), fault);
         if !tally.counts(holds) {
             println!(rt; "{fault}: differs, with the catalog\n{catalog}")?;
         }
     }
+    Ok(())
+}
+
+fn run_catalogs<R: Files + Print + AllocGlobal>(rt: &R) -> io::Result<Tally> {
+    let mut tally = Tally::new();
+    let text = fs::read_to_string(rt, CATALOGS)?;
+    run_cases(rt, text.as_str(), &mut tally)?;
     Ok(tally)
 }
 
@@ -109,18 +111,27 @@ fn is_told(alloc: Global, start: &[u8], kind: &str, line: &str) -> Result<bool, 
 }
 
 // The lines that are refused behind one start. Each that isn't refused so is told.
-fn run_block<R: Print + AllocGlobal>(rt: &R, block: &str, tally: &mut Tally) -> io::Result<()> {
-    let (start, rows) = block.split_once(LINES_MARK).unwrap_or((block, ""));
-    let (_title, start) = start.split_once('\n').unwrap_or((start, ""));
-    let start = repeated(rt.alloc(), start)?;
+fn run_rows<R: Print + AllocGlobal>(
+    rt: &R,
+    start: &[u8],
+    rows: &str,
+    tally: &mut Tally,
+) -> io::Result<()> {
     for row in rows.lines().filter(|row| !row.starts_with('#')) {
         let (kind, line) = row.split_once(' ').unwrap_or((row, ""));
-        let holds = is_told(rt.alloc(), &start, kind, line)?;
+        let holds = is_told(rt.alloc(), start, kind, line)?;
         if !tally.counts(holds) {
             println!(rt; "{row}: differs")?;
         }
     }
     Ok(())
+}
+
+fn run_block<R: Print + AllocGlobal>(rt: &R, block: &str, tally: &mut Tally) -> io::Result<()> {
+    let (start, rows) = block.split_once(LINES_MARK).unwrap_or((block, ""));
+    let (_title, start) = start.split_once('\n').unwrap_or((start, ""));
+    let start = repeated(rt.alloc(), start)?;
+    run_rows(rt, &start, rows, tally)
 }
 
 fn run_lines<R: Files + Print + AllocGlobal>(rt: &R) -> io::Result<Tally> {
@@ -135,16 +146,31 @@ fn run_lines<R: Files + Print + AllocGlobal>(rt: &R) -> io::Result<Tally> {
     Ok(tally)
 }
 
-// The paths. Each at which something is read, or is refused otherwise, is told.
-fn run_paths<R: Files + Print + AllocGlobal>(rt: &R) -> io::Result<Tally> {
-    let mut tally = Tally::new();
-    for path in fs::read_to_string(rt, PATHS)?.as_str().lines() {
-        let given = String::from_str(rt.alloc(), path)?;
-        let holds = catalog_in(rt, Some(given)).err() == Some(klp_program::Fault::CannotRead);
+// Whether the path can't be read.
+fn cannot_be_read<R: Files + AllocGlobal>(rt: &R, path: &str) -> io::Result<bool> {
+    let given = String::from_str(rt.alloc(), path)?;
+    Ok(catalog_in(rt, Some(given)).err() == Some(klp_program::Fault::CannotRead))
+}
+
+// The paths, one a line. Each at which something is read, or is refused otherwise, is told.
+fn try_paths<R: Files + Print + AllocGlobal>(
+    rt: &R,
+    paths: &str,
+    tally: &mut Tally,
+) -> io::Result<()> {
+    for path in paths.lines() {
+        let holds = cannot_be_read(rt, path)?;
         if !tally.counts(holds) {
             println!(rt; "{path}: differs")?;
         }
     }
+    Ok(())
+}
+
+fn run_paths<R: Files + Print + AllocGlobal>(rt: &R) -> io::Result<Tally> {
+    let mut tally = Tally::new();
+    let paths = fs::read_to_string(rt, PATHS)?;
+    try_paths(rt, paths.as_str(), &mut tally)?;
     Ok(tally)
 }
 

@@ -9,7 +9,7 @@ use std::rt::Clock;
 use std::time::Instant;
 
 /// How often the script stands in the input of the console.
-const TIMES: usize = 512;
+pub(crate) const TIMES: usize = 512;
 
 /// What is done.
 #[derive(Clone, Copy)]
@@ -33,8 +33,25 @@ pub(crate) struct Whole {
     best: u128,
 }
 
+/// The text, so many times over.
+fn repeated(alloc: Global, text: &[u8], times: usize) -> Result<Vec<u8>, AllocError> {
+    let mut all = Vec::new(alloc);
+    for _ in 0..times {
+        all.extend_from_slice(text)?;
+    }
+    Ok(all)
+}
+
 impl Whole {
-    fn new(alloc: Global, work: Work, catalog: &[u8], input: Vec<u8>) -> Result<Self, AllocError> {
+    /// The work over a catalog, with a script that stands so many times in the input.
+    pub(crate) fn new(
+        alloc: Global,
+        work: Work,
+        catalog: &[u8],
+        script: &[u8],
+        times: usize,
+    ) -> Result<Self, AllocError> {
+        let input = repeated(alloc, script, times)?;
         Ok(Self {
             work,
             catalog: Vec::from_slice(alloc, catalog)?,
@@ -87,29 +104,4 @@ impl fmt::Display for Whole {
             Work::Serve => write!(f, "{lines} lines are answered by {answers} bytes"),
         }
     }
-}
-
-/// The text, so many times over.
-fn repeated(alloc: Global, text: &[u8]) -> Result<Vec<u8>, AllocError> {
-    let mut all = Vec::new(alloc);
-    for _ in 0..TIMES {
-        all.extend_from_slice(text)?;
-    }
-    Ok(all)
-}
-
-/// What is measured: over the large catalog how it is read, and over the small one how a manager is
-/// booted and how it serves the script.
-pub(crate) fn wholes(
-    alloc: Global,
-    large: &[u8],
-    small: &[u8],
-    script: &[u8],
-) -> Result<Vec<Whole>, AllocError> {
-    let mut wholes = Vec::new(alloc);
-    let input = repeated(alloc, script)?;
-    wholes.push(Whole::new(alloc, Work::Read, large, Vec::new(alloc))?)?;
-    wholes.push(Whole::new(alloc, Work::Boot, small, Vec::new(alloc))?)?;
-    wholes.push(Whole::new(alloc, Work::Serve, small, input)?)?;
-    Ok(wholes)
 }
