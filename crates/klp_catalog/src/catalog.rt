@@ -24,12 +24,13 @@ use crate::patch;
 use crate::patch::CatalogPatch;
 use arrayvec::ArrayVec;
 use klp_callback::Boxed;
-use klp_catalog_text::{Names, Plan, TextFault};
+use klp_catalog_text::{Plan, TextFault};
 use klp_modules::Modules;
 use klp_types::{
     MAX_EDITS, MAX_FUNCTIONS, MAX_PATCHES, MAX_STATES, MAX_TARGETS, ObjId, PatchId, Records, Site,
     Which,
 };
+use klp_words::Names;
 use klp_world::World;
 use std::alloc::Global;
 use std::marker::Model;

@@ -1,21 +1,10 @@
--- Lists whose last item changes, and names that are found in a list.
-use Rattle.std.proofs.Common.{◌≡◌, ℕ, zero, suc, ◌+◌, ◌<◌, ◌≤◌, ◌==◌, Bool, true, false, not, nat_lt, cond, List, [], ◌∷◌, ◌++◌, length, get_or, set, map, position, Some, None, Result, Ok, Err, OnOk, is_ok, ◌||◌, string_bytes, String, if◌then◌else◌, bytes_eq, refl, ap, ◌∙◌, arith}
-use Rattle.std.specs.List.{list_any, position_or_len, prefix_len}
-use Rattle.std.specs.String.{string_eq}
-use Rattle.std.specs.declared.alloc.Global.{Global}
+-- Lists whose last item changes.
+use Rattle.std.proofs.Common.{◌≡◌, ℕ, zero, suc, ◌+◌, ◌<◌, ◌==◌, false, List, [], ◌∷◌, ◌++◌, length, get_or, set, map, Result, Ok, Err, OnOk, is_ok, if◌then◌else◌, refl, ap, ◌∙◌, arith}
 use Rattle.klp_catalog_text.specs.PlanParts.{on_last}
 use Rattle.std.proofs.lemmas.Bool.Decides.{nat_tests}
 
 pub positive : (n : ℕ) → false ≡ (n == 0) → 0 < n
 positive n h = grind (arith, nat_tests)
-
-missing_by : (m n : ℕ) (b : Bool) → b ≡ nat_lt m n → cond b (Some m) None ≡ None → n ≤ m
-missing_by m n true e h = absurd cc
-missing_by m n false e h = grind (arith, nat_tests)
-
--- where none passes, the search ends behind the last
-missing_from : {A : Type 0} (p : A → Bool) (xs : List A) → position p xs ≡ None → length xs ≤ position_or_len p xs
-missing_from p xs h = missing_by (position_or_len p xs) (length xs) (nat_lt (position_or_len p xs) (length xs)) refl h
 
 -- a write at the last place changes the last item
 pub set_last : {A : Type 0} (change : A → A) (xs : List A) (n : ℕ) (x y : A) → n + 1 ≡ length xs → x ≡ get_or xs n x → y ≡ change x → set xs n y ≡ on_last change xs
@@ -25,20 +14,6 @@ set_last change (a ∷ []) (suc n) x y h at_n e = absurd (omega arith)
 set_last change (a ∷ b ∷ xs) zero x y h at_n e = absurd (omega arith)
 set_last change (a ∷ b ∷ xs) (suc n) x y h at_n e = ap (λ z. a ∷ z) (set_last change (b ∷ xs) n x y (omega arith) at_n e)
 
-prefix_len-map : {A B : Type 0} (p : B → Bool) (f : A → B) (xs : List A) → prefix_len (λ x. p (f x)) xs ≡ prefix_len p (map f xs)
-prefix_len-map p f [] = refl
-prefix_len-map p f (x ∷ xs) = ap (λ n. cond (p (f x)) (1 + n) 0) (prefix_len-map p f xs)
-
-length-map : {A B : Type 0} (f : A → B) (xs : List A) → length xs ≡ length (map f xs)
-length-map f [] = refl
-length-map f (x ∷ xs) = ap suc (length-map f xs)
-
--- the place of an item in a list is that of its image
-pub position-map : {A B : Type 0} (p : B → Bool) (f : A → B) (xs : List A) → position (λ x. p (f x)) xs ≡ position p (map f xs)
-position-map p f xs =
-    ap (λ n. cond (nat_lt n (length xs)) (Some n) None) (prefix_len-map (λ x. not (p x)) f xs)
-    ∙ ap (λ n. cond (nat_lt (position_or_len p (map f xs)) n) (Some (position_or_len p (map f xs))) None) (length-map f xs)
-
 pub map-push : {A B : Type 0} (f : A → B) (xs : List A) (x : A) → map f (xs ++ x ∷ []) ≡ map f xs ++ f x ∷ []
 map-push f [] x = refl
 map-push f (y ∷ xs) x = ap (λ z. f y ∷ z) (map-push f xs x)
@@ -46,25 +21,6 @@ map-push f (y ∷ xs) x = ap (λ z. f y ∷ z) (map-push f xs x)
 pub on_ok : {T E P Q : Type 0} (r : Result T E) → OnOk r P → (P → Q) → OnOk r Q
 on_ok (Ok x) p f = f p
 on_ok (Err e) p f = tt
-
-none_passes : {A : Type 0} (p : A → Bool) (xs : List A) → length xs ≤ position_or_len p xs → list_any p xs ≡ false
-none_passes p [] h = refl
-none_passes p (x ∷ xs) h = by (p x) refl (none_passes p xs)
-  where
-    by : (b : Bool) → p x ≡ b → (length xs ≤ position_or_len p xs → list_any p xs ≡ false) → (p x || list_any p xs) ≡ false
-    by true e rest = let none : position_or_len p (x ∷ xs) ≡ 0 = rw e refl in absurd (omega arith)
-    by false e rest =
-        let more : position_or_len p (x ∷ xs) ≡ 1 + position_or_len p xs = rw e refl in
-        rw e (rest (omega arith))
-
--- what an insert of a new name leaves
-pub insert_new : (keys : List (String Global)) (key : String Global) (name : List ℕ) → string_bytes key ≡ name → position (bytes_eq name) (map string_bytes keys) ≡ None
-    → map string_bytes (if list_any (string_eq key) keys then keys else keys ++ key ∷ []) ≡ map string_bytes keys ++ name ∷ []
-insert_new keys key name bytes none =
-    let place : position (λ k. bytes_eq name (string_bytes k)) keys ≡ None = position-map (bytes_eq name) string_bytes keys ∙ none in
-    let absent : list_any (λ k. bytes_eq name (string_bytes k)) keys ≡ false = none_passes (λ k. bytes_eq name (string_bytes k)) keys (missing_from (λ k. bytes_eq name (string_bytes k)) keys place) in
-    let fresh : list_any (string_eq key) keys ≡ false = ap (λ bs. list_any (λ k. bytes_eq bs (string_bytes k)) keys) bytes ∙ absent in
-    rw fresh (map-push string_bytes keys key ∙ ap (λ bs. map string_bytes keys ++ bs ∷ []) bytes)
 
 -- what a push leaves that can't fail
 pub pushed : {A T E : Type 0} (r : Result T E) (u : T) (next before xs : List A) (made x : A) → r ≡ Ok u → next ≡ (if is_ok r then before ++ made ∷ [] else before) → before ≡ xs → made ≡ x

@@ -16,12 +16,12 @@ use crate::fault::TextFaultKind;
 use crate::items::{Name, PlanFunction, SystemState};
 use crate::line::CatalogLine;
 use crate::lines::words_of;
-use crate::names::Names;
 use crate::plan::{Plan, PlanCallback, PlanPatch, PlanTarget};
 use klp_types::{
     MAX_BODY, MAX_FUNCTIONS, MAX_OBJECTS, MAX_PATCHES, MAX_SITES, MAX_STATES, MAX_TARGETS, ObjId,
     ObjectText, SymbolText, Which,
 };
+use klp_words::Names;
 use std::alloc::{AllocError, Global};
 use std::marker::Model;
 

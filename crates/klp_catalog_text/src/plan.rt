@@ -5,8 +5,8 @@ ghost use Rattle.klp_catalog_text.specs.Limits.{AreFew};
 ghost use Rattle.klp_catalog_text.specs.Scripts.{scripts_of};
 
 use crate::items::{PlanFunction, SystemState};
-use crate::names::Names;
 use klp_types::{ObjId, ObjectText, Script, Which};
+use klp_words::Names;
 use std::alloc::{AllocError, Global};
 use std::marker::Model;
 use std::mem;

@@ -75,7 +75,7 @@ impl Journal {
     pub fn has_room(&self) -> bool
         ensures { result ≡ has_room self.now }
     {
-        (self.mark() as usize) < MAX_GROUPS && MAX_RECORDS <= self.records_free() as usize
+        self.groups.len() < MAX_GROUPS && MAX_RECORDS <= MAX_JOURNAL_RECORDS - self.rows.len()
     }
 
     /// Appends an accepted event as the newest, with the records of the rows that it changed in the order

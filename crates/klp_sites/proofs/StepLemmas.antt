@@ -1,5 +1,5 @@
 -- The image and the stacks stay in step where the stack of one site changes.
-use Rattle.std.proofs.Common.{◌≡◌, ℕ, zero, suc, Bool, true, false, not, List, [], ◌∷◌, length, get_or, map, replicate, set, ◌<◌, refl, sym, ap, ◌∙◌, arith, ltb}
+use Rattle.std.proofs.Common.{◌≤◌, ◌≡◌, ℕ, zero, suc, Bool, true, false, not, List, [], ◌∷◌, length, get_or, map, replicate, set, ◌<◌, refl, sym, ap, ◌∙◌, arith, ltb}
 use Rattle.std.proofs.Math.Bool.{beq}
 use Rattle.std.proofs.lemmas.Bool.{lt-ltb}
 use Rattle.std.proofs.lemmas.List.{length-replicate, length-set, get_or-set_same, set-get_or}
@@ -26,6 +26,15 @@ flags_set (first ∷ stacks) (suc site) new = ap (λ rest. is_stacked first ∷ 
 pub hooked_from : (entries : Entries) (n : ℕ) → n ≡ length entries → ltb 0 n ≡ is_stacked entries
 hooked_from [] n e = ap (ltb 0) e
 hooked_from (entry ∷ older) n e = lt-ltb 0 n (omega arith)
+
+-- a site has an entry exactly where it has more than none
+pub stacked_from : (entries : Entries) (n : ℕ) → n ≡ length entries → 0 < n → is_stacked entries ≡ true
+stacked_from [] n e more = absurd (omega arith)
+stacked_from (entry ∷ older) n e more = refl
+
+pub empty_from : (entries : Entries) (n : ℕ) → n ≡ length entries → n ≤ 0 → is_stacked entries ≡ false
+empty_from [] n e none = refl
+empty_from (entry ∷ older) n e none = absurd (omega arith)
 
 -- the stack of a site changes, and its hook to that of the new stack
 module _ (image : TextImage) (stacks : List Entries) (kept : IsInStep image stacks) (site : ℕ) (new : Entries) (to : List Entries) (is : to ≡ set stacks site new) where

@@ -50,14 +50,6 @@ fn count_sites(image: &Image) -> usize
     sites
 }
 
-/// Whether a site is to be hooked: it has an entry. A nop is one too, because it has to be run by the
-/// handler.
-fn is_hooked(stacks: &Stacks, site: Site) -> bool
-    ensures { result ≡ is_hooked_at stacks.now site }
-{
-    stacks.hooks(site) > 0
-}
-
 impl Sites {
     /// The image with a stack without entries for each site. Nothing may be hooked yet, since nothing has
     /// an entry. An error is want of memory, and the image is dropped with it.
@@ -79,7 +71,8 @@ impl Sites {
         ensures changes { Changes self.old self.new log.old log.new (pushed self.old site entry)
             (rows_of_push self.old site entry) }
     {
-        let was_hooked = is_hooked(&self.stacks, site);
+        // A nop is an entry too, because it has to be run by the handler.
+        let was_hooked = self.stacks.hooks(site) > 0;
         log.note(self.stacks.push(site, entry));
         if !was_hooked {
             self.image.hook(site);
@@ -96,7 +89,8 @@ impl Sites {
             (rows_of_take self.old site patch) }
     {
         log.note(self.stacks.take(site, patch));
-        if !is_hooked(&self.stacks, site) {
+        let is_hooked = self.stacks.hooks(site) > 0;
+        if !is_hooked {
             self.image.unhook(site);
             log.note(Record::HookFlag { site, was: true });
         }
@@ -143,10 +137,11 @@ impl Sites {
     fn put_entry(&mut self, site: Site, patch: PatchId, was: Option<Place>)
         ensures { self.new ≡ put_back self.old (Record.StackEntry site patch was) }
     {
-        let was_hooked = is_hooked(&self.stacks, site);
+        // A nop is an entry too, because it has to be run by the handler.
+        let was_hooked = self.stacks.hooks(site) > 0;
         self.stacks
             .put_back(Record::StackEntry { site, patch, was });
-        let is_hooked = is_hooked(&self.stacks, site);
+        let is_hooked = self.stacks.hooks(site) > 0;
         if is_hooked != was_hooked {
             if is_hooked {
                 self.image.hook(site);

@@ -1,7 +1,8 @@
 //! What a plan has of a catalog's text that no line of the console shows: the first bytes of a body, a function
 //! of a patch that can't be installed, the status of a callback that can't refuse, values for system states.
-use klp_catalog_text::{Names, Plan, PlanPatch, PlanTarget, TextFault, read};
+use klp_catalog_text::{Plan, PlanPatch, PlanTarget, TextFault, read};
 use klp_types::{Edit, ObjectText};
+use klp_words::Names;
 use std::alloc::Global;
 
 const TEXT: &[u8] = b"handler ffffffff81000000

@@ -1,3 +1,4 @@
 pub mod SplitLemmas
 pub mod WordLemmas
 pub mod NumberLemmas
+pub mod NameLemmas

@@ -20,7 +20,7 @@ impl Model for Names {
 }
 
 impl Names {
-    pub(crate) fn new(alloc: Global) -> Names
+    pub fn new(alloc: Global) -> Names
         ensures { result ≡ [] }
     {
         Names {
@@ -44,7 +44,7 @@ impl Names {
     }
 
     /// Adds a name that isn't there, as the last. It is copied, since the object or patch keeps its own.
-    pub(crate) fn add(&mut self, alloc: Global, name: &str) -> Result<(), AllocError>
+    pub fn add(&mut self, alloc: Global, name: &str) -> Result<(), AllocError>
         requires { position (bytes_eq name.now) self.old ≡ None }
         ensures ok { OnOk result (self.new ≡ self.old ++ name.now ∷ []) }
         ensures err { OnErr result (self.new ≡ self.old) }

@@ -1,6 +1,6 @@
 use Rattle.std.proofs.Common.{◌∙◌, ap, position, bytes_eq, string_bytes}
-use Rattle.klp_catalog_text.proofs.ListLemmas.{position-map}
-use Rattle.klp_catalog_text.proofs.names.Names.number.Goals as goal
+use Rattle.klp_words.proofs.NameLemmas.{position-map}
+use Rattle.klp_words.proofs.names.Names.number.Goals as goal
 
 pub returns : goal.returns
 returns c =

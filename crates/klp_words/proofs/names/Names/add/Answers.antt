@@ -1,6 +1,6 @@
 use Rattle.std.proofs.Common.{◌∙◌, ◌++◌, ◌∷◌, [], ap, position, bytes_eq, map, string_bytes}
-use Rattle.klp_catalog_text.proofs.ListLemmas.{insert_new}
-use Rattle.klp_catalog_text.proofs.names.Names.add.Goals as goal
+use Rattle.klp_words.proofs.NameLemmas.{insert_new}
+use Rattle.klp_words.proofs.names.Names.add.Goals as goal
 
 pub returns-clause-ok : goal.returns-clause-ok
 returns-clause-ok c =
