@@ -1,14 +1,13 @@
 -- What a catalog keeps is what its plan and its modules give.
 use Rattle.std.proofs.Common.{◌≡◌, ℕ, zero, suc, ◌+◌, ◌<◌, ◌≤◌, Bool, true, false, ◌||◌, List, [], ◌∷◌, ◌++◌, length, map, slice_get, option_map, find, reverse, Some, None, Option, refl, sym, ap, ◌∙◌, arith, length-append, if◌then◌else◌}
 use Rattle.std.specs.Prelude.{IfSome, is_some, take, ok_or}
-use Rattle.std.specs.List.{All, AllByRecursion, list_all}
+use Rattle.std.specs.List.{All, AllByRecursion}
 use Rattle.std.specs.Result.{result_ok}
 use Rattle.std.proofs.lemmas.List.{length-map, map-append}
 use Rattle.std.proofs.lemmas.List.Elements.{All-append, All-cons, All-nil}
 use Rattle.std.proofs.lemmas.List.Sums.{sum_by-cons}
-use Rattle.std.proofs.lemmas.List.Folds.{list_all-map}
 use Rattle.std.proofs.lemmas.Option.{slice_get-map}
-use Rattle.klp_types.specs.Compatible.{SystemState, version_among, can_live_with}
+use Rattle.klp_types.specs.Compatible.{version_among}
 use Rattle.klp_types.specs.Setting.{all_functions, patch_objects, patch_states, patch_replaces}
 use Rattle.klp_modules.specs.Names.{ObjectNames, first_site, symbol_names, sites_where, picked}
 use Rattle.klp_modules.specs.declared.fault.SymbolFault.TheVariants.{NoPosition}
@@ -19,13 +18,9 @@ use Rattle.klp_catalog.specs.States as states
 use Rattle.klp_catalog.specs.Assembled.{IsInObject, LiesInObject}
 use Rattle.klp_types.specs.Script.{Script}
 use Rattle.klp_catalog.specs.Limits.{IsWithin}
-use Rattle.klp_catalog.specs.Stored.{StoredPatch, patch_in, patches_in, target_in, patch_size, stored_patches, targets_at, stored_functions, stored_states, stored_replaces, states_at, can_live_with_patch, newest_naming, symbol_count, IsStored}
+use Rattle.klp_catalog.specs.Stored.{StoredPatch, patch_in, patches_in, target_in, patch_size, stored_patches, targets_at, stored_functions, stored_states, stored_replaces, states_at, newest_naming, symbol_count, IsStored}
 
 -- ---- lists
-
-list_all-same : {A : Type 0} (p q : A → Bool) → ((x : A) → p x ≡ q x) → (xs : List A) → list_all p xs ≡ list_all q xs
-list_all-same p q same [] = refl
-list_all-same p q same (x ∷ xs) = rw (same x, list_all-same p q same xs)
 
 find-same : {A : Type 0} (p q : A → Bool) → ((x : A) → p x ≡ q x) → (xs : List A) → find p xs ≡ find q xs
 find-same p q same [] = refl
@@ -138,24 +133,12 @@ module _ (names : List ObjectNames) (stored : List StoredPatch) (scripts : List 
       by None = refl
       by (Some patch) = refl
 
-  replaces_is : (p : ℕ) → stored_replaces (slice_get stored p) ≡ states.is_cumulative (catalog_of names stored scripts counts) p
+  pub replaces_is : (p : ℕ) → stored_replaces (slice_get stored p) ≡ states.is_cumulative (catalog_of names stored scripts counts) p
   replaces_is p = by (slice_get stored p) ∙ sym (ap patch_replaces (setting_at p))
     where
       by : (found : Option StoredPatch) → stored_replaces found ≡ patch_replaces (option_map (setting_patch names) (option_map (patch_in scripts) found))
       by None = refl
       by (Some patch) = refl
-
-  live_with-same : (p other : ℕ) → can_live_with_patch stored p other
-      ≡ list_all (λ (s : SystemState). can_live_with (states.is_cumulative (catalog_of names stored scripts counts) p) s (version_among s.id (states.states_of (catalog_of names stored scripts counts) p)))
-      (states.states_of (catalog_of names stored scripts counts) other)
-  live_with-same p other =
-      λ i. list_all (λ (s : SystemState). can_live_with (replaces_is p i) s (version_among s.id (states_are p i))) (states_are other i)
-
-  pub compatible-same : (p : ℕ) (installed : List ℕ) → list_all (can_live_with_patch stored p) installed ≡ states.is_compatible (catalog_of names stored scripts counts) p installed
-  compatible-same p installed =
-      list_all-same (can_live_with_patch stored p) _ (live_with-same p) installed
-      ∙ sym (list_all-map (list_all (λ (s : SystemState). can_live_with (states.is_cumulative (catalog_of names stored scripts counts) p) s (version_among s.id (states.states_of (catalog_of names stored scripts counts) p))))
-      (states.states_of (catalog_of names stored scripts counts)) installed)
 
   pub newest-same : (id : ℕ) (before : List ℕ) → newest_naming stored id before ≡ find (states.names_state (catalog_of names stored scripts counts) id) (reverse before)
   newest-same id before = find-same _ _ (λ p. ap (λ s. is_some (version_among id s)) (states_are p)) (reverse before)

@@ -5,3 +5,4 @@ pub mod NumberLemmas
 pub mod PlaceLemmas
 pub mod RunLemmas
 pub mod SiteLemmas
+pub mod PatchLemmas

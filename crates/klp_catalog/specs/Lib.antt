@@ -5,3 +5,4 @@ pub mod Runs
 pub mod Assembled
 pub mod Stored
 pub mod Counts
+pub mod Patch

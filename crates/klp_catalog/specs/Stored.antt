@@ -1,11 +1,10 @@
 -- What a catalog keeps of its patches, and of the objects.
 use Rattle.std.specs.Prelude.{◌≡◌, ℕ, ◌+◌, Bool, false, pos, List, [], ◌∷◌, length, map, take, find, reverse, position, slice_get, slice_index_or, is_some, Option, Some, None, option_map, option_and_then}
-use Rattle.std.specs.List.{list_all}
 use Rattle.klp_types.specs.declared.callback.Which.{Which}
 use Rattle.klp_types.specs.Setting.{Callback}
 use Rattle.klp_types.specs.Callbacks.{is_kind}
 use Rattle.klp_types.specs.Script.{Script}
-use Rattle.klp_types.specs.Compatible.{SystemState, version_among, can_live_with}
+use Rattle.klp_types.specs.Compatible.{SystemState, version_among}
 use Rattle.klp_modules.specs.Names.{ObjectNames}
 use Rattle.klp_catalog_text.specs.Plan.{PlanFunction, PlanTarget, PlanPatch}
 use Rattle.klp_catalog_text.specs.Scripts.{scripts_of_targets}
@@ -119,12 +118,6 @@ states_at stored patch = stored_states (slice_get stored patch)
 -- the number of the callback of a kind, of a patch for its object at a place
 abbrev pub number_of : List StoredPatch → ℕ → ℕ → Which → Option ℕ
 number_of stored patch place which = option_and_then (number_in which) (slice_get (targets_at (slice_get stored patch)) place)
-
--- whether a patch can live with all states of an installed one
-abbrev pub can_live_with_patch : List StoredPatch → ℕ → ℕ → Bool
-can_live_with_patch stored patch other =
-    list_all (λ (s : SystemState). can_live_with (stored_replaces (slice_get stored patch)) s (version_among s.id (states_at stored patch)))
-    (states_at stored other)
 
 -- the newest of the installed patches that names the state
 abbrev pub newest_naming : List StoredPatch → ℕ → List ℕ → Option ℕ

@@ -1,4 +1,4 @@
-ghost use Rattle.std.specs.Prelude.{◌≡◌, ℕ, ◌<◌, ◌≤◌, ◌==◌, false, List, Option, length, map, position, bytes_eq, slice_get, option_map, ◌+◌, is_some, option_and_then, IfOk, IfErr, IfSome};
+ghost use Rattle.std.specs.Prelude.{◌≡◌, ℕ, ◌<◌, ◌≤◌, ◌==◌, false, List, Option, length, map, position, bytes_eq, slice_get, option_map, ◌+◌, is_some, option_and_then, MatchOption, IfOk, IfErr, IfSome};
 ghost use Rattle.std.specs.List.{All, count_by};
 ghost use Rattle.klp_types.specs.Setting.{all_functions, patch_objects};
 ghost use Rattle.klp_modules.specs.Names.{ObjectNames};
@@ -15,6 +15,7 @@ ghost use Rattle.klp_catalog.specs.Catalog.{CatalogFunction as FunctionValue, ca
 ghost use Rattle.klp_catalog.specs.States as states;
 ghost use Rattle.klp_catalog.specs.Runs.{HasCounts, objects_at, place_of, script_at, allocs_if, rows_if, after_runs, callback_runs};
 ghost use Rattle.klp_catalog.specs.Limits.{AreWithin};
+ghost use Rattle.klp_catalog.specs.Patch.{IsPatch, IsAbsent, KeepsTo};
 ghost use Rattle.klp_catalog_text.specs.Scripts.{scripts_of};
 ghost use Rattle.klp_catalog.specs.Assembled.{IsAssembleFault, LiesInObject, without_scripts, scripts_told, counts_told};
 
@@ -22,13 +23,11 @@ use crate::assemble::{AssembleFault, assemble_patches, symbol_counts};
 use crate::function::CatalogFunction;
 use crate::patch;
 use crate::patch::CatalogPatch;
-use arrayvec::ArrayVec;
 use klp_callback::Boxed;
 use klp_catalog_text::{Plan, TextFault};
 use klp_modules::Modules;
 use klp_types::{
-    MAX_EDITS, MAX_FUNCTIONS, MAX_PATCHES, MAX_STATES, MAX_TARGETS, ObjId, PatchId, Records, Site,
-    Which,
+    MAX_EDITS, MAX_FUNCTIONS, MAX_PATCHES, MAX_TARGETS, ObjId, PatchId, Records, Site, Which,
 };
 use klp_words::Names;
 use klp_world::World;
@@ -135,6 +134,16 @@ impl Catalog {
         self.patches.len() as u8
     }
 
+    /// The patch of this number (the kernel's `struct klp_patch *`), and none where it isn't there. It is looked
+    /// up here alone, so whoever asks several things of a patch does so once.
+    pub fn get(&self, patch: PatchId) -> Option<&CatalogPatch>
+        ensures found { MatchOption result (IsAbsent self.now patch) (λ found. IsPatch self.now patch found.now) }
+        ensures keeps { KeepsTo self.now patch }
+    {
+        let PatchId(number) = patch;
+        self.patches.get(usize::from(number))
+    }
+
     /// Whether a patch can be installed beside these (the kernel's `klp_is_patch_compatible`): for each
     /// system state of each of them, it names the state with the same version or a higher one, or doesn't
     /// name it and isn't cumulative (system-state).
@@ -143,7 +152,20 @@ impl Catalog {
         requires installed { All (λ other. other < length self.now.patches) installed.now }
         ensures { result ≡ states.is_compatible self.now patch installed.now }
     {
-        patch::is_compatible(&self.patches, patch, installed)
+        let Some(own) = self.get(patch) else {
+            // Can't be: the patch is there.
+            return false;
+        };
+        for &other in installed {
+            let lives = match self.get(other) {
+                Some(other) => own.can_live_with_all(&other.states),
+                None => true,
+            };
+            if !lives {
+                return false;
+            }
+        }
+        true
     }
 
     /// The newest of the patches installed before this one that names the state, where the installed ones
@@ -193,7 +215,10 @@ impl Catalog {
     pub fn is_cumulative(&self, patch: PatchId) -> bool
         ensures { result ≡ states.is_cumulative self.now patch }
     {
-        self.replaces(patch).unwrap_or(false)
+        match self.get(patch) {
+            Some(found) => found.is_cumulative(),
+            None => false,
+        }
     }
 
     /// How many objects a patch changes, at most [`MAX_TARGETS`](klp_types::MAX_TARGETS). A patch that
@@ -202,7 +227,10 @@ impl Catalog {
         ensures count { result ≡ length (objects_at self.now patch) }
         ensures limit { result ≤ MAX_TARGETS }
     {
-        patch::targets_of(&self.patches, patch).len() as u8
+        match self.get(patch) {
+            Some(found) => found.targets.len() as u8,
+            None => 0,
+        }
     }
 
     /// The object that a patch changes, by its place among those of the patch from 0, by which its
@@ -211,7 +239,8 @@ impl Catalog {
         ensures { result ≡ option_map (λ (found : PatchObject). found.object) (slice_get
             (objects_at self.now patch) number) }
     {
-        let target = patch::targets_of(&self.patches, patch).get(usize::from(number))?;
+        let found = self.get(patch)?;
+        let target = found.targets.get(usize::from(number))?;
         Some(target.object)
     }
 
@@ -222,17 +251,9 @@ impl Catalog {
         // so it is the object's only place, and to go by places is to go by objects
         ensures once { count_by (λ (found : PatchObject). found.object == object) (objects_at self.now patch) ≤ 1 }
     {
-        let targets = patch::targets_of(&self.patches, patch);
-        let place = patch::place_of(targets, object)?;
+        let found = self.get(patch)?;
+        let place = patch::place_of(&found.targets, object)?;
         Some(place as u8)
-    }
-
-    /// The ids of the system states that a patch names, in the order of the text (system-state). A
-    /// patch that isn't there names none.
-    pub fn state_ids(&self, patch: PatchId) -> ArrayVec<u64, MAX_STATES>
-        ensures { result.items ≡ states.state_ids self.now patch }
-    {
-        patch::ids_of(patch::states_of(&self.patches, patch))
     }
 
     /// Runs a callback of a patch for one of its objects, by the object's place in the patch from 0, and
@@ -283,8 +304,8 @@ impl Catalog {
             ≡ is_some (option_and_then (λ place. script_at self.now patch place which)
             (place_of object (objects_at self.now patch))) }
     {
-        let place = patch::place_of(patch::targets_of(&self.patches, patch), object)?;
-        let number = patch::number_of(&self.patches, patch, place, which)?;
+        let place = self.place(patch, object)?;
+        let number = patch::number_of(&self.patches, patch, usize::from(place), which)?;
         Some(self.callbacks[number].runs())
     }
 
@@ -299,7 +320,10 @@ impl Catalog {
         ensures distinct { has_same_site result.now ≡ false }
         ensures few { length result.now ≤ MAX_FUNCTIONS }
     {
-        patch::functions_of(&self.patches, patch)
+        match self.get(patch) {
+            Some(found) => found.functions(),
+            None => &[],
+        }
     }
 
     /// A new function of a patch, by its place over the patch's objects from 0: the site that it is for,

@@ -26,3 +26,4 @@ pub use assemble::AssembleFault;
 pub use catalog::Catalog;
 pub use function::CatalogFunction;
 pub use klp_catalog_text::{Plan, TextFault, TextFaultKind};
+pub use patch::CatalogPatch;

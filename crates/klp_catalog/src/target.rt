@@ -1,6 +1,5 @@
-ghost use Rattle.std.specs.Prelude.{◌≡◌, position};
+ghost use Rattle.std.specs.Prelude.{◌≡◌};
 ghost use Rattle.klp_types.specs.Callbacks as callbacks;
-ghost use Rattle.klp_catalog.specs.Stored.{number_in};
 
 use klp_catalog_text::PlanFunction;
 use klp_types::{ObjId, Which};
@@ -32,25 +31,8 @@ impl Model for CatalogTarget {
     ghost invariant = { λ t. t.first + length t.kinds.items < 2 ^ 64 };
 }
 
-impl CatalogTarget {
-    /// The number of the callback of a kind among all of the catalog, if the object has one.
-    pub(crate) fn number(&self, which: Which) -> Option<usize>
-        ensures { result ≡ number_in which self.now }
-    {
-        let place = place_of(&self.kinds, which)?;
-        Some(self.first + place)
-    }
-}
-
-fn is_kind(own: Which, which: Which) -> bool
+pub(crate) fn is_kind(own: Which, which: Which) -> bool
     ensures { result ≡ callbacks.is_kind own which }
 {
     own == which
-}
-
-/// The place of a kind, which is how far its callback is behind the object's first.
-fn place_of(kinds: &[Which], which: Which) -> Option<usize>
-    ensures { result ≡ position (λ own. callbacks.is_kind own which) kinds.now }
-{
-    kinds.iter().position(|own| is_kind(*own, which))
 }

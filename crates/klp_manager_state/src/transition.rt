@@ -8,16 +8,6 @@ ghost use Rattle.klp_manager_state.specs.Rows.{row_of_moving, rows_before, put_m
 use crate::state::ManagerState;
 use klp_types::{PatchId, Record, Transition};
 
-/// What moves, as a record: with a patch or without one, which are two kinds.
-fn row_of_moving(moving: Option<Transition>) -> Record
-    ensures { result ≡ row_of_moving moving }
-{
-    match moving {
-        Some(was) => Record::Moving { was },
-        None => Record::NothingMoving,
-    }
-}
-
 /// What moved before, as a record has it. A row of another kind changes nothing, since each part is handed
 /// every record.
 pub(crate) fn moving_before(moving: Option<Transition>, row: Record) -> Option<Transition>
@@ -51,7 +41,11 @@ impl ManagerState {
             ≡ record self.old { moving = moving; log = noting self.old.log (row_of_moving self.old.moving ∷ []) } }
         ensures noted { rows_before self.new ≡ rows_before self.old }
     {
-        self.log.note(row_of_moving(self.moving));
+        let row = match self.moving {
+            Some(was) => Record::Moving { was },
+            None => Record::NothingMoving,
+        };
+        self.log.note(row);
         self.moving = moving;
     }
 }

@@ -1,6 +1,7 @@
 -- One turn of a loop over the objects of a patch.
 use Rattle.std.proofs.Common.{◌≡◌, ℕ, ◌+◌, ◌≤◌, ◌<◌, Bool, true, false, cond, List, [], ◌∷◌, ◌++◌, take, drop, length, get_or, Option, Some, None, refl, sym, ap, ◌∙◌, arith}
-use Rattle.std.specs.Prelude.{ℤ, slice_get, find, not, pos}
+use Rattle.std.specs.Prelude.{ℤ, slice_get, find, not, pos, negsuc}
+use Rattle.std.proofs.lemmas.Bool.{eqb-true}
 use Rattle.std.proofs.lemmas.Option.{slice_get-get_or}
 use Rattle.std.proofs.lemmas.List.{get_or-take, length-take-le, append-nil}
 use Rattle.klp_types.specs.declared.callback.Which.{Which}
@@ -150,16 +151,11 @@ turn catalog first modules patch k same below =
       status = ap (status_for loaded Pre) (now ∙ found.1);
     }
 
-refusal_by : (status answered : ℤ) (success : Bool) → is_success status ≡ success → Some answered ≡ cond success None (Some status) → (is_success status ≡ false) × (answered ≡ status)
-refusal_by status answered true is e = let no : ⊥ = cc in absurd no
-refusal_by status answered false is e = (is, cc)
+nonzero_by : (status : ℤ) (success : Bool) → is_success status ≡ success → (status ≡ pos 0 → ⊥) → is_success status ≡ false
+nonzero_by (pos n) true is other = absurd (other (ap pos (eqb-true n 0 is)))
+nonzero_by (pos n) false is other = is
+nonzero_by (negsuc n) success is other = refl
 
-pub refusal-is : (status answered : ℤ) → Some answered ≡ refusal_of status → (is_success status ≡ false) × (answered ≡ status)
-refusal-is status answered e = refusal_by status answered (is_success status) refl e
-
-no_refusal_by : (status : ℤ) (success : Bool) → is_success status ≡ success → (◌≡◌ {A = Option ℤ} None (cond success None (Some status))) → is_success status ≡ true
-no_refusal_by status true is e = is
-no_refusal_by status false is e = let no : ⊥ = cc in absurd no
-
-pub no_refusal-is : (status : ℤ) → (◌≡◌ {A = Option ℤ} None (refusal_of status)) → is_success status ≡ true
-no_refusal-is status e = no_refusal_by status (is_success status) refl e
+-- a status that isn't 0 refuses
+pub refuses-nonzero : (status : ℤ) → (status ≡ pos 0 → ⊥) → is_success status ≡ false
+refuses-nonzero status other = nonzero_by status (is_success status) refl other

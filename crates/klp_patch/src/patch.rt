@@ -1,8 +1,11 @@
-ghost use Rattle.std.specs.Prelude.{◌≡◌, ℕ, ◌+◌, ◌<◌, ◌≤◌, ◌||◌, ◌&&◌, ◌++◌, true, false, length, is_some, None};
+ghost use Rattle.std.specs.Prelude.{◌≡◌, ℕ, ◌+◌, ◌<◌, ◌≤◌, ◌||◌, ◌&&◌, ◌++◌, true, false, length, map, is_some, None};
+ghost use Rattle.std.specs.List.{All};
 ghost use Rattle.klp_types.specs.Setting.{function_for};
 ghost use Rattle.klp_types.specs.Entries.{entry_of};
 ghost use Rattle.klp_types.specs.Records.{spare_of};
 ghost use Rattle.klp_modules.specs.Names.{names_of};
+ghost use Rattle.klp_catalog.specs.Catalog.{setting_function, has_same_site};
+ghost use Rattle.klp_catalog.specs.Assembled.{LiesInObject};
 ghost use Rattle.klp_catalog.specs.States.{is_cumulative};
 ghost use Rattle.klp_stack.specs.Stack.{entries_at, has_entry, entries_of_others};
 ghost use Rattle.klp_patch.specs.Covered.{functions_in, is_covered};
@@ -10,31 +13,32 @@ ghost use Rattle.klp_patch.specs.Changes.{AreMade, Notes, with_entry, with_nop, 
 
 use crate::covered::{covered_sites, site_in_scope};
 use crate::site::{put, put_nop, take, take_nop};
-use klp_catalog::Catalog;
+use klp_catalog::{Catalog, CatalogFunction};
 use klp_sites::Sites;
-use klp_types::{Entry, MAX_PATCHES, MAX_SITES, ObjId, PatchId, Records, Site};
+use klp_types::{Entry, MAX_FUNCTIONS, MAX_PATCHES, MAX_SITES, ObjId, PatchId, Records, Site};
 
 /// Puts the functions of a patch on top of the stacks of their sites. No two are for one site, so each
 /// stack gets one entry at most.
 fn put_functions(
     sites: &mut Sites,
-    catalog: &Catalog,
+    functions: &[CatalogFunction],
     patch: PatchId,
     only: &Option<ObjId>,
     log: &mut Records,
 )
     requires number { patch < MAX_PATCHES }
     requires sites { length sites.old.stacks ≤ MAX_SITES }
-    requires names { catalog.now.names ≡ names_of sites.old.image.objects }
+    requires few { length functions.now ≤ MAX_FUNCTIONS }
+    requires distinct { has_same_site functions.now ≡ false }
+    requires in_object { All (LiesInObject (names_of sites.old.image.objects)) functions.now }
     requires fresh { (site : ℕ) → is_covered sites.old only.now site ≡ true
         → has_entry patch (entries_at sites.old.stacks site) ≡ false }
-    requires records { length (functions_in catalog.now patch) + MAX_SITES ≤ spare_of log.old + hooked_count sites.old }
+    requires records { length functions.now + MAX_SITES ≤ spare_of log.old + hooked_count sites.old }
     ensures entries { AreMade sites.old sites.new (is_covered sites.old only.now)
-        (λ site entries. entry_of patch (function_for (functions_in catalog.now patch) site) false ++ entries) }
-    ensures notes { Notes sites.old sites.new log.old log.new (length (functions_in catalog.now patch))
-        (hooked_count sites.old) (hooked_count sites.new) }
+        (λ site entries. entry_of patch (function_for (map setting_function functions.now) site) false ++ entries) }
+    ensures notes { Notes sites.old sites.new log.old log.new (length functions.now) (hooked_count sites.old)
+        (hooked_count sites.new) }
 {
-    let functions = catalog.functions(patch);
     for number in 0..functions.len() {
         if let Some(site) = site_in_scope(sites, only, &functions[number]) {
             let func = Some(number as u16);
@@ -65,20 +69,20 @@ fn put_nops(sites: &mut Sites, patch: PatchId, only: Option<ObjId>, log: &mut Re
 /// patch isn't cumulative.
 fn take_functions(
     sites: &mut Sites,
-    catalog: &Catalog,
+    functions: &[CatalogFunction],
     patch: PatchId,
     only: &Option<ObjId>,
     log: &mut Records,
 )
-    requires names { catalog.now.names ≡ names_of sites.old.image.objects }
-    requires records { length (functions_in catalog.now patch) + hooked_count sites.old ≤ spare_of log.old }
+    requires distinct { has_same_site functions.now ≡ false }
+    requires in_object { All (LiesInObject (names_of sites.old.image.objects)) functions.now }
+    requires records { length functions.now + hooked_count sites.old ≤ spare_of log.old }
     ensures entries { AreMade sites.old sites.new
-        (λ site. is_covered sites.old only.now site && is_some (function_for (functions_in catalog.now patch) site))
+        (λ site. is_covered sites.old only.now site && is_some (function_for (map setting_function functions.now) site))
         (λ site entries. entries_of_others patch entries) }
-    ensures notes { Notes sites.old sites.new log.old log.new (length (functions_in catalog.now patch))
-        (hooked_count sites.new) (hooked_count sites.old) }
+    ensures notes { Notes sites.old sites.new log.old log.new (length functions.now) (hooked_count sites.new)
+        (hooked_count sites.old) }
 {
-    let functions = catalog.functions(patch);
     for number in 0..functions.len() {
         if let Some(site) = site_in_scope(sites, only, &functions[number]) {
             take(sites, site, patch, log);
@@ -125,8 +129,11 @@ pub fn patch_sites(
     ensures notes { Notes sites.old sites.new log.old log.new (most_entries catalog.now patch sites.old)
         (hooked_count sites.old) (hooked_count sites.new) }
 {
-    put_functions(sites, catalog, patch, &only, log);
-    if catalog.is_cumulative(patch) {
+    let Some(found) = catalog.get(patch) else {
+        return;
+    };
+    put_functions(sites, found.functions(), patch, &only, log);
+    if found.is_cumulative() {
         put_nops(sites, patch, only, log);
     }
 }
@@ -155,10 +162,13 @@ pub fn unpatch_sites(
     ensures notes { Notes sites.old sites.new log.old log.new (most_entries catalog.now patch sites.old)
         (hooked_count sites.new) (hooked_count sites.old) }
 {
-    if catalog.is_cumulative(patch) {
+    let Some(found) = catalog.get(patch) else {
+        return;
+    };
+    if found.is_cumulative() {
         take_all(sites, patch, only, log);
     } else {
-        take_functions(sites, catalog, patch, &only, log);
+        take_functions(sites, found.functions(), patch, &only, log);
     }
 }
 

@@ -7,7 +7,7 @@ ghost use Rattle.klp_types.specs.Callbacks.{script_for, calls_of, enable_calls, 
 ghost use Rattle.klp_model.specs.Callbacks.{status_of};
 ghost use Rattle.klp_catalog.specs.Runs.{objects_at};
 ghost use Rattle.klp_patch.specs.Loaded.{loaded_in};
-ghost use Rattle.klp_patch.specs.Refusing.{loaded_calls, loaded_call, loaded_status, refusal_of, pre_calls};
+ghost use Rattle.klp_patch.specs.Refusing.{loaded_calls, loaded_call, loaded_status, pre_calls};
 ghost use Rattle.klp_patch.specs.Calls.{HaveRun, HasRoomFor, records_of};
 
 use crate::callback_run::run_at;
@@ -114,27 +114,6 @@ pub fn run_callbacks(
     run_first(catalog, modules, patch, which, end, world, log);
 }
 
-/// Runs pre-patch for one object, where the object is loaded, and answers its status if it refuses, as 0 is
-/// no refusal.
-fn run_pre(
-    catalog: &mut Catalog,
-    modules: &Modules,
-    patch: PatchId,
-    place: u8,
-    world: &mut World,
-    log: &mut Records,
-) -> Option<i32>
-    requires { HasRoomFor world.old log.old (loaded_call catalog.old modules.now patch Pre place) }
-    ensures status { result ≡ refusal_of (loaded_status catalog.old modules.now patch Pre place) }
-    ensures ran { HaveRun catalog.old catalog.new world.old world.new log.old log.new
-        (loaded_call catalog.old modules.now patch Pre place) }
-{
-    match run_where_loaded(catalog, modules, patch, Which::Pre, place, world, log) {
-        0 => None,
-        status => Some(status),
-    }
-}
-
 /// Runs pre-patch object by object, up to and with the first that refuses, and answers the place of that
 /// object, before which the cleaning up stops, and the status.
 fn pre_patch(
@@ -155,7 +134,9 @@ fn pre_patch(
 {
     klp_catalog::laws::runs_add_up();
     for place in 0..catalog.target_len(patch) {
-        if let Some(status) = run_pre(catalog, modules, patch, place, world, log) {
+        let status = run_where_loaded(catalog, modules, patch, Which::Pre, place, world, log);
+        // 0 is no refusal
+        if status != 0 {
             return Some((place, status));
         }
     }

@@ -13,7 +13,7 @@ ghost use Rattle.klp_modules.specs.Names.{names_of};
 ghost use Rattle.klp_stack.specs.Stack.{entries_at, has_entry};
 ghost use Rattle.klp_patch.specs.Covered.{is_covered};
 ghost use Rattle.klp_patch.specs.Changes.{AreMade, with_entry};
-ghost use Rattle.klp_model.specs.Refusals.{refusal, lacks_symbol, is_compatible};
+ghost use Rattle.klp_model.specs.Refusals.{refusal};
 ghost use Rattle.klp_model.specs.EventCalls.{lacks_room};
 ghost use Rattle.klp_catalog.specs.Catalog.{CatalogFunction as FunctionOf};
 ghost use Rattle.klp_catalog.specs.States.{state_ids};
@@ -23,35 +23,30 @@ ghost use Rattle.klp_manager_state.specs.Invariant.{Invariant};
 ghost use Rattle.klp_manager_state.specs.Events.{TakesEvent, AcceptsEvent};
 ghost use Rattle.klp_manager_state.specs.Rows.{rows_in, rows_before, IsNoted};
 
-use klp_catalog::{Catalog, CatalogFunction};
+use arrayvec::ArrayVec;
+use klp_catalog::{Catalog, CatalogPatch};
 use klp_manager_state::ManagerState;
 use klp_model::{Refusal, Reply};
-use klp_modules::Modules;
 use klp_patch::{allocs, patch_sites, run_pre_patch};
 use klp_tasks::target_state;
 use klp_types::{
-    MAX_FUNCTIONS, MAX_PATCHES, MAX_RECORDS, MAX_SITES, MAX_TASKS, MAX_VARIABLES, ObjId, PatchId,
-    Transition, Which,
+    MAX_PATCHES, MAX_RECORDS, MAX_SITES, MAX_TASKS, MAX_VARIABLES, ObjId, PatchId, Transition,
+    Which,
 };
 
-/// Whether the function is for a loaded object and names no site. One for an object that isn't loaded may,
-/// since it is looked at when the module comes (docs/DECISIONS.md, "Symbols of objects that aren't
-/// loaded").
-fn lacks_site(modules: &Modules, function: &CatalogFunction) -> bool
-    ensures { result ≡ (slice_index_or modules.now.loaded function.now.object false && is_none function.now.site) }
+/// Whether a function of the patch for a loaded object names no site, so that the patch couldn't be put in
+/// whole. One for an object that isn't loaded may, since it is looked at when the module comes
+/// (docs/DECISIONS.md, "Symbols of objects that aren't loaded").
+fn lacks_symbol(manager: &ManagerState, found: &CatalogPatch) -> bool
+    ensures { result ≡ list_any (λ (f : FunctionOf). slice_index_or manager.now.modules.loaded f.object false
+        && is_none f.site) found.now.functions }
 {
-    modules.is_loaded(function.object()) && function.site().is_none()
-}
-
-/// Whether one of these functions is for a loaded object and names no site: the patch has nothing to hook
-/// then.
-fn lack_symbol(modules: &Modules, functions: &[CatalogFunction]) -> bool
-    ensures { result ≡ list_any (λ (f : FunctionOf). slice_index_or modules.now.loaded f.object false
-        && is_none f.site) functions.now }
-{
-    functions
-        .iter()
-        .any(|function| lacks_site(modules, function))
+    for function in found.functions() {
+        if manager.modules.is_loaded(function.object()) && function.site().is_none() {
+            return true;
+        }
+    }
+    false
 }
 
 /// The reply where a pre-patch callback of the patch refused: for this object, with this status. It is no
@@ -91,42 +86,25 @@ pub fn enable_refusal(manager: &ManagerState, catalog: &Catalog, patch: PatchId)
     // Computed before the refusals, though it comes last, since its proof bounds the records on every
     // way out (docs/DECISIONS.md, "Room computed before the refusals").
     let lacks_room = lacks_room_to_enable(manager, catalog, patch);
-    if patch.0 >= catalog.patches() {
-        Some(Refusal::NoPatch)
-    } else if manager.world.is_installed(patch) {
+    let Some(found) = catalog.get(patch) else {
+        return Some(Refusal::NoPatch);
+    };
+    if manager.world.is_installed(patch) {
         Some(Refusal::AlreadyThere)
     } else if manager.moving.is_some() {
         Some(Refusal::Busy)
     } else if manager.pinned.is_pinned(patch) {
         Some(Refusal::Pinned)
-    } else if !is_compatible(manager, catalog, patch) {
+    } else if !catalog.is_compatible(patch, manager.world.installed()) {
+        // Those that it would replace count too, since it takes their states over.
         Some(Refusal::Incompatible)
-    } else if lacks_symbol(manager, catalog, patch) {
+    } else if lacks_symbol(manager, found) {
         Some(Refusal::NoSymbol)
     } else if lacks_room {
         Some(Refusal::Full)
     } else {
         None
     }
-}
-
-/// Whether the patch can live with the system states of all installed ones, also those that it would
-/// replace, since it takes their states over.
-fn is_compatible(manager: &ManagerState, catalog: &Catalog, patch: PatchId) -> bool
-    requires kept { Invariant manager.now catalog.now }
-    requires patch { patch < length catalog.now.patches }
-    ensures { result ≡ is_compatible (setting_in manager.now catalog.now) (state_in manager.now catalog.now) patch }
-{
-    catalog.is_compatible(patch, manager.world.installed())
-}
-
-/// Whether a function of the patch for a loaded object names no site, so that the patch couldn't be put
-/// in whole.
-fn lacks_symbol(manager: &ManagerState, catalog: &Catalog, patch: PatchId) -> bool
-    requires { Invariant manager.now catalog.now }
-    ensures { result ≡ lacks_symbol (setting_in manager.now catalog.now) manager.now.sites.loaded patch }
-{
-    lack_symbol(&manager.modules, catalog.functions(patch))
 }
 
 /// Whether there is no room for what the callbacks that may run add. It is asked once, so that none
@@ -198,7 +176,10 @@ fn put_last(manager: &mut ManagerState, catalog: &Catalog, patch: PatchId)
 {
     klp_world::laws::what_is_noted_is_of_the_world();
     manager.log.clear();
-    let ids = catalog.state_ids(patch);
+    let ids = match catalog.get(patch) {
+        Some(found) => found.state_ids(),
+        None => ArrayVec::new(),
+    };
     manager.world.add_states(patch, &ids, &mut manager.log);
 }
 
@@ -238,7 +219,8 @@ fn start(manager: &mut ManagerState, catalog: &Catalog, patch: PatchId)
 {
     klp_tasks::laws::records_are_few();
     prove!(manager.sites.sites() <= MAX_SITES);
-    prove!(catalog.functions(patch).len() <= MAX_FUNCTIONS);
+    // for its contract, which bounds the patch's functions
+    let _found = catalog.get(patch);
     patch_sites(&mut manager.sites, catalog, patch, None, &mut manager.log);
     prove!(manager.sites.sites() <= MAX_SITES);
     manager.tasks.set_all(target_state(false), &mut manager.log);

@@ -1,10 +1,11 @@
-use Rattle.std.proofs.Common.{◌≡◌, ◌+◌, ◌<◌, ◌&&◌, ℕ, List, Option, length, false, eqb, refl, ap, ◌∙◌, arith}
+use Rattle.std.proofs.Common.{◌≡◌, ◌+◌, ◌<◌, ◌&&◌, ℕ, List, Option, length, map, false, eqb, refl, ap, ◌∙◌, arith}
 use Rattle.std.specs.Prelude.{cond}
 use Rattle.std.specs.Option.{is_some}
 use Rattle.klp_types.specs.declared.version.Entry.{Entry}
 use Rattle.klp_types.specs.Setting.{function_for}
 use Rattle.klp_stack.specs.Stack.{entries_at, entries_of_others}
-use Rattle.klp_patch.specs.Covered.{is_covered, functions_in}
+use Rattle.klp_catalog.specs.Catalog.{setting_function}
+use Rattle.klp_patch.specs.Covered.{is_covered}
 use Rattle.klp_patch.proofs.MadeLemmas.{made_both, made_also, notes_taken, notes_longer}
 use Rattle.klp_patch.proofs.FunctionLemmas.{is_below, next_function}
 use Rattle.klp_patch.proofs.ScopeLemmas.{in_scope_here, all_in_scope}
@@ -12,17 +13,17 @@ use Rattle.klp_patch.proofs.patch.take_functions.Goals as goal
 use Rattle.klp_patch.proofs.patch.take_functions.Goals.{in-Some, in_default}
 
 pub loop-number-preserved : goal.loop-number-preserved
-loop-number-preserved g c =
+loop-number-preserved c =
     let before = c.args.sites.now in
     let now = c.loop-number.sites in
     let i = c.loop-number.number in
     let only = c.args.only.now in
-    let functions = c.functions-functions.result.now in
-    let number : ℕ → Option ℕ = λ site. function_for (functions_in c.args.catalog.now c.args.patch) site in
+    let functions = c.args.functions.now in
+    let number : ℕ → Option ℕ = λ site. function_for (map setting_function c.args.functions.now) site in
     let make : ℕ → List Entry → List Entry = λ site entries. entries_of_others c.args.patch entries in
     let so_far = c.loop-number.invariant.entries in
     let below : i < length functions = omega arith in
-    let own = in_scope_here functions _ c.functions-functions.ensures.setting i before now only _ make so_far c.functions-functions.ensures.distinct below c.index-functions-number.result c.index-functions-number.is in
+    let own = in_scope_here functions _ refl i before now only _ make so_far c.requires.distinct below c.index-functions-number.result c.index-functions-number.is in
     elim c.match-site_in_scope.branch [
       | in-Some w ↦ rw (w.sites-is, w.log-is) (record {
         entries = made_both before now w.take.new.sites (λ site. is_covered before only site && is_below (number site) i) (λ site. eqb w.in-Some.site site) (λ site. is_covered before only site && is_below (number site) (i + 1))
@@ -38,16 +39,16 @@ loop-number-preserved g c =
     ]
 
 pub returns-clause-entries : goal.returns-clause-entries
-returns-clause-entries g c =
+returns-clause-entries c =
     let before = c.args.sites.now in
     let now = c.loop-number.sites in
     let i = c.loop-number.number in
     let only = c.args.only.now in
-    let functions = c.functions-functions.result.now in
-    let number : ℕ → Option ℕ = λ site. function_for (functions_in c.args.catalog.now c.args.patch) site in
+    let functions = c.args.functions.now in
+    let number : ℕ → Option ℕ = λ site. function_for (map setting_function c.args.functions.now) site in
     let make : ℕ → List Entry → List Entry = λ site entries. entries_of_others c.args.patch entries in
     let so_far = c.loop-number.invariant.entries in
     let past : i ≡ length functions = omega arith in
-    let done = all_in_scope functions _ c.functions-functions.ensures.setting i past in
+    let done = all_in_scope functions _ refl i past in
     made_also before now (λ site. is_covered before only site && is_below (number site) i) (λ site. is_covered before only site && is_some (number site)) make make so_far
     (λ site. ap (λ b. cond (is_covered before only site && b) (make site (entries_at before.stacks site)) (entries_at before.stacks site)) (done site))

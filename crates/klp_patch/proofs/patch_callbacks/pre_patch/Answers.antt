@@ -1,4 +1,4 @@
-use Rattle.std.proofs.Common.{rules, w32, to_z, of_z, ◌≡◌, ◌+◌, ◌++◌, [], ◌∙◌, ap, sym, arith, drop}
+use Rattle.std.proofs.Common.{rules, w32, to_z, of_z, ◌≡◌, ◌+◌, ◌++◌, false, [], ◌∙◌, ap, sym, arith, drop}
 use Rattle.std.proofs.lemmas.List.{append-nil}
 use Rattle.klp_types.specs.declared.callback.Which.TheVariants.{Pre}
 use Rattle.klp_types.specs.Script.{is_success}
@@ -6,7 +6,7 @@ use Rattle.klp_catalog.specs.Runs.{objects_at}
 use Rattle.klp_patch.specs.Loaded.{is_loaded_in, loaded_from}
 use Rattle.klp_patch.specs.Refusing.{loaded_call, loaded_status, pre_calls}
 use Rattle.klp_patch.proofs.CallLemmas.{from-end}
-use Rattle.klp_patch.proofs.LoopLemmas.{turn, turn-goes_on, turn-stops, refusal-is, no_refusal-is}
+use Rattle.klp_patch.proofs.LoopLemmas.{turn, turn-goes_on, turn-stops, refuses-nonzero}
 use Rattle.klp_patch.proofs.RanLemmas.{begins, goes_on, all_ran, room_for_next, objects_so_far, next_pre}
 use Rattle.klp_patch.proofs.patch_callbacks.pre_patch.Goals as goal
 
@@ -16,8 +16,8 @@ loop-place-init g c = record {
   refused = search rules;
 }
 
-pub run_pre-requires : goal.run_pre-requires
-run_pre-requires g c =
+pub run_where_loaded-status-requires : goal.run_where_loaded-status-requires
+run_where_loaded-status-requires g c =
     let first = c.args.catalog.now in
     let now = c.loop-place.catalog in
     let loaded = is_loaded_in c.args.modules.now in
@@ -30,8 +30,8 @@ run_pre-requires g c =
     room_for_next first now c.args.world.now c.loop-place.world c.args.log.now c.loop-place.log left all
     (loaded_call now c.args.modules.now c.args.patch Pre c.loop-place.place) next.0 c.requires c.loop-place.invariant.ran next.1
 
-pub returns-in-Some-clause-refused : goal.returns-in-Some-clause-refused
-returns-in-Some-clause-refused g c =
+pub returns-then-status-ne0-clause-refused : goal.returns-then-status-ne0-clause-refused
+returns-then-status-ne0-clause-refused g c =
     let first = c.args.catalog.now in
     let now = c.loop-place.catalog in
     let loaded = is_loaded_in c.args.modules.now in
@@ -40,13 +40,13 @@ returns-in-Some-clause-refused g c =
     let all = pre_calls c.args.patch (loaded_from loaded 0 objects) in
     let same = objects_so_far first now c.args.world.now c.loop-place.world c.args.log.now c.loop-place.log left all c.args.patch c.loop-place.invariant.ran in
     let here = turn now first c.args.modules.now c.args.patch c.loop-place.place same (omega (arith, c.loop-place-test.true, c.target_len-place-end.ensures.count)) in
-    let refusal = refusal-is (loaded_status now c.args.modules.now c.args.patch Pre c.loop-place.place) c.in-Some.status c.in-Some.ensures.status in
-    let last = turn-stops loaded c.args.patch objects c.loop-place.place here.object here.there (ap is_success (sym here.status) ∙ refusal.0) in
-    let stored : to_z w32 (of_z w32 c.in-Some.status) ≡ c.in-Some.status = search rules in
-    (here.object, here.there, stored ∙ refusal.1 ∙ here.status ∙ last.status, sym c.loop-place.invariant.refused ∙ last.refused)
+    let refusal = refuses-nonzero c.run_where_loaded-status.result (λ e. c.if-status-ne0.true (ap (of_z w32) e)) in
+    let last = turn-stops loaded c.args.patch objects c.loop-place.place here.object here.there (ap is_success (sym here.status) ∙ ap is_success (sym c.run_where_loaded-status.ensures.status) ∙ refusal) in
+    let stored : to_z w32 (of_z w32 c.run_where_loaded-status.result) ≡ c.run_where_loaded-status.result = search rules in
+    (here.object, here.there, stored ∙ c.run_where_loaded-status.ensures.status ∙ here.status ∙ last.status, sym c.loop-place.invariant.refused ∙ last.refused)
 
-pub returns-in-Some-clause-ran : goal.returns-in-Some-clause-ran
-returns-in-Some-clause-ran g c =
+pub returns-then-status-ne0-clause-ran : goal.returns-then-status-ne0-clause-ran
+returns-then-status-ne0-clause-ran g c =
     let first = c.args.catalog.now in
     let now = c.loop-place.catalog in
     let loaded = is_loaded_in c.args.modules.now in
@@ -56,12 +56,12 @@ returns-in-Some-clause-ran g c =
     let call = loaded_call now c.args.modules.now c.args.patch Pre c.loop-place.place in
     let same = objects_so_far first now c.args.world.now c.loop-place.world c.args.log.now c.loop-place.log left all c.args.patch c.loop-place.invariant.ran in
     let here = turn now first c.args.modules.now c.args.patch c.loop-place.place same (omega (arith, c.loop-place-test.true, c.target_len-place-end.ensures.count)) in
-    let refusal = refusal-is (loaded_status now c.args.modules.now c.args.patch Pre c.loop-place.place) c.in-Some.status c.in-Some.ensures.status in
-    let last = turn-stops loaded c.args.patch objects c.loop-place.place here.object here.there (ap is_success (sym here.status) ∙ refusal.0) in
-    let far = goes_on c.runs_add_up.ensures first now c.run_pre.new.catalog c.args.world.now c.loop-place.world c.run_pre.new.world c.args.log.now c.loop-place.log c.run_pre.new.log left all call []
-    c.loop-place.invariant.ran (last.calls ∙ sym here.call ∙ sym (append-nil call)) c.run_pre.ensures.ran
+    let refusal = refuses-nonzero c.run_where_loaded-status.result (λ e. c.if-status-ne0.true (ap (of_z w32) e)) in
+    let last = turn-stops loaded c.args.patch objects c.loop-place.place here.object here.there (ap is_success (sym here.status) ∙ ap is_success (sym c.run_where_loaded-status.ensures.status) ∙ refusal) in
+    let far = goes_on c.runs_add_up.ensures first now c.run_where_loaded-status.new.catalog c.args.world.now c.loop-place.world c.run_where_loaded-status.new.world c.args.log.now c.loop-place.log c.run_where_loaded-status.new.log left all call []
+    c.loop-place.invariant.ran (last.calls ∙ sym here.call ∙ sym (append-nil call)) c.run_where_loaded-status.ensures.ran
     in
-    all_ran first c.run_pre.new.catalog c.args.world.now c.run_pre.new.world c.args.log.now c.run_pre.new.log [] all far (search rules)
+    all_ran first c.run_where_loaded-status.new.catalog c.args.world.now c.run_where_loaded-status.new.world c.args.log.now c.run_where_loaded-status.new.log [] all far (search rules)
 
 pub loop-place-preserved : goal.loop-place-preserved
 loop-place-preserved g c =
@@ -75,12 +75,13 @@ loop-place-preserved g c =
     let call = loaded_call now c.args.modules.now c.args.patch Pre c.loop-place.place in
     let same = objects_so_far first now c.args.world.now c.loop-place.world c.args.log.now c.loop-place.log left all c.args.patch c.loop-place.invariant.ran in
     let here = turn now first c.args.modules.now c.args.patch c.loop-place.place same (omega (arith, c.loop-place-test.true, c.target_len-place-end.ensures.count)) in
+    let stored : to_z w32 (of_z w32 c.run_where_loaded-status.result) ≡ c.run_where_loaded-status.result = search rules in
     let on = turn-goes_on loaded c.args.patch objects c.loop-place.place here.object here.there
-    (ap is_success (sym here.status) ∙ no_refusal-is (loaded_status now c.args.modules.now c.args.patch Pre c.loop-place.place) c.in_default.ensures.status)
+    (ap is_success (sym here.status) ∙ ap is_success (sym c.run_where_loaded-status.ensures.status) ∙ ap is_success (sym stored ∙ ap (to_z w32) c.if-status-ne0.false))
     in
     record {
-      ran = goes_on c.runs_add_up.ensures first now c.run_pre.new.catalog c.args.world.now c.loop-place.world c.run_pre.new.world c.args.log.now c.loop-place.log c.run_pre.new.log left all call rest
-          c.loop-place.invariant.ran (on.calls ∙ ap (λ calls. calls ++ rest) (sym here.call)) c.run_pre.ensures.ran;
+      ran = goes_on c.runs_add_up.ensures first now c.run_where_loaded-status.new.catalog c.args.world.now c.loop-place.world c.run_where_loaded-status.new.world c.args.log.now c.loop-place.log c.run_where_loaded-status.new.log left all call rest
+          c.loop-place.invariant.ran (on.calls ∙ ap (λ calls. calls ++ rest) (sym here.call)) c.run_where_loaded-status.ensures.ran;
       refused = sym on.refused ∙ c.loop-place.invariant.refused;
     }
 

@@ -4,7 +4,7 @@ use Rattle.klp_types.specs.declared.limits.TheConstants.{MAX_SITES, MAX_FUNCTION
 use Rattle.klp_types.specs.Records.{RecordList}
 use Rattle.klp_model.specs.Task.{all_in, at_target}
 use Rattle.klp_text.specs.TextImage.{site_count}
-use Rattle.klp_catalog.specs.Catalog.{setting_function}
+use Rattle.klp_catalog.specs.Catalog.{catalog_functions, setting_function}
 use Rattle.klp_patch.specs.Covered.{functions_in}
 use Rattle.klp_patch.specs.Changes.{most_entries}
 use Rattle.klp_manager_state.specs.Rows.{rows_in}
@@ -20,9 +20,9 @@ set_all-requires g c =
     let after = c.patch_sites.new.sites in
     let tasks = c.args.manager.now.tasks in
     let functions : length (functions_in catalog c.args.patch) ≤ MAX_FUNCTIONS =
-    let same = ap length c.functions.ensures.setting in
-    let count = length-map c.functions.result.now setting_function in
-    omega (arith, same, count, c.functions.ensures.few)
+    let same = ap length c.get-found.ensures.keeps.setting in
+    let count = length-map (catalog_functions catalog c.args.patch) setting_function in
+    omega (arith, same, count, c.get-found.ensures.keeps.few_functions)
     in
     let sites : length before.stacks ≤ MAX_SITES = omega (arith, c.sites.ensures.value, c.sites.ensures.image, c.requires.sites) in
     let image = ap site_count c.patch_sites.ensures.entries.image in
