@@ -2,8 +2,7 @@
 //! it alone.
 ghost use Rattle.std.specs.Prelude.{◌≡◌, ◌+◌, ◌<◌, ◌≤◌, ◌^◌, false, [], ◌∷◌, length};
 ghost use Rattle.klp_types.specs.declared.limits.TheConstants.{MAX_CONSOLE_LINE};
-ghost use Rattle.klp_console_commands.specs.Lines.{request_of};
-ghost use Rattle.klp_console.specs.Answered.{IsTakenAs, IsRewoundAs, IsDone, IsDoneIf, names_in};
+ghost use Rattle.klp_console.specs.Answered.{IsRewoundAs, IsDoneIf};
 ghost use Rattle.klp_console.specs.Said.{IsSaid, Serves};
 
 use crate::queries::{say_force_nothing, say_query};
@@ -13,24 +12,6 @@ use crate::served::Served;
 use klp_console_commands::{LineFault, Request, request_of};
 use klp_console_io::{Answers, Sink};
 use klp_core::Manager;
-use klp_model::Event;
-
-/// The manager takes an event. Answers whether it was refused, by which the line is counted.
-fn apply<W: Sink>(
-    manager: &mut Manager,
-    event: Event,
-    answers: &mut Answers,
-    writer: &mut W,
-) -> bool
-    requires { answers.old.has_failed ≡ false }
-    ensures { IsSaid (IsTakenAs manager.old manager.new event) (answers.old, W.written writer.old)
-        (answers.new, W.written writer.new) result }
-{
-    let reply = manager.apply(event);
-    let catalog = manager.catalog();
-    say_answer(answers, writer, catalog, manager.modules(), &reply);
-    reply.is_err()
-}
 
 /// The events behind the mark are undone. Answers whether there are fewer than it, so that nothing was.
 fn rewind<W: Sink>(manager: &mut Manager, mark: u32, answers: &mut Answers, writer: &mut W) -> bool
@@ -50,33 +31,10 @@ fn rewind<W: Sink>(manager: &mut Manager, mark: u32, answers: &mut Answers, writ
     }
 }
 
-/// Does what is asked. Answers whether it was refused; what was refused changed nothing.
+/// Does what a line asks for. Answers whether it was refused, by which the line is counted; what was refused
+/// changed nothing. A line without words is passed over, so that a script may have empty lines, and one that
+/// asks for nothing is refused.
 fn done<W: Sink>(
-    manager: &mut Manager,
-    request: &Request,
-    answers: &mut Answers,
-    writer: &mut W,
-) -> bool
-    requires { answers.old.has_failed ≡ false }
-    ensures { IsSaid (IsDone manager.old manager.new request.now) (answers.old, W.written writer.old)
-        (answers.new, W.written writer.new) result }
-{
-    match *request {
-        Request::Take(event) => apply(manager, event, answers, writer),
-        Request::Rewind(mark) => rewind(manager, mark, answers, writer),
-        Request::ForceNothing(patch) => say_force_nothing(answers, writer, manager, patch).is_err(),
-        Request::See(ref look) => say_query(answers, writer, manager, look).is_err(),
-        Request::Seal => {
-            manager.seal();
-            say_done(answers, writer);
-            false
-        }
-    }
-}
-
-/// Does what a line asks for, and answers whether it was refused. A line without words is passed over, so
-/// that a script may have empty lines, and one that asks for nothing is refused.
-fn done_if<W: Sink>(
     manager: &mut Manager,
     request: &Option<Result<Request, LineFault>>,
     answers: &mut Answers,
@@ -87,21 +45,29 @@ fn done_if<W: Sink>(
         (answers.new, W.written writer.new) result }
 {
     klp_console_io::laws::what_is_said_adds_up();
-    match request {
+    match *request {
         None => false,
-        Some(Ok(request)) => done(manager, request, answers, writer),
-        Some(Err(fault)) => {
+        Some(Err(ref fault)) => {
             say_fault(answers, writer, fault);
             true
         }
+        Some(Ok(Request::Take(event))) => {
+            let reply = manager.apply(event);
+            let catalog = manager.catalog();
+            say_answer(answers, writer, catalog, manager.modules(), &reply);
+            reply.is_err()
+        }
+        Some(Ok(Request::Rewind(mark))) => rewind(manager, mark, answers, writer),
+        Some(Ok(Request::ForceNothing(patch))) => {
+            say_force_nothing(answers, writer, manager, patch).is_err()
+        }
+        Some(Ok(Request::See(ref look))) => say_query(answers, writer, manager, look).is_err(),
+        Some(Ok(Request::Seal)) => {
+            manager.seal();
+            say_done(answers, writer);
+            false
+        }
     }
-}
-
-/// What a line asks for, by the names of the manager's own catalog and modules.
-fn request_by(manager: &Manager, line: &[u8]) -> Option<Result<Request, LineFault>>
-    ensures { result ≡ request_of (names_in manager.now) line.now }
-{
-    request_of(line, manager.catalog(), manager.modules())
 }
 
 /// Answers a line, and counts it, also where the sink fails meanwhile: what the line asked for is done.
@@ -122,8 +88,8 @@ pub(crate) fn answer_line<W: Sink>(
         (line.now ∷ []) }
     ensures few { served.new.refused ≤ served.new.lines }
 {
-    let request = request_by(manager, line);
-    let is_refused = done_if(manager, &request, answers, writer);
+    let request = request_of(line, manager.catalog(), manager.modules());
+    let is_refused = done(manager, &request, answers, writer);
     served.lines += 1;
     if is_refused {
         served.refused += 1;

@@ -163,36 +163,6 @@ fn say_woken<W: Sink>(
     answers.say(writer, b"\n");
 }
 
-/// Says what an accepted event answers: one line, whichever reply it is.
-fn say_reply<W: Sink>(
-    answers: &mut Answers,
-    writer: &mut W,
-    catalog: &Catalog,
-    modules: &Modules,
-    reply: &Reply,
-)
-    requires { catalog.now.names ≡ modules.now.names }
-    ensures { Says (answers.old, W.written writer.old) (answers.new, W.written writer.new)
-        (reply_text catalog.now reply.now) }
-{
-    match *reply {
-        Reply::Done => say_done(answers, writer),
-        Reply::Started => answers.say(writer, b"started\n"),
-        Reply::Reversed => answers.say(writer, b"reversed\n"),
-        Reply::Pending(tasks) => say_number(answers, writer, b"pending ", u64::from(tasks)),
-        Reply::Completed(true) => answers.say(writer, b"completed 1\n"),
-        Reply::Completed(false) => answers.say(writer, b"completed 0\n"),
-        Reply::PreFailed(patch, object, status) => {
-            let patch = patch_name(catalog, patch);
-            let object = object_name(modules, object);
-            say_pre_failed(answers, writer, patch, object, i64::from(status));
-        }
-        Reply::Value(value) => say_number(answers, writer, b"value ", value),
-        Reply::Freed(count) => say_number(answers, writer, b"freed ", u64::from(count)),
-        Reply::Woken(ref frames) => say_woken(answers, writer, catalog, modules, frames),
-    }
-}
-
 /// Says what was answered to an event: what it did, in the word of its [`Reply`] and the names and numbers
 /// that this has, or why it was refused.
 ///
@@ -211,8 +181,21 @@ pub(crate) fn say_answer<W: Sink>(
     ensures { Says (answers.old, W.written writer.old) (answers.new, W.written writer.new)
         (answer_text catalog.now answer.now) }
 {
-    match answer {
-        Ok(reply) => say_reply(answers, writer, catalog, modules, reply),
-        Err(refusal) => say_refusal(answers, writer, *refusal),
+    match *answer {
+        Ok(Reply::Done) => say_done(answers, writer),
+        Ok(Reply::Started) => answers.say(writer, b"started\n"),
+        Ok(Reply::Reversed) => answers.say(writer, b"reversed\n"),
+        Ok(Reply::Pending(tasks)) => say_number(answers, writer, b"pending ", u64::from(tasks)),
+        Ok(Reply::Completed(true)) => answers.say(writer, b"completed 1\n"),
+        Ok(Reply::Completed(false)) => answers.say(writer, b"completed 0\n"),
+        Ok(Reply::PreFailed(patch, object, status)) => {
+            let patch = patch_name(catalog, patch);
+            let object = object_name(modules, object);
+            say_pre_failed(answers, writer, patch, object, i64::from(status));
+        }
+        Ok(Reply::Value(value)) => say_number(answers, writer, b"value ", value),
+        Ok(Reply::Freed(count)) => say_number(answers, writer, b"freed ", u64::from(count)),
+        Ok(Reply::Woken(ref frames)) => say_woken(answers, writer, catalog, modules, frames),
+        Err(refusal) => say_refusal(answers, writer, refusal),
     }
 }

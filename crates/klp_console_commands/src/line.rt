@@ -10,12 +10,12 @@ use crate::names::{NameResolver, task};
 use crate::request::{Query, Request};
 use crate::shadow::shadow_line;
 use crate::tasks::task_line;
-use crate::words::{end, is_name, number_to, word, words_of};
+use crate::words::{end, is_name, number_to, word};
 use klp_catalog::Catalog;
 use klp_model::Event;
 use klp_modules::Modules;
 use klp_types::{MAX_MARK, MAX_TASK_NUMBER};
-use klp_words::{Words, spelling_of};
+use klp_words::{Separators, Words, spelling_of};
 
 /// The word that a line begins with.
 #[derive(Clone, Copy)]
@@ -209,7 +209,9 @@ pub fn request_of(
 ) -> Option<Result<Request, LineFault>>
     ensures { result ≡ request_of (names_of catalog.now modules.now) line.now }
 {
-    let mut words = words_of(line);
+    // spaces alone separate words, so a tab or a carriage return is a byte of its word, and no name has one
+    // (docs/DECISIONS.md, "Words and bytes of names")
+    let mut words = Words::new(line, Separators::Spaces);
     let first = words.next()?;
     let names = NameResolver { catalog, modules };
     Some(line_of(keyword_of(first), &mut words, &names))

@@ -5,13 +5,14 @@ ghost use Rattle.std.specs.Prelude.{◌≡◌};
 ghost use Rattle.klp_console_commands.specs.Names.{patch_of, object_of, task_of, site_of, new_function_of, version_of, symbol_found};
 
 use crate::fault::LineFault;
-use crate::words::{is_name, number_to, text};
+use crate::words::{is_name, number_to};
 use klp_catalog::Catalog;
 use klp_model::Refusal;
 use klp_modules::Modules;
 use klp_types::{MAX_INDEX, MAX_TASKS, ObjId, PatchId, Site, TaskId, Version};
 use klp_words::{Spelling, cut, spelling_of};
 use std::marker::Model;
+use std::str;
 
 /// The names that a line may use: those of a catalog's patches, and of the objects and symbols of a kernel.
 /// The manager isn't among them, so that what a line means doesn't depend on its state (docs/DECISIONS.md,
@@ -31,27 +32,30 @@ impl<'a> Model for NameResolver<'a> {
 }
 
 impl<'a> NameResolver<'a> {
+    /// Names are UTF-8, so a word that isn't is the name of nothing.
+    #[tactic(auto, using(crate::proofs::WordLemmas::is_text, crate::proofs::WordLemmas::no_text))]
     pub(crate) fn patch(&self, word: &[u8]) -> Result<PatchId, LineFault>
         ensures { result ≡ patch_of self.now word.now }
     {
-        match text(word) {
-            Some(name) => self
+        match str::from_utf8(word) {
+            Ok(name) => self
                 .catalog
                 .patch(name)
                 .ok_or(LineFault::Refused(Refusal::NoPatch)),
-            None => Err(LineFault::Refused(Refusal::NoPatch)),
+            Err(_) => Err(LineFault::Refused(Refusal::NoPatch)),
         }
     }
 
+    #[tactic(auto, using(crate::proofs::WordLemmas::is_text, crate::proofs::WordLemmas::no_text))]
     pub(crate) fn object(&self, word: &[u8]) -> Result<ObjId, LineFault>
         ensures { result ≡ object_of self.now word.now }
     {
-        match text(word) {
-            Some(name) => self
+        match str::from_utf8(word) {
+            Ok(name) => self
                 .modules
                 .object(name)
                 .ok_or(LineFault::Refused(Refusal::NoModule)),
-            None => Err(LineFault::Refused(Refusal::NoModule)),
+            Err(_) => Err(LineFault::Refused(Refusal::NoModule)),
         }
     }
 

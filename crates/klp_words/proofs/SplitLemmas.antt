@@ -1,6 +1,7 @@
 -- The first word of a line, and where the first byte stands that is looked for.
-use Rattle.std.proofs.Common.{◌≡◌, ℕ, ◌<◌, ◌≤◌, ◌+◌, Bool, true, false, not, nat_lt, ◌==◌, cond, List, [], ◌∷◌, length, take, drop, position, filter, unwrap_or, suc, Some, None, Option, refl, sym, ap, ◌∙◌, arith}
+use Rattle.std.proofs.Common.{◌≡◌, ℕ, ◌<◌, ◌≤◌, ◌+◌, Bool, true, false, not, nat_lt, ◌==◌, cond, List, [], ◌∷◌, length, take, drop, position, filter, unwrap_or, suc, Some, None, Option, refl, sym, ap, ◌∙◌, subst, arith, length-drop}
 use Rattle.std.proofs.lemmas.Bool.Decides.{nat_tests}
+use Rattle.std.proofs.lemmas.Grind.{common_steps}
 use Rattle.std.proofs.lemmas.List.{take_all, drop_all}
 use Rattle.std.proofs.lemmas.List.Sums.{prefix_len-le-length}
 use Rattle.std.specs.List.{slice_split, position_or_len, before_first, after_first}
@@ -13,6 +14,9 @@ found_by false n m h = absurd cc
 
 pub found_at : {A : Type 0} (p : A → Bool) (xs : List A) (n : ℕ) → position p xs ≡ Some n → n ≡ position_or_len p xs
 found_at p xs n h = found_by (nat_lt (position_or_len p xs) (length xs)) n (position_or_len p xs) (sym h)
+
+pub found_within : {A : Type 0} (p : A → Bool) (xs : List A) (n : ℕ) → position p xs ≡ Some n → n < length xs
+found_within p xs n h = grind (arith, common_steps)
 
 missing_by : (m n : ℕ) (b : Bool) → b ≡ nat_lt m n → cond b (Some m) None ≡ None → n ≤ m
 missing_by m n true e h = absurd cc
@@ -31,9 +35,6 @@ after_none p xs h = let far = missing_from p xs h in drop_all (position_or_len p
 pub or_len : (p : ℕ → Bool) (xs : List ℕ) (r : Option ℕ) → r ≡ position p xs → unwrap_or r (length xs) ≡ position_or_len p xs
 or_len p xs (Some n) h = found_at p xs n (sym h)
 or_len p xs None h = let far = missing_from p xs (sym h) in let near = prefix_len-le-length (λ x. not (p x)) xs in omega arith
-
-pub position_or_len-le : (p : ℕ → Bool) (xs : List ℕ) → position_or_len p xs ≤ length xs
-position_or_len-le p xs = prefix_len-le-length (λ x. not (p x)) xs
 
 -- what comes with the part up to the first element that passes
 record FirstPart (p : ℕ → Bool) (xs : List ℕ) : Type 0 where
@@ -102,23 +103,23 @@ module _ (separates : ℕ → Bool) where
       let part = first_part separates xs in
       ap (filter is_some_word) part.split ∙ filter_some (first_word xs) part.others h ∙ ap (λ ws. first_word xs ∷ ws) part.words
 
-  no_word : (xs : List ℕ) → IsWordStart xs → length (first_word xs) ≡ 0 → words_of xs ≡ []
-  no_word [] start h = refl
-  no_word (x ∷ xs) start h = absurd (omega (arith, some_word x xs start))
+  -- where every byte separates there is no word
+  pub no_words : (xs : List ℕ) → position (λ b. not (separates b)) xs ≡ None → words_of xs ≡ []
+  no_words xs none = (skip_gap xs).1 ∙ ap words_of (drop_all (position_or_len (λ b. not (separates b)) xs) xs (missing_from (λ b. not (separates b)) xs none))
 
-  -- the first word, where there is one
-  pub next_word : (xs ys word rest : List ℕ) → ys ≡ behind_gap xs → word ≡ first_word ys → rest ≡ behind_word ys → 0 < length word → words_of xs ≡ word ∷ words_of rest
-  next_word xs ys word rest a b c h =
-      let back : length word ≡ length (first_word ys) = ap length b in
-      (skip_gap xs).1 ∙ ap words_of (sym a) ∙ word_in_front ys (omega arith) ∙ rw (b, c) refl
+  some_first : (xs : List ℕ) → IsWordStart xs → 0 < length xs → 0 < length (first_word xs)
+  some_first [] start some = absurd (omega arith)
+  some_first (x ∷ xs) start some = some_word x xs start
 
-  pub no_next_word : (xs ys word : List ℕ) → ys ≡ behind_gap xs → word ≡ first_word ys → length word ≡ 0 → words_of xs ≡ []
-  no_next_word xs ys word a b h =
-      (skip_gap xs).1 ∙ no_word (behind_gap xs) (skip_gap xs).0 (ap (λ zs. length (first_word zs)) (sym a) ∙ ap length (sym b) ∙ h)
+  -- the first word begins at the first byte that doesn't separate
+  pub next_word : (xs ys word rest : List ℕ) (n : ℕ) → position (λ b. not (separates b)) xs ≡ Some n → ys ≡ drop n xs → word ≡ first_word ys → rest ≡ behind_word ys → words_of xs ≡ word ∷ words_of rest
+  next_word xs ys word rest n found from is behind =
+      let gap : ys ≡ behind_gap xs = from ∙ ap (λ m. drop m xs) (found_at (λ b. not (separates b)) xs n found) in
+      let start = subst IsWordStart (sym gap) (skip_gap xs).0 in
+      let within = found_within (λ b. not (separates b)) xs n found in
+      let some : 0 < length ys = omega (arith, ap length from, length-drop n xs) in
+      (skip_gap xs).1 ∙ ap words_of (sym gap) ∙ word_in_front ys (some_first ys start some) ∙ rw (is, behind) refl
 
 -- what `is_empty` tells
-pub zero_length : (n : ℕ) → true ≡ (n == 0) → n ≡ 0
-zero_length n h = grind (arith, nat_tests)
-
 pub positive : (n : ℕ) → false ≡ (n == 0) → 0 < n
 positive n h = grind (arith, nat_tests)

@@ -52,50 +52,21 @@ impl<'a> Words<'a> {
     }
 
     /// The next word, which is never empty, in time that is linear in its length and that of what
-    /// separates it from the front.
+    /// separates it from the front: words may have any number of separators in between.
     pub fn next(&mut self) -> Option<&'a [u8]>
         ensures { MatchOption result (self.old ≡ []) (λ word. self.old ≡ word.now ∷ self.new) }
     {
-        let (word, rest) = first_word(self.rest, self.separators)?;
+        let separators = self.separators;
+        let start = self.rest.iter().position(|b| !separates(separators, *b))?;
+        let line = &self.rest[start..];
+        let end = line
+            .iter()
+            .position(|b| separates(separators, *b))
+            .unwrap_or(line.len());
+        let (word, rest) = line.split_at(end);
         self.rest = rest;
         Some(word)
     }
-}
-
-/// The first word, which is never empty, and what is behind it, in time that is linear in the word's length
-/// and that of what separates it from the front.
-pub fn first_word(line: &[u8], separators: Separators) -> Option<(&[u8], &[u8])>
-    ensures { MatchOption result (words_between (separates separators) line.now ≡ [])
-        (λ found. words_between (separates separators) line.now ≡ found.0.now ∷ words_between
-        (separates separators) found.1.now) }
-{
-    let (_, line) = line.split_at(gap_len(line, separators));
-    let (word, rest) = line.split_at(word_len(line, separators));
-    if word.is_empty() {
-        return None;
-    }
-    Some((word, rest))
-}
-
-/// How many separators the bytes begin with: words may have any number of them in between.
-fn gap_len(bytes: &[u8], separators: Separators) -> usize
-    ensures { result ≡ position_or_len (λ b. not (separates separators b)) bytes.now }
-{
-    bytes
-        .iter()
-        .position(|b| !separates(separators, *b))
-        .unwrap_or(bytes.len())
-}
-
-/// How long the word is that the bytes begin with: 0 only where there are no bytes, once the gap is cut
-/// off.
-fn word_len(bytes: &[u8], separators: Separators) -> usize
-    ensures { result ≡ position_or_len (separates separators) bytes.now }
-{
-    bytes
-        .iter()
-        .position(|b| separates(separators, *b))
-        .unwrap_or(bytes.len())
 }
 
 fn separates(separators: Separators, byte: u8) -> bool

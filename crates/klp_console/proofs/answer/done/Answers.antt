@@ -1,5 +1,5 @@
 use Rattle.std.proofs.Common.{rules}
-use Rattle.klp_console.proofs.answer.done_if.Goals as goal
+use Rattle.klp_console.proofs.answer.done.Goals as goal
 
 pub returns-in-None : goal.returns-in-None
 returns-in-None g c = search rules
