@@ -1,9 +1,16 @@
 -- A callback for each script of a plan, made one after the other.
-use Rattle.std.proofs.Common.{◌≡◌, ℕ, List, [], ◌∷◌, ◌++◌, Some, None, length, map, take, option_map, refl, sym, ap}
+use Rattle.std.proofs.Common.{◌≡◌, ℕ, List, [], ◌∷◌, ◌++◌, Some, None, Result, Ok, Err, length, map, take, option_map, refl, sym, ap}
 use Rattle.std.specs.List.{slice_get}
 use Rattle.klp_types.specs.Script.{Script}
 use Rattle.klp_callback.specs.Told.{Told}
-use Rattle.klp_program.specs.Booted.{never_ran}
+use Rattle.klp_catalog_text.specs.Plan.{Plan}
+use Rattle.klp_catalog_text.specs.Text.{plan_of}
+use Rattle.klp_core.specs.Journaled.{Journaled}
+use Rattle.klp_console.specs.declared.served.Served.{Served}
+use Rattle.klp_program.specs.declared.fault.Fault.{Fault}
+use Rattle.klp_program.specs.declared.fault.Fault.TheVariants.{CannotRead, NoMemory, Text, Image, Assemble, Boot, Serve}
+use Rattle.klp_program.specs.Booted.{IsBootedOver, never_ran}
+use Rattle.klp_program.specs.Runs.{Streams, ServesBy, RunsPlan, Runs}
 
 -- as many of the scripts as there are callbacks, and no other, have theirs
 abbrev pub first_made : List Told → List Script → List Told
@@ -38,3 +45,29 @@ all_made (one ∷ made) (first ∷ scripts) past so_far =
 pub told_of : (told : Told) (given script : Script) (count runs : ℕ)
     → told ≡ record { script = given; runs = count } → given ≡ script → count ≡ runs → told ≡ record { script = script; runs = runs }
 told_of told given script count runs made same counted = rw (made, same, counted) refl
+
+-- what a booted manager serves is served over its plan
+pub serves_plan : (plan : Plan) (booted : Journaled) (before after : Streams) (result : Result Served Fault)
+    → IsBootedOver plan booted → ServesBy booted before after result → RunsPlan plan before after result
+serves_plan plan booted before after (Ok served) is by = record { booted = booted; is_booted = is; left = by.0; comes_to = by.1 }
+serves_plan plan booted before after (Err (Serve fault)) is by = record { booted = booted; is_booted = is; left = by.0; comes_to = by.1 }
+serves_plan plan booted before after (Err CannotRead) is by = absurd by
+serves_plan plan booted before after (Err NoMemory) is by = absurd by
+serves_plan plan booted before after (Err (Text fault)) is by = absurd by
+serves_plan plan booted before after (Err (Image fault)) is by = absurd by
+serves_plan plan booted before after (Err (Assemble fault)) is by = absurd by
+serves_plan plan booted before after (Err (Boot fault)) is by = absurd by
+
+-- what is served over a text's plan is served over the text
+pub runs_text : (text : List ℕ) (plan : Plan) (before after : Streams) (result : Result Served Fault)
+    → plan_of text ≡ Ok plan → RunsPlan plan before after result → Runs text before after result
+runs_text text plan before after (Ok served) planned runs =
+    record { plan = plan; planned = planned; booted = runs.booted; is_booted = runs.is_booted; left = runs.left; comes_to = runs.comes_to }
+runs_text text plan before after (Err (Serve fault)) planned runs =
+    record { plan = plan; planned = planned; booted = runs.booted; is_booted = runs.is_booted; left = runs.left; comes_to = runs.comes_to }
+runs_text text plan before after (Err CannotRead) planned runs = absurd runs.1
+runs_text text plan before after (Err NoMemory) planned runs = (runs.0, tt)
+runs_text text plan before after (Err (Text fault)) planned runs = absurd runs.1
+runs_text text plan before after (Err (Image fault)) planned runs = (runs.0, (plan, planned, runs.1))
+runs_text text plan before after (Err (Assemble fault)) planned runs = (runs.0, (plan, planned, runs.1))
+runs_text text plan before after (Err (Boot fault)) planned runs = (runs.0, (plan, planned, runs.1))

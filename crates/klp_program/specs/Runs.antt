@@ -17,6 +17,28 @@ pub record Streams : Type 0 where
   pub supply : Supply
   pub written : Written
 
+-- the console was served by this manager
+abbrev pub ServesBy : Journaled → Streams → Streams → Result Served Fault → Type 0
+ServesBy booted before after (Ok served) = (left : Journaled)
+    × ComesTo (record { supply = before.supply; written = before.written; manager = booted }) (record { supply = after.supply; written = after.written; manager = left }) (Ok served)
+ServesBy booted before after (Err (Serve fault)) = (left : Journaled)
+    × ComesTo (record { supply = before.supply; written = before.written; manager = booted }) (record { supply = after.supply; written = after.written; manager = left }) (Err fault)
+ServesBy booted before after (Err fault) = ⊥
+
+-- a manager was booted over a plan, and the console was served by it
+pub record ServesPlan (plan : Plan) (before after : Streams) (ended : Result Served ServeFault) : Type 0 where
+  pub booted : Journaled
+  pub is_booted : IsBootedOver plan booted
+  pub left : Journaled
+  pub comes_to : ComesTo (record { supply = before.supply; written = before.written; manager = booted })
+      (record { supply = after.supply; written = after.written; manager = left }) ended
+
+-- the console was served over a plan, or nothing was read and nothing was written
+abbrev pub RunsPlan : Plan → Streams → Streams → Result Served Fault → Type 0
+RunsPlan plan before after (Ok served) = ServesPlan plan before after (Ok served)
+RunsPlan plan before after (Err (Serve fault)) = ServesPlan plan before after (Err fault)
+RunsPlan plan before after (Err fault) = (after ≡ before) × IsBootFault plan fault
+
 -- a manager was booted over the text's plan, and the console was served by it
 pub record Serves (text : List ℕ) (before after : Streams) (ended : Result Served ServeFault) : Type 0 where
   pub plan : Plan

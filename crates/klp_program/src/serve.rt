@@ -1,6 +1,7 @@
 //! A manager is booted over a catalog's text, and the console is served by it.
-ghost use Rattle.std.specs.Prelude.{◌≡◌, ◌≤◌, ◌⊎◌};
-ghost use Rattle.klp_program.specs.Runs.{Runs};
+ghost use Rattle.std.specs.Prelude.{◌≡◌, ◌≤◌, ◌⊎◌, length};
+ghost use Rattle.klp_catalog_text.specs.Within.{AreTargetsWithin};
+ghost use Rattle.klp_program.specs.Runs.{Runs, RunsPlan, ServesBy};
 
 use crate::arguments::told;
 use crate::booted::boot;
@@ -8,6 +9,7 @@ use crate::fault::Fault;
 use crate::kind::{Kind, callback_of};
 use klp_callback::Boxed;
 use klp_catalog::Catalog;
+use klp_catalog_text::Plan;
 use klp_console::{Served, serve};
 use klp_console_io::{OverRead, OverWrite, Sink, Source};
 use klp_core::Manager;
@@ -20,12 +22,53 @@ use std::sync::ledger::{Blank, Ledger};
 // proved faster where nothing is generic.
 fn close(_manager: Manager) {}
 
+// Serves the console by a manager, which goes then.
+fn serve_by<R: Source, W: Sink>(
+    mut manager: Manager,
+    reader: &mut R,
+    writer: &mut W,
+) -> Result<Served, Fault>
+    ensures { ServesBy manager (record { supply = R.supply reader.old; written = W.written writer.old })
+        (record { supply = R.supply reader.new; written = W.written writer.new }) result }
+{
+    let ended = serve(reader, writer, &mut manager);
+    close(manager);
+    match ended {
+        Ok(served) => Ok(served),
+        Err(fault) => Err(Fault::Serve(fault)),
+    }
+}
+
+// Boots a manager over a plan, and serves the console by it.
+//
+// Each script of the text gets a callback of the simplest kind that means it. The boxes of any
+// callback are made here, and the manager lives here and where it serves, since a function that hands
+// out such a box which it made hides what is proved of boxes.
+fn serve_plan<R: Source, W: Sink>(
+    alloc: Global,
+    plan: Plan,
+    reader: &mut R,
+    writer: &mut W,
+) -> Result<Served, Fault>
+    requires { AreTargetsWithin (length plan.objects) plan.patches }
+    ensures { RunsPlan plan (record { supply = R.supply reader.old; written = W.written writer.old })
+        (record { supply = R.supply reader.new; written = W.written writer.new }) result }
+{
+    let mut callbacks = Vec::new(alloc);
+    while let Some(kind) = callback_of(alloc, &plan, callbacks.len())? {
+        let callback = match kind {
+            Kind::Scripted(callback) => Boxed::new(callback),
+            Kind::Refusing(callback) => Boxed::new(callback),
+            Kind::Quiet(callback) => Boxed::new(callback),
+        };
+        callbacks.push(callback)?;
+    }
+    let manager = boot(alloc, plan, callbacks)?;
+    serve_by(manager, reader, writer)
+}
+
 /// Boots a manager over the catalog's text, and serves the console by it. Nothing is read or written
 /// before the text is known to have no fault.
-///
-/// Each script of the text gets a callback of the simplest kind that means it. The boxes of any
-/// callback are made here, and the manager lives here, since a function that hands out such a box
-/// which it made hides what is proved of boxes.
 pub fn served<R: Source, W: Sink>(
     alloc: Global,
     catalog: &[u8],
@@ -36,22 +79,7 @@ pub fn served<R: Source, W: Sink>(
         (record { supply = R.supply reader.new; written = W.written writer.new }) result }
 {
     let plan = Catalog::read(alloc, catalog)?;
-    let mut callbacks = Vec::new(alloc);
-    while let Some(kind) = callback_of(alloc, &plan, callbacks.len())? {
-        let callback = match kind {
-            Kind::Scripted(callback) => Boxed::new(callback),
-            Kind::Refusing(callback) => Boxed::new(callback),
-            Kind::Quiet(callback) => Boxed::new(callback),
-        };
-        callbacks.push(callback)?;
-    }
-    let mut manager = boot(alloc, plan, callbacks)?;
-    let ended = serve(reader, writer, &mut manager);
-    close(manager);
-    match ended {
-        Ok(served) => Ok(served),
-        Err(fault) => Err(Fault::Serve(fault)),
-    }
+    serve_plan(alloc, plan, reader, writer)
 }
 
 // The same over streams of std.
