@@ -18,7 +18,7 @@ const INDEX: &str = "index";
 const BUILT_IN: &str = "-";
 
 // What a run answers: its status, and what it writes.
-#[derive(Debug, Drop)]
+#[derive(Drop)]
 struct Outcome {
     status: u8,
     out: Vec<u8>,

@@ -156,7 +156,7 @@ pub(crate) const SCENES: [Rows; 5] = [
 ];
 
 /// A list of events, and what taking it came to.
-#[derive(Debug, Drop)]
+#[derive(Drop)]
 pub(crate) struct Measured {
     name: &'static str,
     pub(crate) events: Vec<Event>,
@@ -223,7 +223,7 @@ impl fmt::Display for Measured {
 }
 
 /// Lists that one manager takes, in order.
-#[derive(Debug, Drop)]
+#[derive(Drop)]
 pub(crate) struct Scene {
     pub(crate) lists: Vec<Measured>,
 }

@@ -1,11 +1,12 @@
 //! Why a name and a position pick no symbol, of which the console tells only that they don't; what there is
 //! beyond objects and symbols; and the record of a module that is loaded.
-ghost use Rattle.std.specs.Prelude.{◌≡◌, IfSome, length};
+ghost use Rattle.std.specs.Prelude.{◌≡◌, length};
 
-use klp_catalog_text::read;
+use crate::shown::opened;
+use klp_catalog::Catalog;
 use klp_modules::{Modules, SymbolFault};
-use klp_text::Image;
-use klp_types::{ObjId, ObjectText, Record, Site};
+use klp_program::Fault;
+use klp_types::{ObjId, Record, Site};
 use std::alloc::Global;
 
 /// `vmlinux` with the symbols f, h, d and d, and the module m with g and d.
@@ -41,18 +42,6 @@ const SPELLINGS: [(ObjId, &str, u32, Result<Site, SymbolFault>); 11] = [
     (MODULE, "d", 0, Ok(Site(5))),
     (NONE, "f", 0, Err(SymbolFault::Missing)),
 ];
-
-/// The modules of those objects.
-fn opened(alloc: Global) -> Option<Modules>
-    ensures { IfSome result (λ modules. length modules.loaded ≡ 2) }
-{
-    let objects = read(alloc, OBJECTS).ok()?.take_objects();
-    if objects.len() != 2 {
-        return None;
-    }
-    let image = Image::new(alloc, objects, 0x1000).ok()?;
-    Modules::new(alloc, &image).ok()
-}
 
 /// Whether each spelling picks its site, or none for its reason.
 fn are_resolved(modules: &Modules) -> bool {
@@ -109,17 +98,28 @@ fn is_put_back(modules: &mut Modules) -> bool
     is_noted && is_loaded && are_objects(modules)
 }
 
-fn told(alloc: Global) -> Option<[bool; 4]> {
-    let mut modules = opened(alloc)?;
-    let is_resolved = are_resolved(&modules);
-    let has_objects = are_objects(&modules);
-    let has_symbols = are_symbols(&modules);
-    let is_put_back = is_put_back(&mut modules);
-    Some([is_resolved, has_objects, has_symbols, is_put_back])
+/// Whether the modules of those objects tell all that.
+fn are_told(modules: &mut Modules) -> [bool; 4]
+    requires { length modules.old.loaded ≡ 2 }
+{
+    let is_resolved = are_resolved(modules);
+    let has_objects = are_objects(modules);
+    let has_symbols = are_symbols(modules);
+    [is_resolved, has_objects, has_symbols, is_put_back(modules)]
+}
+
+fn told(alloc: Global) -> Result<[bool; 4], Fault> {
+    let mut plan = Catalog::read(alloc, OBJECTS)?;
+    let (image, mut modules) = opened(alloc, &mut plan)?;
+    if image.objects() == 2 {
+        Ok(are_told(&mut modules))
+    } else {
+        Ok([false; 4])
+    }
 }
 
 #[test]
 fn names_positions_and_flags(rt: HostRuntime) {
     let told = told(rt.alloc());
-    assert!(rt; told == Some([true; 4]));
+    assert!(rt; told == Ok([true; 4]));
 }

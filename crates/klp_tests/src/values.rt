@@ -1,9 +1,9 @@
 //! Values of system states, which no line of the console shows; and that each box that is handed in is run.
-use crate::shown::{Given, Look, Step, outcome};
+use crate::shown::{Given, Look, Shown, Step, outcome};
 use klp_model::Event;
 use klp_program::Fault;
 use klp_types::{ObjId, PatchId};
-use std::alloc::Global;
+use std::alloc::{AllocError, Global};
 
 const FIRST: PatchId = PatchId(0);
 
@@ -93,20 +93,38 @@ fn are_rows(looks: &[Look]) -> bool {
     right
 }
 
-/// Whether the edits change these rows, and nothing is left once they are taken back.
-fn are_edited(alloc: Global) -> Result<bool, Fault> {
-    let installed = INSTALLED;
-    let mut events = Vec::new(alloc);
+fn put_events(events: &mut Vec<Event>) -> Result<(), AllocError> {
     for (event, ..) in ROWS {
         events.push(event)?;
     }
-    let mut steps = Vec::new(alloc);
-    steps.push(Step::Events(&installed))?;
+    Ok(())
+}
+
+/// Both patches are installed, then each event is a step, and all is taken back.
+fn put_steps<'a>(
+    steps: &mut Vec<Step<'a>>,
+    installed: &'a [Event],
+    events: &'a [Event],
+) -> Result<(), AllocError> {
+    steps.push(Step::Events(installed))?;
     for event in events.chunks(1) {
         steps.push(Step::Events(event))?;
     }
-    steps.push(Step::Rewind(0))?;
-    let shown = outcome(alloc, given(EDITS, 13, 0), &steps)?;
+    Ok(steps.push(Step::Rewind(0))?)
+}
+
+fn shown_after(alloc: Global, events: &[Event]) -> Result<Shown, Fault> {
+    let installed = INSTALLED;
+    let mut steps = Vec::new(alloc);
+    put_steps(&mut steps, &installed, events)?;
+    outcome(alloc, given(EDITS, 13, 0), &steps)
+}
+
+/// Whether the edits change these rows, and nothing is left once they are taken back.
+fn are_edited(alloc: Global) -> Result<bool, Fault> {
+    let mut events = Vec::new(alloc);
+    put_events(&mut events)?;
+    let shown = shown_after(alloc, &events)?;
     let Some((last, looks)) = shown.looks.split_last() else {
         return Ok(false);
     };

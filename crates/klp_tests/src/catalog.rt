@@ -30,6 +30,8 @@ state 7 2
 patch x replace
 patch y
 state 7 1
+patch z
+state 8 1
 ";
 
 /// Two functions for one site, and a callback.
@@ -59,20 +61,34 @@ const X: PatchId = PatchId(3);
 
 const Y: PatchId = PatchId(4);
 
-/// The number of a patch by its name, its name by its number, and whether it is cumulative.
-fn is_named(catalog: &Catalog, patch: PatchId, name: &str, replaces: bool) -> bool {
-    catalog.patch(name) == Some(patch)
-        && catalog.patch_name(patch) == Some(name)
-        && catalog.replaces(patch) == Some(replaces)
+const Z: PatchId = PatchId(5);
+
+/// The number of a patch by its name, and its name by its number.
+fn is_named(catalog: &Catalog, patch: PatchId, name: &str) -> bool {
+    catalog.patch(name) == Some(patch) && catalog.patch_name(patch) == Some(name)
 }
 
 fn are_named(catalog: &Catalog) -> bool {
-    catalog.patches() == 5
-        && is_named(catalog, P, "p", false)
-        && is_named(catalog, Q, "q", false)
-        && is_named(catalog, C, "c", true)
-        && is_named(catalog, X, "x", true)
-        && is_named(catalog, Y, "y", false)
+    let mut right = catalog.patches() == 6;
+    for (patch, name) in [(P, "p"), (Q, "q"), (C, "c"), (X, "x"), (Y, "y"), (Z, "z")] {
+        right = right && is_named(catalog, patch, name);
+    }
+    right
+}
+
+/// Which patches are cumulative: alone they don't go with one that has a state which they lack.
+fn are_cumulative(catalog: &Catalog) -> bool {
+    if catalog.patches() <= 5 {
+        return false;
+    }
+    let beside = [
+        catalog.is_compatible(P, &[Z]),
+        catalog.is_compatible(Q, &[Z]),
+        catalog.is_compatible(C, &[Z]),
+        catalog.is_compatible(X, &[Z]),
+        catalog.is_compatible(Y, &[Z]),
+    ];
+    beside == [true, true, false, false, true]
 }
 
 /// How many symbols objects have, the objects of the first patch, and nothing beyond.
@@ -86,7 +102,7 @@ fn ends(catalog: &Catalog) -> bool {
         catalog.target(P, 0),
         catalog.target(P, 1),
         catalog.target(P, 2),
-        catalog.target(PatchId(5), 0),
+        catalog.target(PatchId(6), 0),
     ];
     symbols == [Some(3), Some(1), None]
         && targets == [Some(ObjId(1)), Some(ObjId(0)), None, None]
@@ -101,14 +117,11 @@ fn are_functions(catalog: &Catalog) -> bool {
         && catalog.function(P, 2) == Some((None, "unresolved", 3))
 }
 
-/// Their symbols and positions.
+/// Their objects, symbols and positions.
 fn are_of_symbols(catalog: &Catalog) -> bool {
-    let [first, second, third] = catalog.functions(P) else {
-        return false;
-    };
-    (first.symbol(), first.sympos()) == ("f", 0)
-        && (second.symbol(), second.sympos()) == ("d", 2)
-        && (third.symbol(), third.sympos()) == ("d", 0)
+    catalog.function_name(P, 0) == Some((ObjId(1), "f", 0))
+        && catalog.function_name(P, 1) == Some((ObjId(0), "d", 2))
+        && catalog.function_name(P, 2) == Some((ObjId(0), "d", 0))
 }
 
 /// The newest patch before each one that names a state, where y, p, q and c are installed; and that p goes
@@ -134,6 +147,7 @@ fn have_previous(catalog: &Catalog) -> bool {
 /// Whether a catalog tells of its patches and objects what one over `PATCHES` has to.
 pub fn told(catalog: &Catalog) -> bool {
     are_named(catalog)
+        && are_cumulative(catalog)
         && ends(catalog)
         && are_functions(catalog)
         && are_of_symbols(catalog)

@@ -100,16 +100,32 @@ struct Texts {
     answers: Vec<u8>,
 }
 
-fn texts_of(alloc: Global, script: Script) -> Result<Texts, AllocError> {
-    let mut lines = Vec::new(alloc);
-    let mut answers = Vec::new(alloc);
+/// Adds a line, and its answer.
+fn put(texts: &mut Texts, line: &str, answer: &str) -> Result<(), AllocError> {
+    texts.lines.extend_from_slice(line.as_bytes())?;
+    texts.lines.push(b'\n')?;
+    texts.answers.extend_from_slice(answer.as_bytes())?;
+    Ok(texts.answers.push(b'\n')?)
+}
+
+fn put_all(texts: &mut Texts, script: Script) -> Result<(), AllocError> {
     for (line, answer) in script {
-        lines.extend_from_slice(line.as_bytes())?;
-        lines.push(b'\n')?;
-        answers.extend_from_slice(answer.as_bytes())?;
-        answers.push(b'\n')?;
+        put(texts, line, answer)?;
     }
-    Ok(Texts { lines, answers })
+    Ok(())
+}
+
+fn no_texts(alloc: Global) -> Texts {
+    Texts {
+        lines: Vec::new(alloc),
+        answers: Vec::new(alloc),
+    }
+}
+
+fn texts_of(alloc: Global, script: Script) -> Result<Texts, AllocError> {
+    let mut texts = no_texts(alloc);
+    put_all(&mut texts, script)?;
+    Ok(texts)
 }
 
 fn line_feeds(text: &[u8]) -> usize {
@@ -142,16 +158,20 @@ fn is_write_failure_told(alloc: Global, texts: &Texts, k: usize) -> Result<bool,
 
 /// Whether each read and each write that fails is told, one after another. The read behind the last byte
 /// fails too, and there are at least as many writes as all at once would take.
-fn are_failures_told(alloc: Global, script: Script) -> Result<bool, AllocError> {
-    let texts = texts_of(alloc, script)?;
+fn are_all_told(alloc: Global, texts: &Texts) -> Result<bool, AllocError> {
     let mut right = true;
     for k in 0..=texts.lines.len().div_ceil(MOST) {
-        right = is_read_failure_told(alloc, &texts, k)? && right;
+        right = is_read_failure_told(alloc, texts, k)? && right;
     }
     for k in 0..texts.answers.len().div_ceil(MOST) {
-        right = is_write_failure_told(alloc, &texts, k)? && right;
+        right = is_write_failure_told(alloc, texts, k)? && right;
     }
     Ok(right)
+}
+
+fn are_failures_told(alloc: Global, script: Script) -> Result<bool, AllocError> {
+    let texts = texts_of(alloc, script)?;
+    are_all_told(alloc, &texts)
 }
 
 #[test]
@@ -202,16 +222,19 @@ fn are_lines_long(alloc: Global, end: &[u8]) -> Result<bool, AllocError> {
     Ok(comes_to(alloc, &padded(alloc, 257, end)?, long, b"0\n")? && fits)
 }
 
+/// As many lines as there is room for their answers, and one more.
+fn put_too_many(texts: &mut Texts) -> Result<(), AllocError> {
+    for _ in 0..ROOM / 2 {
+        put(texts, "mark", "0")?;
+    }
+    texts.lines.extend_from_slice(b"mark\n")
+}
+
 /// Whether a sink without room for the last answer is a failed write.
 fn is_room_told(alloc: Global) -> Result<bool, AllocError> {
-    let mut lines = Vec::new(alloc);
-    let mut answers = Vec::new(alloc);
-    for _ in 0..ROOM / 2 {
-        lines.extend_from_slice(b"mark\n")?;
-        answers.extend_from_slice(b"0\n")?;
-    }
-    lines.extend_from_slice(b"mark\n")?;
-    comes_to(alloc, &lines, Err(ServeFault::Write), &answers)
+    let mut texts = no_texts(alloc);
+    put_too_many(&mut texts)?;
+    comes_to(alloc, &texts.lines, Err(ServeFault::Write), &texts.answers)
 }
 
 fn told(alloc: Global) -> Result<[bool; 5], AllocError> {

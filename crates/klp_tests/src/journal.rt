@@ -44,6 +44,19 @@ const ROUND: [Event; 6] = [
     Event::Poll,
 ];
 
+/// Lists of events: as many task events as the journal takes, some, what goes round, and single ones.
+#[derive(Clone, Copy)]
+struct Lists<'a> {
+    most: &'a [Event],
+    some: &'a [Event],
+    cycle: &'a [Event],
+    round: &'a [Event],
+    begin: &'a [Event],
+    enter: &'a [Event],
+    exit: &'a [Event],
+    end: &'a [Event],
+}
+
 /// How many events were accepted and refused, how many stand, and how many records are free.
 type Told = ((u64, u64), u32, u32);
 
@@ -113,53 +126,88 @@ fn turns(alloc: Global, count: u32) -> Result<Vec<Event>, AllocError> {
     Ok(events)
 }
 
-/// What a manager shows that fills the journal with task events, then with records, and then goes round and
-/// seals its journal 200 times.
-fn looks(alloc: Global) -> Result<Vec<Look>, Fault> {
-    let text = catalog(alloc)?;
-    let most = turns(alloc, 4_096)?;
-    let some = turns(alloc, 760)?;
-    let cycle = CYCLE;
-    let round = ROUND;
-    let (begin, enter) = ([Event::NewTask(TASK)], [Event::EnterKernel(TASK)]);
-    let (exit, end) = ([Event::ExitToUser(TASK)], [Event::EndTask(TASK)]);
-    let mut steps = Vec::new(alloc);
-    // task events fill the journal, of which the last entered the kernel, and it is sealed
+/// Task events fill the journal, of which the last entered the kernel, and it is sealed.
+fn put_filling<'a>(steps: &mut Vec<Step<'a>>, lists: Lists<'a>) -> Result<(), AllocError> {
     for step in [
-        Step::Events(&most),
-        Step::Events(&exit),
-        Step::Events(&begin),
+        Step::Events(lists.most),
+        Step::Events(lists.exit),
+        Step::Events(lists.begin),
         Step::Rewind(4_097),
         Step::Rewind(4_095),
-        Step::Events(&enter),
+        Step::Events(lists.enter),
         Step::Seal,
-        Step::Events(&exit),
-        Step::Events(&end),
+        Step::Events(lists.exit),
+        Step::Events(lists.end),
         Step::Seal,
     ] {
         steps.push(step)?;
     }
+    Ok(())
+}
+
+/// Records fill it.
+fn put_nearly_filling<'a>(steps: &mut Vec<Step<'a>>, lists: Lists<'a>) -> Result<(), AllocError> {
     for _ in 0..44 {
-        steps.push(Step::Events(&cycle))?;
+        steps.push(Step::Events(lists.cycle))?;
     }
     for step in [
-        Step::Events(&some),
-        Step::Events(&exit),
-        Step::Events(&enter),
+        Step::Events(lists.some),
+        Step::Events(lists.exit),
+        Step::Events(lists.enter),
         Step::Rewind(0),
     ] {
         steps.push(step)?;
     }
+    Ok(())
+}
+
+/// It goes round and is sealed 200 times.
+fn put_rounds<'a>(steps: &mut Vec<Step<'a>>, lists: Lists<'a>) -> Result<(), AllocError> {
     for _ in 0..200 {
-        steps.push(Step::Events(&round))?;
+        steps.push(Step::Events(lists.round))?;
         steps.push(Step::Seal)?;
     }
+    Ok(())
+}
+
+/// What a manager over this text shows that fills the journal with task events, then with records, and then
+/// goes round and seals its journal 200 times.
+fn looks_over(
+    alloc: Global,
+    text: &str,
+    most: &[Event],
+    some: &[Event],
+) -> Result<Vec<Look>, Fault> {
+    let (cycle, round) = (CYCLE, ROUND);
+    let (begin, enter) = ([Event::NewTask(TASK)], [Event::EnterKernel(TASK)]);
+    let (exit, end) = ([Event::ExitToUser(TASK)], [Event::EndTask(TASK)]);
+    let lists = Lists {
+        most,
+        some,
+        cycle: &cycle,
+        round: &round,
+        begin: &begin,
+        enter: &enter,
+        exit: &exit,
+        end: &end,
+    };
+    let mut steps = Vec::new(alloc);
+    put_filling(&mut steps, lists)?;
+    put_nearly_filling(&mut steps, lists)?;
+    put_rounds(&mut steps, lists)?;
     let given = Given {
-        text: text.as_str(),
+        text,
         callbacks: 4,
         runs: 0,
     };
     Ok(outcome(alloc, given, &steps)?.looks)
+}
+
+fn looks(alloc: Global) -> Result<Vec<Look>, Fault> {
+    let text = catalog(alloc)?;
+    let most = turns(alloc, 4_096)?;
+    let some = turns(alloc, 760)?;
+    looks_over(alloc, text.as_str(), &most, &some)
 }
 
 /// Whether these looks tell that.

@@ -1,7 +1,9 @@
 //! What a catalog's text leads to: a fault, or what a manager over it shows that no line of the console does.
 //! All tests of managers share it, since a function that owns one is dear to prove: each way out that it has
 //! then is proved anew, so what is owned is split among functions with few of them.
-ghost use Rattle.std.specs.Prelude.{length};
+ghost use Rattle.std.specs.Prelude.{◌≡◌, [], length, IfOk};
+ghost use Rattle.klp_text.specs.TextImage.{opening as image_over};
+ghost use Rattle.klp_modules.specs.Names.{opening as names_over};
 ghost use Rattle.klp_catalog_text.specs.Within.{AreTargetsWithin};
 
 use crate::callback::{Watched, copy_of};
@@ -72,13 +74,23 @@ pub struct Shown {
     pub seen: u64,
 }
 
-/// Boots a manager over a plan with these callbacks, as many as they may be.
-fn booted(alloc: Global, mut plan: Plan, callbacks: Vec<Boxed>) -> Result<Manager, Fault>
-    requires { AreTargetsWithin (length plan.objects) plan.patches }
+/// The image of a plan's objects, and their names. The plan has no objects afterwards.
+pub fn opened(alloc: Global, plan: &mut Plan) -> Result<(Image, Modules), Fault>
+    ensures rest { plan.new ≡ record plan.old { objects = [] } }
+    ensures opened { IfOk result (λ made. (made.0 ≡ image_over plan.old.handler plan.old.objects)
+        × (made.1 ≡ names_over plan.old.objects)) }
 {
     let objects = plan.take_objects();
     let image = Image::new(alloc, objects, plan.handler())?;
     let modules = Modules::new(alloc, &image)?;
+    Ok((image, modules))
+}
+
+/// Boots a manager over a plan with these callbacks, as many as they may be.
+fn booted(alloc: Global, mut plan: Plan, callbacks: Vec<Boxed>) -> Result<Manager, Fault>
+    requires { AreTargetsWithin (length plan.objects) plan.patches }
+{
+    let (image, modules) = opened(alloc, &mut plan)?;
     let catalog = Catalog::assemble(alloc, &modules, plan, callbacks)?;
     Ok(Manager::boot(alloc, image, modules, catalog)?)
 }
