@@ -12,7 +12,7 @@ ghost use Rattle.klp_manager_state.specs.Managed.{setting_of};
 use crate::manager::Manager;
 use klp_stack::version_of;
 use klp_types::{
-    ENTRY_SITE_END, Entry, PatchId, Site, SiteRow, SiteWord, Target, TaskId, Transition, Version,
+    ENTRY_SITE_LEN, Entry, PatchId, Site, SiteRow, SiteWord, Target, TaskId, Transition, Version,
 };
 
 /// The patch in transition, without its target: a call passes over its entry by the task's state alone.
@@ -87,7 +87,7 @@ impl Manager {
                 if usize::from(site.0) >= self.state.sites.sites() {
                     return None;
                 }
-                Some(self.state.sites.image().address(site) + ENTRY_SITE_END as u64)
+                Some(self.state.sites.image().address(site) + ENTRY_SITE_LEN as u64)
             }
             Version::New(patch, function) => {
                 let function = self.catalog.functions(patch).get(usize::from(function))?;

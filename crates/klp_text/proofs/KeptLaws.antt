@@ -3,14 +3,14 @@ use Rattle.std.proofs.Common.{◌≡◌, ℕ, zero, suc, ◌+◌, ◌^◌, ◌<�
 use Rattle.std.specs.Prelude.{FitsSigned, option_map}
 use Rattle.std.specs.Int.{w32}
 use Rattle.std.specs.List.{All, AllZip, slice_get}
-use Rattle.std.proofs.lemmas.List.{map-set, take_more, drop_at, get_or-map, take-append-drop, get_or-append-add, get_or_append_left}
+use Rattle.std.proofs.lemmas.List.{map-set, take_more, take_at, drop_at, get_or-map, length-take-le, take-append-drop, get_or-append-add, get_or_append_left}
 use Rattle.std.proofs.lemmas.Option.{slice_get-get_or, slice_get_past}
 use Rattle.klp_types.specs.Image.{Symbol, Object, symbols_of, first_site}
-use Rattle.klp_types.specs.Bytes.{patched, patched_from, entry_bytes, displacement}
+use Rattle.klp_types.specs.Bytes.{patched, patched_from, entry_bytes, displacement, entry_offset, entry_end, entry_address}
 use Rattle.klp_types.proofs.SiteLemmas.{first_site-below, slice_get-symbols_of, symbols_of-append, symbols_of-drop}
 use Rattle.klp_text.specs.declared.stored.StoredSymbol.{StoredSymbol}
 use Rattle.klp_text.specs.TextImage.{TextImage, bytes_at, is_hooked_at}
-use Rattle.klp_text.specs.Kept.{IsKept, IsStored, IsResting, hooked_of, first_sites_from}
+use Rattle.klp_text.specs.Kept.{IsKept, IsStored, IsResting, hooked_of, first_sites_from, with_entry_at}
 
 -- ---- lists in step
 
@@ -80,8 +80,8 @@ length-entry_bytes handler address false = refl
 pub record IsSite (handler : ℕ) (objects : List Object) (site : ℕ) (stored : StoredSymbol) (symbol : Symbol) : Type 0 where
   pub at : slice_get (symbols_of objects) site ≡ Some symbol
   pub stored_is : IsStored handler stored symbol
-  pub long : 5 ≤ length symbol.body
-  pub near : FitsSigned w32 (displacement handler symbol.address)
+  pub long : entry_end symbol.body ≤ length symbol.body
+  pub near : FitsSigned w32 (displacement handler (entry_address symbol))
   pub in_range : symbol.address + length symbol.body < 2 ^ 64
 
 -- the given symbol of a site
@@ -110,17 +110,30 @@ site_is handler objects loaded first_sites stored site s kept below is =
       in_range = kept.in_range site _ inside;
     }
 
+-- what is written at an entry site a second time leaves nothing of the first
+pub written_twice : (offset : ℕ) (first second body : List ℕ) → offset + 5 ≤ length body → length first ≡ 5
+    → with_entry_at offset second (with_entry_at offset first body) ≡ with_entry_at offset second body
+written_twice offset first second body long five =
+    let front : length (take offset body) ≡ offset = length-take-le offset body (omega arith) in
+    let before : take offset ((take offset body ++ first) ++ drop (offset + 5) body) ≡ take offset body =
+    rw (append_assoc (take offset body) first (drop (offset + 5) body)) (take_at (take offset body) (first ++ drop (offset + 5) body) offset front) in
+    let written : length (take offset body ++ first) ≡ offset + 5 = omega (arith, length-append (take offset body) first) in
+    let behind : drop (offset + 5) ((take offset body ++ first) ++ drop (offset + 5) body) ≡ drop (offset + 5) body =
+    drop_at (take offset body ++ first) (drop (offset + 5) body) (offset + 5) written in
+    rw (before, behind)
+
 -- a symbol written anew
-pub stored-set_hooked : (handler : ℕ) (hooked : Bool) (old new : StoredSymbol) (symbol : Symbol) →
-    IsStored handler old symbol → new.address ≡ old.address → new.hooked ≡ hooked →
-    new.body.items ≡ entry_bytes handler old.address hooked ++ drop 5 old.body.items →
+pub stored-set_hooked : (handler : ℕ) (hooked : Bool) (old new : StoredSymbol) (symbol : Symbol) → entry_end symbol.body ≤ length symbol.body →
+    IsStored handler old symbol → new.address ≡ old.address → new.offset ≡ old.offset → new.hooked ≡ hooked →
+    new.body.items ≡ with_entry_at old.offset (entry_bytes handler old.address hooked) old.body.items →
     IsStored handler new symbol
-stored-set_hooked handler hooked old new symbol stored address flag body =
-    let rest : drop 5 old.body.items ≡ drop 5 symbol.body =
-    ap (drop 5) stored.body ∙ drop_at (entry_bytes handler symbol.address old.hooked) (drop 5 symbol.body) 5 (length-entry_bytes handler symbol.address old.hooked) in
+stored-set_hooked handler hooked old new symbol long stored address offset flag body =
+    let twice = written_twice (entry_offset symbol.body) (entry_bytes handler (entry_address symbol) old.hooked) (entry_bytes handler (entry_address symbol) hooked) symbol.body
+    long (length-entry_bytes handler (entry_address symbol) old.hooked) in
     record {
       address = address ∙ stored.address;
-      body = rw (body, rest, stored.address, flag);
+      offset = offset ∙ stored.offset;
+      body = rw (body, stored.body, stored.address, stored.offset, flag) twice;
     }
 
 pub kept-set : (handler : ℕ) (objects : List Object) (loaded : List Bool) (first_sites : List ℕ) (stored : List StoredSymbol)
@@ -142,13 +155,13 @@ kept-set handler objects loaded first_sites stored site s kept own =
 pub kept-set_hooked : (handler : ℕ) (hooked : Bool) (objects : List Object) (loaded : List Bool) (first_sites : List ℕ)
     (stored : List StoredSymbol) (site : ℕ) (old new : StoredSymbol) →
     IsKept handler objects loaded first_sites stored → site < length stored → old ≡ get_or stored site old →
-    new.address ≡ old.address → new.hooked ≡ hooked →
-    new.body.items ≡ entry_bytes handler old.address hooked ++ drop 5 old.body.items →
+    new.address ≡ old.address → new.offset ≡ old.offset → new.hooked ≡ hooked →
+    new.body.items ≡ with_entry_at old.offset (entry_bytes handler old.address hooked) old.body.items →
     IsKept handler objects loaded first_sites (set stored site new)
-kept-set_hooked handler hooked objects loaded first_sites stored site old new kept below is address flag body =
+kept-set_hooked handler hooked objects loaded first_sites stored site old new kept below is address offset flag body =
     let there = site_is handler objects loaded first_sites stored site old kept below is in
     kept-set handler objects loaded first_sites stored site new kept
-    (stored-set_hooked handler hooked old new (symbol_at objects site) there.stored_is address flag body)
+    (stored-set_hooked handler hooked old new (symbol_at objects site) there.long there.stored_is address offset flag body)
 
 pub hooked_of-set : (stored : List StoredSymbol) (site : ℕ) (new : StoredSymbol) (hooked : Bool) → new.hooked ≡ hooked →
     hooked_of (set stored site new) ≡ set (hooked_of stored) site hooked
@@ -156,12 +169,16 @@ hooked_of-set stored site new hooked flag =
     map-set (λ (s : StoredSymbol). s.hooked) stored site new ∙ ap (set (hooked_of stored) site) flag
 
 -- a stored body has an entry site too
-pub stored_long : (handler : ℕ) (stored : StoredSymbol) (symbol : Symbol) → IsStored handler stored symbol → 5 ≤ length stored.body.items
-stored_long handler stored symbol h =
-    let entry = length-entry_bytes handler symbol.address stored.hooked in
-    let whole = length-append (entry_bytes handler symbol.address stored.hooked) (drop 5 symbol.body) in
-    let same : length stored.body.items ≡ length (entry_bytes handler symbol.address stored.hooked ++ drop 5 symbol.body) = ap length h.body in
-    omega (arith, entry, whole, same)
+pub stored_long : (handler : ℕ) (stored : StoredSymbol) (symbol : Symbol) → entry_end symbol.body ≤ length symbol.body → IsStored handler stored symbol
+    → stored.offset + 5 ≤ length stored.body.items
+stored_long handler stored symbol long h =
+    let entry = length-entry_bytes handler (entry_address symbol) stored.hooked in
+    let bytes : List ℕ = entry_bytes handler (entry_address symbol) stored.hooked in
+    let front = length-take-le (entry_offset symbol.body) symbol.body (omega arith) in
+    let inner = length-append (take (entry_offset symbol.body) symbol.body) bytes in
+    let whole = length-append (take (entry_offset symbol.body) symbol.body ++ bytes) (drop (entry_end symbol.body) symbol.body) in
+    let same : length stored.body.items ≡ length ((take (entry_offset symbol.body) symbol.body ++ bytes) ++ drop (entry_end symbol.body) symbol.body) = ap length h.body in
+    omega (arith, entry, inner, whole, front, same, h.offset)
 
 -- an object has no more symbols than the image
 pub few_symbols : (objects : List Object) (o : ℕ) (object : Object) → length (symbols_of objects) ≤ 256 →
@@ -176,7 +193,7 @@ stored_from_resting handler [] [] h = tt
 stored_from_resting handler [] (y ∷ ys) h = absurd h
 stored_from_resting handler (x ∷ xs) [] h = absurd h
 stored_from_resting handler (x ∷ xs) (y ∷ ys) h =
-    (record { address = h.0.address; body = rw (h.0.flag) h.0.body }, stored_from_resting handler xs ys h.1)
+    (record { address = h.0.address; offset = h.0.offset; body = rw (h.0.flag) h.0.body }, stored_from_resting handler xs ys h.1)
 
 pub hooked_of-resting : (stored : List StoredSymbol) (symbols : List Symbol) →
     AllZip IsResting stored symbols → hooked_of stored ≡ replicate (length symbols) false

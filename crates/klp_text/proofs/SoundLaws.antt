@@ -7,7 +7,7 @@ use Rattle.std.proofs.lemmas.Bool.{ltb-false, leb-false}
 use Rattle.std.proofs.lemmas.Int.{ints}
 use Rattle.std.proofs.lemmas.List.Elements.{All-from_recursion, All-weaker}
 use Rattle.klp_types.specs.Image.{Symbol, Object, symbols_of}
-use Rattle.klp_types.specs.Bytes.{can_reach, displacement}
+use Rattle.klp_types.specs.Bytes.{can_reach, displacement, entry_end, entry_address}
 use Rattle.klp_text.specs.declared.fault.ImageFault.{ImageFault}
 use Rattle.klp_text.specs.Faults.{first_fault, symbols_tests, image_fault, is_in_the_way, is_too_many, begins_with_kernel, has_duplicate, share_address}
 use Rattle.klp_text.specs.TextImage.{IsWithinLimits}
@@ -36,22 +36,22 @@ fits z low high = grind (arith, ints)
 
 -- a symbol without a fault
 pub record IsSound (handler : ℕ) (symbol : Symbol) : Type 0 where
-  pub long : 5 ≤ length symbol.body
-  pub near : FitsSigned w32 (displacement handler symbol.address)
+  pub long : entry_end symbol.body ≤ length symbol.body
+  pub near : FitsSigned w32 (displacement handler (entry_address symbol))
   pub in_range : symbol.address + length symbol.body < 2 ^ 64
 
 sound_symbols : (handler : ℕ) (earlier symbols : List Symbol) →
     first_fault (symbols_tests handler earlier symbols) ≡ None → AllByRecursion (IsSound handler) symbols
 sound_symbols handler earlier [] h = tt
 sound_symbols handler earlier (symbol ∷ symbols) h =
-    let short = no_fault (nat_lt (length symbol.body) 5) _ _ h in
-    let far = no_fault (not (can_reach handler symbol.address)) _ _ short.1 in
+    let short = no_fault (nat_lt (length symbol.body) (entry_end symbol.body)) _ _ h in
+    let far = no_fault (not (can_reach handler (entry_address symbol))) _ _ short.1 in
     let way = no_fault (is_in_the_way earlier symbol) _ _ far.1 in
     let in_range = neither (nat_le (2 ^ 64) (symbol.address + length symbol.body)) (list_any (share_address symbol) earlier) way.0 in
-    let near = both (int_le (negsuc (2 ^ 31 - 1)) (displacement handler symbol.address)) _ (true_from_not (can_reach handler symbol.address) far.0) in (
+    let near = both (int_le (negsuc (2 ^ 31 - 1)) (displacement handler (entry_address symbol))) _ (true_from_not (can_reach handler (entry_address symbol)) far.0) in (
       record {
-        long = ltb-false (length symbol.body) 5 short.0;
-        near = fits (displacement handler symbol.address) near.0 near.1;
+        long = ltb-false (length symbol.body) (entry_end symbol.body) short.0;
+        near = fits (displacement handler (entry_address symbol)) near.0 near.1;
         in_range = leb-false (2 ^ 64) (symbol.address + length symbol.body) in_range.0;
       },
       sound_symbols handler (earlier ++ symbol ∷ []) symbols way.1,

@@ -2,7 +2,7 @@
 use Rattle.std.specs.Prelude.{ℕ, ◌+◌, ◌^◌, Bool, false, not, ◌&&◌, ◌||◌, nat_lt, nat_le, List, [], ◌∷◌, ◌++◌, length, Option, Some, None, codes, bytes_eq, if◌then◌else◌}
 use Rattle.std.specs.List.{list_any}
 use Rattle.klp_types.specs.Image.{Symbol, Object, symbols_of}
-use Rattle.klp_types.specs.Bytes.{entry_end, can_reach}
+use Rattle.klp_types.specs.Bytes.{entry_end, entry_address, can_reach}
 use Rattle.klp_text.specs.declared.fault.ImageFault.{ImageFault}
 use Rattle.klp_text.specs.declared.fault.ImageFault.TheVariants.{Overlap, ShortSymbol, Displacement, DuplicateObject, TooMany, NoKernel}
 
@@ -42,8 +42,8 @@ object_tests objects =
 -- the same of a symbol, with the symbols that come before it
 abbrev pub symbol_tests : ℕ → List Symbol → Symbol → List (Bool × ImageFault)
 symbol_tests handler earlier symbol =
-    (nat_lt (length symbol.body) entry_end, ShortSymbol)
-    ∷ (not (can_reach handler symbol.address), Displacement)
+    (nat_lt (length symbol.body) (entry_end symbol.body), ShortSymbol)
+    ∷ (not (can_reach handler (entry_address symbol)), Displacement)
     ∷ (is_in_the_way earlier symbol, Overlap)
     ∷ []
 

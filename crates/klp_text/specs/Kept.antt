@@ -1,9 +1,9 @@
 -- What an image keeps: the objects as they were given, and beside them a table of the sites.
-use Rattle.std.specs.Prelude.{◌≡◌, ℕ, ◌+◌, ◌^◌, ◌<◌, ◌≤◌, FitsSigned, Bool, false, List, [], ◌∷◌, length, map}
+use Rattle.std.specs.Prelude.{◌≡◌, ℕ, ◌+◌, ◌^◌, ◌<◌, ◌≤◌, FitsSigned, Bool, false, List, [], ◌∷◌, ◌++◌, length, map, take, drop}
 use Rattle.std.specs.Int.{w32}
 use Rattle.std.specs.List.{All, AllZip}
 use Rattle.klp_types.specs.Image.{Symbol, Object, symbols_of}
-use Rattle.klp_types.specs.Bytes.{entry_end, nop, with_entry, patched, displacement}
+use Rattle.klp_types.specs.Bytes.{entry_offset, entry_end, entry_address, nop, with_entry, patched, displacement}
 use Rattle.klp_text.specs.TextImage.{IsWithinLimits}
 use Rattle.klp_text.specs.declared.stored.StoredSymbol.{StoredSymbol}
 
@@ -12,13 +12,17 @@ abbrev pub first_sites_from : ℕ → List Object → List ℕ
 first_sites_from site [] = []
 first_sites_from site (object ∷ objects) = site ∷ first_sites_from (site + length object.symbols) objects
 
+-- a body with these five bytes where its entry site begins
+abbrev pub with_entry_at : ℕ → List ℕ → List ℕ → List ℕ
+with_entry_at offset entry body = take offset body ++ entry ++ drop (offset + 5) body
+
 -- a body has an entry site
 abbrev pub IsLong : Symbol → Type 0
-IsLong symbol = entry_end ≤ length symbol.body
+IsLong symbol = entry_end symbol.body ≤ length symbol.body
 
 -- a call at the entry site reaches the handler
 abbrev pub IsNear : ℕ → Symbol → Type 0
-IsNear handler symbol = FitsSigned w32 (displacement handler symbol.address)
+IsNear handler symbol = FitsSigned w32 (displacement handler (entry_address symbol))
 
 -- it ends within the addresses of 64 bits
 abbrev pub IsInRange : Symbol → Type 0
@@ -26,12 +30,14 @@ IsInRange symbol = symbol.address + length symbol.body < 2 ^ 64
 
 -- a symbol as it stands in the text
 pub record IsStored (handler : ℕ) (stored : StoredSymbol) (symbol : Symbol) : Type 0 where
-  pub address : stored.address ≡ symbol.address
+  pub address : stored.address ≡ entry_address symbol
+  pub offset : stored.offset ≡ entry_offset symbol.body
   pub body : stored.body.items ≡ (patched handler stored.hooked symbol).body
 
 -- the same of one that isn't hooked
 pub record IsResting (stored : StoredSymbol) (symbol : Symbol) : Type 0 where
-  pub address : stored.address ≡ symbol.address
+  pub address : stored.address ≡ entry_address symbol
+  pub offset : stored.offset ≡ entry_offset symbol.body
   pub flag : stored.hooked ≡ false
   pub body : stored.body.items ≡ with_entry nop symbol.body
 

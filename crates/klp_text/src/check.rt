@@ -3,9 +3,9 @@ ghost use Rattle.std.specs.List.{list_any};
 ghost use Rattle.klp_types.specs.Image.{Object, symbols_of};
 ghost use Rattle.klp_text.specs.Faults as faults;
 
-use crate::entry::can_reach;
+use crate::entry::{can_reach, entry_offset};
 use crate::fault::ImageFault;
-use klp_types::{ENTRY_SITE_END, MAX_BODY, MAX_OBJECTS, MAX_SITES, ObjectText, SymbolText};
+use klp_types::{ENTRY_SITE_LEN, MAX_BODY, MAX_OBJECTS, MAX_SITES, ObjectText, SymbolText};
 
 /// The name of the first object, the kernel itself: all others are modules.
 const KERNEL: &str = "vmlinux";
@@ -125,9 +125,10 @@ fn symbol_fault(
     ensures { result ≡ faults.first_fault (faults.symbol_tests handler
         (symbols_of objects.now ++ symbols.now) symbol.now) }
 {
-    if symbol.body.len() < ENTRY_SITE_END {
+    let offset = entry_offset(symbol.body.as_slice());
+    if symbol.body.len() < offset + ENTRY_SITE_LEN {
         Some(ImageFault::ShortSymbol)
-    } else if !can_reach(handler, symbol.address) {
+    } else if !can_reach(handler, u128::from(symbol.address) + offset as u128) {
         Some(ImageFault::Displacement)
     } else if is_in_the_way(objects, symbols, symbol) {
         Some(ImageFault::Overlap)

@@ -1,9 +1,9 @@
-ghost use Rattle.std.specs.Prelude.{◌≡◌, FitsSigned};
+ghost use Rattle.std.specs.Prelude.{◌≡◌, ◌≤◌, ◌<◌, ◌^◌, FitsSigned};
 ghost use Rattle.std.specs.Int.{w32};
 ghost use Rattle.klp_types.specs.Bytes as bytes;
 ghost use Rattle.klp_types.specs.Bytes.{can_reach};
 
-use klp_types::{ENTRY_SITE_END, ENTRY_SITE_LEN};
+use klp_types::ENTRY_SITE_LEN;
 
 /// What an entry site that isn't hooked holds: `nopl 0x0(%rax,%rax,1)`, one instruction of five bytes, so
 /// that no task can be in the middle of what a call is written over.
@@ -12,26 +12,45 @@ pub const NOP: [u8; ENTRY_SITE_LEN] = [0x0f, 0x1f, 0x44, 0x00, 0x00];
 /// The opcode of a near call, behind which its displacement is.
 const CALL: u8 = 0xe8;
 
-/// How far the handler is from the instruction behind the call in the body at this address, as the
-/// processor counts it. 128 bits have room for any two addresses.
-pub fn displacement(handler: u64, address: u64) -> i128
-    ensures { result ≡ bytes.displacement handler address }
+/// ENDBR64, which a function begins with that may be called through a pointer while the processor tracks
+/// such calls. It has to stay there, so a hook goes behind it.
+const ENDBR64: [u8; 4] = [0xf3, 0x0f, 0x1e, 0xfa];
+
+/// Where in a body its entry site begins.
+pub fn entry_offset(body: &[u8]) -> usize
+    ensures value { result ≡ bytes.entry_offset body.now }
+    ensures limit { result ≤ 4 }
 {
-    i128::from(handler) - (i128::from(address) + ENTRY_SITE_END as i128)
+    if body.starts_with(&ENDBR64) {
+        ENDBR64.len()
+    } else {
+        0
+    }
 }
 
-/// Whether a call in the body at this address reaches the handler: a near call has 32 bits with a sign.
-pub fn can_reach(handler: u64, address: u64) -> bool
+/// How far the handler is from the instruction behind the call at this address, as the processor counts it.
+/// 128 bits have room for any two addresses.
+pub fn displacement(handler: u64, address: u128) -> i128
+    requires { address < 2 ^ 65 }
+    ensures { result ≡ bytes.displacement handler address }
+{
+    i128::from(handler) - (address as i128 + ENTRY_SITE_LEN as i128)
+}
+
+/// Whether a call at this address reaches the handler: a near call has 32 bits with a sign.
+pub fn can_reach(handler: u64, address: u128) -> bool
+    requires { address < 2 ^ 65 }
     ensures { result ≡ can_reach handler address }
 {
     i32::try_from(displacement(handler, address)).is_ok()
 }
 
-/// A call of the handler in the body at this address: the opcode and the displacement, lowest byte first.
+/// A call of the handler from this address: the opcode and the displacement, lowest byte first.
 pub fn call(handler: u64, address: u64) -> [u8; ENTRY_SITE_LEN]
     requires { FitsSigned w32 (bytes.displacement handler address) }
     ensures { result ≡ bytes.call handler address }
 {
-    let [first, second, third, fourth] = (displacement(handler, address) as i32).to_le_bytes();
+    let displacement = displacement(handler, u128::from(address)) as i32;
+    let [first, second, third, fourth] = displacement.to_le_bytes();
     [CALL, first, second, third, fourth]
 }

@@ -11,10 +11,10 @@ pub enum ImageFault {
     /// 64 bits or beyond it, so that there is no address behind it.
     #[error("Overlap")]
     Overlap = 1,
-    /// A body is shorter than an entry site, so a call would be written over its neighbour.
+    /// A body ends before its entry site does, so a call would be written over its neighbour.
     #[error("ShortSymbol")]
     ShortSymbol = 2,
-    /// A call at the symbol's address doesn't reach the handler, whose displacement has 32 bits.
+    /// A call at the symbol's entry site doesn't reach the handler, whose displacement has 32 bits.
     #[error("Displacement")]
     Displacement = 3,
     /// Two objects have one name, by which targets and modules are found.

@@ -1,11 +1,11 @@
 ghost use Rattle.std.specs.Prelude.{◌≡◌, ◌+◌, ◌^◌, ◌<◌, ◌≤◌, ◌⊎◌, true, false, length, slice_get, slice_set, slice_index_or, option_map, IfOk, IfErr, OnOk, None};
 ghost use Rattle.klp_types.specs.Image.{Symbol, Object, given_symbol, symbol_of, symbols_of};
-ghost use Rattle.klp_types.specs.Bytes.{entry_end};
+ghost use Rattle.klp_types.specs.Bytes.{entry_address};
 ghost use Rattle.klp_text.specs.TextImage.{opening, bytes_at, site_count, IsWithinLimits};
 ghost use Rattle.std.specs.List.{All, AllZip};
-ghost use Rattle.klp_types.specs.declared.limits.TheConstants.{MAX_SITES};
+ghost use Rattle.klp_types.specs.declared.limits.TheConstants.{ENTRY_SITE_LEN, MAX_SITES};
 ghost use Rattle.klp_text.specs.Faults as faults;
-ghost use Rattle.klp_text.specs.Kept.{IsLong, IsResting, first_sites_from};
+ghost use Rattle.klp_text.specs.Kept.{IsInRange, IsLong, IsResting, first_sites_from};
 ghost use Rattle.klp_text.specs.declared.fault.ImageFault.TheVariants.{NoMemory};
 
 use crate::check::image_fault;
@@ -159,13 +159,14 @@ impl Image {
         Some(self.sites[site].body.as_slice())
     }
 
-    /// The address of an entry site, which is that of its symbol, since a body begins with it.
+    /// The address of an entry site: that of its symbol, or four bytes behind it where the body begins with
+    /// ENDBR64.
     pub fn address(&self, site: Site) -> u64
         requires { site < site_count self.now.image }
-        ensures value { option_map (λ (s : Symbol). s.address) (symbol_of self.now.image site) ≡ Some result }
+        ensures value { option_map entry_address (symbol_of self.now.image site) ≡ Some result }
         // the entry site is within 64 bits, and there is an address behind it, so the original can be
         // jumped to
-        ensures end { result + entry_end < 2 ^ 64 }
+        ensures end { result + ENTRY_SITE_LEN < 2 ^ 64 }
     {
         self.sites[usize::from(site.0)].address
     }
@@ -231,7 +232,8 @@ fn first_sites(alloc: Global, objects: &[ObjectText]) -> Result<Vec<u16>, AllocE
 
 /// By site, the symbol with a NOP at its entry site, whatever bytes it was given with.
 fn stored_symbols(alloc: Global, objects: &[ObjectText]) -> Result<Vec<StoredSymbol>, AllocError>
-    requires { All IsLong (symbols_of objects.now) }
+    requires long { All IsLong (symbols_of objects.now) }
+    requires range { All IsInRange (symbols_of objects.now) }
     ensures { IfOk result (λ sites. AllZip IsResting sites.items (symbols_of objects.now)) }
 {
     let mut sites = Vec::new(alloc);

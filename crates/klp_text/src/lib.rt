@@ -1,8 +1,8 @@
 //! The text of the kernel and its modules: the bytes of every function, and the entry sites at which calls
 //! of the handler come and go.
 //!
-//! A function is patched by its first five bytes. They hold a NOP, and where a patch redirects the function
-//! a call of the handler, as in livepatch, Hooks. The image and its numbers are this project's own model
+//! A function is patched by five bytes, its first ones or those behind an ENDBR64. They hold a NOP, and where
+//! a patch redirects the function a call of the handler, as in livepatch, Hooks. The image and its numbers are this project's own model
 //! (`specs/TextImage`).
 //!
 //! [`Image::new`] answers the first fault in a fixed order (`specs/Faults`), and only that one or

@@ -1,15 +1,20 @@
-ghost use Rattle.std.specs.Prelude.{◌≡◌, ◌≤◌, length, FitsSigned, IfOk, false};
+ghost use Rattle.std.specs.Prelude.{◌≡◌, ◌+◌, ◌≤◌, ◌<◌, ◌^◌, length, FitsSigned, IfOk, false};
 ghost use Rattle.std.specs.Int.{w32};
-ghost use Rattle.klp_types.specs.Bytes.{entry_end, nop, with_entry, displacement, entry_bytes};
+ghost use Rattle.klp_types.specs.Bytes.{entry_offset, entry_end, entry_address, nop, with_entry, displacement, entry_bytes};
+ghost use Rattle.klp_text.specs.Kept.{with_entry_at};
 
-use crate::entry::{NOP, call};
-use klp_types::{ENTRY_SITE_END, ENTRY_SITE_LEN, ENTRY_SITE_OFFSET, SymbolText};
+use crate::entry::{NOP, call, entry_offset};
+use klp_types::{ENTRY_SITE_LEN, SymbolText};
 use std::alloc::{AllocError, Global};
 
-/// A symbol as it is in the text now. The address is beside the body, because a call is made from it.
+/// A symbol as it is in the text now. Where its entry site is stands beside the body, since a call is made
+/// from there each time that the site is hooked.
 #[derive(Debug, Drop)]
 pub struct StoredSymbol {
+    /// The address of the entry site.
     pub address: u64,
+    /// Where in the body the entry site begins.
+    pub offset: usize,
     pub hooked: bool,
     pub body: Vec<u8>,
 }
@@ -18,15 +23,19 @@ impl StoredSymbol {
     /// The symbol with a NOP at its entry site, in a copy of its body, so that the one given stays as it
     /// was.
     pub fn new(alloc: Global, symbol: &SymbolText) -> Result<StoredSymbol, AllocError>
-        requires { entry_end ≤ length symbol.now.body }
-        ensures address { IfOk result (λ s. s.address ≡ symbol.now.address) }
+        requires long { entry_end symbol.now.body ≤ length symbol.now.body }
+        requires range { symbol.now.address + length symbol.now.body < 2 ^ 64 }
+        ensures address { IfOk result (λ s. s.address ≡ entry_address symbol.now) }
+        ensures offset { IfOk result (λ s. s.offset ≡ entry_offset symbol.now.body) }
         ensures resting { IfOk result (λ s. s.hooked ≡ false) }
         ensures body { IfOk result (λ s. s.body.items ≡ with_entry nop symbol.now.body) }
     {
+        let offset = entry_offset(symbol.body.as_slice());
         let mut body = Vec::from_slice(alloc, symbol.body.as_slice())?;
-        write_entry(&mut body, &NOP);
+        write_entry(&mut body, offset, &NOP);
         Ok(StoredSymbol {
-            address: symbol.address,
+            address: symbol.address + offset as u64,
+            offset,
             hooked: false,
             body,
         })
@@ -35,27 +44,29 @@ impl StoredSymbol {
     /// Puts a call of the handler at the entry site, or the NOP, and sets the flag with it, so that the two
     /// can't differ.
     pub fn set_hooked(&mut self, handler: u64, hooked: bool)
-        requires long { entry_end ≤ length self.old.body.items }
+        requires long { self.old.offset + 5 ≤ length self.old.body.items }
         requires near { FitsSigned w32 (displacement handler self.old.address) }
         ensures address { self.new.address ≡ self.old.address }
+        ensures offset { self.new.offset ≡ self.old.offset }
         ensures flag { self.new.hooked ≡ hooked }
         ensures body { self.new.body.items
-            ≡ with_entry (entry_bytes handler self.old.address hooked) self.old.body.items }
+            ≡ with_entry_at self.old.offset (entry_bytes handler self.old.address hooked) self.old.body.items }
     {
         let entry = if hooked {
             call(handler, self.address)
         } else {
             NOP
         };
-        write_entry(&mut self.body, &entry);
+        write_entry(&mut self.body, self.offset, &entry);
         self.hooked = hooked;
     }
 }
 
-/// Writes over the entry site of a body. All five bytes change in one step, so no task runs a half of them.
-fn write_entry(body: &mut [u8], entry: &[u8; ENTRY_SITE_LEN])
-    requires { entry_end ≤ length body.old }
-    ensures { body.new ≡ with_entry entry.now body.old }
+/// Writes over the entry site that begins there in a body. All five bytes change in one step, so no task
+/// runs a half of them.
+fn write_entry(body: &mut [u8], offset: usize, entry: &[u8; ENTRY_SITE_LEN])
+    requires { offset + 5 ≤ length body.old }
+    ensures { body.new ≡ with_entry_at offset entry.now body.old }
 {
-    body[ENTRY_SITE_OFFSET..ENTRY_SITE_END].copy_from_slice(entry);
+    body[offset..offset + ENTRY_SITE_LEN].copy_from_slice(entry);
 }

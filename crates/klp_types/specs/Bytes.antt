@@ -1,25 +1,34 @@
 -- The bytes of the text.
-use Rattle.std.specs.Prelude.{ℕ, suc, ◌+◌, ◌-◌, ◌^◌, ℤ, pos, negsuc, ◌-ℤ◌, int_lt, int_le, Bool, ◌&&◌, List, [], ◌∷◌, ◌++◌, take, drop, Option, Some, None, option_map, if◌then◌else◌, slice_get}
+use Rattle.std.specs.Prelude.{ℕ, suc, ◌+◌, ◌-◌, ◌^◌, ◌==◌, ℤ, pos, negsuc, ◌-ℤ◌, int_lt, int_le, Bool, ◌&&◌, List, [], ◌∷◌, ◌++◌, take, drop, Option, Some, None, option_map, if◌then◌else◌, slice_get}
+use Rattle.std.specs.List.{starts_with}
 use Rattle.std.specs.Int.{to_le_bytes, cast_unsigned, w32}
 use Rattle.klp_types.specs.Image.{Symbol, Object, Image, first_site}
 
--- where in a body its entry site begins
-abbrev pub entry_offset : ℕ
-entry_offset = 0
+-- ENDBR64, f3 0f 1e fa: what a function begins with that may be called through a pointer while the processor tracks such calls
+abbrev pub endbr64 : List ℕ
+endbr64 = 243 ∷ 15 ∷ 30 ∷ 250 ∷ []
+
+-- where in a body its entry site begins: behind an ENDBR64, which stays, and else with the body
+abbrev pub entry_offset : List ℕ → ℕ
+entry_offset body = if starts_with (λ a b. a == b) body endbr64 then 4 else 0
 
 -- where in a body its entry site, which is as long as a call, ends
-abbrev pub entry_end : ℕ
-entry_end = entry_offset + 5
+abbrev pub entry_end : List ℕ → ℕ
+entry_end body = entry_offset body + 5
+
+-- the address of a symbol's entry site
+abbrev pub entry_address : Symbol → ℕ
+entry_address symbol = symbol.address + entry_offset symbol.body
 
 -- a NOP of five bytes: 0f 1f 44 00 00
 abbrev pub nop : List ℕ
 nop = 15 ∷ 31 ∷ 68 ∷ 0 ∷ 0 ∷ []
 
--- how far the handler is from the instruction behind the call in the body at this address
+-- how far the handler is from the instruction behind the call at this address
 abbrev pub displacement : ℕ → ℕ → ℤ
-displacement handler address = pos handler -ℤ pos (address + entry_end)
+displacement handler address = pos handler -ℤ pos (address + 5)
 
--- whether a call in the body at this address reaches the handler by a signed number of 32 bits
+-- whether a call at this address reaches the handler by a signed number of 32 bits
 abbrev pub can_reach : ℕ → ℕ → Bool
 can_reach handler address =
     int_le (negsuc (2 ^ 31 - 1)) (displacement handler address) && int_lt (displacement handler address) (pos (2 ^ 31))
@@ -28,17 +37,17 @@ can_reach handler address =
 abbrev pub call : ℕ → ℕ → List ℕ
 call handler address = 232 ∷ to_le_bytes w32 (cast_unsigned w32 (displacement handler address))
 
--- what stands at the entry site of the body at this address
+-- what stands at the entry site at this address
 abbrev pub entry_bytes : ℕ → ℕ → Bool → List ℕ
 entry_bytes handler address hooked = if hooked then call handler address else nop
 
 -- a body with these bytes at its entry site
 abbrev pub with_entry : List ℕ → List ℕ → List ℕ
-with_entry entry body = take entry_offset body ++ entry ++ drop entry_end body
+with_entry entry body = take (entry_offset body) body ++ entry ++ drop (entry_end body) body
 
 -- a symbol with its entry site replaced
 abbrev pub patched : ℕ → Bool → Symbol → Symbol
-patched handler hooked symbol = record symbol { body = with_entry (entry_bytes handler symbol.address hooked) symbol.body }
+patched handler hooked symbol = record symbol { body = with_entry (entry_bytes handler (entry_address symbol) hooked) symbol.body }
 
 -- a symbol whose entry site isn't hooked
 abbrev pub resting : Symbol → Symbol

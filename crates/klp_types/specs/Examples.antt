@@ -44,6 +44,20 @@ c = record {
 abbrev pub patched_kernel : Setting
 patched_kernel = record { image = kernel; patches = p ∷ c ∷ [] }
 
+-- a function that begins with ENDBR64, and a kernel that has it alone
+abbrev pub tracked : Symbol
+tracked = record {
+  name = 101 ∷ [];
+  address = 0xffff_ffff_8100_5000;
+  body = 0xf3 ∷ 0x0f ∷ 0x1e ∷ 0xfa ∷ 0xe8 ∷ 0x00 ∷ 0x00 ∷ 0x00 ∷ 0x00 ∷ 0x90 ∷ 0xc3 ∷ [];
+}
+
+abbrev pub tracked_kernel : Setting
+tracked_kernel = record {
+  image = record { handler = 0xffff_ffff_8100_0000; objects = record { name = []; symbols = tracked ∷ [] } ∷ [] };
+  patches = [];
+}
+
 -- a script without edits that answers this status
 abbrev pub answering : ℤ → Script
 answering status = record { edits = []; status = status }

@@ -6,7 +6,7 @@ use Rattle.klp_types.specs.declared.version.Target.{Target}
 use Rattle.klp_types.specs.declared.version.Entry.{Entry}
 use Rattle.klp_types.specs.declared.version.Transition.{Transition}
 use Rattle.klp_types.specs.Image.{Symbol, symbol_of}
-use Rattle.klp_types.specs.Bytes.{entry_end}
+use Rattle.klp_types.specs.Bytes.{entry_address}
 use Rattle.klp_types.specs.Setting.{Setting, Function, functions_of}
 
 -- whether this is the patch in transition
@@ -36,7 +36,7 @@ newest_version site (newest ∷ older) = version_of site newest.func newest.patc
 
 -- where a version begins: a new function at its own address, an original right behind its entry site
 abbrev pub address_of : Setting → Version → Option ℕ
-address_of setting (Original site) = option_map (λ (symbol : Symbol). symbol.address + entry_end) (symbol_of setting.image site)
+address_of setting (Original site) = option_map (λ (symbol : Symbol). entry_address symbol + 5) (symbol_of setting.image site)
 address_of setting (New patch function) = option_map (λ (f : Function). f.address) (slice_get (functions_of setting patch) function)
 
 abbrev pub target_of : Setting → Version → Option Target

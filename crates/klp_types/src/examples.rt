@@ -6,7 +6,8 @@ ghost use Rattle.klp_types.specs.declared.version.Version.TheVariants.{Original,
 ghost use Rattle.klp_types.specs.Entries.{entries_from};
 ghost use Rattle.klp_types.specs.Pick.{entries_for, newest_version, target_of};
 ghost use Rattle.klp_types.specs.Callbacks.{calls_of, enable_calls, end_of};
-ghost use Rattle.klp_types.specs.Examples.{patched_kernel, objects_refusing_in, ran};
+ghost use Rattle.klp_types.specs.Bytes.{entry_offset, patched, resting};
+ghost use Rattle.klp_types.specs.Examples.{patched_kernel, tracked, tracked_kernel, objects_refusing_in, ran};
 
 /// A cumulative patch puts a nop on a site for which it has no function and an older patch has one, because
 /// it takes the older one's function back; and nothing where no older patch has one.
@@ -45,6 +46,20 @@ pub fn versions_begin_where_their_code_does()
         ≡ Some (record { version = Original 1; address = 0xffff_ffff_8100_2005 }) }
     ensures no_site { target_of patched_kernel (Original 3) ≡ None }
     ensures no_function { target_of patched_kernel (New 0 3) ≡ None }
+{}
+
+/// An entry site is behind an ENDBR64, which stays: hooked or not, the function begins with it. The call is
+/// reckoned from where it stands, and the original goes on behind it. Any other beginning is the entry site.
+pub fn entry_sites_are_behind_endbr64()
+    ensures resting { (resting tracked).body
+        ≡ 0xf3 ∷ 0x0f ∷ 0x1e ∷ 0xfa ∷ 0x0f ∷ 0x1f ∷ 0x44 ∷ 0x00 ∷ 0x00 ∷ 0x90 ∷ 0xc3 ∷ [] }
+    ensures hooked { (patched 0xffff_ffff_8100_0000 true tracked).body
+        ≡ 0xf3 ∷ 0x0f ∷ 0x1e ∷ 0xfa ∷ 0xe8 ∷ 0xf7 ∷ 0xaf ∷ 0xff ∷ 0xff ∷ 0x90 ∷ 0xc3 ∷ [] }
+    ensures original { target_of tracked_kernel (Original 0)
+        ≡ Some (record { version = Original 0; address = 0xffff_ffff_8100_5009 }) }
+    ensures cut_short { entry_offset (0xf3 ∷ 0x0f ∷ 0x1e ∷ []) ≡ 0 }
+    // ENDBR32 is another instruction
+    ensures other { entry_offset (0xf3 ∷ 0x0f ∷ 0x1e ∷ 0xfb ∷ 0xe8 ∷ []) ≡ 0 }
 {}
 
 /// Pre-patch runs in the order of the patch's objects up to the one that refuses, and those before it

@@ -11,19 +11,19 @@ ghost use Rattle.klp_types.specs.declared.version.Entry.{Entry};
 ghost use Rattle.klp_types.specs.Image.{Image, Object, symbols_of, first_site, given_symbol};
 ghost use Rattle.klp_types.specs.Setting.{Setting, functions_of, function_for, replaces};
 ghost use Rattle.klp_types.specs.Entries.{patches_site, entry_of, entries_from, is_empty};
-ghost use Rattle.klp_types.specs.Bytes.{entry_offset, entry_end, symbol_in, patched, resting, text_where};
+ghost use Rattle.klp_types.specs.Bytes.{symbol_in, patched, resting, text_where};
 ghost use Rattle.klp_types.specs.World.{Installed, World, Shadow, ShadowValue, key_cmp, variable, states_of};
 ghost use Rattle.klp_types.specs.Script.{Script, alloc_count, is_key, value_taken, edited, edited_at, edited_by, made_of, edits_made, effect, edit_touches, touches};
 ghost use Rattle.klp_types.specs.Callbacks.{Call, after_calls};
 
 use crate::limits::{
-    ANSWER_ROOM, ENTRY_SITE_END, ENTRY_SITE_LEN, ENTRY_SITE_OFFSET, MAX_ADDRESS_DIGITS, MAX_BODY,
-    MAX_CALLBACK_RECORDS, MAX_COMING_EDITS, MAX_CONSOLE_LINE, MAX_EDITS, MAX_ENABLING_RECORDS,
-    MAX_FRAMES, MAX_FUNCTIONS, MAX_GOING_EDITS, MAX_GROUPS, MAX_INDEX, MAX_JOURNAL_RECORDS,
-    MAX_KIND_RECORDS, MAX_LINE, MAX_LIST_RECORDS, MAX_MARK, MAX_NAME, MAX_OBJECTS, MAX_PATCHES,
-    MAX_READS, MAX_RECORDS, MAX_SITES, MAX_STATES, MAX_SYMBOL_NAME, MAX_TARGETS, MAX_TASK_NUMBER,
-    MAX_TASKS, MAX_VARIABLES, READ_ROOM, RECORDS_AFTER_CALLBACKS, RECORDS_AFTER_LIST,
-    RECORDS_AFTER_SITES, RECORDS_BEFORE_SITES,
+    ANSWER_ROOM, ENTRY_SITE_LEN, MAX_ADDRESS_DIGITS, MAX_BODY, MAX_CALLBACK_RECORDS,
+    MAX_COMING_EDITS, MAX_CONSOLE_LINE, MAX_EDITS, MAX_ENABLING_RECORDS, MAX_FRAMES, MAX_FUNCTIONS,
+    MAX_GOING_EDITS, MAX_GROUPS, MAX_INDEX, MAX_JOURNAL_RECORDS, MAX_KIND_RECORDS, MAX_LINE,
+    MAX_LIST_RECORDS, MAX_MARK, MAX_NAME, MAX_OBJECTS, MAX_PATCHES, MAX_READS, MAX_RECORDS,
+    MAX_SITES, MAX_STATES, MAX_SYMBOL_NAME, MAX_TARGETS, MAX_TASK_NUMBER, MAX_TASKS, MAX_VARIABLES,
+    READ_ROOM, RECORDS_AFTER_CALLBACKS, RECORDS_AFTER_LIST, RECORDS_AFTER_SITES,
+    RECORDS_BEFORE_SITES,
 };
 
 /// In the text of an object each function reads as it was built, but for its entry site: so nothing that
@@ -177,14 +177,12 @@ pub fn entries_are_of_their_patches()
         (entries_from setting site patches) }
 {}
 
-/// How much there may be of everything, and where an entry site is. Definitions and code name the limits
+/// How much there may be of everything, and how long an entry site is. Definitions and code name the limits
 /// apart, and this is where a changed one is found.
 pub fn limits_are_these()
     ensures objects { MAX_OBJECTS ≡ 17 }
     ensures sites { MAX_SITES ≡ 256 }
     ensures entry_site { ENTRY_SITE_LEN ≡ 5 }
-    ensures entry_begins { ENTRY_SITE_OFFSET ≡ entry_offset }
-    ensures entry_ends { ENTRY_SITE_END ≡ entry_end }
     ensures body { MAX_BODY ≡ 256 }
     ensures patches { MAX_PATCHES ≡ 16 }
     ensures targets { MAX_TARGETS ≡ 8 }

@@ -1,4 +1,4 @@
-//! How much there may be of everything, and where the entry site of a body is. The limits are this
+//! How much there may be of everything, and how long the entry site of a body is. The limits are this
 //! project's own but for these: the length of an entry site is that of a call, and names are as long as the
 //! kernel's `MODULE_NAME_LEN`, and for long its `KSYM_NAME_LEN`, left room for. They are in one place,
 //! since tables of fixed size above are made by them, and `laws` says each of them once more.
@@ -12,13 +12,6 @@ pub const MAX_SITES: usize = 256;
 
 /// How many bytes an entry site has: as many as a near call, an opcode and a displacement of 32 bits.
 pub const ENTRY_SITE_LEN: usize = 5;
-
-/// Where in a body its entry site begins: at its first byte, as with `-mfentry`.
-pub const ENTRY_SITE_OFFSET: usize = 0;
-
-/// Where in a body its entry site ends: what is behind it is as it was built. No body may be shorter, since
-/// hooking one would write over its neighbour.
-pub const ENTRY_SITE_END: usize = ENTRY_SITE_OFFSET + ENTRY_SITE_LEN;
 
 /// How many bytes the body of a symbol may have. The image keeps two copies of each.
 pub const MAX_BODY: usize = 256;

@@ -4,16 +4,22 @@ use Rattle.std.proofs.Math.ListN.{length-set}
 use Rattle.std.specs.List.{All, AllZip}
 use Rattle.klp_types.specs.Image.{Object, symbols_of}
 use Rattle.klp_text.specs.Faults.{image_fault}
-use Rattle.klp_text.specs.Kept.{IsLong, IsResting, first_sites_from}
+use Rattle.klp_text.specs.Kept.{IsInRange, IsLong, IsResting, first_sites_from}
 use Rattle.klp_text.proofs.SoundLaws.{sound_image}
 use Rattle.klp_text.proofs.KeptLaws.{stored_from_resting, hooked_of-resting}
 use Rattle.klp_text.proofs.image.Image.new.Goals as goal
 
-pub stored_symbols-requires : goal.stored_symbols-requires
-stored_symbols-requires c =
+pub stored_symbols-requires-clause-long : goal.stored_symbols-requires-clause-long
+stored_symbols-requires-clause-long c =
     let none : image_fault c.args.handler c.args.objects.items ≡ None =
     ap (image_fault c.args.handler) (sym c.as_slice.ensures.value) ∙ sym c.in_default.ensures in
     subst (λ (objects : List Object). All IsLong (symbols_of objects)) (sym c.as_slice-3.ensures.value) (sound_image c.args.handler c.args.objects.items none).long
+
+pub stored_symbols-requires-clause-range : goal.stored_symbols-requires-clause-range
+stored_symbols-requires-clause-range c =
+    let none : image_fault c.args.handler c.args.objects.items ≡ None =
+    ap (image_fault c.args.handler) (sym c.as_slice.ensures.value) ∙ sym c.in_default.ensures in
+    subst (λ (objects : List Object). All IsInRange (symbols_of objects)) (sym c.as_slice-3.ensures.value) (sound_image c.args.handler c.args.objects.items none).in_range
 
 pub invariant_of-result : goal.invariant_of-result
 invariant_of-result c =

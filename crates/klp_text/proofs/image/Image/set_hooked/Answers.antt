@@ -15,7 +15,7 @@ set_hooked-requires-clause-long c =
     let asked = rw (← c.self.view_is) at c.requires in
     let below : c.from.result < length c.self.inside.sites.items = omega (arith, count, asked) in
     let site = site_is _ _ _ _ _ c.from.result _ c.self.invariant below c.index_mut.ensures.value in
-    stored_long _ _ _ site.stored_is
+    stored_long _ _ _ site.long site.stored_is
 
 pub set_hooked-requires-clause-near : goal.set_hooked-requires-clause-near
 set_hooked-requires-clause-near c =
@@ -31,7 +31,7 @@ invariant_of-self c =
     let asked = rw (← c.self.view_is) at c.requires in
     let below : c.from.result < length c.self.inside.sites.items = omega (arith, count, asked) in
     kept-set_hooked _ c.args.hooked _ _ _ _ _ _ _ c.self.invariant below c.index_mut.ensures.value
-    c.set_hooked.ensures.address c.set_hooked.ensures.flag c.set_hooked.ensures.body
+    c.set_hooked.ensures.address c.set_hooked.ensures.offset c.set_hooked.ensures.flag c.set_hooked.ensures.body
 
 pub returns : goal.returns
 returns c =
