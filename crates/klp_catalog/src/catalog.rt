@@ -23,11 +23,13 @@ use crate::assemble::{AssembleFault, assemble_patches, symbol_counts};
 use crate::function::CatalogFunction;
 use crate::patch;
 use crate::patch::CatalogPatch;
+use arrayvec::ArrayVec;
 use klp_callback::Boxed;
 use klp_catalog_text::{Plan, TextFault};
 use klp_modules::Modules;
 use klp_types::{
-    MAX_EDITS, MAX_FUNCTIONS, MAX_PATCHES, MAX_TARGETS, ObjId, PatchId, Records, Site, Which,
+    MAX_EDITS, MAX_FUNCTIONS, MAX_PATCHES, MAX_STATES, MAX_TARGETS, ObjId, PatchId, Records, Site,
+    Which,
 };
 use klp_words::Names;
 use klp_world::World;
@@ -254,6 +256,17 @@ impl Catalog {
         let found = self.get(patch)?;
         let place = patch::place_of(&found.targets, object)?;
         Some(place as u8)
+    }
+
+    /// The ids of the system states that a patch names, in the order of the text (system-state). A
+    /// patch that isn't there names none.
+    pub fn state_ids(&self, patch: PatchId) -> ArrayVec<u64, MAX_STATES>
+        ensures { result.items ≡ states.state_ids self.now patch }
+    {
+        match self.get(patch) {
+            Some(found) => found.state_ids(),
+            None => ArrayVec::new(),
+        }
     }
 
     /// Runs a callback of a patch for one of its objects, by the object's place in the patch from 0, and

@@ -53,7 +53,7 @@ impl CatalogPatch {
 
     /// The ids of the system states that it names, in the order of the text (system-state): in an array, since
     /// an enabling takes no memory.
-    pub fn state_ids(&self) -> ArrayVec<u64, MAX_STATES>
+    pub(crate) fn state_ids(&self) -> ArrayVec<u64, MAX_STATES>
         requires { length self.now.states ≤ MAX_STATES }
         ensures { result.items ≡ map (λ (s : StateValue). s.id) self.now.states }
     {

@@ -23,7 +23,6 @@ ghost use Rattle.klp_manager_state.specs.Invariant.{Invariant};
 ghost use Rattle.klp_manager_state.specs.Events.{TakesEvent, AcceptsEvent};
 ghost use Rattle.klp_manager_state.specs.Rows.{rows_in, rows_before, IsNoted};
 
-use arrayvec::ArrayVec;
 use klp_catalog::{Catalog, CatalogPatch};
 use klp_manager_state::ManagerState;
 use klp_model::{Refusal, Reply};
@@ -176,10 +175,7 @@ fn put_last(manager: &mut ManagerState, catalog: &Catalog, patch: PatchId)
 {
     klp_world::laws::what_is_noted_is_of_the_world();
     manager.log.clear();
-    let ids = match catalog.get(patch) {
-        Some(found) => found.state_ids(),
-        None => ArrayVec::new(),
-    };
+    let ids = catalog.state_ids(patch);
     manager.world.add_states(patch, &ids, &mut manager.log);
 }
 
