@@ -1,5 +1,5 @@
 -- Edits made one after another, and scripts that are the same.
-use Rattle.std.proofs.Common.{◌≡◌, ℕ, ◌+◌, ◌≤◌, Bool, true, false, cond, ◌&&◌, List, [], ◌∷◌, ◌++◌, length, length-append, append_assoc, add-one, drop-cons, drop, get_or, ◌<◌, refl, sym, ap, ◌∙◌, arith}
+use Rattle.std.proofs.Common.{◌≡◌, ℕ, ◌+◌, ◌≤◌, Bool, true, false, cond, ◌&&◌, List, [], ◌∷◌, ◌++◌, length, length-append, append_assoc, add-one, drop-cons, drop, take, get_or, ◌<◌, refl, sym, ap, ◌∙◌, arith}
 use Rattle.std.specs.FinMap as finite
 use Rattle.klp_types.specs.declared.edit.Edit.{Edit}
 use Rattle.klp_types.specs.declared.edit.Edit.TheVariants.{Alloc, Free, FreeAll, SetData, TakePrev}
@@ -12,8 +12,13 @@ use mir.Syntax.{w32}
 use Rattle.std.proofs.lemmas.Int.{to_z-of_z}
 use lib.IntN.{ℤ}
 use Rattle.std.proofs.lemmas.Bool.{eqb-true, eq-eqb}
+use Rattle.std.proofs.lemmas.Bool.Decides.{Decides-eqb}
+use Rattle.std.proofs.lemmas.Slice.Eq.{slice_eq-Decides}
 use Rattle.klp_types.specs.Records.{RecordList}
-use Rattle.klp_types.specs.World.{World}
+use Rattle.klp_types.specs.World.{World, ShadowValue}
+use Rattle.klp_types.specs.Padded.{padded}
+use Rattle.klp_types.specs.declared.limits.TheConstants.{MAX_VALUE_BYTES}
+use Rattle.klp_types.proofs.PaddedLemmas.{take_front}
 use Rattle.klp_types.specs.Script.{Script, is_alloc, alloc_count, edited, edited_by}
 use Rattle.klp_world.specs.Noted.{noting, rows_of_edit, rows_of_edits}
 use Rattle.klp_world.specs.Changes.{HasRoom}
@@ -23,8 +28,8 @@ use Rattle.std.specs.List.{count_by}
 first_alloc : (edit : Edit) (rest : List Edit) → alloc_count (edit ∷ []) ≤ alloc_count (edit ∷ rest)
 first_alloc edit rest = elim (is_alloc edit) as (λ b. cond b (1 + 0) 0 ≤ cond b (1 + alloc_count rest) (alloc_count rest)) [ true ↦ omega arith | false ↦ omega arith ]
 
-pub next_edit : (edits : List Edit) (i : ℕ) (d : Edit) → i < length edits → drop i edits ≡ get_or edits i d ∷ drop (i + 1) edits
-next_edit edits i d lt = rw add-one (drop-cons edits i d lt)
+pub next_edit : (edits : List Edit) (i : ℕ) (edit : Edit) → edit ≡ get_or edits i edit → i < length edits → drop i edits ≡ edit ∷ drop (i + 1) edits
+next_edit edits i edit is lt = rw add-one (drop-cons edits i edit lt) ∙ ap (λ e. e ∷ drop (i + 1) edits) (sym is)
 
 -- the loop over the edits: one edit is made, and these are left
 module _ (patch : ℕ) (left : List Edit) (edit : Edit) (rest : List Edit) (world new : World) (log new_log : RecordList)
@@ -55,12 +60,11 @@ module _ (patch : ℕ) (left : List Edit) (edit : Edit) (rest : List Edit) (worl
       record { variables = omega (arith, few.variables); records = omega (arith, few.records) }
 
 -- there is room for the next edit
-pub room_now : (patch : ℕ) (edits : List Edit) (i : ℕ) (d : Edit) (world : World) (log : RecordList) → i < length edits
-    → HasRoom world log (alloc_count (drop i edits)) (rows_of_edits patch world (drop i edits)) → HasRoom world log (alloc_count (get_or edits i d ∷ [])) (rows_of_edit patch world (get_or edits i d))
-room_now patch edits i d world log lt few =
-    let edit = get_or edits i d in
+pub room_now : (patch : ℕ) (edits : List Edit) (i : ℕ) (edit : Edit) (world : World) (log : RecordList) → edit ≡ get_or edits i edit → i < length edits
+    → HasRoom world log (alloc_count (drop i edits)) (rows_of_edits patch world (drop i edits)) → HasRoom world log (alloc_count (edit ∷ [])) (rows_of_edit patch world edit)
+room_now patch edits i edit world log is lt few =
     let rest = drop (i + 1) edits in
-    let split = next_edit edits i d lt in
+    let split = next_edit edits i edit is lt in
     let allocs = ap alloc_count split in
     let one = first_alloc edit rest in
     let rows = ap (λ l. length (rows_of_edits patch world l)) split ∙ length-append (rows_of_edit patch world edit) (rows_of_edits patch (edited patch world edit) rest) in
@@ -80,8 +84,23 @@ same_key k l e =
     let ids = eqb-true k.id l.id parts.1 in
     λ i. record { obj = objs i; id = ids i }
 
+-- the bytes of two values with the fillers behind them, and how many they are: what two values are compared by
+abbrev value_test : ShadowValue → ShadowValue → Bool
+value_test v w = pointwise (λ (x y : ℕ). x == y) (padded MAX_VALUE_BYTES 0 v) (padded MAX_VALUE_BYTES 0 w) && length v == length w
+
+same_value : (v w : ShadowValue) → value_test v w ≡ true → v ≡ w
+same_value v w e =
+    let parts = two_true _ (length v == length w) e in
+    let kept = (slice_eq-Decides Decides-eqb (padded MAX_VALUE_BYTES 0 v) (padded MAX_VALUE_BYTES 0 w) _ refl).0 parts.0 in
+    sym (take_front v _) ∙ (λ i. take (eqb-true (length v) (length w) parts.1 i) (kept i)) ∙ take_front w _
+
+value_itself : (v : ShadowValue) → value_test v v ≡ true
+value_itself v =
+    ap (λ b. b && length v == length v) ((slice_eq-Decides Decides-eqb (padded MAX_VALUE_BYTES 0 v) (padded MAX_VALUE_BYTES 0 v) _ refl).1 refl)
+    ∙ eq-eqb (length v) (length v) refl
+
 same_edit : (a b : Edit) → eq-value.it a b ≡ true → a ≡ b
-same_edit (Alloc k v) (Alloc l w) e = let parts = two_true _ (v == w) e in λ i. Alloc (same_key k l parts.0 i) (eqb-true v w parts.1 i)
+same_edit (Alloc k v) (Alloc l w) e = let parts = two_true _ (value_test v w) e in λ i. Alloc (same_key k l parts.0 i) (same_value v w parts.1 i)
 same_edit (Free k) (Free l) e = ap Free (same_key k l e)
 same_edit (FreeAll i) (FreeAll j) e = ap FreeAll (eqb-true i j e)
 same_edit (SetData i v) (SetData j w) e = let parts = two_true (i == j) (v == w) e in λ t. SetData (eqb-true i j parts.0 t) (eqb-true v w parts.1 t)
@@ -113,7 +132,7 @@ key_itself : (k : ShadowKey) → (k.obj == k.obj && k.id == k.id) ≡ true
 key_itself k = ap (λ b. b && k.id == k.id) (eq-eqb k.obj k.obj refl) ∙ eq-eqb k.id k.id refl
 
 edit_itself : (a : Edit) → eq-value.it a a ≡ true
-edit_itself (Alloc k v) = ap (λ b. b && v == v) (key_itself k) ∙ eq-eqb v v refl
+edit_itself (Alloc k v) = ap (λ b. b && value_test v v) (key_itself k) ∙ value_itself v
 edit_itself (Free k) = key_itself k
 edit_itself (FreeAll i) = eq-eqb i i refl
 edit_itself (SetData i v) = ap (λ b. b && v == v) (eq-eqb i i refl) ∙ eq-eqb v v refl

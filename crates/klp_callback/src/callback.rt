@@ -34,8 +34,8 @@ pub trait Callback: Drop + Send {
     fn runs(&self) -> u64
         ensures { result ≡ runs_of self.now };
 
-    /// The script that the callback runs, as a copy: a box gives it at each run, to be compared
-    /// (docs/DECISIONS.md, "The script of a boxed callback").
-    fn script(&self) -> Script
-        ensures { result ≡ script_of self.now };
+    /// The script that the callback runs. It is lent, since a box is asked for it at each run, and a script
+    /// is long (docs/DECISIONS.md, "The script of a boxed callback").
+    fn script(&self) -> &Script
+        ensures { result.now ≡ script_of self.now };
 }

@@ -28,7 +28,7 @@ impl CountedBox {
         ensures runs { result.runs ≡ runs_of callback }
     {
         Self {
-            script: callback.script(),
+            script: callback.script().copy(),
             runs: callback.runs(),
             callback,
         }
@@ -51,7 +51,7 @@ impl CountedBox {
         self.runs = self.runs.saturating_add(1);
         // What was said of the box when it was made can't be known here, so it is compared
         // (docs/DECISIONS.md, "The script of a boxed callback").
-        if is_same(&self.callback.script(), &self.script) {
+        if is_same(self.callback.script(), &self.script) {
             self.callback.run(patch, world, log)
         } else {
             run_script(&self.script, patch, world, log)

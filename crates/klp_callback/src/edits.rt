@@ -9,12 +9,12 @@ use klp_world::{MAX_EDITS, Script, World};
 
 /// Makes one edit for the patch. What an edit finds (a variable that is there, a state that isn't) is no
 /// fault, so nothing is answered.
-fn make_edit(edit: Edit, patch: PatchId, world: &mut World, log: &mut Records)
-    requires room { HasRoom world.old log.old (alloc_count (edit ∷ [])) (rows_of_edit patch world.old edit) }
-    ensures changes { Changes world.old world.new log.old log.new (edited patch world.old edit)
-        (rows_of_edit patch world.old edit) }
+fn make_edit(edit: &Edit, patch: PatchId, world: &mut World, log: &mut Records)
+    requires room { HasRoom world.old log.old (alloc_count (edit.now ∷ [])) (rows_of_edit patch world.old edit.now) }
+    ensures changes { Changes world.old world.new log.old log.new (edited patch world.old edit.now)
+        (rows_of_edit patch world.old edit.now) }
 {
-    match edit {
+    match *edit {
         Edit::Alloc(key, value) => {
             world.alloc(key, value, log);
         }
@@ -51,7 +51,7 @@ fn make_edits(edits: &[Edit], patch: PatchId, world: &mut World, log: &mut Recor
 {
     klp_types::laws::edits_keep_to_their_room();
     for edit in edits {
-        make_edit(*edit, patch, world, log);
+        make_edit(edit, patch, world, log);
     }
 }
 

@@ -9,15 +9,19 @@ use std::marker::Model;
 /// A callback that edits nothing and succeeds: for a place where one is wanted, and nothing has to happen.
 #[derive(Debug, Drop)]
 pub struct Quiet {
+    /// The empty script, which is kept because it is lent.
+    script: Script,
     runs: u64,
 }
 
 impl Model for Quiet {
-    ghost use Rattle.std.specs.Prelude.{ℕ};
+    ghost use Rattle.std.specs.Prelude.{◌≡◌, ℕ, pos, []};
 
     ghost Value = { ℕ };
 
     ghost view = { λ q. q.runs };
+
+    ghost invariant = { λ q. q.script ≡ record { edits = []; status = pos 0 } };
 }
 
 impl Quiet {
@@ -25,7 +29,13 @@ impl Quiet {
     pub fn new() -> Self
         ensures { result ≡ 0 }
     {
-        Self { runs: 0 }
+        Self {
+            script: Script {
+                edits: ArrayVec::new(),
+                status: 0,
+            },
+            runs: 0,
+        }
     }
 }
 
@@ -47,10 +57,7 @@ impl Callback for Quiet {
         self.runs
     }
 
-    fn script(&self) -> Script {
-        Script {
-            edits: ArrayVec::new(),
-            status: 0,
-        }
+    fn script(&self) -> &Script {
+        &self.script
     }
 }

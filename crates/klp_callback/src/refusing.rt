@@ -9,16 +9,20 @@ use std::marker::Model;
 /// A callback that edits nothing and answers a status, so that a pre-patch refuses its patch.
 #[derive(Debug, Drop)]
 pub struct Refusing {
-    status: i32,
+    /// A script without edits that has the status. It is kept because it is lent.
+    script: Script,
     runs: u64,
 }
 
 impl Model for Refusing {
+    ghost use Rattle.std.specs.Prelude.{◌≡◌, []};
     ghost use Rattle.klp_callback.specs.Told.{Refusal};
 
     ghost Value = { Refusal };
 
-    ghost view = { λ r. record { status = r.status; runs = r.runs } };
+    ghost view = { λ r. record { status = r.script.status; runs = r.runs } };
+
+    ghost invariant = { λ r. r.script.edits ≡ [] };
 }
 
 impl Refusing {
@@ -26,7 +30,13 @@ impl Refusing {
     pub fn new(status: i32) -> Self
         ensures { result ≡ record { status = status; runs = 0 } }
     {
-        Self { status, runs: 0 }
+        Self {
+            script: Script {
+                edits: ArrayVec::new(),
+                status,
+            },
+            runs: 0,
+        }
     }
 }
 
@@ -37,7 +47,7 @@ impl Callback for Refusing {
 
     fn run(&mut self, _patch: PatchId, _world: &mut World, _log: &mut Records) -> i32 {
         self.runs = self.runs.saturating_add(1);
-        self.status
+        self.script.status
     }
 
     fn allocs(&self) -> u16 {
@@ -48,10 +58,7 @@ impl Callback for Refusing {
         self.runs
     }
 
-    fn script(&self) -> Script {
-        Script {
-            edits: ArrayVec::new(),
-            status: self.status,
-        }
+    fn script(&self) -> &Script {
+        &self.script
     }
 }

@@ -49,7 +49,7 @@ impl Callback for Scripted {
         self.runs
     }
 
-    fn script(&self) -> Script {
-        self.script.copy()
+    fn script(&self) -> &Script {
+        &self.script
     }
 }

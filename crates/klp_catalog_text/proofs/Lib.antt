@@ -6,3 +6,4 @@ pub mod LimitLemmas
 pub mod DraftLemmas
 pub mod ScriptLemmas
 pub mod TextLemmas
+pub mod ValueLemmas

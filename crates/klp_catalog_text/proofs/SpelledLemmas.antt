@@ -13,9 +13,11 @@ use Rattle.std.specs.Str.Parse.{digits_value}
 use Rattle.klp_types.specs.declared.edit.Edit.{Edit}
 use Rattle.klp_types.specs.declared.edit.Edit.TheVariants.{Alloc, Free, FreeAll, SetData, TakePrev}
 use Rattle.klp_types.specs.Script.{Script, is_success}
-use Rattle.klp_words.specs.Words.{status_of}
-use Rattle.klp_catalog_text.specs.Edits.{edit_number, alloc_of, free_of, free_all_of, set_of, take_prev_of, edit_of_parts, edit_of, edits_of, failure_of, script_with, script_of}
+use Rattle.klp_types.specs.World.{ShadowValue}
+use Rattle.klp_words.specs.Words.{status_of, value_text}
+use Rattle.klp_catalog_text.specs.Edits.{edit_number, edit_value, alloc_of, free_of, free_all_of, set_of, take_prev_of, edit_of_parts, edit_of, edits_of, failure_of, script_with, script_of}
 use Rattle.klp_catalog_text.specs.Spelled.{edit_word, script_words, IsEdit, IsScript}
+use Rattle.klp_catalog_text.proofs.ValueLemmas.{value_read, in_value}
 use Rattle.std.proofs.lemmas.Str.Parse.{IsNumeralModel, numerals_by_value}
 use Rattle.std.proofs.lemmas.Bool.{and_parts}
 use Rattle.klp_words.specs.Words.{is_decimal}
@@ -90,10 +92,10 @@ status_read (negsuc n) h =
 
 edit_read : (edit : Edit) → IsEdit edit → edit_of (edit_word edit) ≡ Ok edit
 edit_read (Alloc key value) h =
-    ap edit_of_parts (split_join (codes "alloc") (decimal key.obj ∷ decimal key.id ∷ decimal value ∷ []) (no_colon_in (codes "alloc") refl, (in_decimal key.obj h.0, (in_decimal key.id h.1, (in_decimal value h.2, tt)))))
-    ∙ read (decimal key.obj) (decimal key.id) (decimal value) key.obj key.id value (number_read key.obj h.0) (number_read key.id h.1) (number_read value h.2)
+    ap edit_of_parts (split_join (codes "alloc") (decimal key.obj ∷ decimal key.id ∷ value_text value ∷ []) (no_colon_in (codes "alloc") refl, (in_decimal key.obj h.0, (in_decimal key.id h.1, (in_value value h.2, tt)))))
+    ∙ read (decimal key.obj) (decimal key.id) (value_text value) key.obj key.id value (number_read key.obj h.0) (number_read key.id h.1) (value_read value h.2)
   where
-    read : (a b c : List ℕ) (o i v : ℕ) → edit_number a ≡ Ok o → edit_number b ≡ Ok i → edit_number c ≡ Ok v → alloc_of (a ∷ b ∷ c ∷ []) ≡ Ok (Alloc (record { obj = o; id = i }) v)
+    read : (a b c : List ℕ) (o i : ℕ) (v : ShadowValue) → edit_number a ≡ Ok o → edit_number b ≡ Ok i → edit_value c ≡ Ok v → alloc_of (a ∷ b ∷ c ∷ []) ≡ Ok (Alloc (record { obj = o; id = i }) v)
     read a b c o i v e f g = rw (e, f, g) refl
 edit_read (Free key) h =
     ap edit_of_parts (split_join (codes "free") (decimal key.obj ∷ decimal key.id ∷ []) (no_colon_in (codes "free") refl, (in_decimal key.obj h.0, (in_decimal key.id h.1, tt))))

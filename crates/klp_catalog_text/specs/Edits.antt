@@ -4,9 +4,10 @@ use Rattle.std.specs.List.{slice_split}
 use Rattle.klp_types.specs.declared.edit.Edit.{Edit}
 use Rattle.klp_types.specs.declared.edit.Edit.TheVariants.{Alloc, Free, FreeAll, SetData, TakePrev}
 use Rattle.klp_types.specs.Script.{Script, is_success}
+use Rattle.klp_types.specs.World.{ShadowValue}
 use Rattle.klp_catalog_text.specs.declared.fault.TextFaultKind.{TextFaultKind}
 use Rattle.klp_catalog_text.specs.declared.fault.TextFaultKind.TheVariants.{WrongCount, BadNumber, BadEdit}
-use Rattle.klp_words.specs.Words.{decimal_of, status_of}
+use Rattle.klp_words.specs.Words.{decimal_of, shadow_value_of, status_of}
 use Rattle.klp_words.specs.Steps.{◌>>=◌}
 
 -- what stands between colons
@@ -21,9 +22,13 @@ parts_left is_over rest = if is_over then [] else parts_of rest
 abbrev pub edit_number : List ℕ → Result ℕ TextFaultKind
 edit_number part = ok_or (decimal_of (2 ^ 64) part) BadEdit
 
+-- the value of a shadow variable
+abbrev pub edit_value : List ℕ → Result ShadowValue TextFaultKind
+edit_value part = ok_or (shadow_value_of part) BadEdit
+
 -- alloc:OBJ:ID:VALUE
 abbrev pub alloc_of : List (List ℕ) → Result Edit TextFaultKind
-alloc_of (obj ∷ id ∷ value ∷ []) = edit_number obj >>= λ o. edit_number id >>= λ i. edit_number value >>= λ v. Ok (Alloc (record { obj = o; id = i }) v)
+alloc_of (obj ∷ id ∷ value ∷ []) = edit_number obj >>= λ o. edit_number id >>= λ i. edit_value value >>= λ v. Ok (Alloc (record { obj = o; id = i }) v)
 alloc_of parts = Err BadEdit
 
 -- free:OBJ:ID

@@ -2,13 +2,13 @@
 
 ghost use Rattle.std.specs.Prelude.{◌≡◌, ℕ, ◌<◌, ◌≤◌, ◌==◌, List, [], ◌∷◌, length, MatchOption, MatchResult};
 ghost use Rattle.klp_catalog_text.specs.Gives.{Gives};
-ghost use Rattle.klp_catalog_text.specs.Edits.{parts_of, edit_number, alloc_of, free_of, free_all_of, set_of, take_prev_of, edit_of, edits_of, failure_of, script_of};
+ghost use Rattle.klp_catalog_text.specs.Edits.{parts_of, edit_number, edit_value, alloc_of, free_of, free_all_of, set_of, take_prev_of, edit_of, edits_of, failure_of, script_of};
 
 use crate::fault::TextFaultKind;
 use crate::lines::{end, word};
 use arrayvec::ArrayVec;
-use klp_types::{Edit, MAX_EDITS, Script, ShadowKey};
-use klp_words::{Words, number64, position_of, signed};
+use klp_types::{Edit, MAX_EDITS, Script, ShadowKey, ShadowValue};
+use klp_words::{Words, number64, position_of, shadow_value, signed};
 use std::alloc::Global;
 use std::marker::Model;
 
@@ -78,6 +78,13 @@ fn edit_number(part: &[u8]) -> Result<u64, TextFaultKind>
     number64(part).ok_or(TextFaultKind::BadEdit)
 }
 
+/// The value of a shadow variable in an edit. One that is too long, or has a wrong digit, is a `BadEdit` too.
+fn edit_value(part: &[u8]) -> Result<ShadowValue, TextFaultKind>
+    ensures { result ≡ edit_value part.now }
+{
+    shadow_value(part).ok_or(TextFaultKind::BadEdit)
+}
+
 fn alloc_edit(parts: &mut Fields<'_>) -> Result<Edit, TextFaultKind>
     ensures { result ≡ alloc_of parts.old }
 {
@@ -87,7 +94,7 @@ fn alloc_edit(parts: &mut Fields<'_>) -> Result<Edit, TextFaultKind>
     parts.end()?;
     let obj = edit_number(obj)?;
     let id = edit_number(id)?;
-    Ok(Edit::Alloc(ShadowKey { obj, id }, edit_number(value)?))
+    Ok(Edit::Alloc(ShadowKey { obj, id }, edit_value(value)?))
 }
 
 fn free_edit(parts: &mut Fields<'_>) -> Result<Edit, TextFaultKind>

@@ -1,8 +1,7 @@
 -- What a console line shows that changes nothing.
-use Rattle.std.specs.Prelude.{ℕ, ℤ, ◌==◌, ◌&&◌, Bool, true, false, List, [], ◌∷◌, ◌++◌, codes, length, map, filter, max, is_some, if◌then◌else◌, Option, Some, None, option_map, ok_or, Result, Ok, Err}
+use Rattle.std.specs.Prelude.{ℕ, ◌==◌, ◌&&◌, Bool, true, false, List, [], ◌∷◌, ◌++◌, codes, length, filter, max, is_some, if◌then◌else◌, Option, Some, None, Result, Ok, Err}
 use Rattle.std.specs.Fmt.{decimal, signed_decimal}
 use Rattle.hex.specs.Hex.{encode_lower}
-use Rattle.klp_types.specs.declared.callback.Which.{Which}
 use Rattle.klp_types.specs.declared.callback.Which.TheVariants.{Pre, Post, PreUn, PostUn}
 use Rattle.klp_types.specs.declared.task.Task.{Task}
 use Rattle.klp_types.specs.declared.version.Entry.{Entry}
@@ -12,7 +11,7 @@ use Rattle.klp_types.specs.declared.version.Version.TheVariants.{Original, New}
 use Rattle.klp_types.specs.Image.{Symbol}
 use Rattle.klp_types.specs.Pick.{moves}
 use Rattle.klp_types.specs.Setting.{PatchObject}
-use Rattle.klp_types.specs.World.{variable}
+use Rattle.klp_types.specs.World.{ShadowValue, variable}
 use Rattle.klp_model.specs.declared.event.Refusal.{Refusal}
 use Rattle.klp_model.specs.declared.event.Refusal.TheVariants.{NoTask, NoModule, NotFound}
 use Rattle.klp_model.specs.State.{is_installed, installed_patches}
@@ -22,7 +21,7 @@ use Rattle.klp_model.specs.Entries.{entries_of}
 use Rattle.klp_model.specs.Pick.{pick}
 use Rattle.klp_model.specs.Refusals.{enabled_value}
 use Rattle.klp_console_io.specs.Texts.{address_text}
-use Rattle.klp_words.specs.Steps.{◌>>=◌}
+use Rattle.klp_words.specs.Words.{value_text}
 use Rattle.klp_catalog.specs.Catalog.{Catalog, CatalogFunction, catalog_functions}
 use Rattle.klp_catalog.specs.Runs.{objects_at, place_of, callback_runs}
 use Rattle.klp_console_commands.specs.declared.request.Query.{Query}
@@ -74,9 +73,9 @@ functions_text catalog patch object =
 abbrev pub has_object : Catalog → ℕ → ℕ → Bool
 has_object catalog patch object = is_some (place_of object (objects_at catalog patch))
 
-abbrev pub variable_text : Option ℕ → List ℕ
+abbrev pub variable_text : Option ShadowValue → List ℕ
 variable_text None = codes "none\n"
-variable_text (Some value) = codes "value " ++ decimal value ++ codes "\n"
+variable_text (Some value) = codes "value " ++ value_text value ++ codes "\n"
 
 -- a symbol's name, address and bytes
 abbrev pub symbol_text : Symbol → List ℕ

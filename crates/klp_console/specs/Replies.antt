@@ -6,6 +6,7 @@ use Rattle.klp_types.specs.declared.version.Version.TheVariants.{Original, New}
 use Rattle.klp_model.specs.declared.event.Reply.{Reply}
 use Rattle.klp_model.specs.declared.event.Reply.TheVariants.{Done, Started, Reversed, Pending, Completed, PreFailed, Value, Freed, Woken}
 use Rattle.klp_model.specs.declared.event.Refusal.{Refusal}
+use Rattle.klp_words.specs.Words.{value_text}
 use Rattle.klp_modules.specs.Names.{ObjectNames, Named, symbol_at_site}
 use Rattle.klp_catalog.specs.Catalog.{Catalog}
 use Rattle.klp_console.specs.Names.{patch_name, object_name}
@@ -38,7 +39,7 @@ reply_text catalog (Completed true) = codes "completed 1\n"
 reply_text catalog (Completed false) = codes "completed 0\n"
 reply_text catalog (PreFailed patch object status) =
     codes "prefailed " ++ patch_name catalog patch ++ codes " " ++ object_name catalog.names object ++ codes " " ++ signed_decimal status ++ codes "\n"
-reply_text catalog (Value value) = codes "value " ++ decimal value ++ codes "\n"
+reply_text catalog (Value value) = codes "value " ++ value_text value ++ codes "\n"
 reply_text catalog (Freed count) = codes "freed " ++ decimal count ++ codes "\n"
 reply_text catalog (Woken frames) = codes "woken" ++ frames_text catalog frames ++ codes "\n"
 

@@ -26,6 +26,7 @@ mod replies;
 mod runs;
 mod served;
 mod text;
+mod values;
 
 pub use console::serve;
 pub use served::{ServeFault, Served};

@@ -7,6 +7,7 @@ ghost use Rattle.klp_console.specs.Replies.{done_text, original_text, frame_text
 
 use crate::names::{object_name, patch_name, say_name};
 use crate::refusals::say_refusal;
+use crate::values::say_value_line;
 use klp_catalog::Catalog;
 use klp_console_io::{Answers, Sink};
 use klp_model::{Refusal, Reply};
@@ -193,7 +194,7 @@ pub(crate) fn say_answer<W: Sink>(
             let object = object_name(modules, object);
             say_pre_failed(answers, writer, patch, object, i64::from(status));
         }
-        Ok(Reply::Value(value)) => say_number(answers, writer, b"value ", value),
+        Ok(Reply::Value(ref value)) => say_value_line(answers, writer, value),
         Ok(Reply::Freed(count)) => say_number(answers, writer, b"freed ", u64::from(count)),
         Ok(Reply::Woken(ref frames)) => say_woken(answers, writer, catalog, modules, frames),
         Err(refusal) => say_refusal(answers, writer, refusal),

@@ -1,4 +1,5 @@
-//! What is shown as numbers: shadow variables, runs of callbacks, and how many events are in the journal.
+//! What is shown as values and numbers: shadow variables, runs of callbacks, and how many events are in the
+//! journal.
 ghost use Rattle.std.specs.Prelude.{◌≡◌, ◌++◌, [], codes, length, Option, Ok};
 ghost use Rattle.std.specs.Fmt.{decimal};
 ghost use Rattle.std.specs.Result.{result_and, result_unwrap_or};
@@ -9,6 +10,7 @@ ghost use Rattle.klp_console_commands.specs.declared.request.Query.TheVariants a
 ghost use Rattle.klp_console.specs.Queries.{lines_of, variable_text, count_text, runs_text, look_text};
 
 use crate::files::has_object;
+use crate::values::say_value_line;
 use klp_catalog::Catalog;
 use klp_console_io::{Answers, Sink};
 use klp_core::Manager;
@@ -29,14 +31,9 @@ pub(crate) fn say_variable<W: Sink>(
     ensures { Says (answers.old, W.written writer.old) (answers.new, W.written writer.new)
         (variable_text (variable manager.now.managed.state.world key)) }
 {
-    klp_console_io::laws::what_is_said_adds_up();
     match manager.shadow_get(key) {
         None => answers.say(writer, b"none\n"),
-        Some(value) => {
-            answers.say(writer, b"value ");
-            answers.number(writer, value);
-            answers.say(writer, b"\n");
-        }
+        Some(value) => say_value_line(answers, writer, &value),
     }
 }
 

@@ -5,6 +5,7 @@ use Rattle.klp_model.specs.declared.event.Event.TheVariants as event
 use Rattle.klp_words.specs.Words.{spelling_of}
 use Rattle.klp_words.specs.Steps.{◌>>=◌}
 use Rattle.klp_types.specs.declared.shadow.ShadowKey.{ShadowKey}
+use Rattle.klp_types.specs.World.{ShadowValue}
 use Rattle.klp_console_commands.specs.declared.fault.LineFault.{LineFault}
 use Rattle.klp_console_commands.specs.declared.fault.LineFault.TheVariants.{BadLine, BadValue}
 use Rattle.klp_types.specs.declared.limits.TheConstants.{MAX_TASK_NUMBER, MAX_MARK}
@@ -13,7 +14,7 @@ use Rattle.klp_console_commands.specs.declared.request.Request.TheVariants.{Take
 use Rattle.klp_console_commands.specs.declared.request.Query.TheVariants as look
 use Rattle.klp_console_commands.specs.declared.line.Keyword.{Keyword}
 use Rattle.klp_console_commands.specs.declared.line.Keyword.TheVariants as keyword
-use Rattle.klp_console_commands.specs.Words.{words_of, is_name, number_of, number_to}
+use Rattle.klp_console_commands.specs.Words.{words_of, is_name, number_of, value_of, number_to}
 use Rattle.klp_console_commands.specs.Names.{NameResolver, patch_of, object_of, task_of, site_of, versions_of, are_frames}
 
 -- load PATCH
@@ -165,8 +166,8 @@ key_of (obj ∷ id ∷ []) = number_of obj >>= λ o. number_of id >>= λ i. Ok (
 key_of words = Err BadLine
 
 -- OBJ ID V: a key and a value
-abbrev pub variable_of : List (List ℕ) → Result (ShadowKey × ℕ) LineFault
-variable_of (obj ∷ id ∷ value ∷ []) = number_of obj >>= λ o. number_of id >>= λ i. number_of value >>= λ v. Ok (record { obj = o; id = i }, v)
+abbrev pub variable_of : List (List ℕ) → Result (ShadowKey × ShadowValue) LineFault
+variable_of (obj ∷ id ∷ value ∷ []) = number_of obj >>= λ o. number_of id >>= λ i. value_of value >>= λ v. Ok (record { obj = o; id = i }, v)
 variable_of words = Err BadLine
 
 -- shadow alloc OBJ ID V

@@ -1,7 +1,8 @@
 -- The words of a console line, and what a word is by itself.
 use Rattle.std.specs.Prelude.{ℕ, ◌^◌, ◌==◌, ◌&&◌, not, Bool, nat_lt, nat_le, if◌then◌else◌, List, length, ok_or, Result, Ok, Err}
 use Rattle.std.specs.List.{list_all}
-use Rattle.klp_words.specs.Words.{decimal_of}
+use Rattle.klp_types.specs.World.{ShadowValue}
+use Rattle.klp_words.specs.Words.{decimal_of, shadow_value_of}
 use Rattle.klp_words.specs.declared.split.Separators.TheVariants.{Spaces}
 use Rattle.klp_words.specs.Split.{separates, words_between}
 use Rattle.klp_words.specs.Steps.{◌>>=◌}
@@ -24,9 +25,13 @@ is_name word = nat_lt 0 (length word) && list_all is_name_byte word
 abbrev pub number_of : List ℕ → Result ℕ LineFault
 number_of word = ok_or (decimal_of (2 ^ 64) word) BadLine
 
+-- the value of a shadow variable
+abbrev pub value_of : List ℕ → Result ShadowValue LineFault
+value_of word = ok_or (shadow_value_of word) BadLine
+
 abbrev pub at_most : ℕ → ℕ → Result ℕ LineFault
 at_most most number = if nat_le number most then Ok number else Err BadLine
 
--- the same, of a number up to this one
+-- a number of 64 bits up to this one
 abbrev pub number_to : ℕ → List ℕ → Result ℕ LineFault
 number_to most word = number_of word >>= at_most most

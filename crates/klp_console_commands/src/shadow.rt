@@ -1,11 +1,11 @@
-//! The lines of the shadow variables. All their words are numbers, so no name can be unknown here.
+//! The lines of the shadow variables. Their words are numbers and values, so no name can be unknown here.
 
 ghost use Rattle.std.specs.Prelude.{◌≡◌};
 ghost use Rattle.klp_console_commands.specs.Lines.{key_of, variable_of, alloc_line, get_or_alloc_line, free_line, free_all_line, get_line, shadow_line};
 
 use crate::fault::LineFault;
 use crate::request::{Query, Request};
-use crate::words::{end, number, word};
+use crate::words::{end, number, value, word};
 use klp_model::Event;
 use klp_types::{ShadowKey, ShadowValue};
 use klp_words::Words;
@@ -28,12 +28,11 @@ fn variable(words: &mut Words<'_>) -> Result<(ShadowKey, ShadowValue), LineFault
 {
     let obj = word(words)?;
     let id = word(words)?;
-    let value = word(words)?;
+    let bytes = word(words)?;
     end(words)?;
     let obj = number(obj)?;
     let id = number(id)?;
-    let value = number(value)?;
-    Ok((ShadowKey { obj, id }, value))
+    Ok((ShadowKey { obj, id }, value(bytes)?))
 }
 
 fn alloc_line(words: &mut Words<'_>) -> Result<Request, LineFault>
@@ -71,7 +70,7 @@ fn get_line(words: &mut Words<'_>) -> Result<Request, LineFault>
 }
 
 /// The words after `shadow`: a verb, and numbers. A key is two of them, since it has a parent object and an
-/// id.
+/// id. Behind the key a value may stand.
 pub(crate) fn shadow_line(words: &mut Words<'_>) -> Result<Request, LineFault>
     ensures { result ≡ shadow_line words.old }
 {

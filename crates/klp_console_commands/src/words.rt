@@ -2,10 +2,11 @@
 
 ghost use Rattle.std.specs.Prelude.{◌≡◌, ℕ, ◌≤◌, true, false, List, ◌∷◌, [], length, drop, nat_eq, IfOk, MatchOption, MatchResult};
 ghost use Rattle.std.specs.List.{starts_with};
-ghost use Rattle.klp_console_commands.specs.Words.{is_name, number_of, number_to};
+ghost use Rattle.klp_console_commands.specs.Words.{is_name, number_of, value_of, number_to};
 
 use crate::fault::LineFault;
-use klp_words::{Words, number64};
+use klp_types::ShadowValue;
+use klp_words::{Words, number64, shadow_value};
 
 /// The next word, or `BadLine` where there is none: a line with too few words matches no form.
 pub(crate) fn word<'a>(words: &mut Words<'a>) -> Result<&'a [u8], LineFault>
@@ -47,6 +48,13 @@ pub(crate) fn number(word: &[u8]) -> Result<u64, LineFault>
     ensures { result ≡ number_of word.now }
 {
     number64(word).ok_or(LineFault::BadLine)
+}
+
+/// The value of a shadow variable, as in a catalog's text: one of too many bytes matches no form.
+pub(crate) fn value(word: &[u8]) -> Result<ShadowValue, LineFault>
+    ensures { result ≡ value_of word.now }
+{
+    shadow_value(word).ok_or(LineFault::BadLine)
 }
 
 /// A decimal number up to `most`, so that it fits into what an event has for it.

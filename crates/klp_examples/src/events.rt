@@ -1,7 +1,9 @@
 //! The events that are measured.
 
 use klp_model::Event;
-use klp_types::{Frames, MAX_FRAMES, MAX_TASKS, PatchId, ShadowKey, Site, TaskId, Version};
+use klp_types::{
+    Frames, MAX_FRAMES, MAX_TASKS, PatchId, ShadowKey, ShadowValue, Site, TaskId, Version,
+};
 use std::alloc::{AllocError, Global};
 use std::ops::Range;
 
@@ -136,7 +138,8 @@ fn refused(alloc: Global) -> Result<Vec<Event>, AllocError> {
 fn added(alloc: Global, numbers: Range<u64>) -> Result<Vec<Event>, AllocError> {
     let mut events = Vec::new(alloc);
     for obj in numbers {
-        events.push(Event::ShadowAlloc(ShadowKey { obj, id: 1 }, obj))?;
+        let key = ShadowKey { obj, id: 1 };
+        events.push(Event::ShadowAlloc(key, ShadowValue::of(obj)))?;
     }
     Ok(events)
 }
@@ -148,7 +151,7 @@ fn pairs(alloc: Global) -> Result<Vec<Event>, AllocError> {
             obj: pair % FEW,
             id: 2,
         };
-        events.push(Event::ShadowAlloc(key, pair))?;
+        events.push(Event::ShadowAlloc(key, ShadowValue::of(pair)))?;
         events.push(Event::ShadowFree(key))?;
     }
     Ok(events)
@@ -199,7 +202,7 @@ fn mixed(alloc: Global) -> Result<Vec<Event>, AllocError> {
     for obj in 0..PAIRS {
         let key = ShadowKey { obj, id: 1 };
         events.push(Event::Enable(PatchId(0)))?;
-        events.push(Event::ShadowAlloc(key, obj))?;
+        events.push(Event::ShadowAlloc(key, ShadowValue::of(obj)))?;
         events.push(Event::Poll)?;
         events.push(Event::SetEnabled(PatchId(0), false))?;
         events.push(Event::ShadowFree(key))?;

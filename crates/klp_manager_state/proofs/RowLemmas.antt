@@ -8,7 +8,7 @@ use Rattle.std.specs.Ordering.{int_eq}
 use Rattle.klp_types.specs.declared.task.Task.{Task}
 use Rattle.std.proofs.lemmas.List.Elements.{All-nil, All-cons, All-append, All-head, All-tail}
 use Rattle.klp_types.specs.declared.record.Record.{Record}
-use Rattle.klp_types.specs.declared.record.Record.TheVariants.{ShadowVariable, StateValue, StateRow, InstalledPatch, LoadedFlag, StackEntry, HookFlag, TaskRow, NoTaskRow, Moving, NothingMoving, PinnedFlag}
+use Rattle.klp_types.specs.declared.record.Record.TheVariants.{ShadowVariable, NoShadowVariable, StateValue, StateRow, InstalledPatch, LoadedFlag, StackEntry, HookFlag, TaskRow, NoTaskRow, Moving, NothingMoving, PinnedFlag}
 use Rattle.klp_types.specs.declared.version.Transition.{Transition}
 use Rattle.klp_types.specs.Records.{RecordList}
 use Rattle.klp_types.specs.World.{World}
@@ -29,6 +29,7 @@ undone-append rows (row ∷ older) newer = ap (λ r. put_back r row) (undone-app
 -- a row of the world is none of the others
 row_of_world : (rows : Rows) (row : Record) → is_of_world row ≡ true → put_back rows row ≡ record rows { world = of_world.put_back rows.world row }
 row_of_world rows (ShadowVariable key was) is = refl
+row_of_world rows (NoShadowVariable key) is = refl
 row_of_world rows (StateValue patch id was) is = refl
 row_of_world rows (StateRow patch id was) is = refl
 row_of_world rows (InstalledPatch patch place) is = refl
@@ -176,6 +177,7 @@ flags_put_back rows (LoadedFlag object was) each = flag_put rows.sites object wa
 flags_put_back rows (StackEntry site patch was) each = each
 flags_put_back rows (HookFlag site was) each = each
 flags_put_back rows (ShadowVariable key was) each = each
+flags_put_back rows (NoShadowVariable key) each = each
 flags_put_back rows (StateValue patch id was) each = each
 flags_put_back rows (StateRow patch id was) each = each
 flags_put_back rows (InstalledPatch patch place) each = each

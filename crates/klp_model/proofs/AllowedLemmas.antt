@@ -13,7 +13,7 @@ use Rattle.klp_model.specs.declared.event.Event.TheVariants.{Enable, SetEnabled,
 use Rattle.klp_types.specs.declared.callback.Which.TheVariants.{PreUn}
 use Rattle.klp_types.specs.declared.version.Transition.{Transition}
 use Rattle.klp_types.specs.Setting.{Setting, PatchObject, replaces, state_ids}
-use Rattle.klp_types.specs.World.{World, variable, with_patch, without_patch}
+use Rattle.klp_types.specs.World.{World, ShadowValue, variable, with_patch, without_patch}
 use Rattle.klp_types.specs.Script.{allocated}
 use Rattle.klp_types.specs.declared.task.Task.{Task}
 use Rattle.klp_model.specs.Task.{Tasks, task_at, is_in, at_rest, at_target, all_in}
@@ -285,7 +285,7 @@ module _ (setting : Setting) (state : State) (allowed : Allowed setting state) w
   shadow_allowed : (event : Event) → finite.len (shadow_changed state.world event).shadow ≤ MAX_VARIABLES → Allowed setting (with_world state (shadow_changed state.world event))
   shadow_allowed event room = allowed_world (shadow_changed state.world event) (ap numbers (shadow_installed state.world event)) room
 
-  inserted_room : (key : ShadowKey) (value : ℕ) → is_full state.world ≡ false → finite.len (finite.insert state.world.shadow key value) ≤ MAX_VARIABLES
+  inserted_room : (key : ShadowKey) (value : ShadowValue) → is_full state.world ≡ false → finite.len (finite.insert state.world.shadow key value) ≤ MAX_VARIABLES
   inserted_room key value room = by (finite.contains_key state.world.shadow key) (finite.len-insert key_total state.world.shadow key value)
     where
       below : finite.len state.world.shadow < MAX_VARIABLES
@@ -296,7 +296,7 @@ module _ (setting : Setting) (state : State) (allowed : Allowed setting state) w
       by true e = omega (arith, e, below)
       by false e = omega (arith, e, below)
 
-  allocated_room : (key : ShadowKey) (value : ℕ) (o : Option ℕ) → (is_none o && is_full state.world) ≡ false → finite.len (allocated state.world key value o).shadow ≤ MAX_VARIABLES
+  allocated_room : (key : ShadowKey) (value : ShadowValue) (o : Option ShadowValue) → (is_none o && is_full state.world) ≡ false → finite.len (allocated state.world key value o).shadow ≤ MAX_VARIABLES
   allocated_room key value None room = inserted_room key value room
   allocated_room key value (Some old) room = allowed.room
 

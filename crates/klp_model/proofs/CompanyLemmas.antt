@@ -7,7 +7,7 @@ use Rattle.klp_model.specs.declared.event.Event.{Event}
 use Rattle.klp_model.specs.declared.event.Event.TheVariants.{Enable, SetEnabled, Force, Poll, Coming, Going, NewTask, Fork, EndTask, EnterKernel, ExitToUser, Sleep, Wake, ShadowAlloc, ShadowGetOrAlloc, ShadowFree, ShadowFreeAll}
 use Rattle.klp_types.specs.declared.version.Transition.{Transition}
 use Rattle.klp_types.specs.Setting.{Setting}
-use Rattle.klp_types.specs.World.{World, variable}
+use Rattle.klp_types.specs.World.{World, ShadowValue, variable}
 use Rattle.klp_model.specs.Task.{task_at}
 use Rattle.klp_model.specs.State.{State, is_among, is_installed, is_moving, with_world}
 use Rattle.klp_model.specs.ShadowStep.{shadow_changed, concerns}
@@ -82,7 +82,7 @@ module _ (setting : Setting) (patch : ℕ) (start : State) (fair : IsFairStart s
       abbrev now : State
       now = with_world state (shadow_changed state.world event)
 
-      changed : (f : Option ℕ → Option ℕ) (key : ShadowKey) → (keys key ≡ false → (was : Option ℕ) → f was ≡ was)
+      changed : (f : Option ShadowValue → Option ShadowValue) (key : ShadowKey) → (keys key ≡ false → (was : Option ShadowValue) → f was ≡ was)
           → variable state.world key ≡ f (variable base key) → variable now.world key ≡ f (variable (shadow_changed base event) key)
       changed f key leaves same =
           shadow_changed_at state.world event key

@@ -6,7 +6,7 @@ use Rattle.klp_types.specs.declared.shadow.ShadowKey.{ShadowKey}
 use Rattle.klp_types.specs.declared.callback.Which.{Which}
 use Rattle.klp_types.specs.declared.callback.Which.TheVariants.{Pre, Post, PreUn, PostUn}
 use Rattle.klp_types.specs.Setting.{PatchObject}
-use Rattle.klp_types.specs.World.{Installed, World, variable}
+use Rattle.klp_types.specs.World.{Installed, World, ShadowValue, variable}
 use Rattle.klp_types.specs.Script.{Script, is_success, effect, touches}
 use Rattle.klp_types.specs.Callbacks.{Call, call_of, calls_of, script_for, is_refusing, refuses, refused_calls, enable_calls, after_calls}
 use Rattle.klp_model.specs.Company.{script_or_empty, script_of, object_touches, one_touches, UndoesItself, EachUndoes, AreApart}
@@ -17,20 +17,20 @@ use Rattle.klp_model.proofs.WorldLemmas.{script_at, script_leaves, effect_at, un
 abbrev pub Objects : Type 0
 Objects = List (ℕ × PatchObject)
 
-abbrev pub object_at : ShadowKey → Option ℕ → Which → ℕ × PatchObject → Option ℕ
+abbrev pub object_at : ShadowKey → Option ShadowValue → Which → ℕ × PatchObject → Option ShadowValue
 object_at key was which object = script_at key was (script_of which object)
 
 -- what the callbacks of a kind make of one variable, object by object
-abbrev pub objects_at : ShadowKey → Option ℕ → Which → Objects → Option ℕ
+abbrev pub objects_at : ShadowKey → Option ShadowValue → Which → Objects → Option ShadowValue
 objects_at key was which [] = was
 objects_at key was which (object ∷ objects) = objects_at key (object_at key was which object) which objects
 
-one_call : (patch place : ℕ) (which : Which) (script : Option Script) (key : ShadowKey) (was : Option ℕ) (calls : List Call)
+one_call : (patch place : ℕ) (which : Which) (script : Option Script) (key : ShadowKey) (was : Option ShadowValue) (calls : List Call)
     → calls_at key was (call_of patch place which script ++ calls) ≡ calls_at key (script_at key was (script_or_empty script)) calls
 one_call patch place which None key was calls = refl
 one_call patch place which (Some script) key was calls = refl
 
-pub calls_of_at : (patch : ℕ) (which : Which) (objects : Objects) (key : ShadowKey) (was : Option ℕ)
+pub calls_of_at : (patch : ℕ) (which : Which) (objects : Objects) (key : ShadowKey) (was : Option ShadowValue)
     → calls_at key was (calls_of patch which objects) ≡ objects_at key was which objects
 calls_of_at patch which [] key was = refl
 calls_of_at patch which (object ∷ objects) key was =
@@ -40,7 +40,7 @@ calls_of_at patch which (object ∷ objects) key was =
 abbrev touched_by : ShadowKey → ℕ × PatchObject → Which → Bool
 touched_by key object which = touches (script_of which object) key
 
-object_leaves : (which : Which) (object : ℕ × PatchObject) (key : ShadowKey) (was : Option ℕ) → object_touches key object ≡ false → object_at key was which object ≡ was
+object_leaves : (which : Which) (object : ℕ × PatchObject) (key : ShadowKey) (was : Option ShadowValue) → object_touches key object ≡ false → object_at key was which object ≡ was
 object_leaves which object key was away = of_kind which
   where
     first : (touched_by key object Pre ≡ false) × (list_any (touched_by key object) (Post ∷ PreUn ∷ PostUn ∷ []) ≡ false)
@@ -62,14 +62,14 @@ object_leaves which object key was away = of_kind which
     of_kind PostUn = script_leaves (script_of PostUn object) key was fourth.0
 
 -- objects that don't touch the variable leave it
-pub objects_leave : (which : Which) (objects : Objects) (key : ShadowKey) (was : Option ℕ) → one_touches objects key ≡ false → objects_at key was which objects ≡ was
+pub objects_leave : (which : Which) (objects : Objects) (key : ShadowKey) (was : Option ShadowValue) → one_touches objects key ≡ false → objects_at key was which objects ≡ was
 objects_leave which [] key was away = refl
 objects_leave which (object ∷ objects) key was away =
     let parts = or_parts (object_touches key object) (one_touches objects key) away in
     ap (λ x. objects_at key x which objects) (object_leaves which object key was parts.0) ∙ objects_leave which objects key was parts.1
 
 module _ (patch : ℕ) (world : World) (key : ShadowKey) where
-  abbrev was : Option ℕ
+  abbrev was : Option ShadowValue
   was = variable world key
 
   module _ (object : ℕ × PatchObject) (undoes : UndoesItself patch world object) where
@@ -151,7 +151,7 @@ find_holds (first ∷ objects) object e = by (refuses first) refl e (find_holds 
     by false is e rest = rest e
 
 -- a script that refuses makes no edit
-refusing_leaves : (script : Option Script) (key : ShadowKey) (was : Option ℕ) → is_refusing script ≡ true → script_at key was (script_or_empty script) ≡ was
+refusing_leaves : (script : Option Script) (key : ShadowKey) (was : Option ShadowValue) → is_refusing script ≡ true → script_at key was (script_or_empty script) ≡ was
 refusing_leaves None key was e = cc
 refusing_leaves (Some script) key was e = by (is_success script.status) refl e
   where
@@ -160,14 +160,14 @@ refusing_leaves (Some script) key was e = by (is_success script.status) refl e
     by false is e = ap (λ b. made_of key was (cond b script.edits [])) is
 
 -- what an enabling makes of one variable where no object refuses, and where one does
-pub enabled_at : (patch : ℕ) (objects : Objects) (key : ShadowKey) (was : Option ℕ) → find refuses objects ≡ None
+pub enabled_at : (patch : ℕ) (objects : Objects) (key : ShadowKey) (was : Option ShadowValue) → find refuses objects ≡ None
     → calls_at key was (enable_calls patch objects) ≡ objects_at key was Pre (before_first refuses objects)
 enabled_at patch objects key was none =
     calls_at-append key was (calls_of patch Pre (before_first refuses objects)) _
     ∙ ap (λ found. calls_at key (calls_at key was (calls_of patch Pre (before_first refuses objects))) (refused_calls patch (before_first refuses objects) found)) none
     ∙ calls_of_at patch Pre (before_first refuses objects) key was
 
-pub refused_at : (patch : ℕ) (objects : Objects) (object : ℕ × PatchObject) (key : ShadowKey) (was : Option ℕ) → find refuses objects ≡ Some object
+pub refused_at : (patch : ℕ) (objects : Objects) (object : ℕ × PatchObject) (key : ShadowKey) (was : Option ShadowValue) → find refuses objects ≡ Some object
     → calls_at key was (enable_calls patch objects) ≡ objects_at key (objects_at key was Pre (before_first refuses objects)) PostUn (before_first refuses objects)
 refused_at patch objects object key was found =
     calls_at-append key was (calls_of patch Pre (before_first refuses objects)) _

@@ -11,7 +11,7 @@ use Rattle.klp_model.specs.declared.event.Event.TheVariants.{Enable, Poll, Comin
 use Rattle.klp_model.specs.declared.event.Refusal.{Refusal}
 use Rattle.klp_types.specs.FirstOf.{first_of}
 use Rattle.klp_types.specs.Setting.{Setting}
-use Rattle.klp_types.specs.World.{key_cmp}
+use Rattle.klp_types.specs.World.{key_cmp, ShadowValue}
 use Rattle.klp_types.specs.declared.task.Task.{Task}
 use Rattle.klp_model.specs.Task.{task_at}
 use Rattle.klp_model.specs.Step.{accepted}
@@ -50,8 +50,8 @@ goes setting w event open_ =
     ap (λ s. watched s (if accepts setting w.state event then begun event w.stacks else w.stacks)) (next_accepted setting w.state event e)
     ∙ ap (λ b. watched (accepted setting w.state event).1 (if b then begun event w.stacks else w.stacks)) e
 
-room : nat_lt MAX_VARIABLES (finite.len (finite.empty {X = ℕ} {R = key_cmp}) + 0) ≡ false
-room = ap (λ n. nat_lt MAX_VARIABLES (n + 0)) (finite.len-empty key_cmp ℕ)
+room : nat_lt MAX_VARIABLES (finite.len (finite.empty {X = ShadowValue} {R = key_cmp}) + 0) ≡ false
+room = ap (λ n. nat_lt MAX_VARIABLES (n + 0)) (finite.len-empty key_cmp ShadowValue)
 
 abbrev s0 : Stacks
 s0 = no_frames
@@ -114,7 +114,7 @@ allowed_start setting one two = record {
   stacked = tt;
   symbols = tt;
   tasks = (refl, (refl, none_there setting 62));
-  room = omega (arith, finite.len-empty key_cmp ℕ);
+  room = omega (arith, finite.len-empty key_cmp ShadowValue);
   objects = sym two;
   rows = refl;
   flags = sym one;

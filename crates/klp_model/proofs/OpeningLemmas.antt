@@ -3,7 +3,7 @@ use Rattle.std.proofs.Common.{◌≡◌, ℕ, zero, suc, true, false, List, [], 
 use Rattle.std.specs.Prelude.{slice_index_or, slice_set}
 use Rattle.std.specs.FinMap as finite
 use Rattle.klp_types.specs.Image.{Object}
-use Rattle.klp_types.specs.World.{key_cmp}
+use Rattle.klp_types.specs.World.{key_cmp, ShadowValue}
 use Rattle.klp_types.specs.Setting.{Setting}
 use Rattle.klp_types.specs.Entries.{is_empty}
 use Rattle.klp_types.specs.declared.limits.TheConstants.{MAX_TASKS}
@@ -36,7 +36,7 @@ opening_allowed setting some = record {
   stacked = tt;
   symbols = tt;
   tasks = none_there setting MAX_TASKS;
-  room = omega (arith, finite.len-empty key_cmp ℕ);
+  room = omega (arith, finite.len-empty key_cmp ShadowValue);
   objects = flags_stay setting.image.objects some;
   rows = length_replicated {A = Option Task} None MAX_TASKS;
   flags = length_replicated false (length setting.patches);

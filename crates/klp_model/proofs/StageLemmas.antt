@@ -12,9 +12,9 @@ use Rattle.klp_model.specs.declared.event.Event.TheVariants.{Enable, SetEnabled,
 use Rattle.klp_types.specs.declared.version.Transition.{Transition}
 use Rattle.klp_types.specs.Setting.{Setting}
 use Rattle.klp_types.proofs.KeyLemmas.{key_total}
-use Rattle.klp_types.specs.World.{key_cmp, variable}
+use Rattle.klp_types.specs.World.{key_cmp, ShadowValue, variable}
 use Rattle.klp_types.specs.Script.{Script, is_key, effect}
-use Rattle.klp_model.specs.RoundTripExamples.{key_of, adding, one_task, with_a_sleeper, every_stage, refusing_behind, both_loaded}
+use Rattle.klp_model.specs.RoundTripExamples.{key_of, value_of, adding, one_task, with_a_sleeper, every_stage, refusing_behind, both_loaded}
 use Rattle.klp_types.specs.declared.version.Version.TheVariants.{Original}
 use Rattle.klp_types.specs.declared.task.Mode.TheVariants.{User, Kernel, Asleep}
 use Rattle.klp_model.specs.Task.{Tasks}
@@ -67,7 +67,7 @@ abbrev e5 : List Event
 e5 = Wake 0 ∷ e6
 
 abbrev e4 : List Event
-e4 = ShadowAlloc k7 1 ∷ e5
+e4 = ShadowAlloc k7 (value_of 1) ∷ e5
 
 abbrev e3 : List Event
 e3 = SetEnabled 0 true ∷ e4
@@ -79,16 +79,16 @@ abbrev e1 : List Event
 e1 = Poll ∷ e2
 
 abbrev pub Map : Type 0
-Map = finite.FinMap key_cmp ℕ
+Map = finite.FinMap key_cmp ShadowValue
 
 abbrev m1 : Map
-m1 = finite.insert finite.empty k9 5
+m1 = finite.insert finite.empty k9 (value_of 5)
 
 abbrev m2 : Map
-m2 = finite.insert m1 (k7) 1
+m2 = finite.insert m1 (k7) (value_of 1)
 
 abbrev m3 : Map
-m3 = finite.insert m2 k10 6
+m3 = finite.insert m2 k10 (value_of 6)
 
 abbrev m4 : Map
 m4 = finite.remove m3 k10
@@ -113,7 +113,7 @@ bare_with shadow tasks = record { loaded = true ∷ []; world = record { install
 abbrev pub to : Bool → Option Transition
 to target = Some (record { patch = 0; target = target })
 
-pub inserted : (m : Map) (k : ShadowKey) (v n : ℕ) → finite.len m ≤ n → finite.len (finite.insert m k v) ≤ n + 1
+pub inserted : (m : Map) (k : ShadowKey) (v : ShadowValue) (n : ℕ) → finite.len m ≤ n → finite.len (finite.insert m k v) ≤ n + 1
 inserted m k v n le = by (finite.contains_key m k) (finite.len-insert key_total m k v)
   where
     by : (t : Bool) → finite.len (finite.insert m k v) ≡ cond t (finite.len m) (finite.len m + 1) → finite.len (finite.insert m k v) ≤ n + 1
@@ -128,13 +128,13 @@ removed m k n le = by (finite.contains_key m k) (finite.len-remove key_total m k
     by false e = omega (arith, e, le)
 
 l1 : finite.len m1 ≤ 1
-l1 = inserted finite.empty k9 5 0 (omega (arith, finite.len-empty key_cmp ℕ))
+l1 = inserted finite.empty k9 (value_of 5) 0 (omega (arith, finite.len-empty key_cmp ShadowValue))
 
 l2 : finite.len m2 ≤ 2
-l2 = inserted m1 (k7) 1 1 l1
+l2 = inserted m1 (k7) (value_of 1) 1 l1
 
 l3 : finite.len m3 ≤ 3
-l3 = inserted m2 k10 6 2 l2
+l3 = inserted m2 k10 (value_of 6) 2 l2
 
 l4 : finite.len m4 ≤ 3
 l4 = removed m3 k10 3 l3
@@ -153,10 +153,10 @@ first : (accepted setting start (Enable 0)).1 ≡ with_patch m1 (to true) sleepe
 first = rw (finite.get-empty key_cmp k9) refl
 
 k10_free : finite.get m2 k10 ≡ None
-k10_free = finite.get-insert key_total m1 _ 1 k10 ∙ finite.get-insert key_total finite.empty k9 5 k10 ∙ finite.get-empty key_cmp k10
+k10_free = finite.get-insert key_total m1 _ (value_of 1) k10 ∙ finite.get-insert key_total finite.empty k9 (value_of 5) k10 ∙ finite.get-empty key_cmp k10
 
 k7_free : finite.get m1 (k7) ≡ None
-k7_free = finite.get-insert key_total finite.empty k9 5 _ ∙ finite.get-empty key_cmp _
+k7_free = finite.get-insert key_total finite.empty k9 (value_of 5) _ ∙ finite.get-empty key_cmp _
 
 settled : (accepted setting (with_patch m2 (to true) (outside_in (pos 1))) Poll).1 ≡ with_patch m3 None (outside_in (negsuc 0))
 settled = rw k10_free refl
@@ -174,11 +174,11 @@ not_full = lt-leb MAX_VARIABLES (finite.len m1) (omega (arith, l1))
 
 are_fair : AreFair setting 0 keys start every_stage
 are_fair =
-    then 0 keys start (with_patch m1 (to true) sleeper) (Enable 0) e1 (record { accepted = rw (finite.len-empty key_cmp ℕ) refl; of_company = refl; none_dropped = refl }) first
+    then 0 keys start (with_patch m1 (to true) sleeper) (Enable 0) e1 (record { accepted = rw (finite.len-empty key_cmp ShadowValue) refl; of_company = refl; none_dropped = refl }) first
     (then 0 keys (with_patch m1 (to true) sleeper) (with_patch m1 (to true) sleeper) Poll e2 (record { accepted = rw (enough m1 1 (omega (arith, l1)) (omega arith)) refl; of_company = λ key e. cc; none_dropped = refl }) refl
     (then 0 keys (with_patch m1 (to true) sleeper) (with_patch m1 (to false) sleeper) (SetEnabled 0 false) e3 (record { accepted = rw (enough m1 0 (omega (arith, l1)) (omega arith)) refl; of_company = refl; none_dropped = refl }) refl
     (then 0 keys (with_patch m1 (to false) sleeper) (with_patch m1 (to true) sleeper) (SetEnabled 0 true) e4 (record { accepted = rw (enough m1 0 (omega (arith, l1)) (omega arith)) refl; of_company = refl; none_dropped = refl }) refl
-    (then 0 keys (with_patch m1 (to true) sleeper) (with_patch m2 (to true) sleeper) (ShadowAlloc k7 1) e5 (record { accepted = rw (k7_free, not_full) refl; of_company = outside; none_dropped = refl }) refl
+    (then 0 keys (with_patch m1 (to true) sleeper) (with_patch m2 (to true) sleeper) (ShadowAlloc k7 (value_of 1)) e5 (record { accepted = rw (k7_free, not_full) refl; of_company = outside; none_dropped = refl }) refl
     (then 0 keys (with_patch m2 (to true) sleeper) (with_patch m2 (to true) (awake 0)) (Wake 0) e6 (record { accepted = refl; of_company = λ key e. cc; none_dropped = refl }) refl
     (then 0 keys (with_patch m2 (to true) (awake 0)) (with_patch m2 (to true) (outside_in (pos 1))) (ExitToUser 0) e7 (record { accepted = refl; of_company = λ key e. cc; none_dropped = refl }) refl
     (then 0 keys (with_patch m2 (to true) (outside_in (pos 1))) (with_patch m3 None (outside_in (negsuc 0))) Poll e8 (record { accepted = rw (enough m2 1 (omega (arith, l2)) (omega arith)) refl; of_company = λ key e. cc; none_dropped = refl }) settled
@@ -189,7 +189,7 @@ are_fair =
     (then 0 keys (with_patch m4 (to false) (outside_in (pos 0))) (bare_with (finite.remove m4 k9) (outside_in (negsuc 0))) Poll [] (record { accepted = rw (enough m4 0 l4 (omega arith)) refl; of_company = λ key e. cc; none_dropped = refl }) refl tt))))))))))))
 
 -- a script that adds what isn't there, and one that removes it
-added_removed : (own key : ShadowKey) (value : ℕ) (was : Option ℕ) → (is_key own key ≡ true → was ≡ None)
+added_removed : (own key : ShadowKey) (value : ShadowValue) (was : Option ShadowValue) → (is_key own key ≡ true → was ≡ None)
     → cond (is_key own key) None (cond (is_key own key) (Some (unwrap_or was value)) was) ≡ was
 added_removed own key value was none = by (is_key own key) refl
   where
@@ -200,14 +200,14 @@ added_removed own key value was none = by (is_key own key) refl
 abbrev pub script : List Edit → Script
 script edits = record { edits = edits; status = pos 0 }
 
-k10_then : (key : ShadowKey) → is_key k10 key ≡ true → variable (effect 0 start.world (script (Alloc k9 5 ∷ []))) key ≡ None
+k10_then : (key : ShadowKey) → is_key k10 key ≡ true → variable (effect 0 start.world (script (Alloc k9 (value_of 5) ∷ []))) key ≡ None
 k10_then key e =
     let both = and_parts (1 == key.obj) (10 == key.id) e in
     let objs = eqb-true 1 key.obj both.0 in
     let ids = eqb-true 10 key.id both.1 in
     let same : k10 ≡ key = λ i. record { obj = objs i; id = ids i } in
-    subst (λ k. variable (effect 0 start.world (script (Alloc k9 5 ∷ []))) k ≡ None) same
-    (effect_at 0 start.world (script (Alloc k9 5 ∷ [])) k10 ∙ finite.get-empty key_cmp k10)
+    subst (λ k. variable (effect 0 start.world (script (Alloc k9 (value_of 5) ∷ []))) k ≡ None) same
+    (effect_at 0 start.world (script (Alloc k9 (value_of 5) ∷ [])) k10 ∙ finite.get-empty key_cmp k10)
 
 fair_start : IsFairStart setting 0 start
 fair_start = record {
@@ -216,14 +216,14 @@ fair_start = record {
   undone = (
     record {
       pre = λ key e.
-          effect_at 0 (effect 0 start.world (script (Alloc k9 5 ∷ []))) (script (Free k9 ∷ [])) key
-          ∙ ap (λ was. cond (is_key k9 key) None was) (effect_at 0 start.world (script (Alloc k9 5 ∷ [])) key)
-          ∙ added_removed k9 key 5 (variable start.world key) (λ e. finite.get-empty key_cmp key);
+          effect_at 0 (effect 0 start.world (script (Alloc k9 (value_of 5) ∷ []))) (script (Free k9 ∷ [])) key
+          ∙ ap (λ was. cond (is_key k9 key) None was) (effect_at 0 start.world (script (Alloc k9 (value_of 5) ∷ [])) key)
+          ∙ added_removed k9 key (value_of 5) (variable start.world key) (λ e. finite.get-empty key_cmp key);
       post = λ key e.
-          let world = effect 0 start.world (script (Alloc k9 5 ∷ [])) in
-          effect_at 0 (effect 0 world (script (Alloc k10 6 ∷ []))) (script (Free k10 ∷ [])) key
-          ∙ ap (λ was. cond (is_key k10 key) None was) (effect_at 0 world (script (Alloc k10 6 ∷ [])) key)
-          ∙ added_removed k10 key 6 (variable world key) (k10_then key);
+          let world = effect 0 start.world (script (Alloc k9 (value_of 5) ∷ [])) in
+          effect_at 0 (effect 0 world (script (Alloc k10 (value_of 6) ∷ []))) (script (Free k10 ∷ [])) key
+          ∙ ap (λ was. cond (is_key k10 key) None was) (effect_at 0 world (script (Alloc k10 (value_of 6) ∷ [])) key)
+          ∙ added_removed k10 key (value_of 6) (variable world key) (k10_then key);
     },
     tt,
   );
@@ -242,11 +242,11 @@ on setting state after event events e is = ap (λ s. run setting s events) (next
 pub gone : is_installed (run setting start every_stage) 0 ≡ false
 gone =
     ap (λ s. is_installed s 0)
-    (on setting start (with_patch m1 (to true) sleeper) (Enable 0) e1 (rw (finite.len-empty key_cmp ℕ) refl) first
+    (on setting start (with_patch m1 (to true) sleeper) (Enable 0) e1 (rw (finite.len-empty key_cmp ShadowValue) refl) first
     ∙ on setting (with_patch m1 (to true) sleeper) (with_patch m1 (to true) sleeper) Poll e2 (rw (enough m1 1 (omega (arith, l1)) (omega arith)) refl) refl
     ∙ on setting (with_patch m1 (to true) sleeper) (with_patch m1 (to false) sleeper) (SetEnabled 0 false) e3 (rw (enough m1 0 (omega (arith, l1)) (omega arith)) refl) refl
     ∙ on setting (with_patch m1 (to false) sleeper) (with_patch m1 (to true) sleeper) (SetEnabled 0 true) e4 (rw (enough m1 0 (omega (arith, l1)) (omega arith)) refl) refl
-    ∙ on setting (with_patch m1 (to true) sleeper) (with_patch m2 (to true) sleeper) (ShadowAlloc k7 1) e5 (rw (k7_free, not_full) refl) refl
+    ∙ on setting (with_patch m1 (to true) sleeper) (with_patch m2 (to true) sleeper) (ShadowAlloc k7 (value_of 1)) e5 (rw (k7_free, not_full) refl) refl
     ∙ on setting (with_patch m2 (to true) sleeper) (with_patch m2 (to true) (awake 0)) (Wake 0) e6 refl refl
     ∙ on setting (with_patch m2 (to true) (awake 0)) (with_patch m2 (to true) (outside_in (pos 1))) (ExitToUser 0) e7 refl refl
     ∙ on setting (with_patch m2 (to true) (outside_in (pos 1))) (with_patch m3 None (outside_in (negsuc 0))) Poll e8 (rw (enough m2 1 (omega (arith, l2)) (omega arith)) refl) settled
@@ -270,7 +270,7 @@ allowed = record {
   stacked = tt;
   symbols = tt;
   tasks = (refl, right_rows setting 63);
-  room = omega (arith, finite.len-empty key_cmp ℕ);
+  room = omega (arith, finite.len-empty key_cmp ShadowValue);
   objects = refl;
   rows = refl;
   flags = refl;
@@ -285,20 +285,20 @@ refused_fair = record {
     undone = (
       record {
         pre = λ key e.
-            effect_at 0 (effect 0 both_loaded.world (script (Alloc k9 5 ∷ []))) (script (Free k9 ∷ [])) key
-            ∙ ap (λ was. cond (is_key k9 key) None was) (effect_at 0 both_loaded.world (script (Alloc k9 5 ∷ [])) key)
-            ∙ added_removed k9 key 5 (variable both_loaded.world key) (λ e. finite.get-empty key_cmp key);
+            effect_at 0 (effect 0 both_loaded.world (script (Alloc k9 (value_of 5) ∷ []))) (script (Free k9 ∷ [])) key
+            ∙ ap (λ was. cond (is_key k9 key) None was) (effect_at 0 both_loaded.world (script (Alloc k9 (value_of 5) ∷ [])) key)
+            ∙ added_removed k9 key (value_of 5) (variable both_loaded.world key) (λ e. finite.get-empty key_cmp key);
         post = λ key e. cc;
       },
       tt,
     );
     apart = (λ key e. refl, tt);
   };
-  fair_events = (record { accepted = rw (finite.len-empty key_cmp ℕ) refl; of_company = refl; none_dropped = refl }, tt);
+  fair_events = (record { accepted = rw (finite.len-empty key_cmp ShadowValue) refl; of_company = refl; none_dropped = refl }, tt);
 }
 
 abbrev refused_state : State
 refused_state = (accepted refusing_behind both_loaded (Enable 0)).1
 
 pub refused_gone : is_installed (run refusing_behind both_loaded (Enable 0 ∷ [])) 0 ≡ false
-refused_gone = ap (λ s. is_installed s 0) (on refusing_behind both_loaded refused_state (Enable 0) [] (rw (finite.len-empty key_cmp ℕ) refl) refl) ∙ rw (finite.get-empty key_cmp k9) refl
+refused_gone = ap (λ s. is_installed s 0) (on refusing_behind both_loaded refused_state (Enable 0) [] (rw (finite.len-empty key_cmp ShadowValue) refl) refl) ∙ rw (finite.get-empty key_cmp k9) refl

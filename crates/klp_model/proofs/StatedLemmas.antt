@@ -10,7 +10,7 @@ use Rattle.klp_types.specs.declared.version.Transition.{Transition}
 use Rattle.klp_types.specs.Setting.{Setting, PatchObject, replaces, state_ids}
 use Rattle.klp_types.specs.Script.{allocated, value_taken, edited, edited_by, edits_made, effect}
 use Rattle.klp_types.specs.Callbacks.{Call, calls_of, refuses, enable_calls, after_calls}
-use Rattle.klp_types.specs.World.{Installed, World, variable, previous_value, states_of, value_among, state_value, set_among, change_states, taken_out, with_patch, without_patch}
+use Rattle.klp_types.specs.World.{Installed, World, ShadowValue, variable, previous_value, states_of, value_among, state_value, set_among, change_states, taken_out, with_patch, without_patch}
 use Rattle.klp_types.specs.Pick.{moves}
 use Rattle.klp_types.specs.declared.callback.Which.TheVariants.{PreUn}
 use Rattle.klp_types.specs.declared.task.Task.{Task}
@@ -98,7 +98,7 @@ module _ (setting : Setting) where
   stated-put patch (first ∷ newer) stated = (stated.0, stated-put patch newer stated.1)
 
   -- callbacks
-  stated-allocated : (world : World) (key : ShadowKey) (value : ℕ) (there : Option ℕ) → AreStated world.installed → AreStated (allocated world key value there).installed
+  stated-allocated : (world : World) (key : ShadowKey) (value : ShadowValue) (there : Option ShadowValue) → AreStated world.installed → AreStated (allocated world key value there).installed
   stated-allocated world key value None stated = stated
   stated-allocated world key value (Some was) stated = stated
 

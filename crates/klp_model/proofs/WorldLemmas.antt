@@ -6,21 +6,21 @@ use Rattle.std.proofs.Math.Bool.{or-true}
 use Rattle.klp_types.specs.declared.shadow.ShadowKey.{ShadowKey}
 use Rattle.klp_types.specs.declared.edit.Edit.{Edit}
 use Rattle.klp_types.specs.declared.edit.Edit.TheVariants.{Alloc, Free, FreeAll, SetData, TakePrev}
-use Rattle.klp_types.specs.World.{Installed, World, variable, change_states, taken_out, set_among, previous_value}
+use Rattle.klp_types.specs.World.{Installed, World, ShadowValue, variable, change_states, taken_out, set_among, previous_value}
 use Rattle.klp_types.specs.Script.{Script, allocated, value_taken, edited, edited_by, made_of, edits_made, effect, touches, Undoes}
 use Rattle.klp_model.specs.State.{is_among}
 use Rattle.klp_types.specs.Callbacks.{Call, after_calls}
 use Rattle.klp_types.proofs.ScriptLemmas.{all_by_key, all_left_alone}
 
 -- what a script makes of one variable
-abbrev pub script_at : ShadowKey → Option ℕ → Script → Option ℕ
+abbrev pub script_at : ShadowKey → Option ShadowValue → Script → Option ShadowValue
 script_at key was script = made_of key was (edits_made script)
 
 pub effect_at : (patch : ℕ) (world : World) (script : Script) (key : ShadowKey) → variable (effect patch world script) key ≡ script_at key (variable world key) script
 effect_at patch world script key = all_by_key patch world (edits_made script) key
 
 -- a script that doesn't touch the variable leaves it
-pub script_leaves : (script : Script) (key : ShadowKey) (was : Option ℕ) → touches script key ≡ false → script_at key was script ≡ was
+pub script_leaves : (script : Script) (key : ShadowKey) (was : Option ShadowValue) → touches script key ≡ false → script_at key was script ≡ was
 script_leaves script key was e = all_left_alone (edits_made script) key was e
 
 -- what undoes a script undoes it at every variable
@@ -37,7 +37,7 @@ undone_at patch b a world undoes key = by (touches a key || touches b key) refl
         ap (λ was. script_at key was b) (script_leaves a key (variable world key) parts.0) ∙ script_leaves b key (variable world key) parts.1
 
 -- what calls make of one variable
-abbrev pub calls_at : ShadowKey → Option ℕ → List Call → Option ℕ
+abbrev pub calls_at : ShadowKey → Option ShadowValue → List Call → Option ShadowValue
 calls_at key was [] = was
 calls_at key was (call ∷ calls) = calls_at key (script_at key was call.script) calls
 
@@ -46,7 +46,7 @@ after_calls_at world [] key = refl
 after_calls_at world (call ∷ calls) key =
     after_calls_at (effect call.patch world call.script) calls key ∙ ap (λ was. calls_at key was calls) (effect_at call.patch world call.script key)
 
-pub calls_at-append : (key : ShadowKey) (was : Option ℕ) (first second : List Call) → calls_at key was (first ++ second) ≡ calls_at key (calls_at key was first) second
+pub calls_at-append : (key : ShadowKey) (was : Option ShadowValue) (first second : List Call) → calls_at key was (first ++ second) ≡ calls_at key (calls_at key was first) second
 calls_at-append key was [] second = refl
 calls_at-append key was (call ∷ first) second = calls_at-append key (script_at key was call.script) first second
 
@@ -86,7 +86,7 @@ module _ (patch : ℕ) where
     same_last : (a b : World) → a.installed ≡ b.installed → IsLast patch older a → IsLast patch older b
     same_last a b e last = record { values = last.values; is = sym e ∙ last.is }
 
-    allocated_last : (world : World) (key : ShadowKey) (value : ℕ) (o : Option ℕ) → IsLast patch older world → IsLast patch older (allocated world key value o)
+    allocated_last : (world : World) (key : ShadowKey) (value : ShadowValue) (o : Option ShadowValue) → IsLast patch older world → IsLast patch older (allocated world key value o)
     allocated_last world key value (Some there) last = last
     allocated_last world key value None last = record { values = last.values; is = last.is }
 

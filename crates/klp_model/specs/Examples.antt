@@ -1,5 +1,6 @@
 -- A small kernel with patches and tasks, and states of it, over which the definitions are computed.
 use Rattle.std.specs.Prelude.{ℕ, ℤ, pos, Bool, true, false, List, [], ◌∷◌, map, replicate, Option, Some}
+use Rattle.std.specs.Int.{w64, to_le_bytes}
 use Rattle.std.specs.FinMap as finite
 use Rattle.klp_types.specs.declared.callback.Which.{Which}
 use Rattle.klp_types.specs.declared.callback.Which.TheVariants.{Pre, Post}
@@ -126,7 +127,7 @@ crowded which = record {
   image = kernel;
   patches = record {
     replace = false;
-    objects = record { object = 1; functions = []; callbacks = making which (replicate 513 (Alloc (record { obj = 1; id = 1 }) 0)) ∷ [] } ∷ [];
+    objects = record { object = 1; functions = []; callbacks = making which (replicate 513 (Alloc (record { obj = 1; id = 1 }) (to_le_bytes w64 0))) ∷ [] } ∷ [];
     states = [];
   } ∷ [];
 }

@@ -1,11 +1,13 @@
 -- Small catalogs with a patch, and what happens to it.
 use Rattle.std.specs.Prelude.{ℕ, ℤ, pos, negsuc, true, false, List, [], ◌∷◌, replicate, Some, None}
+use Rattle.std.specs.Int.{w64, to_le_bytes}
 use Rattle.std.specs.FinMap as finite
 use Rattle.klp_types.specs.declared.shadow.ShadowKey.{ShadowKey}
 use Rattle.klp_types.specs.declared.edit.Edit.{Edit}
 use Rattle.klp_types.specs.declared.edit.Edit.TheVariants.{Alloc, Free}
 use Rattle.klp_types.specs.declared.callback.Which.{Which}
 use Rattle.klp_types.specs.declared.callback.Which.TheVariants.{Pre, Post, PreUn, PostUn}
+use Rattle.klp_types.specs.World.{ShadowValue}
 use Rattle.klp_types.specs.Image.{Object}
 use Rattle.klp_types.specs.Setting.{Callback, Setting}
 use Rattle.klp_model.specs.declared.event.Event.{Event}
@@ -19,6 +21,10 @@ use Rattle.klp_model.specs.State.{State, with_tasks}
 
 abbrev pub key_of : ℕ → ℕ → ShadowKey
 key_of obj id = record { obj = obj; id = id }
+
+-- the value that a number is
+abbrev pub value_of : ℕ → ShadowValue
+value_of number = to_le_bytes w64 number
 
 -- a callback that makes these edits and succeeds
 abbrev pub making : Which → List Edit → Callback
@@ -37,7 +43,7 @@ adding = record {
     objects = record {
       object = 0;
       functions = record { site = Some 0; address = 500 } ∷ [];
-      callbacks = making Pre (Alloc (key_of 1 9) 5 ∷ []) ∷ making Post (Alloc (key_of 1 10) 6 ∷ [])
+      callbacks = making Pre (Alloc (key_of 1 9) (value_of 5) ∷ []) ∷ making Post (Alloc (key_of 1 10) (value_of 6) ∷ [])
           ∷ making PreUn (Free (key_of 1 10) ∷ []) ∷ making PostUn (Free (key_of 1 9) ∷ []) ∷ [];
     } ∷ [];
     states = [];
@@ -59,12 +65,12 @@ with_a_sleeper = with_tasks bare (one_task Asleep (negsuc 0) (Original 0 ∷ [])
 -- kernel; disabled, and complete once the task was in the kernel and left it again
 abbrev pub every_stage : List Event
 every_stage =
-    Enable 0 ∷ Poll ∷ SetEnabled 0 false ∷ SetEnabled 0 true ∷ ShadowAlloc (key_of 7 7) 1 ∷ Wake 0 ∷ ExitToUser 0 ∷ Poll
+    Enable 0 ∷ Poll ∷ SetEnabled 0 false ∷ SetEnabled 0 true ∷ ShadowAlloc (key_of 7 7) (value_of 1) ∷ Wake 0 ∷ ExitToUser 0 ∷ Poll
     ∷ SetEnabled 0 false ∷ Poll ∷ EnterKernel 0 ∷ ExitToUser 0 ∷ Poll ∷ []
 
 -- the patch's own variable is there before it comes
 abbrev pub own_variable_first : List Event
-own_variable_first = ShadowAlloc (key_of 1 9) 77 ∷ Enable 0 ∷ Poll ∷ SetEnabled 0 false ∷ Poll ∷ []
+own_variable_first = ShadowAlloc (key_of 1 9) (value_of 77) ∷ Enable 0 ∷ Poll ∷ SetEnabled 0 false ∷ Poll ∷ []
 
 -- pre-patch of one object removes the variable (1, 1), and post-unpatch adds it again with 5; pre-patch of the object behind
 -- it adds it with 9
@@ -73,8 +79,8 @@ sharing = record {
   image = record { handler = 0; objects = small_object ∷ small_object ∷ [] };
   patches = record {
     replace = false;
-    objects = record { object = 0; functions = []; callbacks = making Pre (Free (key_of 1 1) ∷ []) ∷ making PostUn (Alloc (key_of 1 1) 5 ∷ []) ∷ [] }
-        ∷ record { object = 1; functions = []; callbacks = making Pre (Alloc (key_of 1 1) 9 ∷ []) ∷ [] } ∷ [];
+    objects = record { object = 0; functions = []; callbacks = making Pre (Free (key_of 1 1) ∷ []) ∷ making PostUn (Alloc (key_of 1 1) (value_of 5) ∷ []) ∷ [] }
+        ∷ record { object = 1; functions = []; callbacks = making Pre (Alloc (key_of 1 1) (value_of 9) ∷ []) ∷ [] } ∷ [];
     states = [];
   } ∷ [];
 }
@@ -83,7 +89,7 @@ sharing = record {
 abbrev pub with_five : State
 with_five = record {
   loaded = true ∷ true ∷ [];
-  world = record { installed = []; shadow = finite.insert finite.empty (key_of 1 1) 5 };
+  world = record { installed = []; shadow = finite.insert finite.empty (key_of 1 1) (value_of 5) };
   moving = None;
   pinned = false ∷ [];
   tasks = [];
@@ -98,7 +104,7 @@ refusing_behind = record {
   image = record { handler = 0; objects = small_object ∷ small_object ∷ [] };
   patches = record {
     replace = false;
-    objects = record { object = 0; functions = []; callbacks = making Pre (Alloc (key_of 1 9) 5 ∷ []) ∷ making PostUn (Free (key_of 1 9) ∷ []) ∷ [] }
+    objects = record { object = 0; functions = []; callbacks = making Pre (Alloc (key_of 1 9) (value_of 5) ∷ []) ∷ making PostUn (Free (key_of 1 9) ∷ []) ∷ [] }
         ∷ record { object = 1; functions = []; callbacks = record { which = Pre; script = record { edits = []; status = negsuc 15 } } ∷ [] } ∷ [];
     states = [];
   } ∷ [];

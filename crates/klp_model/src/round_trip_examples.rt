@@ -10,7 +10,7 @@ ghost use Rattle.klp_model.specs.Callbacks.{loaded_objects};
 ghost use Rattle.klp_model.specs.Run.{run};
 ghost use Rattle.klp_model.specs.Allowed.{Allowed};
 ghost use Rattle.klp_model.specs.Company.{taking_part, company_keys, EachUndoes, IsFairCompany};
-ghost use Rattle.klp_model.specs.RoundTripExamples.{key_of, adding, bare, with_a_sleeper, every_stage, own_variable_first, refusing_behind, both_loaded, sharing, with_five, there_and_back};
+ghost use Rattle.klp_model.specs.RoundTripExamples.{key_of, value_of, adding, bare, with_a_sleeper, every_stage, own_variable_first, refusing_behind, both_loaded, sharing, with_five, there_and_back};
 
 /// A cumulative patch is enabled, held by a sleeper, turned round twice, complete, disabled, waited for and
 /// gone, and a variable of somebody else is added between: a fair company, so the laws speak of all of
@@ -27,10 +27,10 @@ pub fn a_fair_company_goes_through_every_stage()
 pub fn a_variable_that_was_there_is_lost()
     ensures gone { is_installed (run adding bare own_variable_first) 0 ≡ false }
     ensures lost { variable (run adding bare own_variable_first).world (key_of 1 9) ≡ None }
-    ensures expected { variable (shadow_changes bare.world own_variable_first) (key_of 1 9) ≡ Some 77 }
+    ensures expected { variable (shadow_changes bare.world own_variable_first) (key_of 1 9) ≡ Some (value_of 77) }
     ensures of_the_company { company_keys adding bare 0 (key_of 1 9) ≡ true }
-    ensures concerned { concerns (ShadowAlloc (key_of 1 9) 77) (key_of 1 9) ≡ true }
-    ensures not_undone { EachUndoes 0 (shadow_changed bare.world (ShadowAlloc (key_of 1 9) 77))
+    ensures concerned { concerns (ShadowAlloc (key_of 1 9) (value_of 77)) (key_of 1 9) ≡ true }
+    ensures not_undone { EachUndoes 0 (shadow_changed bare.world (ShadowAlloc (key_of 1 9) (value_of 77)))
         (taking_part adding bare 0) → ⊥ }
 {}
 
@@ -39,9 +39,9 @@ pub fn a_variable_that_was_there_is_lost()
 /// and not backwards.
 pub fn objects_that_share_a_variable_leave_a_trace()
     ensures undone { EachUndoes 0 with_five.world (taking_part sharing with_five 0) }
-    ensures before { variable with_five.world (key_of 1 1) ≡ Some 5 }
+    ensures before { variable with_five.world (key_of 1 1) ≡ Some (value_of 5) }
     ensures gone { is_installed (run sharing with_five there_and_back) 0 ≡ false }
-    ensures after { variable (run sharing with_five there_and_back).world (key_of 1 1) ≡ Some 9 }
+    ensures after { variable (run sharing with_five there_and_back).world (key_of 1 1) ≡ Some (value_of 9) }
 {}
 
 /// A patch whose second object refuses is gone at once, and its enabling is a fair company: the first

@@ -1,12 +1,12 @@
 -- Shadow events, where nothing refuses them.
-use Rattle.std.proofs.Common.{◌≡◌, ℕ, Bool, true, false, List, [], map, Option, Some, None, Ok, is_some, refl, sym, ap, ◌∙◌}
+use Rattle.std.proofs.Common.{◌≡◌, Bool, true, false, List, [], map, Option, Some, None, Ok, is_some, refl, sym, ap, ◌∙◌}
 use Rattle.std.specs.Prelude.{◌∷◌}
 use Rattle.klp_types.specs.declared.record.Record.{Record}
 use Rattle.klp_types.specs.declared.shadow.ShadowKey.{ShadowKey}
 use Rattle.klp_types.specs.FirstOf.{first_of}
 use Rattle.klp_types.specs.Records.{RecordList}
 use Rattle.klp_types.specs.Script.{allocated}
-use Rattle.klp_types.specs.World.{Installed, World, with_variable}
+use Rattle.klp_types.specs.World.{Installed, World, ShadowValue, with_variable}
 use Rattle.klp_model.specs.declared.event.Event.{Event}
 use Rattle.klp_model.specs.declared.event.Refusal.TheVariants.{Exists, Full}
 use Rattle.klp_model.specs.declared.event.Reply.{Reply}
@@ -29,18 +29,18 @@ not_there true full free = let no : ⊥ = cc in absurd no
 not_there false full free = refl
 
 -- a variable that isn't there is added
-pub added : (world : World) (key : ShadowKey) (value : ℕ) (found : Option ℕ) → is_some found ≡ false → allocated world key value found ≡ with_variable world key value
+pub added : (world : World) (key : ShadowKey) (value : ShadowValue) (found : Option ShadowValue) → is_some found ≡ false → allocated world key value found ≡ with_variable world key value
 added world key value None apart = refl
 added world key value (Some there) apart = let no : ⊥ = cc in absurd no
 
 -- the same patches are installed
-pub patches_stay : (world : World) (key : ShadowKey) (value : ℕ) (found : Option ℕ)
+pub patches_stay : (world : World) (key : ShadowKey) (value : ShadowValue) (found : Option ShadowValue)
     → map (λ (i : Installed). i.patch) (allocated world key value found).installed ≡ map (λ (i : Installed). i.patch) world.installed
 patches_stay world key value None = refl
 patches_stay world key value (Some there) = refl
 
 -- an event that nothing refuses, and that adds a variable where it isn't there, is taken
-pub alloc_taken : IsWorldTaken → StepLaws → (before : ManagerState) (catalog : Catalog) (world : World) (empty log : RecordList) (rows : List Record) (key : ShadowKey) (value : ℕ) (found : Option ℕ)
+pub alloc_taken : IsWorldTaken → StepLaws → (before : ManagerState) (catalog : Catalog) (world : World) (empty log : RecordList) (rows : List Record) (key : ShadowKey) (value : ShadowValue) (found : Option ShadowValue)
     (event : Event) (reply : Reply) → Invariant before catalog
     → None ≡ refused_in before catalog event
     → calls (setting_in before catalog) (state_in before catalog) event ≡ []

@@ -4,10 +4,10 @@
 //! is refused changes nothing. A function of its own answers why an event is refused, or `None` where
 //! nothing refuses it, because a full journal has to know without taking it; the removals have none, since
 //! nothing refuses them.
-ghost use Rattle.std.specs.Prelude.{◌≡◌, ◌<◌, ℕ, None, IfNone};
+ghost use Rattle.std.specs.Prelude.{◌≡◌, ◌<◌, None, IfNone};
 ghost use Rattle.std.specs.FinMap as finite;
 ghost use Rattle.klp_types.specs.declared.limits.TheConstants.{MAX_VARIABLES};
-ghost use Rattle.klp_types.specs.World.{variable};
+ghost use Rattle.klp_types.specs.World.{ShadowValue as AnyValue, variable};
 ghost use Rattle.klp_model.specs.Refusals.{is_full, refusal};
 ghost use Rattle.klp_model.specs.declared.event.Event.TheVariants.{ShadowAlloc, ShadowGetOrAlloc, ShadowFree, ShadowFreeAll};
 ghost use Rattle.klp_catalog.specs.Catalog.{Catalog as AnyCatalog};
@@ -47,7 +47,7 @@ pub fn shadow_alloc(
 
 /// Why a variable isn't added, whatever its value: that it is there comes before want of room.
 pub fn shadow_alloc_refusal(manager: &ManagerState, key: ShadowKey) -> Option<Refusal>
-    ensures refusal { (catalog : AnyCatalog) (value : ℕ)
+    ensures refusal { (catalog : AnyCatalog) (value : AnyValue)
         → result ≡ refused_in manager.now catalog (ShadowAlloc key value) }
     ensures room { IfNone result (finite.len manager.now.world.shadow < MAX_VARIABLES) }
 {
@@ -86,7 +86,7 @@ pub fn shadow_get_or_alloc(
 
 /// Why a variable that isn't there isn't added, whatever its value. One that is there needs no room.
 pub fn shadow_get_or_alloc_refusal(manager: &ManagerState, key: ShadowKey) -> Option<Refusal>
-    ensures refusal { (catalog : AnyCatalog) (value : ℕ)
+    ensures refusal { (catalog : AnyCatalog) (value : AnyValue)
         → result ≡ refused_in manager.now catalog (ShadowGetOrAlloc key value) }
     ensures room { IfNone result
         (variable manager.now.world key ≡ None → finite.len manager.now.world.shadow < MAX_VARIABLES) }

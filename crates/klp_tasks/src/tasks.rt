@@ -84,7 +84,7 @@ fn has_state(task: &Task, state: i8) -> bool
 }
 
 /// What the row of a number was: with a task or without one, which are two kinds of record
-/// (docs/DECISIONS.md, "Two kinds of record for a task and for the transition").
+/// (docs/DECISIONS.md, "Two kinds of record for a row that may be missing").
 fn record_of(task: TaskId, was: Option<Task>) -> Record
     ensures { result ≡ record_of task was }
 {

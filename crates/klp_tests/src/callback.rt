@@ -46,7 +46,7 @@ impl Callback for Watched {
         self.runs
     }
 
-    fn script(&self) -> Script {
-        copy_of(&self.script)
+    fn script(&self) -> &Script {
+        &self.script
     }
 }

@@ -1,5 +1,5 @@
 //! A world that is full, or that memory was refused for, and records that are put back.
-use klp_types::{MAX_VARIABLES, ObjId, Record, Records, ShadowKey};
+use klp_types::{MAX_VARIABLES, ObjId, Record, Records, ShadowKey, ShadowValue};
 use klp_world::World;
 use std::alloc::{AllocError, Global};
 
@@ -12,7 +12,7 @@ fn fill(world: &mut World, log: &mut Records) -> usize {
     let mut added = 0usize;
     for id in 0..512 {
         let has_room = (world.count() as usize) < MAX_VARIABLES && log.spare() > 0;
-        if has_room && world.alloc(key(8, id), id, log) {
+        if has_room && world.alloc(key(8, id), ShadowValue::of(id), log) {
             added = added.saturating_add(1);
         }
     }
@@ -33,13 +33,13 @@ fn is_filled(alloc: Global) -> Result<bool, AllocError> {
     let added = fill(&mut world, &mut log);
     world.put_back(Record::ShadowVariable {
         key: key(9, 9),
-        was: Some(1),
+        was: ShadowValue::of(1),
     });
     Ok(
         is_empty
             && added == 512
             && world.count() == 512
-            && world.get(key(8, 511)) == Some(511)
+            && world.get(key(8, 511)) == Some(ShadowValue::of(511))
             && world.get(key(9, 9)).is_none(),
     )
 }

@@ -10,7 +10,7 @@ use Rattle.std.proofs.lemmas.Bool.Decides.{nat_tests}
 use Rattle.std.specs.FinMap as finite
 use Rattle.std.specs.FinMap.Entries.{where_key, is_sorted-where_key, find-where_key}
 use Rattle.klp_types.specs.declared.shadow.ShadowKey.{ShadowKey}
-use Rattle.klp_types.specs.World.{Shadow, key_cmp}
+use Rattle.klp_types.specs.World.{Shadow, ShadowValue, key_cmp}
 use Rattle.klp_types.specs.Script.{is_key}
 
 pub key_total : IsTotalOrder key_cmp
@@ -53,7 +53,7 @@ same_key own key e =
 pub alike : (keep : ShadowKey → Bool) (q x : ShadowKey) → key_cmp q x ≡ Equal → keep x ≡ keep q
 alike keep q x e = ap keep (sym (key_antisymmetric q x e))
 
-few_where : (keep : ShadowKey → Bool) (variables : List (ShadowKey × ℕ)) → length (where_key key_cmp keep variables) ≤ length variables
+few_where : (keep : ShadowKey → Bool) (variables : List (ShadowKey × ShadowValue)) → length (where_key key_cmp keep variables) ≤ length variables
 few_where keep [] = omega arith
 few_where keep (first ∷ others) = by (keep first.0) (few_where keep others)
   where

@@ -1,6 +1,6 @@
 pub mod EntryLemmas
 pub mod TextLemmas
 pub mod SiteLemmas
-pub mod FrameLemmas
+pub mod PaddedLemmas
 pub mod KeyLemmas
 pub mod ScriptLemmas

@@ -9,20 +9,20 @@ use Rattle.std.specs.FinMap as finite
 use Rattle.klp_types.specs.declared.shadow.ShadowKey.{ShadowKey}
 use Rattle.klp_types.specs.declared.edit.Edit.{Edit}
 use Rattle.klp_types.specs.declared.edit.Edit.TheVariants.{Alloc, Free, FreeAll, SetData, TakePrev}
-use Rattle.klp_types.specs.World.{Installed, World, Shadow, variable, previous_value, states_of, set_among, change_states}
+use Rattle.klp_types.specs.World.{Installed, World, Shadow, ShadowValue, variable, previous_value, states_of, set_among, change_states}
 use Rattle.klp_types.specs.Script.{Script, is_success, alloc_count, is_alloc, is_key, allocated, value_taken, edited, edited_at, edited_by, made_of, edits_made, effect, edit_touches, touches}
 use Rattle.klp_types.specs.Callbacks.{Call, after_calls}
 use Rattle.klp_types.proofs.KeyLemmas.{key_total, key_antisymmetric, tied_if_same, same_key, alike, few_kept}
 
-kept : (b : Bool) (o : Option ℕ) (value there : ℕ) → (b ≡ true → o ≡ Some there) → o ≡ cond b (Some (unwrap_or o value)) o
+kept : (b : Bool) (o : Option ShadowValue) (value there : ShadowValue) → (b ≡ true → o ≡ Some there) → o ≡ cond b (Some (unwrap_or o value)) o
 kept true o value there is = is refl ∙ sym (ap (λ o. Some (unwrap_or o value)) (is refl))
 kept false o value there is = refl
 
-added : (b : Bool) (o : Option ℕ) (value : ℕ) → (b ≡ true → o ≡ None) → cond b (Some value) o ≡ cond b (Some (unwrap_or o value)) o
+added : (b : Bool) (o : Option ShadowValue) (value : ShadowValue) → (b ≡ true → o ≡ None) → cond b (Some value) o ≡ cond b (Some (unwrap_or o value)) o
 added true o value is = sym (ap (λ o. Some (unwrap_or o value)) (is refl))
 added false o value is = refl
 
-alloc_at : (world : World) (own key : ShadowKey) (value : ℕ) → variable (allocated world own value (variable world own)) key ≡ cond (is_key own key) (Some (unwrap_or (variable world key) value)) (variable world key)
+alloc_at : (world : World) (own key : ShadowKey) (value : ShadowValue) → variable (allocated world own value (variable world own)) key ≡ cond (is_key own key) (Some (unwrap_or (variable world key) value)) (variable world key)
 alloc_at world own key value =
     let here = λ (e : is_key own key ≡ true). ap (variable world) (sym (same_key own key e)) in
     elim (variable world own) as (λ o. variable world own ≡ o → variable (allocated world own value o) key ≡ cond (is_key own key) (Some (unwrap_or (variable world key) value)) (variable world key)) [
@@ -31,7 +31,7 @@ alloc_at world own key value =
           ∙ added (is_key own key) (variable world key) value (λ e. here e ∙ is)
     ] refl
 
-turned : (b : Bool) (o : Option ℕ) → cond (not b) o None ≡ cond b None o
+turned : (b : Bool) (o : Option ShadowValue) → cond (not b) o None ≡ cond b None o
 turned true o = refl
 turned false o = refl
 
@@ -58,14 +58,14 @@ all_by_key patch world [] key = refl
 all_by_key patch world (edit ∷ edits) key =
     all_by_key patch (edited patch world edit) edits key ∙ ap (λ was. made_of key was edits) (key_by_key patch world edit key)
 
-left_alone : (edit : Edit) (key : ShadowKey) (was : Option ℕ) → edit_touches key edit ≡ false → edited_at key was edit ≡ was
+left_alone : (edit : Edit) (key : ShadowKey) (was : Option ShadowValue) → edit_touches key edit ≡ false → edited_at key was edit ≡ was
 left_alone (Alloc own value) key was e = ap (λ b. cond b (Some (unwrap_or was value)) was) e
 left_alone (Free own) key was e = ap (λ b. cond b None was) e
 left_alone (FreeAll id) key was e = ap (λ b. cond b None was) e
 left_alone (SetData id value) key was e = refl
 left_alone (TakePrev id) key was e = refl
 
-pub all_left_alone : (edits : List Edit) (key : ShadowKey) (was : Option ℕ) → list_any (edit_touches key) edits ≡ false → made_of key was edits ≡ was
+pub all_left_alone : (edits : List Edit) (key : ShadowKey) (was : Option ShadowValue) → list_any (edit_touches key) edits ≡ false → made_of key was edits ≡ was
 all_left_alone [] key was e = refl
 all_left_alone (edit ∷ edits) key was e =
     let parts = or_parts (edit_touches key edit) (list_any (edit_touches key) edits) e in
@@ -122,7 +122,7 @@ change_keeps patch change (first ∷ newer) =
     ]
 
 module _ (patch : ℕ) {A : Type 0} (look : List Installed → A) (stays : (change : List (ℕ × ℕ) → List (ℕ × ℕ)) (patches : List Installed) → look (change_states patch change patches) ≡ look patches) where
-  allocated_stays : (world : World) (key : ShadowKey) (value : ℕ) (o : Option ℕ) → look (allocated world key value o).installed ≡ look world.installed
+  allocated_stays : (world : World) (key : ShadowKey) (value : ShadowValue) (o : Option ShadowValue) → look (allocated world key value o).installed ≡ look world.installed
   allocated_stays world key value None = refl
   allocated_stays world key value (Some there) = refl
 
@@ -196,7 +196,7 @@ script_room patch world script =
     omega arith
 
 -- The shadow variables that a script leaves depend on no more than those that were there.
-allocated_same : (a b : World) (key : ShadowKey) (value : ℕ) (o : Option ℕ) → a.shadow ≡ b.shadow → (allocated a key value o).shadow ≡ (allocated b key value o).shadow
+allocated_same : (a b : World) (key : ShadowKey) (value : ShadowValue) (o : Option ShadowValue) → a.shadow ≡ b.shadow → (allocated a key value o).shadow ≡ (allocated b key value o).shadow
 allocated_same a b key value None e = ap (λ (s : Shadow). finite.insert s key value) e
 allocated_same a b key value (Some there) e = e
 

@@ -1,7 +1,8 @@
 -- The world that callbacks change: the installed patches with the values of their system states, and the shadow variables.
-use Rattle.std.specs.Prelude.{ℕ, Bool, not, ◌==◌, List, [], ◌∷◌, ◌++◌, map, find, reverse, Option, Some, None, is_some, option_map, option_and_then, if◌then◌else◌}
+use Rattle.std.specs.Prelude.{ℕ, Bool, not, ◌==◌, List, [], ◌∷◌, ◌++◌, length, map, find, reverse, Option, Some, None, is_some, option_map, option_and_then, if◌then◌else◌}
 use Rattle.std.specs.declared.cmp.Ordering.{Ordering}
 use Rattle.std.specs.Ordering.{nat_cmp, ordering_then}
+use Rattle.std.specs.Int.{w64, from_le_bytes}
 use Rattle.std.specs.FinMap as finite
 use Rattle.klp_types.specs.declared.shadow.ShadowKey.{ShadowKey}
 
@@ -14,9 +15,13 @@ pub record Installed : Type 0 where
 abbrev pub key_cmp : ShadowKey → ShadowKey → Ordering
 key_cmp a b = ordering_then (nat_cmp a.obj b.obj) (nat_cmp a.id b.id)
 
--- the value of a shadow variable: a number
+-- the value of a shadow variable: its bytes
 abbrev pub ShadowValue : Type 0
-ShadowValue = ℕ
+ShadowValue = List ℕ
+
+-- the number that a value of eight bytes is, the lowest first; any other is no number
+abbrev pub number_of : ShadowValue → Option ℕ
+number_of value = if length value == 8 then Some (from_le_bytes w64 value) else None
 
 -- the shadow variables: a finite map from their keys to their values
 abbrev pub Shadow : Type 0

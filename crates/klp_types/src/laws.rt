@@ -1,6 +1,7 @@
 //! What is proved of the definitions themselves. Each law is the contract of a function that does
 //! nothing: it keeps the definitions honest, and a crate above may rely on it.
-ghost use Rattle.std.specs.Prelude.{◌≡◌, ℕ, ◌+◌, ◌<◌, ◌≤◌, Bool, ◌==◌, ◌&&◌, ◌||◌, true, false, not, List, [], ◌∷◌, ◌++◌, length, map, take, drop, get_or, slice_get, Option, Some, is_some, option_map, IfSome};
+ghost use Rattle.std.specs.Prelude.{◌≡◌, ℕ, ◌+◌, ◌^◌, ◌<◌, ◌≤◌, Bool, ◌==◌, ◌&&◌, ◌||◌, true, false, not, List, [], ◌∷◌, ◌++◌, length, map, take, drop, get_or, slice_get, Option, Some, is_some, option_map, IfSome};
+ghost use Rattle.std.specs.Int.{w64, to_le_bytes};
 ghost use Rattle.std.specs.List.{All, list_any};
 ghost use Rattle.std.specs.Cmp.{IsTotalOrder};
 ghost use Rattle.std.specs.Ordering.{eq_by_cmp};
@@ -12,7 +13,7 @@ ghost use Rattle.klp_types.specs.Image.{Image, Object, symbols_of, first_site, g
 ghost use Rattle.klp_types.specs.Setting.{Setting, functions_of, function_for, replaces};
 ghost use Rattle.klp_types.specs.Entries.{patches_site, entry_of, entries_from, is_empty};
 ghost use Rattle.klp_types.specs.Bytes.{symbol_in, patched, resting, text_where};
-ghost use Rattle.klp_types.specs.World.{Installed, World, Shadow, ShadowValue, key_cmp, variable, states_of};
+ghost use Rattle.klp_types.specs.World.{Installed, World, Shadow, ShadowValue, key_cmp, number_of, variable, states_of};
 ghost use Rattle.klp_types.specs.Script.{Script, alloc_count, is_key, value_taken, edited, edited_at, edited_by, made_of, edits_made, effect, edit_touches, touches};
 ghost use Rattle.klp_types.specs.Callbacks.{Call, after_calls};
 
@@ -21,9 +22,9 @@ use crate::limits::{
     MAX_COMING_EDITS, MAX_CONSOLE_LINE, MAX_EDITS, MAX_ENABLING_RECORDS, MAX_FRAMES, MAX_FUNCTIONS,
     MAX_GOING_EDITS, MAX_GROUPS, MAX_INDEX, MAX_JOURNAL_RECORDS, MAX_KIND_RECORDS, MAX_LINE,
     MAX_LIST_RECORDS, MAX_MARK, MAX_NAME, MAX_OBJECTS, MAX_PATCHES, MAX_READS, MAX_RECORDS,
-    MAX_SITES, MAX_STATES, MAX_SYMBOL_NAME, MAX_TARGETS, MAX_TASK_NUMBER, MAX_TASKS, MAX_VARIABLES,
-    READ_ROOM, RECORDS_AFTER_CALLBACKS, RECORDS_AFTER_LIST, RECORDS_AFTER_SITES,
-    RECORDS_BEFORE_SITES,
+    MAX_SITES, MAX_STATES, MAX_SYMBOL_NAME, MAX_TARGETS, MAX_TASK_NUMBER, MAX_TASKS,
+    MAX_VALUE_BYTES, MAX_VARIABLES, READ_ROOM, RECORDS_AFTER_CALLBACKS, RECORDS_AFTER_LIST,
+    RECORDS_AFTER_SITES, RECORDS_BEFORE_SITES,
 };
 
 /// In the text of an object each function reads as it was built, but for its entry site: so nothing that
@@ -147,6 +148,11 @@ pub fn sites_of_an_object_stand_together()
         → first_site objects index + length object.symbols ≤ length (symbols_of objects) }
 {}
 
+/// A number is what is read of its eight bytes, so that a variable shows the number that it was given.
+pub fn numbers_are_read_as_written()
+    ensures { (number : ℕ) → number < 2 ^ 64 → number_of (to_le_bytes w64 number) ≡ Some number }
+{}
+
 /// Patches put an entry on a site exactly where one of them has a function for it: nops alone hook nothing.
 pub fn entries_stand_where_functions_are()
     ensures { (setting : Setting) (site : ℕ) (patches : List ℕ)
@@ -190,6 +196,7 @@ pub fn limits_are_these()
     ensures states { MAX_STATES ≡ 16 }
     ensures edits { MAX_EDITS ≡ 16 }
     ensures variables { MAX_VARIABLES ≡ 512 }
+    ensures value_bytes { MAX_VALUE_BYTES ≡ 64 }
     ensures tasks { MAX_TASKS ≡ 64 }
     ensures frames { MAX_FRAMES ≡ 32 }
     ensures records { MAX_RECORDS ≡ 4096 }
@@ -205,7 +212,7 @@ pub fn limits_are_these()
     ensures after_list { RECORDS_AFTER_LIST ≡ 3800 }
     ensures groups { MAX_GROUPS ≡ 4096 }
     ensures journal_records { MAX_JOURNAL_RECORDS ≡ 16384 }
-    ensures line { MAX_LINE ≡ 2048 }
+    ensures line { MAX_LINE ≡ 4096 }
     ensures name { MAX_NAME ≡ 55 }
     ensures symbol_name { MAX_SYMBOL_NAME ≡ 127 }
     ensures address { MAX_ADDRESS_DIGITS ≡ 16 }

@@ -17,6 +17,7 @@
 //!
 //! The code is small. [`Records`] logs a record last, gives the newest back, and is emptied; its room is
 //! taken once. [`Frames`] has at most 32 versions: `push` puts one last, or leaves a full list as it is.
+//! [`ShadowValue`] has 0 to 64 bytes, and takes no more.
 //! [`Script`] is here, below the world that it changes, so that the catalog's text doesn't wait for that.
 #![tactic(auto)]
 
@@ -41,9 +42,9 @@ pub use limits::{
     MAX_COMING_EDITS, MAX_CONSOLE_LINE, MAX_EDITS, MAX_ENABLING_RECORDS, MAX_FRAMES, MAX_FUNCTIONS,
     MAX_GOING_EDITS, MAX_GROUPS, MAX_INDEX, MAX_JOURNAL_RECORDS, MAX_KIND_RECORDS, MAX_LINE,
     MAX_LIST_RECORDS, MAX_MARK, MAX_NAME, MAX_OBJECTS, MAX_PATCHES, MAX_READS, MAX_RECORDS,
-    MAX_SITES, MAX_STATES, MAX_SYMBOL_NAME, MAX_TARGETS, MAX_TASK_NUMBER, MAX_TASKS, MAX_VARIABLES,
-    READ_ROOM, RECORDS_AFTER_CALLBACKS, RECORDS_AFTER_LIST, RECORDS_AFTER_SITES,
-    RECORDS_BEFORE_SITES,
+    MAX_SITES, MAX_STATES, MAX_SYMBOL_NAME, MAX_TARGETS, MAX_TASK_NUMBER, MAX_TASKS,
+    MAX_VALUE_BYTES, MAX_VARIABLES, READ_ROOM, RECORDS_AFTER_CALLBACKS, RECORDS_AFTER_LIST,
+    RECORDS_AFTER_SITES, RECORDS_BEFORE_SITES,
 };
 pub use number::{ObjId, PatchId, Site};
 pub use record::{Place, Record, Records};

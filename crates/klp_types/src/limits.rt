@@ -38,6 +38,10 @@ pub const MAX_EDITS: usize = 16;
 /// memory.
 pub const MAX_VARIABLES: usize = 512;
 
+/// How many bytes the value of a shadow variable may have. A kernel's may have any number; here every row
+/// of the state has room of its own from the start, since no event takes memory.
+pub const MAX_VALUE_BYTES: usize = 64;
+
 /// How many tasks there may be: they are numbered from 0, so 63 is the last number.
 pub const MAX_TASKS: usize = 64;
 
@@ -93,8 +97,8 @@ pub const MAX_GROUPS: usize = 4096;
 pub const MAX_JOURNAL_RECORDS: usize = 16384;
 
 /// How many bytes a line of a catalog's text that isn't skipped may have, without those that end it. So a
-/// body of 256 bytes and 16 edits with the greatest numbers each fit into a line.
-pub const MAX_LINE: usize = 2048;
+/// body of 256 bytes and 16 edits with the greatest numbers and values each fit into a line.
+pub const MAX_LINE: usize = 4096;
 
 /// How many bytes the name of an object, a patch or a new function may have: 56 with the 0 at its end,
 /// which is the kernel's `MODULE_NAME_LEN` with 64 bits.

@@ -12,11 +12,15 @@ use std::marker::Model;
 /// wasn't there has a kind of its own, or a `None`, since to undo its coming is to take it out.
 #[derive(Clone, Copy, Debug, PartialEq, Eq)]
 pub enum Record {
-    /// A shadow variable: its value, or `None` where it wasn't there, so that to put it back is to remove
-    /// it.
+    /// A shadow variable that was there.
     ShadowVariable {
         key: ShadowKey,
-        was: Option<ShadowValue>,
+        was: ShadowValue,
+    },
+    /// A shadow variable that wasn't there, so to put this back is to remove it. These are two kinds, as
+    /// `TaskRow` and `NoTaskRow` are.
+    NoShadowVariable {
+        key: ShadowKey,
     },
     /// The value of a system state of an installed patch. The row itself was there before and stays, so
     /// there is no `None`.
@@ -55,9 +59,9 @@ pub enum Record {
         site: Site,
         was: bool,
     },
-    /// A task that was there. This and `NoTaskRow` are two kinds, and so are `Moving` and `NothingMoving`,
-    /// because a value of an enum that holds an option of such a struct can't be handed on
-    /// (docs/DECISIONS.md, "Two kinds of record for a task and for the transition").
+    /// A task that was there. This and `NoTaskRow` are two kinds, and so are those of a shadow variable and
+    /// of the transition, because a value of an enum that holds an option of such a struct can't be handed
+    /// on (docs/DECISIONS.md, "Two kinds of record for a row that may be missing").
     TaskRow {
         task: TaskId,
         was: Task,

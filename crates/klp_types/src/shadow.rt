@@ -1,3 +1,10 @@
+ghost use Rattle.std.specs.Prelude.{◌≡◌, ◌≤◌, nat_le, length, if◌then◌else◌, Some, None};
+ghost use Rattle.std.specs.Int.{w64, to_le_bytes};
+ghost use Rattle.klp_types.specs.World.{number_of};
+
+use crate::limits::MAX_VALUE_BYTES;
+use std::marker::Model;
+
 /// The key of a shadow variable: the number of its parent object, and its id (shadow-vars, Brief
 /// summary). Keys are ordered by the parent object, then by the id.
 #[derive(Clone, Copy, Debug, Default, PartialEq, Eq, PartialOrd, Ord, Hash)]
@@ -6,5 +13,77 @@ pub struct ShadowKey {
     pub id: u64,
 }
 
-/// The value of a shadow variable: a number, where the kernel's has any data, since scripts only copy it.
-pub type ShadowValue = u64;
+/// The value of a shadow variable: 0 to 64 bytes, since a kernel's has any data and scripts only copy it
+/// (shadow-vars, Brief summary). Most are a number's eight bytes, the lowest first, as x86-64 keeps it.
+#[derive(Clone, Copy, Debug, PartialEq, Eq)]
+pub struct ShadowValue {
+    bytes: [u8; MAX_VALUE_BYTES],
+    count: u8,
+}
+
+impl Model for ShadowValue {
+    ghost use Rattle.std.specs.Prelude.{ℕ, List, take, length};
+    ghost use Rattle.klp_types.specs.declared.limits.TheConstants.{MAX_VALUE_BYTES};
+    ghost use Rattle.klp_types.specs.Padded.{padded, IsPadded, is_padded};
+
+    ghost Value = { List ℕ };
+
+    ghost view = { λ v. take v.count v.bytes };
+
+    ghost inverse = { λ bytes. record { bytes = padded MAX_VALUE_BYTES 0 bytes; count = length bytes } };
+
+    ghost invariant = { λ v. IsPadded MAX_VALUE_BYTES 0 v.bytes v.count };
+
+    ghost inverse_ok = { λ v h i. record { bytes = is_padded MAX_VALUE_BYTES 0 v.bytes v.count h i; count = h.0 i } };
+}
+
+impl ShadowValue {
+    /// A value of these bytes, unless there are more than [`MAX_VALUE_BYTES`]. The unused places hold 0, so
+    /// that equal values are equal in every byte.
+    pub fn new(bytes: &[u8]) -> Option<Self>
+        ensures { result ≡ (if nat_le (length bytes.now) MAX_VALUE_BYTES then Some bytes.now else None) }
+    {
+        if bytes.len() > MAX_VALUE_BYTES {
+            return None;
+        }
+        let mut padded = [0; MAX_VALUE_BYTES];
+        padded[..bytes.len()].copy_from_slice(bytes);
+        Some(Self {
+            bytes: padded,
+            count: bytes.len() as u8,
+        })
+    }
+
+    /// The eight bytes of a number, the lowest first.
+    pub fn of(number: u64) -> Self
+        ensures { result ≡ to_le_bytes w64 number }
+    {
+        let mut padded = [0; MAX_VALUE_BYTES];
+        padded[..8].copy_from_slice(&number.to_le_bytes());
+        Self {
+            bytes: padded,
+            count: 8,
+        }
+    }
+
+    /// The bytes, without the places that aren't used.
+    pub fn bytes(&self) -> &[u8]
+        ensures { result.now ≡ self.now }
+    {
+        let bytes: &[u8] = &self.bytes;
+        &bytes[..self.count as usize]
+    }
+
+    /// The number that these eight bytes are, the lowest first; a value of another length is no number.
+    pub fn number(&self) -> Option<u64>
+        ensures { result ≡ number_of self.now }
+    {
+        if self.count != 8 {
+            return None;
+        }
+        match <[u8; 8]>::try_from(self.bytes()) {
+            Ok(bytes) => Some(u64::from_le_bytes(bytes)),
+            Err(_) => None,
+        }
+    }
+}

@@ -41,18 +41,20 @@ pub struct Frames {
 
 impl Model for Frames {
     ghost use Rattle.std.specs.Prelude.{ℕ, List, take, length};
+    ghost use Rattle.klp_types.specs.declared.limits.TheConstants.{MAX_FRAMES};
     ghost use Rattle.klp_types.specs.declared.version.Version.{Version};
+    ghost use Rattle.klp_types.specs.declared.version.Version.TheVariants.{Original};
     ghost use Rattle.klp_types.specs.Padded.{padded, IsPadded, is_padded};
 
     ghost Value = { List Version };
 
     ghost view = { λ f. take f.count f.versions };
 
-    ghost inverse = { λ versions. record { versions = padded versions; count = length versions } };
+    ghost inverse = { λ versions. record { versions = padded MAX_FRAMES (Original 0) versions; count = length versions } };
 
-    ghost invariant = { λ f. IsPadded f.versions f.count };
+    ghost invariant = { λ f. IsPadded MAX_FRAMES (Original 0) f.versions f.count };
 
-    ghost inverse_ok = { λ f h i. record { versions = is_padded f.versions f.count h i; count = h.fits i } };
+    ghost inverse_ok = { λ f h i. record { versions = is_padded MAX_FRAMES (Original 0) f.versions f.count h i; count = h.0 i } };
 }
 
 impl Frames {

@@ -2,3 +2,4 @@ pub mod SplitLemmas
 pub mod WordLemmas
 pub mod NumberLemmas
 pub mod NameLemmas
+pub mod ValueLemmas

@@ -1,9 +1,14 @@
--- How words are spelled: names, addresses, decimal numbers, and symbols with their object and position.
-use Rattle.std.specs.Prelude.{ℕ, ℤ, pos, neg_ℤ, ◌+◌, ◌^◌, ◌==◌, ◌&&◌, ◌||◌, Bool, nat_eq, nat_lt, nat_le, if◌then◌else◌, List, [], ◌∷◌, length, drop, codes, Option, Some, None, option_map}
+-- How words are spelled: names, addresses, decimal numbers, values of shadow variables, and symbols with their object and position.
+use Rattle.std.specs.Prelude.{ℕ, ℤ, pos, neg_ℤ, ◌+◌, ◌^◌, ◌==◌, ◌&&◌, ◌||◌, Bool, nat_eq, nat_lt, nat_le, if◌then◌else◌, List, [], ◌∷◌, ◌++◌, length, drop, codes, Option, Some, None, option_map, Result, Ok, Err}
 use Rattle.std.specs.List.{list_all, starts_with, before_first, after_first}
 use Rattle.std.specs.Char.{is_ascii_alphanumeric, is_ascii_digit, is_ascii_hexdigit}
+use Rattle.std.specs.Fmt.{decimal}
+use Rattle.std.specs.Int.{w64, to_le_bytes}
 use Rattle.std.specs.Str.Parse.{digits_value}
-use Rattle.klp_types.specs.declared.limits.TheConstants.{MAX_NAME, MAX_SYMBOL_NAME, MAX_ADDRESS_DIGITS}
+use Rattle.hex.specs.declared.error.FromHexError.{FromHexError}
+use Rattle.hex.specs.Hex.{decode_of, encode_lower}
+use Rattle.klp_types.specs.declared.limits.TheConstants.{MAX_NAME, MAX_SYMBOL_NAME, MAX_ADDRESS_DIGITS, MAX_VALUE_BYTES}
+use Rattle.klp_types.specs.World.{ShadowValue, number_of}
 
 -- a letter, a digit, `_` or `-`
 abbrev pub is_name_byte : ℕ → Bool
@@ -41,6 +46,30 @@ status_of [] = None
 status_of (b ∷ bs) =
     if b == 45 then option_map (λ n. neg_ℤ (pos n)) (decimal_of (2 ^ 31 + 1) bs)
     else option_map pos (decimal_of (2 ^ 31) (b ∷ bs))
+
+-- bytes where they fit a value, and no error
+abbrev pub fitting : Result (List ℕ) FromHexError → Option ShadowValue
+fitting (Ok bytes) = if nat_le (length bytes) MAX_VALUE_BYTES then Some bytes else None
+fitting (Err error) = None
+
+-- bytes that are spelled by two hexadecimal digits each, in either case
+abbrev pub spelled_bytes : List ℕ → Option ShadowValue
+spelled_bytes digits = fitting (decode_of digits)
+
+-- the value of a shadow variable: `x` and its bytes, or a decimal number of 64 bits, which is its eight bytes
+abbrev pub shadow_value_of : List ℕ → Option ShadowValue
+shadow_value_of [] = None
+shadow_value_of (first ∷ rest) =
+    if first == 120 then spelled_bytes rest
+    else option_map (to_le_bytes w64) (decimal_of (2 ^ 64) (first ∷ rest))
+
+-- how it is written: a number where it is one, and else its bytes
+abbrev pub written_as : Option ℕ → ShadowValue → List ℕ
+written_as (Some number) value = decimal number
+written_as None value = codes "x" ++ encode_lower value
+
+abbrev pub value_text : ShadowValue → List ℕ
+value_text value = written_as (number_of value) value
 
 -- the position of a symbol is a number of 32 bits
 abbrev pub sympos_of : List ℕ → Option ℕ

@@ -2,17 +2,19 @@
 //!
 //! [`Words`] cuts a line into words, separated by spaces, or by spaces and tabs (`specs/Split`), and [`cut`]
 //! tells what is before the first byte of a kind, and what is behind it. [`number64`] and its like read
-//! numbers, and [`spelling_of`] what the name of a symbol spells (`specs/Words`). None of these takes
-//! memory, and what is wrong with a word is its reader's to say. [`Names`] is a table of names, which finds
-//! the place of a name and the name at a place.
+//! numbers, [`shadow_value`] the value of a shadow variable, and [`spelling_of`] what the name of a symbol
+//! spells (`specs/Words`). None of these takes memory, and what is wrong with a word is its reader's to say.
+//! [`Names`] is a table of names, which finds the place of a name and the name at a place.
 #![tactic(auto)]
 
 mod names;
 mod number;
 mod spelling;
 mod split;
+mod value;
 
 pub use names::Names;
 pub use number::{hexadecimal, number32, number64, signed};
 pub use spelling::{Spelling, is_name, is_symbol_name, spelling_of, text};
 pub use split::{Separators, Words, cut, position_of};
+pub use value::shadow_value;

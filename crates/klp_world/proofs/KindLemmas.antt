@@ -5,10 +5,10 @@ use Rattle.std.specs.FinMap as finite
 use Rattle.std.proofs.lemmas.List.Elements.{All-nil, All-cons, All-append}
 use Rattle.klp_types.specs.declared.shadow.ShadowKey.{ShadowKey}
 use Rattle.klp_types.specs.declared.record.Record.{Record}
-use Rattle.klp_types.specs.declared.record.Record.TheVariants.{ShadowVariable, StateValue, StateRow, InstalledPatch}
+use Rattle.klp_types.specs.declared.record.Record.TheVariants.{ShadowVariable, NoShadowVariable, StateValue, StateRow, InstalledPatch}
 use Rattle.klp_types.specs.declared.edit.Edit.{Edit}
 use Rattle.klp_types.specs.declared.edit.Edit.TheVariants.{Alloc, Free, FreeAll, SetData, TakePrev}
-use Rattle.klp_types.specs.World.{World, variable, state_value, states_of, previous_value}
+use Rattle.klp_types.specs.World.{World, variable, state_value, states_of, previous_value, ShadowValue}
 use Rattle.klp_types.specs.Script.{Script, edited, edits_made}
 use Rattle.klp_world.specs.Noted.{row_if_added, row_if_removed, variable_row, row_if_set, state_row, place_of, rows_of_alloc, rows_of_free, rows_of_free_all, rows_of_add, rows_if_dropped, rows_of_drop, rows_of_take, rows_of_edit, rows_of_edits, rows_of_script}
 use Rattle.klp_world.specs.Undo.{is_of_world}
@@ -17,15 +17,15 @@ use Rattle.klp_world.specs.Undo.{is_of_world}
 abbrev OfWorld : Record → Type 0
 OfWorld row = is_of_world row ≡ true
 
-of_added : (key : ShadowKey) (was : Option ℕ) → All OfWorld (row_if_added key was)
-of_added key None = All-cons OfWorld (ShadowVariable key None) [] refl (All-nil OfWorld)
+of_added : (key : ShadowKey) (was : Option ShadowValue) → All OfWorld (row_if_added key was)
+of_added key None = All-cons OfWorld (NoShadowVariable key) [] refl (All-nil OfWorld)
 of_added key (Some there) = All-nil OfWorld
 
-of_removed : (key : ShadowKey) (was : Option ℕ) → All OfWorld (row_if_removed key was)
+of_removed : (key : ShadowKey) (was : Option ShadowValue) → All OfWorld (row_if_removed key was)
 of_removed key None = All-nil OfWorld
-of_removed key (Some was) = All-cons OfWorld (ShadowVariable key (Some was)) [] refl (All-nil OfWorld)
+of_removed key (Some was) = All-cons OfWorld (ShadowVariable key was) [] refl (All-nil OfWorld)
 
-of_variables : (variables : List (ShadowKey × ℕ)) → All OfWorld (map variable_row variables)
+of_variables : (variables : List (ShadowKey × ShadowValue)) → All OfWorld (map variable_row variables)
 of_variables [] = All-nil OfWorld
 of_variables (one ∷ variables) = All-cons OfWorld (variable_row one) (map variable_row variables) refl (of_variables variables)
 
@@ -43,7 +43,7 @@ of_taken world patch id (Some value) = of_set patch id value (state_value world 
 of_edit : (patch : ℕ) (world : World) (edit : Edit) → All OfWorld (rows_of_edit patch world edit)
 of_edit patch world (Alloc key value) = of_added key (variable world key)
 of_edit patch world (Free key) = of_removed key (variable world key)
-of_edit patch world (FreeAll id) = of_variables (filter (λ (v : ShadowKey × ℕ). v.0.id == id) (finite.entries world.shadow))
+of_edit patch world (FreeAll id) = of_variables (filter (λ (v : ShadowKey × ShadowValue). v.0.id == id) (finite.entries world.shadow))
 of_edit patch world (SetData id value) = of_set patch id value (state_value world patch id)
 of_edit patch world (TakePrev id) = of_taken world patch id (previous_value world patch id)
 
@@ -65,7 +65,7 @@ pub of_free : (world : World) (key : ShadowKey) → All OfWorld (rows_of_free wo
 of_free world key = of_removed key (variable world key)
 
 pub of_free_all : (world : World) (id : ℕ) → All OfWorld (rows_of_free_all world id)
-of_free_all world id = of_variables (filter (λ (v : ShadowKey × ℕ). v.0.id == id) (finite.entries world.shadow))
+of_free_all world id = of_variables (filter (λ (v : ShadowKey × ShadowValue). v.0.id == id) (finite.entries world.shadow))
 
 of_fresh : (patch : ℕ) (ids : List ℕ) → All OfWorld (map (λ id. StateRow patch id None) ids)
 of_fresh patch [] = All-nil OfWorld

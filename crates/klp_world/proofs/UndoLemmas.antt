@@ -14,7 +14,7 @@ use Rattle.klp_types.specs.declared.shadow.ShadowKey.{ShadowKey}
 use Rattle.klp_types.specs.declared.record.Record.{Record}
 use Rattle.klp_types.specs.declared.record.Record.TheVariants.{StateValue, StateRow, InstalledPatch}
 use Rattle.klp_types.specs.World.{Installed}
-use Rattle.klp_types.specs.World.{World, Shadow, key_cmp, variable, state_value, states_of, value_among, set_among, change_states, taken_out, with_variable, without_variable, without_id, with_value, with_patch, without_patch}
+use Rattle.klp_types.specs.World.{World, Shadow, key_cmp, variable, state_value, states_of, value_among, set_among, change_states, taken_out, with_variable, without_variable, without_id, with_value, with_patch, without_patch, ShadowValue}
 use Rattle.klp_types.specs.Script.{allocated}
 use Rattle.klp_types.specs.declared.limits.TheConstants.{MAX_VARIABLES, MAX_PATCHES, MAX_STATES}
 use Rattle.klp_world.specs.Undo.{put_back, put_state, put_variable, state_taken, undone}
@@ -33,15 +33,15 @@ same_twice : {A : Type 0} (b : Bool) (x y z : A) → cond b x (cond b y z) ≡ c
 same_twice true x y z = refl
 same_twice false x y z = refl
 
-kept_if_some : (b : Bool) (o : Option ℕ) (was : ℕ) → (b ≡ true → o ≡ Some was) → cond b (Some was) o ≡ o
+kept_if_some : (b : Bool) (o : Option ShadowValue) (was : ShadowValue) → (b ≡ true → o ≡ Some was) → cond b (Some was) o ≡ o
 kept_if_some true o was h = sym (h refl)
 kept_if_some false o was h = refl
 
 -- the key that ties is the key
-at_key : (m : Shadow) (q key : ShadowKey) (o : Option ℕ) → finite.get m key ≡ o → eq_by_cmp key_cmp q key ≡ true → finite.get m q ≡ o
+at_key : (m : Shadow) (q key : ShadowKey) (o : Option ShadowValue) → finite.get m key ≡ o → eq_by_cmp key_cmp q key ≡ true → finite.get m q ≡ o
 at_key m q key o is e = ap (finite.get m) (key_antisymmetric q key (equal_if (key_cmp q key) e)) ∙ is
 
-inserted_removed : (m : Shadow) (key : ShadowKey) (value : ℕ) → finite.get m key ≡ None → finite.remove (finite.insert m key value) key ≡ m
+inserted_removed : (m : Shadow) (key : ShadowKey) (value : ShadowValue) → finite.get m key ≡ None → finite.remove (finite.insert m key value) key ≡ m
 inserted_removed m key value none =
     finite.same_map key_total key_antisymmetric _ _ (λ q.
     let b = eq_by_cmp key_cmp q key in
@@ -50,7 +50,7 @@ inserted_removed m key value none =
     ∙ same_twice b None (Some value) (finite.get m q)
     ∙ sym (kept_if_none b (finite.get m q) (at_key m q key None none)))
 
-removed_inserted : (m : Shadow) (key : ShadowKey) (was : ℕ) → finite.get m key ≡ Some was → finite.insert (finite.remove m key) key was ≡ m
+removed_inserted : (m : Shadow) (key : ShadowKey) (was : ShadowValue) → finite.get m key ≡ Some was → finite.insert (finite.remove m key) key was ≡ m
 removed_inserted m key was is =
     finite.same_map key_total key_antisymmetric _ _ (λ q.
     let b = eq_by_cmp key_cmp q key in
@@ -59,26 +59,26 @@ removed_inserted m key was is =
     ∙ same_twice b (Some was) None (finite.get m q)
     ∙ kept_if_some b (finite.get m q) was (at_key m q key (Some was) is))
 
-pub undone_alloc : (world : World) (key : ShadowKey) (value : ℕ) → undone (allocated world key value (variable world key)) (rows_of_alloc world key) ≡ world
+pub undone_alloc : (world : World) (key : ShadowKey) (value : ShadowValue) → undone (allocated world key value (variable world key)) (rows_of_alloc world key) ≡ world
 undone_alloc world key value =
     elim (variable world key) as (λ o. variable world key ≡ o → undone (allocated world key value o) (row_if_added key o) ≡ world) [
       | Some there ↦ λ e. refl
       | None ↦ λ e. ap (λ s. record world { shadow = s }) (inserted_removed world.shadow key value e)
     ] refl
 
-missing : (o : Option ℕ) → false ≡ is_some o → o ≡ None
+missing : (o : Option ShadowValue) → false ≡ is_some o → o ≡ None
 missing None e = refl
 missing (Some x) e = cc
 
-pub is_missing : {patches : List Installed} (shadow : Shadow) (key : ShadowKey) (got : Option ℕ) {now : World} → got ≡ finite.get shadow key
+pub is_missing : {patches : List Installed} (shadow : Shadow) (key : ShadowKey) (got : Option ShadowValue) {now : World} → got ≡ finite.get shadow key
     → ◌≡◌ {A = World} (record { installed = patches; shadow = shadow }) now → false ≡ is_some got → variable now key ≡ None
 is_missing shadow key got e view none = ap (λ (w : World). variable w key) (sym view) ∙ sym e ∙ missing got none
 
-pub alloc_undone : (world : World) (key : ShadowKey) (value : ℕ) (new : World) → new ≡ with_variable world key value → variable world key ≡ None → undone new (rows_of_alloc world key) ≡ world
+pub alloc_undone : (world : World) (key : ShadowKey) (value : ShadowValue) (new : World) → new ≡ with_variable world key value → variable world key ≡ None → undone new (rows_of_alloc world key) ≡ world
 alloc_undone world key value new is none =
     ap (λ w. undone w (rows_of_alloc world key)) (is ∙ ap (allocated world key value) (sym none)) ∙ undone_alloc world key value
 
-one_less : (m : Shadow) (key : ShadowKey) (was : ℕ) → finite.get m key ≡ Some was → finite.len m ≤ MAX_VARIABLES → finite.len (finite.remove m key) < MAX_VARIABLES
+one_less : (m : Shadow) (key : ShadowKey) (was : ShadowValue) → finite.get m key ≡ Some was → finite.len m ≤ MAX_VARIABLES → finite.len (finite.remove m key) < MAX_VARIABLES
 one_less m key was is few =
     let less : finite.len (finite.remove m key) ≡ finite.len m - 1 = finite.len-remove key_total m key ∙ ap (λ o. cond (is_some o) (finite.len m - 1) (finite.len m)) is in
     omega arith
@@ -158,7 +158,7 @@ undone_set world patch id value =
     ] refl
 
 -- variables that are put back, the last first
-abbrev restored : Shadow → List (ShadowKey × ℕ) → Shadow
+abbrev restored : Shadow → List (ShadowKey × ShadowValue) → Shadow
 restored m [] = m
 restored m (v ∷ vs) = cond (ltb (finite.len (restored m vs)) MAX_VARIABLES) (finite.insert (restored m vs) v.0 v.1) (restored m vs)
 
@@ -166,13 +166,13 @@ chosen : {A B : Type 0} (f : A → B) (b : Bool) (x y : A) → cond b (f x) (f y
 chosen f true x y = refl
 chosen f false x y = refl
 
-undone_variables : (world : World) (vs : List (ShadowKey × ℕ)) → undone world (map variable_row vs) ≡ record world { shadow = restored world.shadow vs }
+undone_variables : (world : World) (vs : List (ShadowKey × ShadowValue)) → undone world (map variable_row vs) ≡ record world { shadow = restored world.shadow vs }
 undone_variables world [] = refl
 undone_variables world (v ∷ vs) =
     ap (λ w. put_variable w v.0 (Some v.1)) (undone_variables world vs)
     ∙ chosen (λ (s : Shadow). record world { shadow = s }) (ltb (finite.len (restored world.shadow vs)) MAX_VARIABLES) _ _
 
-few_restored : (m : Shadow) (vs : List (ShadowKey × ℕ)) → finite.len (restored m vs) ≤ finite.len m + length vs
+few_restored : (m : Shadow) (vs : List (ShadowKey × ShadowValue)) → finite.len (restored m vs) ≤ finite.len m + length vs
 few_restored m [] = omega arith
 few_restored m (v ∷ vs) =
     let before = few_restored m vs in
@@ -181,15 +181,15 @@ few_restored m (v ∷ vs) =
       | false ↦ omega arith
     ]
 
-abbrev or_else : Option ℕ → Option ℕ → Option ℕ
+abbrev or_else : Option ShadowValue → Option ShadowValue → Option ShadowValue
 or_else None other = other
 or_else (Some value) other = Some value
 
-or_else_first : (b : Bool) (value : ℕ) (o other : Option ℕ) → cond b (Some value) (or_else o other) ≡ or_else (cond b (Some value) o) other
+or_else_first : (b : Bool) (value : ShadowValue) (o other : Option ShadowValue) → cond b (Some value) (or_else o other) ≡ or_else (cond b (Some value) o) other
 or_else_first true value o other = refl
 or_else_first false value o other = refl
 
-get_restored : (m : Shadow) (vs : List (ShadowKey × ℕ)) → finite.len m + length vs ≤ MAX_VARIABLES → (q : ShadowKey)
+get_restored : (m : Shadow) (vs : List (ShadowKey × ShadowValue)) → finite.len m + length vs ≤ MAX_VARIABLES → (q : ShadowKey)
     → finite.get (restored m vs) q ≡ or_else (finite.find key_cmp q vs) (finite.get m q)
 get_restored m [] few q = refl
 get_restored m (v ∷ vs) few q =
@@ -199,7 +199,7 @@ get_restored m (v ∷ vs) few q =
     ∙ ap (cond (eq_by_cmp key_cmp q v.0) (Some v.1)) (get_restored m vs (omega arith) q)
     ∙ or_else_first (eq_by_cmp key_cmp q v.0) v.1 (finite.find key_cmp q vs) (finite.get m q)
 
-one_of_two : (b : Bool) (o : Option ℕ) → or_else (cond b o None) (cond (not b) o None) ≡ o
+one_of_two : (b : Bool) (o : Option ShadowValue) → or_else (cond b o None) (cond (not b) o None) ≡ o
 one_of_two true None = refl
 one_of_two true (Some x) = refl
 one_of_two false o = refl
@@ -222,7 +222,7 @@ count_parted m id =
     ap (λ m. finite.len (finite.retain_keys m keep)) (sym (as_entries m)) ∙ ap finite.len (sym (where_as_map keep es (sorted_entries m)))
     ∙ len_as_map (where_key key_cmp keep es) (sorted_where keep es (sorted_entries m)) in
     let both : length (where_key key_cmp (of_id id) es) + length (where_key key_cmp keep es) ≡ length es =
-    length-filter_both (λ (v : ShadowKey × ℕ). v.0.id == id) (λ (v : ShadowKey × ℕ). not (v.0.id == id)) (λ _. refl) es in
+    length-filter_both (λ (v : ShadowKey × ShadowValue). v.0.id == id) (λ (v : ShadowKey × ShadowValue). not (v.0.id == id)) (λ _. refl) es in
     let rows : length (variable_rows id es) ≡ length (where_key key_cmp (of_id id) es) = length-map (where_key key_cmp (of_id id) es) variable_row in
     let whole : finite.len m ≡ length es = finite.len-entries m in
     omega arith

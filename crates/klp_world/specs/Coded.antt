@@ -15,7 +15,7 @@ installed_code =
     (λ p. record { patch = p.0; values = p.1 }) (λ _. refl)
 
 abbrev pub shadow_code : Coded Shadow
-shadow_code = finite.code key_code coded_ℕ
+shadow_code = finite.code key_code (coded_list coded_ℕ)
 
 abbrev pub world_code : Coded World
 world_code =

@@ -3,7 +3,7 @@ use Rattle.std.specs.Prelude.{ℕ, suc, ◌++◌, ◌==◌, List, [], ◌∷◌,
 use Rattle.std.specs.FinMap as finite
 use Rattle.klp_types.specs.declared.shadow.ShadowKey.{ShadowKey}
 use Rattle.klp_types.specs.declared.record.Record.{Record}
-use Rattle.klp_types.specs.declared.record.Record.TheVariants.{ShadowVariable, StateValue, StateRow, InstalledPatch}
+use Rattle.klp_types.specs.declared.record.Record.TheVariants.{ShadowVariable, NoShadowVariable, StateValue, StateRow, InstalledPatch}
 use Rattle.klp_types.specs.declared.edit.Edit.{Edit}
 use Rattle.klp_types.specs.declared.edit.Edit.TheVariants.{Alloc, Free, FreeAll, SetData, TakePrev}
 use Rattle.klp_types.specs.Records.{RecordList}
@@ -18,7 +18,7 @@ noting log rows = record log { noted = log.noted ++ rows }
 -- a variable is added
 abbrev pub row_if_added : ShadowKey → Option ShadowValue → List Record
 row_if_added key (Some there) = []
-row_if_added key None = ShadowVariable key None ∷ []
+row_if_added key None = NoShadowVariable key ∷ []
 
 abbrev pub rows_of_alloc : World → ShadowKey → List Record
 rows_of_alloc world key = row_if_added key (variable world key)
@@ -26,14 +26,14 @@ rows_of_alloc world key = row_if_added key (variable world key)
 -- a variable is removed
 abbrev pub row_if_removed : ShadowKey → Option ShadowValue → List Record
 row_if_removed key None = []
-row_if_removed key (Some was) = ShadowVariable key (Some was) ∷ []
+row_if_removed key (Some was) = ShadowVariable key was ∷ []
 
 abbrev pub rows_of_free : World → ShadowKey → List Record
 rows_of_free world key = row_if_removed key (variable world key)
 
 -- the variables of an id are removed, in the order of their keys
 abbrev pub variable_row : ShadowKey × ShadowValue → Record
-variable_row v = ShadowVariable v.0 (Some v.1)
+variable_row v = ShadowVariable v.0 v.1
 
 abbrev pub variable_rows : ℕ → List (ShadowKey × ShadowValue) → List Record
 variable_rows id variables = map variable_row (filter (λ (v : ShadowKey × ShadowValue). v.0.id == id) variables)

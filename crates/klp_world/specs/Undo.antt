@@ -3,7 +3,7 @@ use Rattle.std.specs.Prelude.{ℕ, Bool, true, false, ◌++◌, ◌==◌, nat_lt
 use Rattle.std.specs.FinMap as finite
 use Rattle.klp_types.specs.declared.shadow.ShadowKey.{ShadowKey}
 use Rattle.klp_types.specs.declared.record.Record.{Record}
-use Rattle.klp_types.specs.declared.record.Record.TheVariants.{ShadowVariable, StateValue, StateRow, InstalledPatch}
+use Rattle.klp_types.specs.declared.record.Record.TheVariants.{ShadowVariable, NoShadowVariable, StateValue, StateRow, InstalledPatch}
 use Rattle.klp_types.specs.World.{Installed}
 use Rattle.klp_types.specs.World.{World, ShadowValue, with_variable, without_variable, with_value, change_states, taken_out}
 use Rattle.klp_types.specs.declared.limits.TheConstants.{MAX_VARIABLES, MAX_PATCHES, MAX_STATES}
@@ -32,6 +32,7 @@ put_patch patch (Some place) installed =
 -- the row is one of the world: a shadow variable, a state or an installed patch
 abbrev pub is_of_world : Record → Bool
 is_of_world (ShadowVariable key was) = true
+is_of_world (NoShadowVariable key) = true
 is_of_world (StateValue patch id was) = true
 is_of_world (StateRow patch id was) = true
 is_of_world (InstalledPatch patch place) = true
@@ -39,7 +40,8 @@ is_of_world other = false
 
 -- the world with one row as the record tells it; other records are of rows that aren't the world's
 abbrev pub put_back : World → Record → World
-put_back world (ShadowVariable key was) = put_variable world key was
+put_back world (ShadowVariable key was) = put_variable world key (Some was)
+put_back world (NoShadowVariable key) = put_variable world key None
 put_back world (StateValue patch id was) = with_value world patch id was
 put_back world (StateRow patch id was) = record world { installed = change_states patch (put_state id was) world.installed }
 put_back world (InstalledPatch patch place) = record world { installed = put_patch patch place world.installed }

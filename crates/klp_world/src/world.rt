@@ -1,4 +1,4 @@
-ghost use Rattle.std.specs.Prelude.{◌≡◌, ℕ, ◌+◌, ◌<◌, ◌≤◌, ◌==◌, false, List, [], ◌∷◌, ◌++◌, length, map, reverse, insert, remove, slice_index_or, is_some, is_none, unwrap_or, IfOk};
+ghost use Rattle.std.specs.Prelude.{◌≡◌, ℕ, ◌+◌, ◌<◌, ◌≤◌, ◌==◌, false, List, [], ◌∷◌, ◌++◌, length, map, reverse, insert, remove, slice_index_or, Some, is_some, is_none, unwrap_or, IfOk};
 ghost use Rattle.std.specs.List.{list_any};
 ghost use Rattle.std.specs.FinMap as finite;
 ghost use Rattle.klp_types.specs.Records.{spare_of};
@@ -173,7 +173,7 @@ impl World {
             return false;
         }
         self.shadow.insert(key, value);
-        log.note(Record::ShadowVariable { key, was: None });
+        log.note(Record::NoShadowVariable { key });
         true
     }
 
@@ -207,10 +207,7 @@ impl World {
         let Some(was) = self.shadow.remove(key) else {
             return false;
         };
-        log.note(Record::ShadowVariable {
-            key,
-            was: Some(was),
-        });
+        log.note(Record::ShadowVariable { key, was });
         true
     }
 
@@ -305,6 +302,9 @@ impl World {
     {
         match row {
             Record::ShadowVariable { key, was } => self.put_variable(key, was),
+            Record::NoShadowVariable { key } => {
+                self.shadow.remove(key);
+            }
             Record::StateValue { patch, id, was } => {
                 self.replace_value(patch, id, was);
             }
@@ -340,18 +340,11 @@ impl World {
         self.patches.remove(place)
     }
 
-    fn put_variable(&mut self, key: ShadowKey, was: Option<ShadowValue>)
-        ensures { self.new ≡ put_variable self.old key was }
+    fn put_variable(&mut self, key: ShadowKey, was: ShadowValue)
+        ensures { self.new ≡ put_variable self.old key (Some was) }
     {
-        match was {
-            None => {
-                self.shadow.remove(key);
-            }
-            Some(value) => {
-                if self.shadow.len() < MAX_VARIABLES {
-                    self.shadow.insert(key, value);
-                }
-            }
+        if self.shadow.len() < MAX_VARIABLES {
+            self.shadow.insert(key, was);
         }
     }
 

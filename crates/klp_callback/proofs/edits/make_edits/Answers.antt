@@ -3,11 +3,11 @@ use Rattle.klp_callback.proofs.EditLemmas.{next_edit, world_step, noted_step, ro
 use Rattle.klp_callback.proofs.edits.make_edits.Goals as goal
 
 pub make_edit-requires : goal.make_edit-requires
-make_edit-requires c = record { room = room_now c.args.patch c.args.edits.now c.loop-edit.edit-index _ c.loop-edit.world c.loop-edit.log c.loop-edit-test.true c.loop-edit.invariant.room }
+make_edit-requires c = record { room = room_now c.args.patch c.args.edits.now c.loop-edit.edit-index _ c.loop-edit.world c.loop-edit.log c.edit-item.is c.loop-edit-test.true c.loop-edit.invariant.room }
 
 pub loop-edit-preserved : goal.loop-edit-preserved
 loop-edit-preserved c =
-    let split = next_edit c.args.edits.now c.loop-edit.edit-index _ c.loop-edit-test.true in
+    let split = next_edit c.args.edits.now c.loop-edit.edit-index _ c.edit-item.is c.loop-edit-test.true in
     let made = c.make_edit.ensures.changes.world in
     let noted = c.make_edit.ensures.changes.records in
     record {

@@ -1,6 +1,4 @@
 use Rattle.klp_console.proofs.runs.say_variable.Goals as goal
 
 pub returns-in-Some : goal.returns-in-Some
-returns-in-Some g c =
-    let adds_up = c.what_is_said_adds_up.ensures.adds_up in
-    rw (← c.in-Some.ensures) (adds_up _ _ _ _ _ (adds_up _ _ _ _ _ c.say-in-Some.ensures c.number.ensures) c.say-in-Some-2.ensures)
+returns-in-Some g c = rw (← c.in-Some.ensures) c.say_value_line.ensures

@@ -1,4 +1,4 @@
-use Rattle.std.proofs.Common.{◌≡◌, refl, sym, ap, ◌∙◌, true, false, [], map}
+use Rattle.std.proofs.Common.{◌≡◌, ◌≤◌, refl, sym, ap, ◌∙◌, true, false, [], length, map, arith, w8, to_z, of_z}
 use Rattle.std.specs.Prelude.{if◌then◌else◌}
 use Rattle.klp_types.specs.declared.callback.Which.TheVariants.{PreUn}
 use Rattle.klp_types.specs.Callbacks.{calls_of}
@@ -17,7 +17,25 @@ use Rattle.klp_manager_state.specs.Managed.{setting_in, state_in}
 use Rattle.klp_manager_state.proofs.StepLemmas.{accepted_at_sites}
 use Rattle.klp_patch_events.proofs.RoomLemmas.{same_objects}
 use Rattle.klp_patch_events.proofs.TaskLemmas.{target_fits}
+use Rattle.klp_model.specs.Task.{all_in}
+use Rattle.klp_patch.specs.Calls.{records_of}
+use Rattle.klp_types.specs.declared.limits.TheConstants.{MAX_KIND_RECORDS}
+use Rattle.klp_patch.specs.Loaded.{loaded_in}
 use Rattle.klp_patch_events.proofs.disabling.disable.Goals as goal
+
+pub set_all-requires : goal.set_all-requires
+set_all-requires g c =
+    let before = c.args.manager.now in
+    let catalog = c.args.catalog.now in
+    let state = state_in before catalog in
+    let calls = calls_of c.args.patch PreUn (loaded_in catalog before.modules c.args.patch) in
+    let same = ap (calls_of c.args.patch PreUn) (same_objects before catalog c.args.patch c.requires.kept) in
+    let run = ap (λ b. records_of (if b then [] else calls_of c.args.patch PreUn (loaded_objects (setting_in before catalog) state c.args.patch))) (sym c.requires.rests) in
+    let few : records_of calls ≤ MAX_KIND_RECORDS = omega (arith, ap records_of same, run, c.requires.records) in
+    let empty = ap (λ (l : RecordList). length l.noted) c.clear.ensures in
+    let room = c.run_callbacks.ensures.room ∙ ap (λ (l : RecordList). l.room) c.clear.ensures ∙ c.requires.kept.room in
+    let rows = c.records_are_few.ensures 0 before.tasks (all_in (to_z w8 (of_z w8 c.target_state.result)) before.tasks) in
+    omega (arith, rows, few, empty, room, c.run_callbacks.ensures.records, c.requires.kept.allowed.room, c.requires.kept.allowed.rows)
 
 pub returns-clause-accepted : goal.returns-clause-accepted
 returns-clause-accepted g c =

@@ -1,5 +1,4 @@
-use Rattle.std.proofs.Common.{rules, arith}
-use Rattle.std.proofs.lemmas.Grind.{common_steps}
+use Rattle.std.proofs.Common.{rules}
 use Rattle.klp_callback.proofs.counted_box.CountedBox.run.Goals as goal
 
 pub returns-then-is_same-clause-runs : goal.returns-then-is_same-clause-runs
