@@ -6,5 +6,7 @@ pub mod PatchLemmas
 pub mod UndoLemmas
 pub mod NotedLemmas
 pub mod BucketLemmas
+pub mod TableLemmas
+pub mod FreedLemmas
 pub mod ScriptLemmas
 pub mod KindLemmas

@@ -22,7 +22,7 @@ use Rattle.klp_world.specs.Noted.{row_if_added, rows_of_alloc, row_if_removed, r
 use Rattle.klp_world.proofs.First.{FirstAt}
 use Rattle.klp_world.proofs.PatchLemmas.{is_patch, place_at}
 use Rattle.klp_types.proofs.KeyLemmas.{key_total, key_antisymmetric}
-use Rattle.klp_world.proofs.ShadowLemmas.{unchanged, equal_if, kept_if_none, as_map, sorted_entries, where_as_map, len_as_map, sorted_where}
+use Rattle.klp_world.proofs.ShadowLemmas.{unchanged, equal_if, kept_if_none, as_entries, sorted_entries, where_as_map, len_as_map, sorted_where}
 
 -- what is put back newest first
 pub undone-append : (world : World) (older newer : List Record) → undone world (older ++ newer) ≡ undone (undone world newer) older
@@ -203,9 +203,6 @@ one_of_two : (b : Bool) (o : Option ShadowValue) → or_else (cond b o None) (co
 one_of_two true None = refl
 one_of_two true (Some x) = refl
 one_of_two false o = refl
-
-pub as_entries : (m : Shadow) → as_map (finite.entries m) ≡ m
-as_entries m = finite.same_entries_map _ _ (finite.entries-from_sorted key_cmp (finite.entries m) (finite.entries_sorted m))
 
 alike : (keep : ShadowKey → Bool) (q x : ShadowKey) → key_cmp q x ≡ Equal → keep x ≡ keep q
 alike keep q x e = ap keep (sym (key_antisymmetric q x e))

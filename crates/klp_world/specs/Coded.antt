@@ -5,6 +5,7 @@ use Rattle.std.specs.FinMap as finite
 use Rattle.klp_types.specs.declared.shadow.ShadowKey.{ShadowKey}
 use Rattle.klp_types.specs.World.{Installed}
 use Rattle.klp_types.specs.World.{World, Shadow}
+use Rattle.klp_world.specs.Slots.{Slots}
 
 abbrev pub key_code : Coded ShadowKey
 key_code = code_by (ℕ × ℕ) (coded× coded_ℕ coded_ℕ) (λ k. (k.obj, k.id)) (λ p. record { obj = p.0; id = p.1 }) (λ _. refl)
@@ -16,6 +17,9 @@ installed_code =
 
 abbrev pub shadow_code : Coded Shadow
 shadow_code = finite.code key_code (coded_list coded_ℕ)
+
+abbrev pub slots_code : Coded Slots
+slots_code = finite.code key_code coded_ℕ
 
 abbrev pub world_code : Coded World
 world_code =

@@ -7,14 +7,17 @@
 //! `Noted`). No call but [`World::new`] takes memory. `laws` has of scripts' records how few there are, and
 //! that they give the world back.
 //!
-//! Installed patches are one list, oldest first, with their numbers in another beside it. Variables are
-//! kept by a hash (`src/shadow.rt`), and those of one hash in the order of their keys (`src/sorted.rt`).
+//! Installed patches are one list, oldest first, with their numbers in another beside it. Shadow variables
+//! are in a table without gaps (`src/table.rt`). Their keys are kept by a hash, each with the slot of its
+//! variable (`src/index.rt`), and those of one hash in their order (`src/sorted.rt`).
 #![tactic(auto)]
 
+mod index;
 pub mod laws;
 mod patch;
 mod shadow;
 mod sorted;
+mod table;
 mod world;
 
 pub use klp_types::{Edit, MAX_EDITS, MAX_PATCHES, MAX_STATES, MAX_VARIABLES, Script};
