@@ -4,3 +4,7 @@ pub mod SiteLemmas
 pub mod PaddedLemmas
 pub mod KeyLemmas
 pub mod ScriptLemmas
+pub mod WordLemmas
+pub mod ReadLemmas
+pub mod BackLemmas
+pub mod PartLemmas

@@ -11,3 +11,7 @@ pub mod Callbacks
 pub mod Records
 pub mod Examples
 pub mod Padded
+pub mod PatchStates
+pub mod Finds
+pub mod Words
+pub mod Decoded

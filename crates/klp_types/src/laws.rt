@@ -16,13 +16,15 @@ ghost use Rattle.klp_types.specs.Bytes.{symbol_in, patched, resting, text_where}
 ghost use Rattle.klp_types.specs.World.{Installed, World, Shadow, ShadowValue, key_cmp, number_of, variable, states_of};
 ghost use Rattle.klp_types.specs.Script.{Script, alloc_count, is_key, value_taken, edited, edited_at, edited_by, made_of, edits_made, effect, edit_touches, touches};
 ghost use Rattle.klp_types.specs.Callbacks.{Call, after_calls};
+ghost use Rattle.klp_types.specs.declared.record.Record.{Record};
+ghost use Rattle.klp_types.specs.Words.{words_of, IsRecord};
 
 use crate::limits::{
     ANSWER_ROOM, ENTRY_SITE_LEN, MAX_ADDRESS_DIGITS, MAX_BODY, MAX_CALLBACK_RECORDS,
     MAX_COMING_EDITS, MAX_CONSOLE_LINE, MAX_EDITS, MAX_ENABLING_RECORDS, MAX_FRAMES, MAX_FUNCTIONS,
     MAX_GOING_EDITS, MAX_GROUPS, MAX_INDEX, MAX_JOURNAL_RECORDS, MAX_KIND_RECORDS, MAX_LINE,
-    MAX_LIST_RECORDS, MAX_MARK, MAX_NAME, MAX_OBJECTS, MAX_PATCHES, MAX_READS, MAX_RECORDS,
-    MAX_SITES, MAX_STATES, MAX_SYMBOL_NAME, MAX_TARGETS, MAX_TASK_NUMBER, MAX_TASKS,
+    MAX_LIST_RECORDS, MAX_MARK, MAX_NAME, MAX_OBJECTS, MAX_PATCHES, MAX_READS, MAX_RECORD_WORDS,
+    MAX_RECORDS, MAX_SITES, MAX_STATES, MAX_SYMBOL_NAME, MAX_TARGETS, MAX_TASK_NUMBER, MAX_TASKS,
     MAX_VALUE_BYTES, MAX_VARIABLES, READ_ROOM, RECORDS_AFTER_CALLBACKS, RECORDS_AFTER_LIST,
     RECORDS_AFTER_SITES, RECORDS_BEFORE_SITES,
 };
@@ -183,6 +185,13 @@ pub fn entries_are_of_their_patches()
         (entries_from setting site patches) }
 {}
 
+/// No record's words are the last of another's: so where a list ends with a record, it is one record alone, and
+/// what is before it is as it was before it was written.
+pub fn records_are_read_from_their_ends()
+    ensures { (a b : Record) (front : List ℕ) → IsRecord a → IsRecord b → words_of a ≡ front ++ words_of b
+        → (front ≡ []) × (a ≡ b) }
+{}
+
 /// How much there may be of everything, and how long an entry site is. Definitions and code name the limits
 /// apart, and this is where a changed one is found.
 pub fn limits_are_these()
@@ -200,6 +209,7 @@ pub fn limits_are_these()
     ensures tasks { MAX_TASKS ≡ 64 }
     ensures frames { MAX_FRAMES ≡ 32 }
     ensures records { MAX_RECORDS ≡ 4096 }
+    ensures record_words { MAX_RECORD_WORDS ≡ 36 }
     ensures list_records { MAX_LIST_RECORDS ≡ 17 }
     ensures callback_records { MAX_CALLBACK_RECORDS ≡ 32 }
     ensures kind_records { MAX_KIND_RECORDS ≡ 256 }

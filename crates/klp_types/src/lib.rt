@@ -11,13 +11,15 @@
 //! site, and whose it is. Of the text: how a function reads by which sites are hooked, and that sites go
 //! object by object. Of scripts: that an edit changes each shadow variable by itself, which variables,
 //! system states and patches a script leaves, how few variables it adds, and which scripts may change
-//! places. Also what each limit is. `examples` has five over a small kernel: nops, the version of the
-//! newest entry, where versions begin, which callbacks run where an object refuses, and which at the end of
-//! a transition.
+//! places. Of words: that no record's are the last of another's. Also what each limit is. `examples` has five over a
+//! small kernel: nops, the version of the newest entry, where versions begin, which callbacks run where an object
+//! refuses, and which at the end of a transition. Two more have the words of records.
 //!
 //! The code is small. [`Records`] logs a record last, gives the newest back, and is emptied; its room is
 //! taken once. [`Frames`] has at most 32 versions: `push` puts one last, or leaves a full list as it is.
 //! [`ShadowValue`] has 0 to 64 bytes, and takes no more.
+//! `words` writes a record as words behind others, and reads the last of them back: `specs/Words` says which words
+//! those are.
 //! [`Script`] is here, below the world that it changes, so that the catalog's text doesn't wait for that.
 #![tactic(auto)]
 
@@ -34,6 +36,7 @@ mod shadow;
 mod task;
 mod text;
 mod version;
+mod words;
 
 pub use callback::Which;
 pub use edit::Edit;
@@ -41,8 +44,8 @@ pub use limits::{
     ANSWER_ROOM, ENTRY_SITE_LEN, MAX_ADDRESS_DIGITS, MAX_BODY, MAX_CALLBACK_RECORDS,
     MAX_COMING_EDITS, MAX_CONSOLE_LINE, MAX_EDITS, MAX_ENABLING_RECORDS, MAX_FRAMES, MAX_FUNCTIONS,
     MAX_GOING_EDITS, MAX_GROUPS, MAX_INDEX, MAX_JOURNAL_RECORDS, MAX_KIND_RECORDS, MAX_LINE,
-    MAX_LIST_RECORDS, MAX_MARK, MAX_NAME, MAX_OBJECTS, MAX_PATCHES, MAX_READS, MAX_RECORDS,
-    MAX_SITES, MAX_STATES, MAX_SYMBOL_NAME, MAX_TARGETS, MAX_TASK_NUMBER, MAX_TASKS,
+    MAX_LIST_RECORDS, MAX_MARK, MAX_NAME, MAX_OBJECTS, MAX_PATCHES, MAX_READS, MAX_RECORD_WORDS,
+    MAX_RECORDS, MAX_SITES, MAX_STATES, MAX_SYMBOL_NAME, MAX_TARGETS, MAX_TASK_NUMBER, MAX_TASKS,
     MAX_VALUE_BYTES, MAX_VARIABLES, READ_ROOM, RECORDS_AFTER_CALLBACKS, RECORDS_AFTER_LIST,
     RECORDS_AFTER_SITES, RECORDS_BEFORE_SITES,
 };
@@ -51,6 +54,7 @@ pub use record::{Place, Record, Records};
 pub use row::{SiteRow, SiteWord};
 pub use script::Script;
 pub use shadow::{ShadowKey, ShadowValue};
-pub use task::{Frames, Mode, Task, TaskId};
+pub use task::{Frames, Mode, PatchState, Task, TaskId};
 pub use text::{ObjectText, SymbolText};
 pub use version::{Entry, Target, Transition, Version, is_in_transition};
+pub use words::{read_back, write_record};

@@ -53,6 +53,10 @@ pub const MAX_FRAMES: usize = 32;
 /// them once it has begun (docs/DECISIONS.md, "Room for 4,096 records").
 pub const MAX_RECORDS: usize = 4096;
 
+/// How many words of room each record is given, which no record has more of: a task with all its frames, the
+/// longest, has one word less with its tag.
+pub const MAX_RECORD_WORDS: usize = 4 + MAX_FRAMES;
+
 /// How many records a patch logs that is put last in the list of installed patches, or taken out of it: its
 /// own, and one for each of its states.
 pub const MAX_LIST_RECORDS: usize = 1 + MAX_STATES;

@@ -1,4 +1,6 @@
-ghost use Rattle.std.specs.Prelude.{◌≡◌, ◌≤◌, nat_le, length, if◌then◌else◌, Some, None};
+ghost use Rattle.std.specs.Prelude.{◌≡◌, ◌≤◌, nat_le, length, replicate, if◌then◌else◌, Some, None, IsTrue, ◌↔◌};
+ghost use Rattle.klp_types.specs.Padded.{padded};
+ghost use Rattle.klp_types.specs.Finds.{Finds};
 ghost use Rattle.std.specs.Int.{w64, to_le_bytes};
 ghost use Rattle.klp_types.specs.World.{number_of};
 
@@ -74,6 +76,33 @@ impl ShadowValue {
         &bytes[..self.count as usize]
     }
 
+    /// How many there are, for a count of words.
+    pub(crate) fn count(&self) -> usize
+        ensures value { result ≡ length self.now }
+        ensures limit { result ≤ MAX_VALUE_BYTES }
+    {
+        usize::from(self.count)
+    }
+
+    /// The bytes with zeros behind them, as many as the longest value has.
+    pub(crate) fn padded(&self) -> &[u8]
+        ensures { result.now ≡ padded MAX_VALUE_BYTES 0 self.now }
+    {
+        &self.bytes
+    }
+
+    /// The value of the first bytes, where the others are zeros.
+    pub(crate) fn unpadded(bytes: [u8; MAX_VALUE_BYTES], count: u8) -> Option<Self>
+        requires { count ≤ MAX_VALUE_BYTES }
+        ensures { Finds (λ value. (length value ≡ count) × (padded MAX_VALUE_BYTES 0 value ≡ bytes)) result }
+    {
+        if are_zeros(&bytes[count as usize..]) {
+            Some(Self { bytes, count })
+        } else {
+            None
+        }
+    }
+
     /// The number that these eight bytes are, the lowest first; a value of another length is no number.
     pub fn number(&self) -> Option<u64>
         ensures { result ≡ number_of self.now }
@@ -86,4 +115,15 @@ impl ShadowValue {
             Err(_) => None,
         }
     }
+}
+
+fn are_zeros(bytes: &[u8]) -> bool
+    ensures { IsTrue result ↔ (bytes.now ≡ replicate (length bytes.now) 0) }
+{
+    for byte in bytes {
+        if *byte != 0 {
+            return false;
+        }
+    }
+    true
 }

@@ -1,4 +1,5 @@
-ghost use Rattle.std.specs.Prelude.{◌≡◌, [], ◌∷◌, ◌++◌, length, nat_lt, true, false};
+ghost use Rattle.std.specs.Prelude.{◌≡◌, ◌≤◌, [], ◌∷◌, ◌++◌, length, nat_lt, true, false};
+ghost use Rattle.klp_types.specs.PatchStates.{IsPatchState};
 
 use crate::limits::MAX_FRAMES;
 use crate::number::Site;
@@ -17,6 +18,43 @@ impl Model for TaskId {
     ghost view = { λ t. t.0 };
 
     ghost inverse = { λ n. record { 0 = n } };
+}
+
+/// How far a task is brought to the patch in transition, as `/proc/<pid>/patch_state` shows it: a number
+/// that is -1, 0 or 1 by its type, so that no state of the machine asks for it.
+#[derive(Clone, Copy, Debug, PartialEq, Eq)]
+pub struct PatchState(i8);
+
+impl Model for PatchState {
+    ghost use Rattle.std.specs.Prelude.{ℤ};
+    ghost use Rattle.klp_types.specs.PatchStates.{IsPatchState};
+
+    ghost Value = { ℤ };
+
+    ghost view = { λ s. s.0 };
+
+    ghost inverse = { λ n. record { 0 = n } };
+
+    ghost invariant = { λ s. IsPatchState s.0 };
+}
+
+impl PatchState {
+    /// No patch moves, so there is nothing to bring the task to (the kernel's `KLP_UNDEFINED`).
+    pub const UNDEFINED: PatchState = PatchState(-1);
+
+    /// The task doesn't run the patch in transition (the kernel's `KLP_UNPATCHED`).
+    pub const UNPATCHED: PatchState = PatchState(0);
+
+    /// The task runs the patch in transition (the kernel's `KLP_PATCHED`).
+    pub const PATCHED: PatchState = PatchState(1);
+
+    /// The number that the kernel shows.
+    pub fn number(self) -> i8
+        ensures value { result ≡ self }
+        ensures range { IsPatchState self }
+    {
+        self.0
+    }
 }
 
 /// Where a task is. There are three because a transition switches each in its own way: a sleeper by its
@@ -75,6 +113,15 @@ impl Frames {
         self.count
     }
 
+    /// How many there are, for a count of words.
+    pub(crate) fn count(&self) -> usize
+        ensures value { result ≡ length self.now }
+        ensures limit { result ≤ MAX_FRAMES }
+    {
+        let versions: &[Version] = &self.versions;
+        versions[..usize::from(self.count)].len()
+    }
+
     /// The frames, outermost first, without the places that aren't used.
     pub fn as_slice(&self) -> &[Version]
         ensures { result.now ≡ self.now }
@@ -104,9 +151,9 @@ impl Frames {
 /// row of the state, and copied whole into the record that undoes a change of it.
 #[derive(Clone, Copy, Debug, PartialEq, Eq)]
 pub struct Task {
-    /// As `/proc/<pid>/patch_state` shows it: -1 where no patch moves, else 1 where the task runs the
-    /// patch in transition, and 0 where it doesn't.
-    pub state: i8,
+    /// -1 where no patch moves, else 1 where the task runs the patch in transition, and 0 where it
+    /// doesn't.
+    pub state: PatchState,
     pub mode: Mode,
     /// What a sleeping task is inside of. Any other has none, since its frames change all the time.
     pub frames: Frames,
