@@ -1,7 +1,7 @@
 //! The plan as far as the lines up to here give it. Each kind of line has its own function, which says
 //! where it may be.
 
-ghost use Rattle.std.specs.Prelude.{◌≡◌, ◌<◌, ◌==◌, vec_len, length, IsTrue, OnOk, OnErr, IfOk, option_copied};
+ghost use Rattle.std.specs.Prelude.{◌≡◌, ◌<◌, ◌==◌, vec_len, length, IsTrue, Ok, Err, OnOk, OnErr, IfOk, IfErr, MatchOption, option_copied};
 ghost use Rattle.std.specs.List.{list_any};
 ghost use Rattle.klp_types.specs.Image.{Symbol};
 ghost use Rattle.klp_catalog_text.specs.Gives.{Gives, Becomes};
@@ -9,10 +9,10 @@ ghost use Rattle.klp_catalog_text.specs.PlanParts.{last_of, targets_of, states_o
 ghost use Rattle.klp_catalog_text.specs.Plan.{PlanTarget as TargetValue};
 ghost use Rattle.klp_catalog_text.specs.Within.{AreTargetsWithin};
 ghost use Rattle.klp_catalog_text.specs.Draft.{empty_draft, open_object, placed};
-ghost use Rattle.klp_catalog_text.specs.Text.{with_line, finished_with};
+ghost use Rattle.klp_catalog_text.specs.Text.{with_line, finished};
 
 use crate::edit::ScriptText;
-use crate::fault::TextFaultKind;
+use crate::fault::{TextFault, TextFaultKind};
 use crate::items::{Name, PlanFunction, SystemState};
 use crate::line::CatalogLine;
 use crate::lines::words_of;
@@ -366,13 +366,32 @@ impl Draft {
         }
     }
 
-    /// The plan of a whole text. What only the whole can lack, a handler or an object, is found here.
-    pub(crate) fn finish(self) -> Result<Plan, TextFaultKind>
-        ensures plan { result ≡ finished_with self.handler self }
-        ensures targets { IfOk result (λ plan. AreTargetsWithin (length plan.objects) plan.patches) }
+    /// The handler of a text that has an object too, as a whole text has to.
+    fn whole_handler(&self) -> Option<u64>
+        ensures { MatchOption result (finished self.now ≡ Err (record { line = 0; kind = TextFaultKind.Missing }))
+            (λ handler. finished self.now ≡ Ok (record { handler = handler; objects = self.now.objects; patches = self.now.patches })) }
     {
+        if self.objects.is_empty() {
+            return None;
+        }
+        self.handler
+    }
+
+    /// The plan of a whole text. What only the whole can lack, a handler or an object, is found here, and no
+    /// line is at fault then.
+    pub(crate) fn finish(self) -> Result<Plan, TextFault>
+        ensures plan { result ≡ finished self }
+        ensures targets { IfOk result (λ plan. AreTargetsWithin (length plan.objects) plan.patches) }
+        ensures fault { IfErr result (λ fault. (fault.line ≡ 0) × (fault.kind ≡ TextFaultKind.Missing)) }
+    {
+        let Some(handler) = self.whole_handler() else {
+            return Err(TextFault {
+                line: 0,
+                kind: TextFaultKind::Missing,
+            });
+        };
         let Draft {
-            handler,
+            handler: _,
             objects,
             object_names: _,
             symbols: _,
@@ -380,12 +399,6 @@ impl Draft {
             patch_names,
             functions: _,
         } = self;
-        let Some(handler) = handler else {
-            return Err(TextFaultKind::Missing);
-        };
-        if objects.is_empty() {
-            return Err(TextFaultKind::Missing);
-        }
         Ok(Plan {
             handler,
             objects,

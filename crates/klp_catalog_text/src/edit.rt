@@ -170,7 +170,7 @@ fn edits(alloc: Global, words: &mut Words<'_>) -> Result<Vec<Edit>, TextFaultKin
 
 /// A script as a line gives it. There may be more edits than a script may have, since every word is checked
 /// before the line is too much (docs/DECISIONS.md, "Scripts with too many edits").
-#[derive(Debug, Drop)]
+#[derive(Drop)]
 pub struct ScriptText {
     edits: Vec<Edit>,
     status: i32,

@@ -2,6 +2,7 @@ ghost use Rattle.std.specs.Prelude.{◌≡◌};
 ghost use Rattle.klp_catalog_text.specs.declared.fault.TextFaultKind.TheVariants.{NoMemory};
 
 use std::alloc::{AllocError, AllocFailed};
+use std::{error, fmt};
 use thiserror::Error;
 
 /// What is wrong with a line of a catalog's text. The numbers are this project's own, and stay, since
@@ -10,58 +11,52 @@ use thiserror::Error;
 /// In a line that has more than one fault, the first of these is reported: `NotAscii`, `LineTooLong`,
 /// `UnknownWord`, `WrongCount`, then the words from left to right (`BadNumber` to `BadEdit`), then
 /// `OutOfPlace`, `UnknownObject`, `Twice` and `TooMany`.
-#[derive(Clone, Copy, Debug, PartialEq, Eq, Error)]
+#[derive(Clone, Copy, Debug, PartialEq, Eq)]
 pub enum TextFaultKind {
     /// A byte of a line that isn't a comment is no ASCII. It is looked at first, so that every word behind
     /// is text.
-    #[error("NotAscii")]
     NotAscii = 1,
     /// The line has more than [`MAX_LINE`](klp_types::MAX_LINE) bytes. A comment may have any number.
-    #[error("LineTooLong")]
     LineTooLong = 2,
     /// No line begins with this word, or another word than `replace` is behind the name of a patch.
-    #[error("UnknownWord")]
     UnknownWord = 3,
     /// The line has too few words or too many, or edits are behind a status other than 0.
-    #[error("WrongCount")]
     WrongCount = 4,
     /// A status, or the id or version of a system state, is no decimal number, or out of range.
-    #[error("BadNumber")]
     BadNumber = 5,
     /// An address isn't 1 to 16 hexadecimal digits, or a body isn't pairs of them.
-    #[error("BadHex")]
     BadHex = 6,
     /// A name has another byte than names have, or is too long. Which bytes it may have depends on what it
     /// names, since a symbol's are the compiler's.
-    #[error("BadName")]
     BadName = 7,
     /// The symbol of a function isn't spelled `.klp.sym.objname.symbol_name,sympos`, or its object
     /// isn't the one of the target.
-    #[error("BadSymbol")]
     BadSymbol = 8,
     /// An edit of a callback is spelled wrong, or a number in it is out of range.
-    #[error("BadEdit")]
     BadEdit = 9,
     /// The line may not be here: a symbol before any object, say, or a function where no target is open.
-    #[error("OutOfPlace")]
     OutOfPlace = 10,
     /// The same was said before: a name, a target, a state or a kind of callback that may be there once.
-    #[error("Twice")]
     Twice = 11,
     /// A target names no object of the text up to here, so it could have no site.
-    #[error("UnknownObject")]
     UnknownObject = 12,
     /// A limit is reached (`klp_types::limits`), which this line would exceed.
-    #[error("TooMany")]
     TooMany = 13,
     /// The text has no handler or no object, of which an image needs one each. The line is 0, since no line
     /// is at fault.
-    #[error("Missing")]
     Missing = 14,
     /// Memory ran out. This may come in place of any fault of this line or a later one.
-    #[error("NoMemory")]
     NoMemory = 15,
 }
+
+/// Its name, which is what `Debug` prints: one table of the names serves both.
+impl fmt::Display for TextFaultKind {
+    fn fmt<W: fmt::Write>(&self, f: &mut fmt::Formatter<W>) -> fmt::Result {
+        fmt::Debug::fmt(self, f)
+    }
+}
+
+impl error::Error for TextFaultKind {}
 
 impl From<AllocError> for TextFaultKind {
     ghost from_gives = { λ _ e. e ≡ NoMemory };

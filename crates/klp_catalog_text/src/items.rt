@@ -4,7 +4,7 @@ use std::marker::Model;
 
 /// A name of an object, a patch, a symbol or a new function, as a word of the text spells it. It is ASCII,
 /// so bytes and text are the same.
-#[derive(Debug, Drop)]
+#[derive(Drop)]
 pub struct Name(pub String);
 
 impl Model for Name {
@@ -17,7 +17,7 @@ impl Model for Name {
 
 /// A new function of a patch, as its line has it: which site it is for isn't known before the names are
 /// resolved.
-#[derive(Debug, Drop)]
+#[derive(Drop)]
 pub struct PlanFunction {
     /// The name of the symbol that it replaces, in the object of its target.
     pub symbol: String,

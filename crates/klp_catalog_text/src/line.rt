@@ -16,7 +16,7 @@ use klp_words::Words;
 use std::alloc::Global;
 
 /// The word that a line begins with.
-#[derive(Clone, Copy, Debug, PartialEq, Eq)]
+#[derive(Clone, Copy)]
 pub(crate) enum Keyword {
     Handler,
     Object,
@@ -29,7 +29,7 @@ pub(crate) enum Keyword {
 }
 
 /// What a line says, wherever it stands.
-#[derive(Debug, Drop)]
+#[derive(Drop)]
 pub enum CatalogLine {
     /// The address of the handler.
     Handler(u64),

@@ -13,7 +13,7 @@ use std::mem;
 
 /// A callback of a patch for an object (callbacks): here it is a script, and the caller of the catalog
 /// makes callbacks of it.
-#[derive(Debug, Drop)]
+#[derive(Drop)]
 pub struct PlanCallback {
     pub which: Which,
     pub script: Script,
@@ -30,7 +30,7 @@ impl Model for PlanCallback {
 /// An object that a patch changes, the new functions in it, and the callbacks for it. The object is a
 /// number, so that no later look-up of its name can fail (docs/DECISIONS.md, "Objects of targets by
 /// number").
-#[derive(Debug, Drop)]
+#[derive(Drop)]
 pub struct PlanTarget {
     pub object: ObjId,
     pub functions: Vec<PlanFunction>,
@@ -68,7 +68,7 @@ impl PlanTarget {
 }
 
 /// A patch, as the lines behind its own give it. It has no number, which is its place in the plan.
-#[derive(Debug, Drop)]
+#[derive(Drop)]
 pub struct PlanPatch {
     pub name: String,
     /// Whether the patch is a cumulative one, which replaces all older ones when its transition is

@@ -1,5 +1,7 @@
-ghost use Rattle.std.specs.Prelude.{◌≡◌, length, IfOk, IfErr};
-ghost use Rattle.klp_catalog_text.specs.Text.{plan_of, IsFaultOf};
+ghost use Rattle.std.specs.Prelude.{◌≡◌, length, Ok, OnOk, IfOk, IfErr};
+ghost use Rattle.klp_catalog_text.specs.Text.{plan_of, with_lines, IsFaultOf};
+ghost use Rattle.klp_catalog_text.specs.Draft.{empty_draft};
+ghost use Rattle.std.specs.Str.Lines.{lines};
 ghost use Rattle.klp_catalog_text.specs.Within.{AreTargetsWithin};
 
 use crate::draft::Draft;
@@ -19,6 +21,16 @@ pub fn read(alloc: Global, text: &[u8]) -> Result<Plan, TextFault>
     ensures fault { IfErr result (λ fault. IsFaultOf text.now fault.line fault.kind) }
 {
     let mut draft = Draft::new(alloc);
+    read_lines(alloc, &mut draft, text)?;
+    draft.finish()
+}
+
+/// Adds all lines of a text to a draft, which is empty yet: only then are they all of its lines.
+fn read_lines(alloc: Global, draft: &mut Draft, text: &[u8]) -> Result<(), TextFault>
+    requires { draft.old ≡ empty_draft }
+    ensures draft { OnOk result (with_lines 1 (lines text.now) empty_draft ≡ Ok draft.new) }
+    ensures fault { IfErr result (λ fault. IsFaultOf text.now fault.line fault.kind) }
+{
     let mut lines = Lines::new(text);
     let mut number = 0;
     while let Some(line) = lines.next() {
@@ -27,8 +39,5 @@ pub fn read(alloc: Global, text: &[u8]) -> Result<Plan, TextFault>
             return Err(TextFault { line: number, kind });
         }
     }
-    match draft.finish() {
-        Ok(plan) => Ok(plan),
-        Err(kind) => Err(TextFault { line: 0, kind }),
-    }
+    Ok(())
 }

@@ -1,6 +1,6 @@
 use Rattle.std.proofs.Common.{length}
 use Rattle.klp_catalog_text.proofs.TextLemmas.{IsReadTo}
-use Rattle.klp_catalog_text.proofs.text.read.Given as goal
+use Rattle.klp_catalog_text.proofs.text.read_lines.Given as goal
 
 -- the lines so far give the draft
 abbrev pub invariant-loop-line : goal.invariant-loop-line

@@ -1,6 +1,6 @@
 use Rattle.std.proofs.Common.{arith}
 use Rattle.klp_catalog_text.proofs.TextLemmas.{length-lines, fault_here}
-use Rattle.klp_catalog_text.proofs.text.read.Goals as goal
+use Rattle.klp_catalog_text.proofs.text.read_lines.Goals as goal
 
 pub overflow_add-number : goal.overflow_add-number
 overflow_add-number c = omega (arith, length-lines c.args.text.now, c.loop-line.invariant.count)
