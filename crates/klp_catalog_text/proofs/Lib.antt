@@ -1,5 +1,6 @@
 pub mod LineLemmas
 pub mod EditLemmas
+pub mod CountLemmas
 pub mod SpelledLemmas
 pub mod ListLemmas
 pub mod LimitLemmas

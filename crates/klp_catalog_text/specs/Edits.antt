@@ -26,6 +26,16 @@ edit_number part = ok_or (decimal_of (2 ^ 64) part) BadEdit
 abbrev pub edit_value : List ℕ → Result ShadowValue TextFaultKind
 edit_value part = ok_or (shadow_value_of part) BadEdit
 
+-- one number
+abbrev pub one_number : List (List ℕ) → Result ℕ TextFaultKind
+one_number (part ∷ []) = edit_number part
+one_number parts = Err BadEdit
+
+-- two numbers
+abbrev pub two_numbers : List (List ℕ) → Result (ℕ × ℕ) TextFaultKind
+two_numbers (first ∷ second ∷ []) = edit_number first >>= λ m. edit_number second >>= λ n. Ok (m, n)
+two_numbers parts = Err BadEdit
+
 -- alloc:OBJ:ID:VALUE
 abbrev pub alloc_of : List (List ℕ) → Result Edit TextFaultKind
 alloc_of (obj ∷ id ∷ value ∷ []) = edit_number obj >>= λ o. edit_number id >>= λ i. edit_value value >>= λ v. Ok (Alloc (record { obj = o; id = i }) v)

@@ -48,6 +48,11 @@ abbrev pub handler_line : List (List ℕ) → Result CatalogLine TextFaultKind
 handler_line (address ∷ []) = address_of address >>= λ a. Ok (line.Handler a)
 handler_line words = Err WrongCount
 
+-- a name and nothing else
+abbrev pub only_name : List (List ℕ) → Result (List ℕ) TextFaultKind
+only_name (name ∷ []) = name_of name
+only_name words = Err WrongCount
+
 abbrev pub object_line : List (List ℕ) → Result CatalogLine TextFaultKind
 object_line (name ∷ []) = name_of name >>= λ n. Ok (line.Object n)
 object_line words = Err WrongCount

@@ -1,11 +1,11 @@
 //! The edits of a callback, and its script: words with parts, which no other line has.
 
-ghost use Rattle.std.specs.Prelude.{◌≡◌, ℕ, ◌<◌, ◌≤◌, ◌==◌, List, [], ◌∷◌, length, MatchOption, MatchResult};
+ghost use Rattle.std.specs.Prelude.{◌≡◌, ℕ, ◌<◌, ◌≤◌, ◌==◌, List, [], ◌∷◌, length, MatchOption};
 ghost use Rattle.klp_catalog_text.specs.Gives.{Gives};
-ghost use Rattle.klp_catalog_text.specs.Edits.{parts_of, edit_number, edit_value, alloc_of, free_of, free_all_of, set_of, take_prev_of, edit_of, edits_of, failure_of, script_of};
+ghost use Rattle.klp_catalog_text.specs.Edits.{parts_of, edit_number, edit_value, one_number, two_numbers, alloc_of, free_of, free_all_of, set_of, take_prev_of, edit_of, edits_of, failure_of, script_of};
 
 use crate::fault::TextFaultKind;
-use crate::lines::{end, word};
+use crate::lines::{end, is_word, word};
 use arrayvec::ArrayVec;
 use klp_types::{Edit, MAX_EDITS, Script, ShadowKey, ShadowValue};
 use klp_words::{Words, number64, position_of, shadow_value, signed};
@@ -39,34 +39,20 @@ impl<'a> Fields<'a> {
         }
     }
 
-    /// The next part of an edit that has too few parts without it, which is a `BadEdit` like any other
-    /// fault in an edit.
-    fn part(&mut self) -> Result<&'a [u8], TextFaultKind>
-        ensures { MatchResult result (λ part. self.old ≡ part.now ∷ self.new)
-            (λ kind. (kind ≡ TextFaultKind.BadEdit) × (self.old ≡ [])) }
+    /// The next part, if there is one more.
+    fn next(&mut self) -> Option<&'a [u8]>
+        ensures { MatchOption result (self.old ≡ []) (λ part. self.old ≡ part.now ∷ self.new) }
     {
         if self.is_over {
-            return Err(TextFaultKind::BadEdit);
+            return None;
         }
         let Some(end) = position_of(self.rest, b':') else {
             self.is_over = true;
-            return Ok(self.rest);
+            return Some(self.rest);
         };
         let part = &self.rest[..end];
         self.rest = &self.rest[end + 1..];
-        Ok(part)
-    }
-
-    /// The end of an edit that has too many parts with one more, which is a `BadEdit` too.
-    fn end(&mut self) -> Result<(), TextFaultKind>
-        ensures { MatchResult result (λ _. self.old ≡ [])
-            (λ kind. (kind ≡ TextFaultKind.BadEdit) × (part : List ℕ) × (parts : List (List ℕ))
-            × (self.old ≡ part ∷ parts)) }
-    {
-        match self.part() {
-            Ok(_) => Err(TextFaultKind::BadEdit),
-            Err(_) => Ok(()),
-        }
+        Some(part)
     }
 }
 
@@ -85,53 +71,68 @@ fn edit_value(part: &[u8]) -> Result<ShadowValue, TextFaultKind>
     shadow_value(part).ok_or(TextFaultKind::BadEdit)
 }
 
+/// The number of an edit that has one.
+fn one_number(parts: &mut Fields<'_>) -> Result<u64, TextFaultKind>
+    ensures { result ≡ one_number parts.old }
+{
+    let (Some(part), None) = (parts.next(), parts.next()) else {
+        return Err(TextFaultKind::BadEdit);
+    };
+    edit_number(part)
+}
+
+/// The two numbers of an edit that has two.
+fn two_numbers(parts: &mut Fields<'_>) -> Result<(u64, u64), TextFaultKind>
+    ensures { result ≡ two_numbers parts.old }
+{
+    let (Some(first), Some(second), None) = (parts.next(), parts.next(), parts.next()) else {
+        return Err(TextFaultKind::BadEdit);
+    };
+    let first = edit_number(first)?;
+    Ok((first, edit_number(second)?))
+}
+
 fn alloc_edit(parts: &mut Fields<'_>) -> Result<Edit, TextFaultKind>
     ensures { result ≡ alloc_of parts.old }
 {
-    let obj = parts.part()?;
-    let id = parts.part()?;
-    let value = parts.part()?;
-    parts.end()?;
+    let (Some(obj), Some(id), Some(value), None) =
+        (parts.next(), parts.next(), parts.next(), parts.next())
+    else {
+        return Err(TextFaultKind::BadEdit);
+    };
     let obj = edit_number(obj)?;
     let id = edit_number(id)?;
     Ok(Edit::Alloc(ShadowKey { obj, id }, edit_value(value)?))
 }
 
+#[tactic(auto, using(crate::proofs::EditLemmas::free_by))]
 fn free_edit(parts: &mut Fields<'_>) -> Result<Edit, TextFaultKind>
     ensures { result ≡ free_of parts.old }
 {
-    let obj = parts.part()?;
-    let id = parts.part()?;
-    parts.end()?;
-    let obj = edit_number(obj)?;
-    let id = edit_number(id)?;
+    let (obj, id) = two_numbers(parts)?;
     Ok(Edit::Free(ShadowKey { obj, id }))
 }
 
+#[tactic(auto, using(crate::proofs::EditLemmas::free_all_by))]
 fn free_all_edit(parts: &mut Fields<'_>) -> Result<Edit, TextFaultKind>
     ensures { result ≡ free_all_of parts.old }
 {
-    let id = parts.part()?;
-    parts.end()?;
-    Ok(Edit::FreeAll(edit_number(id)?))
+    Ok(Edit::FreeAll(one_number(parts)?))
 }
 
+#[tactic(auto, using(crate::proofs::EditLemmas::set_by))]
 fn set_data_edit(parts: &mut Fields<'_>) -> Result<Edit, TextFaultKind>
     ensures { result ≡ set_of parts.old }
 {
-    let state = parts.part()?;
-    let value = parts.part()?;
-    parts.end()?;
-    let state = edit_number(state)?;
-    Ok(Edit::SetData(state, edit_number(value)?))
+    let (state, value) = two_numbers(parts)?;
+    Ok(Edit::SetData(state, value))
 }
 
+#[tactic(auto, using(crate::proofs::EditLemmas::take_prev_by))]
 fn take_prev_edit(parts: &mut Fields<'_>) -> Result<Edit, TextFaultKind>
     ensures { result ≡ take_prev_of parts.old }
 {
-    let state = parts.part()?;
-    parts.end()?;
-    Ok(Edit::TakePrev(edit_number(state)?))
+    Ok(Edit::TakePrev(one_number(parts)?))
 }
 
 /// An edit: its name and its numbers. All parts are there before a number is read, but every fault is the
@@ -140,16 +141,18 @@ fn edit(word: &[u8]) -> Result<Edit, TextFaultKind>
     ensures { result ≡ edit_of word.now }
 {
     let mut parts = Fields::new(word);
-    let name = parts.part()?;
-    if name == b"alloc".as_slice() {
+    let Some(name) = parts.next() else {
+        return Err(TextFaultKind::BadEdit);
+    };
+    if is_word(name, b"alloc") {
         alloc_edit(&mut parts)
-    } else if name == b"free".as_slice() {
+    } else if is_word(name, b"free") {
         free_edit(&mut parts)
-    } else if name == b"freeall".as_slice() {
+    } else if is_word(name, b"freeall") {
         free_all_edit(&mut parts)
-    } else if name == b"set".as_slice() {
+    } else if is_word(name, b"set") {
         set_data_edit(&mut parts)
-    } else if name == b"takeprev".as_slice() {
+    } else if is_word(name, b"takeprev") {
         take_prev_edit(&mut parts)
     } else {
         Err(TextFaultKind::BadEdit)

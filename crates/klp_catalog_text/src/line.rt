@@ -4,12 +4,12 @@ ghost use Rattle.std.specs.Prelude.{◌≡◌, option_copied};
 ghost use Rattle.std.specs.Char.{is_ascii};
 ghost use Rattle.std.specs.List.{list_all};
 ghost use Rattle.klp_catalog_text.specs.Gives.{Gives};
-ghost use Rattle.klp_catalog_text.specs.Lines.{keyword_of, handler_line, object_line, symbol_line, replace_line, patch_line, target_line, func_line, callback_line, state_line, line_of_words, line_of};
+ghost use Rattle.klp_catalog_text.specs.Lines.{keyword_of, only_name, handler_line, object_line, symbol_line, replace_line, patch_line, target_line, func_line, callback_line, state_line, line_of_words, line_of};
 
 use crate::edit::ScriptText;
 use crate::fault::TextFaultKind;
 use crate::items::{Name, PlanFunction, SystemState};
-use crate::lines::{end, word};
+use crate::lines::{end, is_word, three_words, word};
 use crate::{edit, words};
 use klp_types::{MAX_LINE, SymbolText, Which};
 use klp_words::Words;
@@ -58,27 +58,27 @@ fn is_ascii(text: &[u8]) -> bool
 fn keyword_of(word: &[u8]) -> Option<Keyword>
     ensures { result ≡ keyword_of word.now }
 {
-    if word == b"handler".as_slice() {
+    if is_word(word, b"handler") {
         Some(Keyword::Handler)
-    } else if word == b"object".as_slice() {
+    } else if is_word(word, b"object") {
         Some(Keyword::Object)
-    } else if word == b"symbol".as_slice() {
+    } else if is_word(word, b"symbol") {
         Some(Keyword::Symbol)
-    } else if word == b"patch".as_slice() {
+    } else if is_word(word, b"patch") {
         Some(Keyword::Patch)
-    } else if word == b"target".as_slice() {
+    } else if is_word(word, b"target") {
         Some(Keyword::Target)
-    } else if word == b"func".as_slice() {
+    } else if is_word(word, b"func") {
         Some(Keyword::Func)
-    } else if word == b"pre".as_slice() {
+    } else if is_word(word, b"pre") {
         Some(Keyword::Callback(Which::Pre))
-    } else if word == b"post".as_slice() {
+    } else if is_word(word, b"post") {
         Some(Keyword::Callback(Which::Post))
-    } else if word == b"preun".as_slice() {
+    } else if is_word(word, b"preun") {
         Some(Keyword::Callback(Which::PreUn))
-    } else if word == b"postun".as_slice() {
+    } else if is_word(word, b"postun") {
         Some(Keyword::Callback(Which::PostUn))
-    } else if word == b"state".as_slice() {
+    } else if is_word(word, b"state") {
         Some(Keyword::State)
     } else {
         None
@@ -88,26 +88,34 @@ fn keyword_of(word: &[u8]) -> Option<Keyword>
 fn handler_line(words: &mut Words<'_>) -> Result<CatalogLine, TextFaultKind>
     ensures { Gives (λ l. l) result (handler_line words.old) }
 {
-    let address = word(words)?;
-    end(words)?;
+    let (Some(address), None) = (words.next(), words.next()) else {
+        return Err(TextFaultKind::WrongCount);
+    };
     Ok(CatalogLine::Handler(words::address(address)?))
 }
 
+/// The name in a line that has nothing else behind its first word.
+fn only_name(alloc: Global, words: &mut Words<'_>) -> Result<Name, TextFaultKind>
+    ensures { Gives (λ n. n) result (only_name words.old) }
+{
+    let (Some(name), None) = (words.next(), words.next()) else {
+        return Err(TextFaultKind::WrongCount);
+    };
+    words::name(alloc, name)
+}
+
+#[tactic(auto, using(crate::proofs::CountLemmas::object_by))]
 fn object_line(alloc: Global, words: &mut Words<'_>) -> Result<CatalogLine, TextFaultKind>
     ensures { Gives (λ l. l) result (object_line words.old) }
 {
-    let name = word(words)?;
-    end(words)?;
-    Ok(CatalogLine::Object(words::name(alloc, name)?))
+    Ok(CatalogLine::Object(only_name(alloc, words)?))
 }
 
+#[tactic(auto, using(crate::proofs::CountLemmas::symbol_count))]
 fn symbol_line(alloc: Global, words: &mut Words<'_>) -> Result<CatalogLine, TextFaultKind>
     ensures { Gives (λ l. l) result (symbol_line words.old) }
 {
-    let name = word(words)?;
-    let address = word(words)?;
-    let body = word(words)?;
-    end(words)?;
+    let (name, address, body) = three_words(words)?;
     let Name(name) = words::symbol_name(alloc, name)?;
     let address = words::address(address)?;
     let body = words::body(alloc, body)?;
@@ -136,19 +144,19 @@ fn patch_line(alloc: Global, words: &mut Words<'_>) -> Result<CatalogLine, TextF
     let name = word(words)?;
     match words.next() {
         None => Ok(CatalogLine::Patch(words::name(alloc, name)?, false)),
-        Some(word) if word == b"replace".as_slice() => replace_line(alloc, name, words),
+        Some(word) if is_word(word, b"replace") => replace_line(alloc, name, words),
         Some(_) => Err(TextFaultKind::UnknownWord),
     }
 }
 
+#[tactic(auto, using(crate::proofs::CountLemmas::target_by))]
 fn target_line(alloc: Global, words: &mut Words<'_>) -> Result<CatalogLine, TextFaultKind>
     ensures { Gives (λ l. l) result (target_line words.old) }
 {
-    let name = word(words)?;
-    end(words)?;
-    Ok(CatalogLine::Target(words::name(alloc, name)?))
+    Ok(CatalogLine::Target(only_name(alloc, words)?))
 }
 
+#[tactic(auto, using(crate::proofs::CountLemmas::func_count))]
 fn func_line(
     alloc: Global,
     target: Option<&str>,
@@ -156,10 +164,7 @@ fn func_line(
 ) -> Result<CatalogLine, TextFaultKind>
     ensures { Gives (λ l. l) result (func_line (option_copied target.entry) words.old) }
 {
-    let symbol = word(words)?;
-    let name = word(words)?;
-    let address = word(words)?;
-    end(words)?;
+    let (symbol, name, address) = three_words(words)?;
     let spelling = words::symbol(target, symbol)?;
     let Name(new_name) = words::name(alloc, name)?;
     let address = words::address(address)?;
@@ -184,9 +189,9 @@ fn callback_line(
 fn state_line(words: &mut Words<'_>) -> Result<CatalogLine, TextFaultKind>
     ensures { Gives (λ l. l) result (state_line words.old) }
 {
-    let id = word(words)?;
-    let version = word(words)?;
-    end(words)?;
+    let (Some(id), Some(version), None) = (words.next(), words.next(), words.next()) else {
+        return Err(TextFaultKind::WrongCount);
+    };
     let id = words::id(id)?;
     let version = words::version(version)?;
     Ok(CatalogLine::State(SystemState { id, version }))

@@ -1,4 +1,4 @@
-ghost use Rattle.std.specs.Prelude.{◌≡◌, ℕ, List, ◌∷◌, [], MatchOption, MatchResult};
+ghost use Rattle.std.specs.Prelude.{◌≡◌, ◌≢◌, ℕ, List, ◌∷◌, [], MatchOption, MatchResult, bytes_eq, length};
 ghost use Rattle.std.specs.Str.Lines.{lines, strip_carriage_return};
 ghost use Rattle.klp_catalog_text.specs.Lines.{words_of};
 
@@ -69,12 +69,36 @@ pub fn words_of(line: &[u8]) -> Words<'_>
     Words::new(line, Separators::SpacesAndTabs)
 }
 
+/// Whether a word is this one, byte by byte.
+pub(crate) fn is_word(word: &[u8], other: &[u8]) -> bool
+    ensures { result ≡ bytes_eq word.now other.now }
+{
+    word == other
+}
+
 /// The next word of a line that has too few words without it, which is a `WrongCount` whatever the line.
 pub(crate) fn word<'a>(words: &mut Words<'a>) -> Result<&'a [u8], TextFaultKind>
     ensures { MatchResult result (λ word. words.old ≡ word.now ∷ words.new)
         (λ kind. (kind ≡ TextFaultKind.WrongCount) × (words.old ≡ [])) }
 {
     words.next().ok_or(TextFaultKind::WrongCount)
+}
+
+/// Three words of a line, in their order.
+pub(crate) type ThreeWords<'a> = (&'a [u8], &'a [u8], &'a [u8]);
+
+/// The words of a line that has exactly three of them left. Another number of them is a `WrongCount`, before
+/// any word's own fault is reported.
+pub(crate) fn three_words<'a>(words: &mut Words<'a>) -> Result<ThreeWords<'a>, TextFaultKind>
+    ensures { MatchResult result (λ found. words.old ≡ found.0.now ∷ found.1.now ∷ found.2.now ∷ [])
+        (λ kind. (kind ≡ TextFaultKind.WrongCount) × (length words.old ≢ 3)) }
+{
+    let (Some(first), Some(second), Some(third), None) =
+        (words.next(), words.next(), words.next(), words.next())
+    else {
+        return Err(TextFaultKind::WrongCount);
+    };
+    Ok((first, second, third))
 }
 
 /// The end of a line that has too many words with one more. It is asked for before any word's own fault is
