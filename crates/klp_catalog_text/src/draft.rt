@@ -259,14 +259,13 @@ impl Draft {
         Ok(())
     }
 
-    fn place_target(&mut self, alloc: Global, name: Name) -> Result<(), TextFaultKind>
-        ensures { Becomes result self.new (placed self.old (CatalogLine.Target name)) }
+    fn place_target(&mut self, alloc: Global, name: &Name) -> Result<(), TextFaultKind>
+        ensures { Becomes result self.new (placed self.old (CatalogLine.Target name.now)) }
     {
         if self.patches.is_empty() {
             return Err(TextFaultKind::OutOfPlace);
         }
-        let Name(name) = name;
-        let Some(number) = self.object_names.number(name.as_str()) else {
+        let Some(number) = self.object_names.number(name.0.as_str()) else {
             return Err(TextFaultKind::UnknownObject);
         };
         let object = ObjId(number as u8);
@@ -359,7 +358,7 @@ impl Draft {
             CatalogLine::Object(name) => self.place_object(alloc, name),
             CatalogLine::Symbol(symbol) => self.place_symbol(symbol),
             CatalogLine::Patch(name, replace) => self.place_patch(alloc, name, replace),
-            CatalogLine::Target(name) => self.place_target(alloc, name),
+            CatalogLine::Target(name) => self.place_target(alloc, &name),
             CatalogLine::Function(function) => self.place_function(function),
             CatalogLine::Callback(which, script) => self.place_callback(which, script),
             CatalogLine::State(state) => self.place_state(state),

@@ -5,7 +5,7 @@ ghost use Rattle.klp_catalog_text.specs.Gives.{Gives};
 ghost use Rattle.klp_catalog_text.specs.Edits.{parts_of, edit_number, edit_value, one_number, two_numbers, alloc_of, free_of, free_all_of, set_of, take_prev_of, edit_of, edits_of, failure_of, script_of};
 
 use crate::fault::TextFaultKind;
-use crate::lines::{end, is_word, word};
+use crate::lines::is_word;
 use arrayvec::ArrayVec;
 use klp_types::{Edit, MAX_EDITS, Script, ShadowKey, ShadowValue};
 use klp_words::{Words, number64, position_of, shadow_value, signed};
@@ -206,7 +206,9 @@ impl ScriptText {
 fn failure(alloc: Global, status: i32, words: &mut Words<'_>) -> Result<ScriptText, TextFaultKind>
     ensures { Gives (λ s. s) result (failure_of status words.old) }
 {
-    end(words)?;
+    if words.next().is_some() {
+        return Err(TextFaultKind::WrongCount);
+    }
     Ok(ScriptText {
         edits: Vec::new(alloc),
         status,
@@ -217,8 +219,12 @@ fn failure(alloc: Global, status: i32, words: &mut Words<'_>) -> Result<ScriptTe
 pub(crate) fn script(alloc: Global, words: &mut Words<'_>) -> Result<ScriptText, TextFaultKind>
     ensures { Gives (λ s. s) result (script_of words.old) }
 {
-    let word = word(words)?;
-    let status = signed(word).ok_or(TextFaultKind::BadNumber)?;
+    let Some(word) = words.next() else {
+        return Err(TextFaultKind::WrongCount);
+    };
+    let Some(status) = signed(word) else {
+        return Err(TextFaultKind::BadNumber);
+    };
     // Behind another status edits are words too many, whatever they are (docs/DECISIONS.md, "Edits behind a
     // status").
     if status != 0 {

@@ -9,7 +9,7 @@ ghost use Rattle.klp_catalog_text.specs.Lines.{keyword_of, only_name, handler_li
 use crate::edit::ScriptText;
 use crate::fault::TextFaultKind;
 use crate::items::{Name, PlanFunction, SystemState};
-use crate::lines::{end, is_word, three_words, word};
+use crate::lines::{is_word, three_words};
 use crate::{edit, words};
 use klp_types::{MAX_LINE, SymbolText, Which};
 use klp_words::Words;
@@ -52,7 +52,7 @@ pub enum CatalogLine {
 fn is_ascii(text: &[u8]) -> bool
     ensures { result ≡ list_all is_ascii text.now }
 {
-    text.iter().all(|b| b.is_ascii())
+    text.iter().all(u8::is_ascii)
 }
 
 fn keyword_of(word: &[u8]) -> Option<Keyword>
@@ -134,14 +134,18 @@ fn replace_line(
 ) -> Result<CatalogLine, TextFaultKind>
     ensures { Gives (λ l. l) result (replace_line name.now words.old) }
 {
-    end(words)?;
+    if words.next().is_some() {
+        return Err(TextFaultKind::WrongCount);
+    }
     Ok(CatalogLine::Patch(words::name(alloc, name)?, true))
 }
 
 fn patch_line(alloc: Global, words: &mut Words<'_>) -> Result<CatalogLine, TextFaultKind>
     ensures { Gives (λ l. l) result (patch_line words.old) }
 {
-    let name = word(words)?;
+    let Some(name) = words.next() else {
+        return Err(TextFaultKind::WrongCount);
+    };
     match words.next() {
         None => Ok(CatalogLine::Patch(words::name(alloc, name)?, false)),
         Some(word) if is_word(word, b"replace") => replace_line(alloc, name, words),
@@ -219,7 +223,10 @@ impl CatalogLine {
         if text.len() > MAX_LINE {
             return Err(TextFaultKind::LineTooLong);
         }
-        match keyword_of(first).ok_or(TextFaultKind::UnknownWord)? {
+        let Some(keyword) = keyword_of(first) else {
+            return Err(TextFaultKind::UnknownWord);
+        };
+        match keyword {
             Keyword::Handler => handler_line(words),
             Keyword::Object => object_line(alloc, words),
             Keyword::Symbol => symbol_line(alloc, words),

@@ -76,14 +76,6 @@ pub(crate) fn is_word(word: &[u8], other: &[u8]) -> bool
     word == other
 }
 
-/// The next word of a line that has too few words without it, which is a `WrongCount` whatever the line.
-pub(crate) fn word<'a>(words: &mut Words<'a>) -> Result<&'a [u8], TextFaultKind>
-    ensures { MatchResult result (λ word. words.old ≡ word.now ∷ words.new)
-        (λ kind. (kind ≡ TextFaultKind.WrongCount) × (words.old ≡ [])) }
-{
-    words.next().ok_or(TextFaultKind::WrongCount)
-}
-
 /// Three words of a line, in their order.
 pub(crate) type ThreeWords<'a> = (&'a [u8], &'a [u8], &'a [u8]);
 
@@ -99,17 +91,4 @@ pub(crate) fn three_words<'a>(words: &mut Words<'a>) -> Result<ThreeWords<'a>, T
         return Err(TextFaultKind::WrongCount);
     };
     Ok((first, second, third))
-}
-
-/// The end of a line that has too many words with one more. It is asked for before any word's own fault is
-/// reported.
-pub(crate) fn end(words: &mut Words<'_>) -> Result<(), TextFaultKind>
-    ensures { MatchResult result (λ _. words.old ≡ [])
-        (λ kind. (kind ≡ TextFaultKind.WrongCount) × (word : List ℕ) × (rest : List (List ℕ))
-        × (words.old ≡ word ∷ rest)) }
-{
-    match words.next() {
-        None => Ok(()),
-        Some(_) => Err(TextFaultKind::WrongCount),
-    }
 }

@@ -78,7 +78,9 @@ pub(crate) fn symbol<'a>(
 ) -> Result<Spelling<'a>, TextFaultKind>
     ensures { result ≡ symbol_of (option_copied target.entry) (spelling_of word.now) }
 {
-    let spelling = spelling_of(word).ok_or(TextFaultKind::BadSymbol)?;
+    let Some(spelling) = spelling_of(word) else {
+        return Err(TextFaultKind::BadSymbol);
+    };
     match target {
         Some(object) if spelling.object != object => Err(TextFaultKind::BadSymbol),
         _ => Ok(spelling),
