@@ -1,7 +1,7 @@
 //! The plan as far as the lines up to here give it. Each kind of line has its own function, which says
 //! where it may be.
 
-ghost use Rattle.std.specs.Prelude.{◌≡◌, ◌<◌, ◌==◌, vec_len, length, IsTrue, Ok, Err, OnOk, OnErr, IfOk, IfErr, MatchOption, option_copied};
+ghost use Rattle.std.specs.Prelude.{◌≡◌, ◌<◌, ◌==◌, vec_len, length, IsTrue, Ok, Err, OnOk, OnErr, MatchOption, option_copied};
 ghost use Rattle.std.specs.List.{list_any};
 ghost use Rattle.klp_types.specs.Image.{Symbol};
 ghost use Rattle.klp_catalog_text.specs.Gives.{Gives, Becomes};
@@ -12,7 +12,7 @@ ghost use Rattle.klp_catalog_text.specs.Draft.{empty_draft, open_object, placed}
 ghost use Rattle.klp_catalog_text.specs.Text.{with_line, finished};
 
 use crate::edit::ScriptText;
-use crate::fault::{TextFault, TextFaultKind};
+use crate::fault::TextFaultKind;
 use crate::items::{Name, PlanFunction, SystemState};
 use crate::line::CatalogLine;
 use crate::lines::words_of;
@@ -365,8 +365,9 @@ impl Draft {
         }
     }
 
-    /// The handler of a text that has an object too, as a whole text has to.
-    fn whole_handler(&self) -> Option<u64>
+    /// The handler of a text that has an object too. These are what only a whole text can lack, and no line is
+    /// at fault then.
+    pub(crate) fn whole_handler(&self) -> Option<u64>
         ensures { MatchOption result (finished self.now ≡ Err (record { line = 0; kind = TextFaultKind.Missing }))
             (λ handler. finished self.now ≡ Ok (record { handler = handler; objects = self.now.objects; patches = self.now.patches })) }
     {
@@ -376,19 +377,11 @@ impl Draft {
         self.handler
     }
 
-    /// The plan of a whole text. What only the whole can lack, a handler or an object, is found here, and no
-    /// line is at fault then.
-    pub(crate) fn finish(self) -> Result<Plan, TextFault>
-        ensures plan { result ≡ finished self }
-        ensures targets { IfOk result (λ plan. AreTargetsWithin (length plan.objects) plan.patches) }
-        ensures fault { IfErr result (λ fault. (fault.line ≡ 0) × (fault.kind ≡ TextFaultKind.Missing)) }
+    /// The plan of a whole text with this handler.
+    pub(crate) fn into_plan(self, handler: u64) -> Plan
+        ensures plan { result ≡ record { handler = handler; objects = self.objects; patches = self.patches } }
+        ensures targets { AreTargetsWithin (length result.objects) result.patches }
     {
-        let Some(handler) = self.whole_handler() else {
-            return Err(TextFault {
-                line: 0,
-                kind: TextFaultKind::Missing,
-            });
-        };
         let Draft {
             handler: _,
             objects,
@@ -398,11 +391,11 @@ impl Draft {
             patch_names,
             functions: _,
         } = self;
-        Ok(Plan {
+        Plan {
             handler,
             objects,
             patches,
             patch_names,
-        })
+        }
     }
 }

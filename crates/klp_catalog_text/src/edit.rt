@@ -2,12 +2,12 @@
 
 ghost use Rattle.std.specs.Prelude.{◌≡◌, ℕ, ◌<◌, ◌≤◌, ◌==◌, List, [], ◌∷◌, length, MatchOption};
 ghost use Rattle.klp_catalog_text.specs.Gives.{Gives};
-ghost use Rattle.klp_catalog_text.specs.Edits.{parts_of, edit_number, edit_value, one_number, two_numbers, alloc_of, free_of, free_all_of, set_of, take_prev_of, edit_of, edits_of, failure_of, script_of};
+ghost use Rattle.klp_catalog_text.specs.Edits.{parts_of, one_number, two_numbers, alloc_of, free_of, free_all_of, set_of, take_prev_of, edit_of, edits_of, failure_of, script_of};
 
 use crate::fault::TextFaultKind;
 use crate::lines::is_word;
 use arrayvec::ArrayVec;
-use klp_types::{Edit, MAX_EDITS, Script, ShadowKey, ShadowValue};
+use klp_types::{Edit, MAX_EDITS, Script, ShadowKey};
 use klp_words::{Words, number64, position_of, shadow_value, signed};
 use std::alloc::Global;
 use std::marker::Model;
@@ -56,29 +56,15 @@ impl<'a> Fields<'a> {
     }
 }
 
-/// A number in an edit. One out of range is a `BadEdit` and no `BadNumber`, since the fault of a line is no
-/// finer than a word (docs/DECISIONS.md, "Faults inside an edit").
-fn edit_number(part: &[u8]) -> Result<u64, TextFaultKind>
-    ensures { result ≡ edit_number part.now }
-{
-    number64(part).ok_or(TextFaultKind::BadEdit)
-}
-
-/// The value of a shadow variable in an edit. One that is too long, or has a wrong digit, is a `BadEdit` too.
-fn edit_value(part: &[u8]) -> Result<ShadowValue, TextFaultKind>
-    ensures { result ≡ edit_value part.now }
-{
-    shadow_value(part).ok_or(TextFaultKind::BadEdit)
-}
-
-/// The number of an edit that has one.
+/// The number of an edit that has one. One out of range is a `BadEdit` and no `BadNumber`, since the fault of
+/// a line is no finer than a word (docs/DECISIONS.md, "Faults inside an edit").
 fn one_number(parts: &mut Fields<'_>) -> Result<u64, TextFaultKind>
     ensures { result ≡ one_number parts.old }
 {
     let (Some(part), None) = (parts.next(), parts.next()) else {
         return Err(TextFaultKind::BadEdit);
     };
-    edit_number(part)
+    number64(part).ok_or(TextFaultKind::BadEdit)
 }
 
 /// The two numbers of an edit that has two.
@@ -88,8 +74,10 @@ fn two_numbers(parts: &mut Fields<'_>) -> Result<(u64, u64), TextFaultKind>
     let (Some(first), Some(second), None) = (parts.next(), parts.next(), parts.next()) else {
         return Err(TextFaultKind::BadEdit);
     };
-    let first = edit_number(first)?;
-    Ok((first, edit_number(second)?))
+    let (Some(first), Some(second)) = (number64(first), number64(second)) else {
+        return Err(TextFaultKind::BadEdit);
+    };
+    Ok((first, second))
 }
 
 fn alloc_edit(parts: &mut Fields<'_>) -> Result<Edit, TextFaultKind>
@@ -100,9 +88,10 @@ fn alloc_edit(parts: &mut Fields<'_>) -> Result<Edit, TextFaultKind>
     else {
         return Err(TextFaultKind::BadEdit);
     };
-    let obj = edit_number(obj)?;
-    let id = edit_number(id)?;
-    Ok(Edit::Alloc(ShadowKey { obj, id }, edit_value(value)?))
+    let (Some(obj), Some(id), Some(value)) = (number64(obj), number64(id), shadow_value(value)) else {
+        return Err(TextFaultKind::BadEdit);
+    };
+    Ok(Edit::Alloc(ShadowKey { obj, id }, value))
 }
 
 #[tactic(auto, using(crate::proofs::EditLemmas::free_by))]

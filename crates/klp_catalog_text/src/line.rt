@@ -12,7 +12,7 @@ use crate::items::{Name, PlanFunction, SystemState};
 use crate::lines::{is_word, three_words};
 use crate::{edit, words};
 use klp_types::{MAX_LINE, SymbolText, Which};
-use klp_words::Words;
+use klp_words::{Words, number32, number64};
 use std::alloc::Global;
 
 /// The word that a line begins with.
@@ -196,8 +196,11 @@ fn state_line(words: &mut Words<'_>) -> Result<CatalogLine, TextFaultKind>
     let (Some(id), Some(version), None) = (words.next(), words.next(), words.next()) else {
         return Err(TextFaultKind::WrongCount);
     };
-    let id = words::id(id)?;
-    let version = words::version(version)?;
+    // A version has 32 bits, as the `version` of the kernel's `klp_state`. One out of range is a `BadNumber`
+    // like one that isn't a number.
+    let (Some(id), Some(version)) = (number64(id), number32(version)) else {
+        return Err(TextFaultKind::BadNumber);
+    };
     Ok(CatalogLine::State(SystemState { id, version }))
 }
 

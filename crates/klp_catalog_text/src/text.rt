@@ -1,11 +1,10 @@
-ghost use Rattle.std.specs.Prelude.{◌≡◌, length, Ok, OnOk, IfOk, IfErr};
-ghost use Rattle.klp_catalog_text.specs.Text.{plan_of, with_lines, IsFaultOf};
+ghost use Rattle.std.specs.Prelude.{◌≡◌, length, Ok, IfOk, IfErr};
+ghost use Rattle.klp_catalog_text.specs.Text.{plan_of, IsFaultOf};
 ghost use Rattle.klp_catalog_text.specs.Draft.{empty_draft};
-ghost use Rattle.std.specs.Str.Lines.{lines};
 ghost use Rattle.klp_catalog_text.specs.Within.{AreTargetsWithin};
 
 use crate::draft::Draft;
-use crate::fault::TextFault;
+use crate::fault::{TextFault, TextFaultKind};
 use crate::lines::Lines;
 use crate::plan::Plan;
 use std::alloc::Global;
@@ -21,14 +20,16 @@ pub fn read(alloc: Global, text: &[u8]) -> Result<Plan, TextFault>
     ensures fault { IfErr result (λ fault. IsFaultOf text.now fault.line fault.kind) }
 {
     let mut draft = Draft::new(alloc);
-    read_lines(alloc, &mut draft, text)?;
-    draft.finish()
+    let handler = read_lines(alloc, &mut draft, text)?;
+    Ok(draft.into_plan(handler))
 }
 
-/// Adds all lines of a text to a draft, which is empty yet: only then are they all of its lines.
-fn read_lines(alloc: Global, draft: &mut Draft, text: &[u8]) -> Result<(), TextFault>
+/// Adds all lines of a text to a draft, which is empty yet: only then are they all of its lines. Answers the
+/// handler of the whole, so that the draft's owner has one fault to look at.
+fn read_lines(alloc: Global, draft: &mut Draft, text: &[u8]) -> Result<u64, TextFault>
     requires { draft.old ≡ empty_draft }
-    ensures draft { OnOk result (with_lines 1 (lines text.now) empty_draft ≡ Ok draft.new) }
+    ensures plan { IfOk result (λ handler. plan_of text.now
+        ≡ Ok (record { handler = handler; objects = draft.new.objects; patches = draft.new.patches })) }
     ensures fault { IfErr result (λ fault. IsFaultOf text.now fault.line fault.kind) }
 {
     let mut lines = Lines::new(text);
@@ -39,5 +40,11 @@ fn read_lines(alloc: Global, draft: &mut Draft, text: &[u8]) -> Result<(), TextF
             return Err(TextFault { line: number, kind });
         }
     }
-    Ok(())
+    let Some(handler) = draft.whole_handler() else {
+        return Err(TextFault {
+            line: 0,
+            kind: TextFaultKind::Missing,
+        });
+    };
+    Ok(handler)
 }

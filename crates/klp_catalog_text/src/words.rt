@@ -4,14 +4,12 @@
 ghost use Rattle.std.specs.Prelude.{◌≡◌, Some, None, Ok, Err, option_copied};
 ghost use Rattle.klp_words.specs.Words.{spelling_of};
 ghost use Rattle.klp_catalog_text.specs.Gives.{Gives};
-ghost use Rattle.klp_catalog_text.specs.Words.{name_of, symbol_name_of, address_of, body_of, id_of, version_of, symbol_of};
+ghost use Rattle.klp_catalog_text.specs.Words.{name_of, symbol_name_of, address_of, body_of, symbol_of};
 
 use crate::fault::TextFaultKind;
 use crate::items::Name;
 use hex::FromHexError;
-use klp_words::{
-    Spelling, hexadecimal, is_name, is_symbol_name, number32, number64, spelling_of, text,
-};
+use klp_words::{Spelling, hexadecimal, is_name, is_symbol_name, spelling_of, text};
 use std::alloc::Global;
 
 /// The name of an object, a patch or a new function. No `.` may be in it, because it ends the object's name
@@ -54,20 +52,6 @@ pub(crate) fn body(alloc: Global, word: &[u8]) -> Result<Vec<u8>, TextFaultKind>
         Err(FromHexError::OutOfMemory) => Err(TextFaultKind::NoMemory),
         Err(_) => Err(TextFaultKind::BadHex),
     }
-}
-
-/// The id of a system state, of 64 bits. One out of range is a `BadNumber` like one that isn't a number.
-pub(crate) fn id(word: &[u8]) -> Result<u64, TextFaultKind>
-    ensures { result ≡ id_of word.now }
-{
-    number64(word).ok_or(TextFaultKind::BadNumber)
-}
-
-/// The version of a system state. It has 32 bits, as the `version` of the kernel's `klp_state`.
-pub(crate) fn version(word: &[u8]) -> Result<u32, TextFaultKind>
-    ensures { result ≡ version_of word.now }
-{
-    number32(word).ok_or(TextFaultKind::BadNumber)
 }
 
 /// The symbol of a `func` line. Where a target is open, the symbol is in its object. Whatever is wrong with
