@@ -369,7 +369,8 @@ impl Draft {
     /// at fault then.
     pub(crate) fn whole_handler(&self) -> Option<u64>
         ensures { MatchOption result (finished self.now ≡ Err (record { line = 0; kind = TextFaultKind.Missing }))
-            (λ handler. finished self.now ≡ Ok (record { handler = handler; objects = self.now.objects; patches = self.now.patches })) }
+            (λ handler. finished self.now
+            ≡ Ok (record { handler = handler; objects = self.now.objects; patches = self.now.patches })) }
     {
         if self.objects.is_empty() {
             return None;

@@ -88,7 +88,9 @@ fn alloc_edit(parts: &mut Fields<'_>) -> Result<Edit, TextFaultKind>
     else {
         return Err(TextFaultKind::BadEdit);
     };
-    let (Some(obj), Some(id), Some(value)) = (number64(obj), number64(id), shadow_value(value)) else {
+    let (Some(obj), Some(id), Some(value)) =
+        (number64(obj), number64(id), shadow_value(value))
+    else {
         return Err(TextFaultKind::BadEdit);
     };
     Ok(Edit::Alloc(ShadowKey { obj, id }, value))

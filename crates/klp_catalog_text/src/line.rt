@@ -12,7 +12,7 @@ use crate::items::{Name, PlanFunction, SystemState};
 use crate::lines::{is_word, three_words};
 use crate::{edit, words};
 use klp_types::{MAX_LINE, SymbolText, Which};
-use klp_words::{Words, number32, number64};
+use klp_words::{Words, hexadecimal, number32, number64};
 use std::alloc::Global;
 
 /// The word that a line begins with.
@@ -91,7 +91,10 @@ fn handler_line(words: &mut Words<'_>) -> Result<CatalogLine, TextFaultKind>
     let (Some(address), None) = (words.next(), words.next()) else {
         return Err(TextFaultKind::WrongCount);
     };
-    Ok(CatalogLine::Handler(words::address(address)?))
+    let Some(address) = hexadecimal(address) else {
+        return Err(TextFaultKind::BadHex);
+    };
+    Ok(CatalogLine::Handler(address))
 }
 
 /// The name in a line that has nothing else behind its first word.
@@ -115,9 +118,13 @@ fn object_line(alloc: Global, words: &mut Words<'_>) -> Result<CatalogLine, Text
 fn symbol_line(alloc: Global, words: &mut Words<'_>) -> Result<CatalogLine, TextFaultKind>
     ensures { Gives (λ l. l) result (symbol_line words.old) }
 {
-    let (name, address, body) = three_words(words)?;
+    let Some((name, address, body)) = three_words(words) else {
+        return Err(TextFaultKind::WrongCount);
+    };
     let Name(name) = words::symbol_name(alloc, name)?;
-    let address = words::address(address)?;
+    let Some(address) = hexadecimal(address) else {
+        return Err(TextFaultKind::BadHex);
+    };
     let body = words::body(alloc, body)?;
     Ok(CatalogLine::Symbol(SymbolText {
         name,
@@ -168,10 +175,14 @@ fn func_line(
 ) -> Result<CatalogLine, TextFaultKind>
     ensures { Gives (λ l. l) result (func_line (option_copied target.entry) words.old) }
 {
-    let (symbol, name, address) = three_words(words)?;
+    let Some((symbol, name, address)) = three_words(words) else {
+        return Err(TextFaultKind::WrongCount);
+    };
     let spelling = words::symbol(target, symbol)?;
     let Name(new_name) = words::name(alloc, name)?;
-    let address = words::address(address)?;
+    let Some(address) = hexadecimal(address) else {
+        return Err(TextFaultKind::BadHex);
+    };
     Ok(CatalogLine::Function(PlanFunction {
         symbol: String::from_str(alloc, spelling.symbol)?,
         sympos: spelling.sympos,

@@ -1,8 +1,7 @@
-ghost use Rattle.std.specs.Prelude.{◌≡◌, ◌≢◌, ℕ, List, ◌∷◌, [], MatchOption, MatchResult, bytes_eq, length};
+ghost use Rattle.std.specs.Prelude.{◌≡◌, ◌≢◌, ℕ, List, ◌∷◌, [], MatchOption, bytes_eq, length};
 ghost use Rattle.std.specs.Str.Lines.{lines, strip_carriage_return};
 ghost use Rattle.klp_catalog_text.specs.Lines.{words_of};
 
-use crate::fault::TextFaultKind;
 use klp_words::{Separators, Words, position_of};
 use std::marker::Model;
 
@@ -79,16 +78,16 @@ pub(crate) fn is_word(word: &[u8], other: &[u8]) -> bool
 /// Three words of a line, in their order.
 pub(crate) type ThreeWords<'a> = (&'a [u8], &'a [u8], &'a [u8]);
 
-/// The words of a line that has exactly three of them left. Another number of them is a `WrongCount`, before
-/// any word's own fault is reported.
-pub(crate) fn three_words<'a>(words: &mut Words<'a>) -> Result<ThreeWords<'a>, TextFaultKind>
-    ensures { MatchResult result (λ found. words.old ≡ found.0.now ∷ found.1.now ∷ found.2.now ∷ [])
-        (λ kind. (kind ≡ TextFaultKind.WrongCount) × (length words.old ≢ 3)) }
+/// The words of a line that has exactly three of them left. They are asked for all at once, since another
+/// number of them is reported before any word's own fault.
+pub(crate) fn three_words<'a>(words: &mut Words<'a>) -> Option<ThreeWords<'a>>
+    ensures { MatchOption result (length words.old ≢ 3)
+        (λ found. words.old ≡ found.0.now ∷ found.1.now ∷ found.2.now ∷ []) }
 {
     let (Some(first), Some(second), Some(third), None) =
         (words.next(), words.next(), words.next(), words.next())
     else {
-        return Err(TextFaultKind::WrongCount);
+        return None;
     };
-    Ok((first, second, third))
+    Some((first, second, third))
 }

@@ -4,12 +4,12 @@
 ghost use Rattle.std.specs.Prelude.{◌≡◌, Some, None, Ok, Err, option_copied};
 ghost use Rattle.klp_words.specs.Words.{spelling_of};
 ghost use Rattle.klp_catalog_text.specs.Gives.{Gives};
-ghost use Rattle.klp_catalog_text.specs.Words.{name_of, symbol_name_of, address_of, body_of, symbol_of};
+ghost use Rattle.klp_catalog_text.specs.Words.{name_of, symbol_name_of, body_of, symbol_of};
 
 use crate::fault::TextFaultKind;
 use crate::items::Name;
 use hex::FromHexError;
-use klp_words::{Spelling, hexadecimal, is_name, is_symbol_name, spelling_of, text};
+use klp_words::{Spelling, is_name, is_symbol_name, spelling_of, text};
 use std::alloc::Global;
 
 /// The name of an object, a patch or a new function. No `.` may be in it, because it ends the object's name
@@ -32,13 +32,6 @@ pub(crate) fn symbol_name(alloc: Global, word: &[u8]) -> Result<Name, TextFaultK
         return Err(TextFaultKind::BadName);
     }
     Ok(Name(String::from_str(alloc, text(word))?))
-}
-
-/// An address, in hexadecimal digits.
-pub(crate) fn address(word: &[u8]) -> Result<u64, TextFaultKind>
-    ensures { result ≡ address_of word.now }
-{
-    hexadecimal(word).ok_or(TextFaultKind::BadHex)
 }
 
 /// The bytes of a symbol, in hexadecimal digits. Here an odd number of them is a `BadHex`; one that is too
