@@ -4,3 +4,4 @@ pub mod PlacedLemmas
 pub mod ViewLemmas
 pub mod JournalLemmas
 pub mod RunLemmas
+pub mod WithdrawalLemmas

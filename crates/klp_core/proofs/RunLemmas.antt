@@ -1,8 +1,7 @@
 -- Events that are taken one after another.
-use Rattle.std.proofs.Common.{◌≡◌, ℕ, ◌+◌, Bool, false, cond, List, [], ◌∷◌, ◌++◌, drop, length, map, refl, sym, ap, subst, ◌∙◌, arith, append-nil, append_assoc}
+use Rattle.std.proofs.Common.{◌≡◌, ℕ, ◌+◌, Bool, cond, List, [], ◌∷◌, ◌++◌, length, map, refl, sym, ap, subst, ◌∙◌, arith, append-nil, append_assoc}
 use Rattle.std.specs.Prelude.{count_by, is_ok, is_err, Ok, Err}
 use Rattle.std.proofs.lemmas.List.{map-append}
-use Rattle.std.proofs.Math.Seq.{drop-append_seam}
 use Rattle.std.proofs.lemmas.List.Sums.{sum_by-append}
 use Rattle.klp_types.specs.Setting.{Setting}
 use Rattle.klp_types.specs.Callbacks.{Call}
@@ -14,13 +13,7 @@ use Rattle.klp_model.specs.Run.{next, run, callbacks_of_run}
 use Rattle.klp_model.specs.Step.{callbacks_of}
 use Rattle.klp_catalog.specs.Catalog.{Catalog}
 use Rattle.klp_catalog.specs.Runs.{after_runs, RunsAddUp}
-use Rattle.klp_types.specs.declared.shadow.ShadowKey.{ShadowKey}
-use Rattle.klp_types.specs.World.{variable}
-use Rattle.klp_model.specs.State.{is_installed}
-use Rattle.klp_model.specs.ShadowStep.{shadow_changes}
-use Rattle.klp_model.specs.Company.{company_keys, IsFairCompany}
-use Rattle.klp_model.specs.Footprint.{SameFootprint}
-use Rattle.klp_core.specs.Withdrawal.{appended, LeavesNoTrace}
+use Rattle.klp_core.specs.Withdrawal.{GoesOn}
 use Rattle.klp_journal.specs.Journal.{Group}
 use Rattle.klp_manager_state.specs.Managed.{Managed, setting_of}
 use Rattle.klp_manager_state.specs.Events.{after_event}
@@ -150,35 +143,6 @@ pub recounted : (first now : Journaled) (events : List Event) (accepted other re
     → AreTaken first now events (accepted, refused) → AreTaken first now events (other, another)
 recounted first now events accepted other refused another is are taken = rw (is, are) taken
 
--- the events that were appended, and the state that they led to
-
-pub appended_are : (first now : Journaled) (events : List Event) (counts : ℕ × ℕ) (taken : AreTaken first now events counts) → appended first now ≡ events_in (groups_left taken.outcomes)
-appended_are first now events counts taken =
-    ap (λ gs. events_in (drop (length first.groups) gs)) taken.groups ∙ ap events_in (drop-append_seam first.groups (groups_left taken.outcomes))
-
-led_by : (first now : Journaled) (events : List Event) (counts : ℕ × ℕ) → AreTaken first now events counts
-    → now.managed.state ≡ run (setting_of first.managed) first.managed.state (appended first now)
-led_by first now events counts taken =
-    ap (λ (m : Managed). m.state) taken.left ∙ ap (run (setting_of first.managed) first.managed.state) (sym (appended_are first now events counts taken))
-
-abbrev pub IsGoneWithoutATrace : Type 0
-IsGoneWithoutATrace = (setting : Setting) (patch : ℕ) (start : State) (events : List Event) → IsFairCompany setting patch start events
-    → is_installed (run setting start events) patch ≡ false → SameFootprint setting (company_keys setting start patch) (run setting start events) start
-
-abbrev pub AreOutsideAsMade : Type 0
-AreOutsideAsMade = (setting : Setting) (patch : ℕ) (start : State) (first second : List Event) → IsFairCompany setting patch start (first ++ second)
-    → (key : ShadowKey) → company_keys setting start patch key ≡ false → variable (run setting start first).world key ≡ variable (shadow_changes start.world first) key
-
-pub leaves_no_trace : IsGoneWithoutATrace → AreOutsideAsMade → (first now : Journaled) (events : List Event) (counts : ℕ × ℕ) → AreTaken first now events counts → LeavesNoTrace first now
-leaves_no_trace gone outside first now events counts taken =
-    let setting = setting_of first.managed in
-    let start = first.managed.state in
-    let led = led_by first now events counts taken in
-    record {
-      footprint = λ patch fair away.
-          subst (λ s. SameFootprint setting (company_keys setting start patch) s start) (sym led)
-          (gone setting patch start (appended first now) fair (subst (λ s. is_installed s patch ≡ false) led away));
-      outside = λ patch fair key own.
-          ap (λ (s : State). variable s.world key) led
-          ∙ outside setting patch start (appended first now) [] (subst (IsFairCompany setting patch start) (sym (append-nil (appended first now))) fair) key own;
-    }
+-- what was accepted comes behind what stood before
+pub goes_on : (first now : Journaled) (events : List Event) (counts : ℕ × ℕ) → AreTaken first now events counts → GoesOn first now
+goes_on first now events counts taken = record { more = groups_left taken.outcomes; groups = taken.groups; base = taken.base }

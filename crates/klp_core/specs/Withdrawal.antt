@@ -1,5 +1,5 @@
 -- What a patch that is gone again leaves behind.
-use Rattle.std.specs.Prelude.{◌≡◌, ℕ, false, List, drop, length, map}
+use Rattle.std.specs.Prelude.{◌≡◌, ℕ, false, List, ◌++◌, drop, length, map}
 use Rattle.klp_types.specs.declared.shadow.ShadowKey.{ShadowKey}
 use Rattle.klp_types.specs.World.{variable}
 use Rattle.klp_model.specs.declared.event.Event.{Event}
@@ -10,6 +10,12 @@ use Rattle.klp_model.specs.Footprint.{SameFootprint}
 use Rattle.klp_journal.specs.Journal.{Group}
 use Rattle.klp_manager_state.specs.Managed.{setting_of}
 use Rattle.klp_core.specs.Journaled.{Journaled}
+
+-- the later manager goes on from the earlier one: what stood then still stands, first, and over the same base
+pub record GoesOn (earlier later : Journaled) : Type 0 where
+  pub more : List Group
+  pub groups : later.groups ≡ earlier.groups ++ more
+  pub base : later.base ≡ earlier.base
 
 -- the events that were appended, in order
 abbrev pub appended : Journaled → Journaled → List Event

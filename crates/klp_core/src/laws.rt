@@ -3,6 +3,10 @@ ghost use Rattle.std.specs.Prelude.{◌≡◌};
 ghost use Rattle.klp_model.specs.InPlace.{IsInPlace};
 ghost use Rattle.klp_modules.specs.Names.{names_of};
 ghost use Rattle.klp_manager_state.specs.Managed.{Managed, setting_of};
+ghost use Rattle.klp_core.specs.Journaled.{Journaled, Stands};
+ghost use Rattle.klp_core.specs.Withdrawal.{GoesOn, LeavesNoTrace};
+
+use klp_model::round_trip::{gone_at_the_end, only_shadow_events_outside};
 
 /// Where the catalog was assembled over the names of the image, as `Manager::catalog` promises of every
 /// manager, each function of a patch that names a site is in the object of that site. The laws of what
@@ -13,4 +17,15 @@ pub fn functions_stand_with_their_objects()
         → IsInPlace (setting_of managed) }
 {
     klp_catalog::laws::sites_lie_in_their_objects();
+}
+
+/// A patch that is gone again has left no trace between two managers, whatever calls were made between
+/// them: it is enough that the later one goes on from the earlier one, in the same setting. What was taken
+/// back meanwhile, and how often callbacks ran, makes no difference.
+pub fn what_is_withdrawn_leaves_no_trace()
+    ensures { (earlier later : Journaled) → Stands earlier → Stands later → GoesOn earlier later
+        → setting_of later.managed ≡ setting_of earlier.managed → LeavesNoTrace earlier later }
+{
+    gone_at_the_end();
+    only_shadow_events_outside();
 }

@@ -10,8 +10,8 @@
 //! `src/take.rt` hands each event to its step, `src/journal.rt` appends and takes back, `src/looks.rt` and
 //! `src/row.rt` show the state, each by what the definitions say of it. [`Manager::boot`] makes the opening
 //! state, or answers why it can't (`specs/Boot`). No call after it has an allocator or an answer for want
-//! of memory. `laws` ties the functions of a catalog to the objects of their sites. docs/THEOREMS.md has
-//! all of it.
+//! of memory. `laws` ties the functions of a catalog to the objects of their sites, and has what a patch
+//! leaves that is gone again, between any two managers. docs/THEOREMS.md has all of it.
 #![tactic(auto)]
 
 mod boot;

@@ -16,10 +16,10 @@ ghost use Rattle.klp_core.specs.Withdrawal.{LeavesNoTrace};
 use crate::boot::state_over;
 use crate::fault::{BadMark, BootFault};
 use crate::journal::{rewind_to, take_and_append};
+use crate::laws::what_is_withdrawn_leaves_no_trace;
 use klp_catalog::Catalog;
 use klp_journal::Journal;
 use klp_manager_state::ManagerState;
-use klp_model::round_trip::{gone_at_the_end, only_shadow_events_outside};
 use klp_model::{Event, Refusal, Reply};
 use klp_modules::Modules;
 use klp_text::Image;
@@ -128,8 +128,7 @@ impl Manager {
         ensures stands { Stands self.new }
     {
         klp_catalog::laws::runs_add_up();
-        gone_at_the_end();
-        only_shadow_events_outside();
+        what_is_withdrawn_leaves_no_trace();
         let _standing = self.mark();
         let mut accepted = 0;
         let mut refused = 0;

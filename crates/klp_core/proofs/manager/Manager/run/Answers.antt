@@ -1,7 +1,7 @@
 use Rattle.std.proofs.Common.{◌+◌, ◌∙◌, take, sym, subst, arith}
 use Rattle.klp_core.specs.Taking.{IsTaken, AreTaken}
 use Rattle.klp_core.proofs.EventLemmas.{next_event}
-use Rattle.klp_core.proofs.RunLemmas.{one_accepted, one_refused, recounted, leaves_no_trace}
+use Rattle.klp_core.proofs.RunLemmas.{one_accepted, one_refused, recounted, goes_on}
 use Rattle.klp_core.proofs.manager.Manager.run.Goals as goal
 use Rattle.klp_core.proofs.manager.Manager.run.Goals.{in-Ok, in-Err}
 
@@ -41,5 +41,6 @@ loop-event-preserved g c =
 
 pub returns-clause-withdrawn : goal.returns-clause-withdrawn
 returns-clause-withdrawn g c =
-    leaves_no_trace c.gone_at_the_end.ensures c.only_shadow_events_outside.ensures c.args.self.now c.loop-event.self (take c.loop-event.event-index c.args.events.now) (c.loop-event.accepted, c.loop-event.refused)
-    c.loop-event.invariant.taken
+    let so_far = c.loop-event.invariant in
+    c.what_is_withdrawn_leaves_no_trace.ensures c.args.self.now c.loop-event.self c.mark-standing.ensures.stands so_far.stands
+    (goes_on c.args.self.now c.loop-event.self (take c.loop-event.event-index c.args.events.now) (c.loop-event.accepted, c.loop-event.refused) so_far.taken) so_far.setting
