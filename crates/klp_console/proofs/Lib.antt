@@ -1,3 +1,4 @@
 pub mod SaidLemmas
+pub mod WithdrawnLemmas
 pub mod ServeLemmas
 mod LineLemmas

@@ -8,7 +8,7 @@ use Rattle.std.proofs.lemmas.List.Splits.{length-slice_split}
 use Rattle.std.specs.Prelude.{count_by, Option, Result, Ok, Err}
 use Rattle.std.specs.Io.KnownBytes.{Appends}
 use Rattle.std.proofs.KnownBytes.{Appends-trans}
-use Rattle.klp_core.specs.Journaled.{Journaled}
+use Rattle.klp_core.specs.Journaled.{Journaled, Stands}
 use Rattle.klp_console_io.specs.Gathered.{Gathered}
 use Rattle.klp_console_io.specs.Written.{Written}
 use Rattle.klp_console_io.specs.Says.{IsWell, IsToBlame, Spoken, Says, Speaks}
@@ -291,16 +291,16 @@ whole_line (b ∷ bs) some = refl
 -- one line is served
 pub serves_one : (a : Moment) (manager : Journaled) (said : Gathered × Written) (served : Served) (line : List ℕ) (refused : Bool)
     → (request : Option (Result Request LineFault)) (told : Bool) → request ≡ request_of (names_in a.manager) line → told ≡ refused
-    → IsSaid (IsDoneIf a.manager manager request) a.said said told → length line ≤ MAX_CONSOLE_LINE
+    → IsSaid (IsDoneIf a.manager manager request) a.said said told → Stands manager → length line ≤ MAX_CONSOLE_LINE
     → served.lines ≡ a.served.lines + 1 → served.refused ≡ a.served.refused + cond refused 1 0
     → Serves a (record { manager = manager; served = served; said = said }) (line ∷ [])
-serves_one a manager said served line refused request told is_asked is_told spoken_of short lines refusals_are =
+serves_one a manager said served line refused request told is_asked is_told spoken_of stands short lines refusals_are =
     let is_answer = λ (question : Option (Result Request LineFault)). IsDoneIf a.manager manager question in
     let spoken_to = subst (λ question. IsSaid (is_answer question) a.said said told) is_asked spoken_of in
     let spoken = subst (IsSaid (is_answer (request_of (names_in a.manager) line)) a.said said) is_told spoken_to in
     record {
       answers = record { text = spoken.0; is_refused = refused } ∷ [];
-      answered = (manager, record { done = spoken.1 }, refl);
+      answered = (manager, record { done = spoken.1; stands = stands }, refl);
       said = subst (Says a.said said) (sym (append-nil spoken.0)) spoken.2;
       counted = omega (arith, lines);
       refused = omega (arith, refusals_are);

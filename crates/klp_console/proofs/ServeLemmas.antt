@@ -18,6 +18,7 @@ use Rattle.klp_console.specs.Said.{Moment, Serves, Stops, Hears}
 use Rattle.klp_console.specs.Served.{Console, Reads, Writes, HasReadFailed, HasLongLine, HasWriteFailed, IsServed, ComesTo}
 use Rattle.klp_types.specs.declared.limits.TheConstants.{MAX_READS}
 use Rattle.klp_console.proofs.SaidLemmas.{AddUp, texts_on, serves_none, serves_on, goes, blame_on, stops_at_end}
+use Rattle.klp_console.proofs.WithdrawnLemmas.{LeavesNone}
 
 -- a piece behind what was read is cut with the rest that no line feed has ended
 abbrev pub LinesAddUp : Type 0
@@ -97,9 +98,15 @@ writes_of source now manager written b lines serves still empty =
     let all = all_written written b.said (texts_of serves.answers) serves.said still empty in
     record { written = all.0; well = all.1 }
 
-reads_of : (source now : Supply) (a b : Moment) (bytes : List ℕ) (lines : List (List ℕ)) → Consumes source.left now.left bytes → now.reads ≤ source.reads + MAX_READS
+reads_of : (source now : Supply) (a b : Moment) (bytes : List ℕ) (lines : List (List ℕ)) → LeavesNone a.manager → Consumes source.left now.left bytes → now.reads ≤ source.reads + MAX_READS
     → (serves : Serves a b lines) → Reads (console_of source a) (console_of now b) bytes lines serves.answers
-reads_of source now a b bytes lines read few serves = record { read = read; few_reads = few; answered = serves.answered; short = serves.short }
+reads_of source now a b bytes lines none read few serves = record {
+  read = read;
+  few_reads = few;
+  answered = serves.answered;
+  withdrawn = none b.manager lines serves.answers serves.answered;
+  short = serves.short;
+}
 
 -- the sink failed in a later answer, where all before were written
 stops_later : (written between after : Written) (first later : List Answer) → Appends written.taken between.taken (texts_of first) → IsWell written between → Stops between after later
@@ -124,18 +131,18 @@ stops_later written between after first later all well stops = record {
 }
 
 -- no more can be read
-pub read_failed : (source now next : Supply) (manager : Journaled) (written : Written) (b : Moment) (line : List ℕ) → SoFar source now (start_at manager written) b line
+pub read_failed : (source now next : Supply) (manager : Journaled) (written : Written) (b : Moment) (line : List ℕ) → LeavesNone manager → SoFar source now (start_at manager written) b line
     → b.said.0.has_failed ≡ false → b.said.0.bytes ≡ [] → Keeps now.left next.left → next.has_ended ≡ now.has_ended → next.reads ≤ source.reads + MAX_READS
     → (next.failures ≡ source.failures + 1) ⊎ ((next.failures ≡ source.failures) × (next.reads ≡ source.reads + MAX_READS))
     → HasReadFailed (console_of source (start_at manager written)) (console_of next b)
-read_failed source now next manager written b line so_far still empty kept goes_on few blame = record {
+read_failed source now next manager written b line none so_far still empty kept goes_on few blame = record {
   bytes = so_far.bytes;
   lines = so_far.lines;
   rest = line;
   answers = so_far.serves.answers;
   cut = so_far.cut;
   short = so_far.short;
-  reads = reads_of source next (start_at manager written) b so_far.bytes so_far.lines (Consumes-kept source.left now.left next.left so_far.bytes so_far.read kept) few so_far.serves;
+  reads = reads_of source next (start_at manager written) b so_far.bytes so_far.lines none (Consumes-kept source.left now.left next.left so_far.bytes so_far.read kept) few so_far.serves;
   writes = writes_of source next manager written b so_far.lines so_far.serves still empty;
   goes_on = goes_on ∙ so_far.goes_on;
   blame = blame;
@@ -143,10 +150,10 @@ read_failed source now next manager written b line so_far still empty kept goes_
 
 -- a line of the last piece is too long
 pub long_line : LinesAddUp → AddUp → (source now next : Supply) (manager : Journaled) (written : Written) (b c : Moment) (line new piece : List ℕ)
-    → SoFar source now (start_at manager written) b line → Consumes now.left next.left piece → next.failures ≡ now.failures → next.reads ≤ source.reads + MAX_READS
+    → LeavesNone manager → SoFar source now (start_at manager written) b line → Consumes now.left next.left piece → next.failures ≡ now.failures → next.reads ≤ source.reads + MAX_READS
     → Hears b c (lines_and_rest (line ++ piece)) new (Err LineTooLong) → c.said.0.bytes ≡ []
     → HasLongLine (console_of source (start_at manager written)) (console_of next c)
-long_line lines_add_up add_up source now next manager written b c line new piece so_far read same few heard empty =
+long_line lines_add_up add_up source now next manager written b c line new piece none so_far read same few heard empty =
     let serves = serves_on add_up (start_at manager written) b c so_far.lines heard.0 so_far.serves heard.5 in
     record {
       bytes = so_far.bytes ++ piece;
@@ -156,7 +163,7 @@ long_line lines_add_up add_up source now next manager written b c line new piece
       answers = serves.answers;
       cut = cut_on lines_add_up so_far.bytes piece so_far.lines (heard.0 ++ heard.1 ∷ heard.2) line so_far.cut heard.3 ∙ sym (append_assoc so_far.lines heard.0 (heard.1 ∷ heard.2));
       too_long = heard.4;
-      reads = reads_of source next (start_at manager written) c (so_far.bytes ++ piece) (so_far.lines ++ heard.0)
+      reads = reads_of source next (start_at manager written) c (so_far.bytes ++ piece) (so_far.lines ++ heard.0) none
           (Consumes-trans source.left now.left next.left so_far.bytes piece so_far.read read) few serves;
       writes = writes_of source next manager written c (so_far.lines ++ heard.0) serves heard.6 empty;
       no_failure = same ∙ so_far.no_failure;
@@ -164,10 +171,10 @@ long_line lines_add_up add_up source now next manager written b c line new piece
 
 -- the answer to a line of the last piece can't be written
 pub write_failed : LinesAddUp → AddUp → (source now next : Supply) (manager : Journaled) (written : Written) (b c : Moment) (line new piece : List ℕ)
-    → SoFar source now (start_at manager written) b line → b.said.0.has_failed ≡ false → b.said.0.bytes ≡ [] → Consumes now.left next.left piece → next.failures ≡ now.failures
+    → LeavesNone manager → SoFar source now (start_at manager written) b line → b.said.0.has_failed ≡ false → b.said.0.bytes ≡ [] → Consumes now.left next.left piece → next.failures ≡ now.failures
     → next.reads ≤ source.reads + MAX_READS → Hears b c (lines_and_rest (line ++ piece)) new (Err Write)
     → HasWriteFailed (console_of source (start_at manager written)) (console_of next c)
-write_failed lines_add_up add_up source now next manager written b c line new piece so_far still empty read same few heard =
+write_failed lines_add_up add_up source now next manager written b c line new piece none so_far still empty read same few heard =
     let serves = serves_on add_up (start_at manager written) b c so_far.lines heard.0 so_far.serves heard.4 in
     let all = all_written written b.said (texts_of so_far.serves.answers) so_far.serves.said still empty in
     record {
@@ -179,7 +186,7 @@ write_failed lines_add_up add_up source now next manager written b c line new pi
         heard.2,
         cut_on lines_add_up so_far.bytes piece so_far.lines (heard.0 ++ heard.1 ∷ heard.2) line so_far.cut heard.3 ∙ sym (append_assoc so_far.lines heard.0 (heard.1 ∷ heard.2)),
       );
-      reads = reads_of source next (start_at manager written) c (so_far.bytes ++ piece) (so_far.lines ++ heard.0)
+      reads = reads_of source next (start_at manager written) c (so_far.bytes ++ piece) (so_far.lines ++ heard.0) none
           (Consumes-trans source.left now.left next.left so_far.bytes piece so_far.read read) few serves;
       stops = stops_later written b.said.1 c.said.1 so_far.serves.answers heard.4.answers all.0 all.1 heard.5;
       no_failure = same ∙ so_far.no_failure;
@@ -195,16 +202,16 @@ serves_all add_up source now a b c line so_far last =
     subst (Serves a c) (lines_on source now a b line so_far) (serves_on add_up a b c so_far.lines (whole (line ∷ [])) so_far.serves last)
 
 -- the source has ended, and nothing failed
-pub served_all : AddUp → (source now next : Supply) (manager : Journaled) (written : Written) (b c : Moment) (line : List ℕ) → SoFar source now (start_at manager written) b line
+pub served_all : AddUp → (source now next : Supply) (manager : Journaled) (written : Written) (b c : Moment) (line : List ℕ) → LeavesNone manager → SoFar source now (start_at manager written) b line
     → Consumes now.left next.left [] → next.failures ≡ now.failures → source.reads < next.reads → next.reads ≤ source.reads + MAX_READS → next.has_ended ≡ true → IsAtEnd next.left
     → Serves b c (whole (line ∷ [])) → c.said.0.has_failed ≡ false → c.said.0.bytes ≡ []
     → IsServed (console_of source (start_at manager written)) (console_of next c) c.served
-served_all add_up source now next manager written b c line so_far read same request few ended at_end last still empty =
+served_all add_up source now next manager written b c line none so_far read same request few ended at_end last still empty =
     let serves = serves_all add_up source now (start_at manager written) b c line so_far last in
     record {
       bytes = so_far.bytes;
       answers = serves.answers;
-      reads = reads_of source next (start_at manager written) c so_far.bytes (lines_of so_far.bytes)
+      reads = reads_of source next (start_at manager written) c so_far.bytes (lines_of so_far.bytes) none
           (subst (Consumes source.left next.left) (append-nil so_far.bytes) (Consumes-trans source.left now.left next.left so_far.bytes [] so_far.read read)) few serves;
       writes = writes_of source next manager written c (lines_of so_far.bytes) serves still empty;
       request = request;
@@ -217,11 +224,11 @@ served_all add_up source now next manager written b c line so_far read same requ
 
 -- the source has ended, and the answer to the last line can't be written
 pub end_failed : AddUp → ((a : Gathered × Written) → Says a a []) → (source now next : Supply) (manager : Journaled) (written : Written) (b c : Moment) (line : List ℕ)
-    → SoFar source now (start_at manager written) b line → b.said.0.has_failed ≡ false → b.said.0.bytes ≡ []
+    → LeavesNone manager → SoFar source now (start_at manager written) b line → b.said.0.has_failed ≡ false → b.said.0.bytes ≡ []
     → Consumes now.left next.left [] → next.failures ≡ now.failures → next.reads ≤ source.reads + MAX_READS → next.has_ended ≡ true → Serves b c (whole (line ∷ []))
     → (fault : ServeFault) → fault ≡ Write → c.said.0.has_failed ≡ true
     → ComesTo (console_of source (start_at manager written)) (console_of next c) (Err fault)
-end_failed add_up nothing source now next manager written b c line so_far still empty read same few ended last fault is failed =
+end_failed add_up nothing source now next manager written b c line none so_far still empty read same few ended last fault is failed =
     let serves = serves_on add_up (start_at manager written) b c so_far.lines (whole (line ∷ [])) so_far.serves last in
     let all = all_written written b.said (texts_of so_far.serves.answers) so_far.serves.said still empty in
     let lines = lines_on source now (start_at manager written) b line so_far in
@@ -230,7 +237,7 @@ end_failed add_up nothing source now next manager written b c line so_far still 
       lines = so_far.lines ++ whole (line ∷ []);
       answers = serves.answers;
       first = inr (lines, ended);
-      reads = reads_of source next (start_at manager written) c so_far.bytes (so_far.lines ++ whole (line ∷ []))
+      reads = reads_of source next (start_at manager written) c so_far.bytes (so_far.lines ++ whole (line ∷ [])) none
           (subst (Consumes source.left next.left) (append-nil so_far.bytes) (Consumes-trans source.left now.left next.left so_far.bytes [] so_far.read read)) few serves;
       stops = stops_later written b.said.1 c.said.1 so_far.serves.answers last.answers all.0 all.1 (stops_at_end nothing b c line last still empty failed);
       no_failure = same ∙ so_far.no_failure;
@@ -238,12 +245,12 @@ end_failed add_up nothing source now next manager written b c line so_far still 
 
 -- a line of the last piece is too long, or the answer to one can't be written
 pub hear_failed : LinesAddUp → AddUp → (source now next : Supply) (manager : Journaled) (written : Written) (b c : Moment) (line new piece : List ℕ)
-    → SoFar source now (start_at manager written) b line → b.said.0.has_failed ≡ false → b.said.0.bytes ≡ [] → Consumes now.left next.left piece → next.failures ≡ now.failures
+    → LeavesNone manager → SoFar source now (start_at manager written) b line → b.said.0.has_failed ≡ false → b.said.0.bytes ≡ [] → Consumes now.left next.left piece → next.failures ≡ now.failures
     → next.reads ≤ source.reads + MAX_READS
     → (fault : ServeFault) → Hears b c (lines_and_rest (line ++ piece)) new (Err fault) → (c.said.0.has_failed ≡ false → c.said.0.bytes ≡ [])
     → ComesTo (console_of source (start_at manager written)) (console_of next c) (Err fault)
-hear_failed lines_add_up add_up source now next manager written b c line new piece so_far still clear read same few Read heard empty = absurd heard
-hear_failed lines_add_up add_up source now next manager written b c line new piece so_far still clear read same few Write heard empty =
-    write_failed lines_add_up add_up source now next manager written b c line new piece so_far still clear read same few heard
-hear_failed lines_add_up add_up source now next manager written b c line new piece so_far still clear read same few LineTooLong heard empty =
-    long_line lines_add_up add_up source now next manager written b c line new piece so_far read same few heard (empty heard.6)
+hear_failed lines_add_up add_up source now next manager written b c line new piece none so_far still clear read same few Read heard empty = absurd heard
+hear_failed lines_add_up add_up source now next manager written b c line new piece none so_far still clear read same few Write heard empty =
+    write_failed lines_add_up add_up source now next manager written b c line new piece none so_far still clear read same few heard
+hear_failed lines_add_up add_up source now next manager written b c line new piece none so_far still clear read same few LineTooLong heard empty =
+    long_line lines_add_up add_up source now next manager written b c line new piece none so_far read same few heard (empty heard.6)

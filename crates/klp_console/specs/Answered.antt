@@ -14,7 +14,7 @@ use Rattle.klp_console_commands.specs.Lines.{request_of}
 use Rattle.klp_console.specs.Refusals.{fault_text, bad_mark_text}
 use Rattle.klp_console.specs.Replies.{done_text, answer_text}
 use Rattle.klp_console.specs.Queries.{look_text, seen_text, force_nothing}
-use Rattle.klp_core.specs.Journaled.{Journaled}
+use Rattle.klp_core.specs.Journaled.{Journaled, Stands}
 use Rattle.klp_core.specs.Taking.{IsTaken}
 use Rattle.klp_core.specs.Rewinding.{IsRewound}
 
@@ -74,6 +74,7 @@ IsDoneIf before after None answer = (after ≡ before) × (answer ≡ nothing)
 IsDoneIf before after (Some (Err fault)) answer = (after ≡ before) × (answer ≡ refused_with (fault_text fault))
 IsDoneIf before after (Some (Ok request)) answer = IsDone before after request answer
 
--- a line is answered: this is its answer, and this is what it leaves of the manager
+-- a line is answered: this is its answer, and this is what it leaves of the manager, whose journal leads to its state again
 pub record IsAnswered (before after : Journaled) (line : List ℕ) (answer : Answer) : Type 0 where
   pub done : IsDoneIf before after (request_of (names_in before) line) answer
+  pub stands : Stands after

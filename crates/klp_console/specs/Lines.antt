@@ -2,6 +2,7 @@
 use Rattle.std.specs.Prelude.{◌≡◌, ℕ, Bool, nat_le, List, [], ◌∷◌, ◌++◌, length}
 use Rattle.std.specs.List.{list_all}
 use Rattle.klp_core.specs.Journaled.{Journaled}
+use Rattle.klp_core.specs.Withdrawal.{GoesOn, LeavesNoTrace}
 use Rattle.klp_types.specs.declared.limits.TheConstants.{MAX_CONSOLE_LINE}
 use Rattle.klp_console_io.specs.Lines.{lines_and_rest}
 use Rattle.klp_console.specs.Answered.{Answer, IsAnswered}
@@ -28,6 +29,13 @@ abbrev pub AreAnswered : Journaled → Journaled → List (List ℕ) → List An
 AreAnswered before after [] [] = after ≡ before
 AreAnswered before after (line ∷ lines) (answer ∷ answers) = (next : Journaled) × IsAnswered before next line answer × AreAnswered next after lines answers
 AreAnswered before after lines answers = ⊥
+
+-- From each line on, a patch that is gone after them all has left no trace, where what stood before the line still does: no `seal` stands behind it,
+-- and no `rewind` to fewer events than stood then
+abbrev pub LeaveNoTrace : (before after : Journaled) (lines : List (List ℕ)) (answers : List Answer) → AreAnswered before after lines answers → Type 0
+LeaveNoTrace before after (line ∷ lines) (answer ∷ answers) answered =
+    (GoesOn before after → LeavesNoTrace before after) × LeaveNoTrace answered.0 after lines answers answered.2
+LeaveNoTrace before after lines answers answered = Unit {0}
 
 -- all answers, one behind the other
 abbrev pub texts_of : List Answer → List ℕ

@@ -11,7 +11,7 @@ use Rattle.klp_console.specs.declared.served.Served.{Served}
 use Rattle.klp_console.specs.declared.served.ServeFault.{ServeFault}
 use Rattle.klp_console.specs.declared.served.ServeFault.TheVariants.{Read, Write, LineTooLong}
 use Rattle.klp_console.specs.Answered.{Answer}
-use Rattle.klp_console.specs.Lines.{AreAnswered, is_short, are_short, lines_of, texts_of}
+use Rattle.klp_console.specs.Lines.{AreAnswered, LeaveNoTrace, is_short, are_short, lines_of, texts_of}
 use Rattle.klp_console.specs.Said.{Stops}
 
 -- what is still to be read, what was written, and the manager
@@ -20,11 +20,12 @@ pub record Console : Type 0 where
   pub written : Written
   pub manager : Journaled
 
--- these bytes were read, in no more reads than may be made, and these lines of theirs were answered
+-- these bytes were read, in no more reads than may be made, and these lines of theirs were answered; what was withdrawn by them left no trace
 pub record Reads (before after : Console) (bytes : List ℕ) (lines : List (List ℕ)) (answers : List Answer) : Type 0 where
   pub read : Consumes before.supply.left after.supply.left bytes
   pub few_reads : after.supply.reads ≤ before.supply.reads + MAX_READS
   pub answered : AreAnswered before.manager after.manager lines answers
+  pub withdrawn : LeaveNoTrace before.manager after.manager lines answers answered
   pub short : are_short lines ≡ true
 
 -- all answers were written, and nothing else

@@ -90,6 +90,8 @@ pub(crate) fn answer_line<W: Sink>(
 {
     let request = request_of(line, manager.catalog(), manager.modules());
     let is_refused = done(manager, &request, answers, writer);
+    // made for its contract: what a manager's journal has leads to its state
+    let _standing = manager.mark();
     served.lines += 1;
     if is_refused {
         served.refused += 1;

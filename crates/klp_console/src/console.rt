@@ -84,8 +84,9 @@ fn end<W: Sink>(
 /// A line ends with a line feed, or with the input, and has at most
 /// [`MAX_CONSOLE_LINE`](klp_types::MAX_CONSOLE_LINE) bytes. Each answer is written before the next read, so
 /// that who types sees it at once: it follows from the contract, since any read may be the one that fails
-/// (docs/DECISIONS.md, "Answers before the next read"). A line costs as much as its words and what it asks
-/// for. No memory is taken.
+/// (docs/DECISIONS.md, "Answers before the next read"). A patch that is withdrawn meanwhile leaves no trace,
+/// as after `Manager::run`; a `seal`, or a `rewind` to before a line, ends what can be compared from that
+/// line on. A line costs as much as its words and what it asks for. No memory is taken.
 pub fn serve<R: Source, W: Sink>(
     reader: &mut R,
     writer: &mut W,
@@ -96,6 +97,8 @@ pub fn serve<R: Source, W: Sink>(
 {
     klp_console_io::laws::what_is_said_adds_up();
     klp_console_io::laws::lines_add_up();
+    klp_core::laws::what_is_withdrawn_leaves_no_trace();
+    let _standing = manager.mark();
     let mut line = LineBuffer::new();
     let mut served = Served {
         lines: 0,
