@@ -1,4 +1,5 @@
 pub mod Answered
+pub mod Asked
 pub mod Lines
 pub mod Said
 pub mod Served

@@ -13,9 +13,13 @@
 //! (`specs/Replies`, `Names`). A query is answered with the text of the definition for a manager, line by
 //! line: the files of patches and tasks, the text and the entries of sites, and what callbacks did
 //! (`specs/Queries`); or with its refusal. Nothing here takes memory.
+//!
+//! [`event_of`] and [`site_of`] tell what a line and a word ask for, for those who don't serve it at once
+//! (`specs/Asked`).
 #![tactic(auto)]
 
 mod answer;
+mod asked;
 mod console;
 mod files;
 mod hear;
@@ -28,5 +32,6 @@ mod served;
 mod text;
 mod values;
 
+pub use asked::{event_of, site_of};
 pub use console::serve;
 pub use served::{ServeFault, Served};
