@@ -8,3 +8,4 @@ pub mod WordLemmas
 pub mod ReadLemmas
 pub mod BackLemmas
 pub mod PartLemmas
+pub mod RecordsLemmas

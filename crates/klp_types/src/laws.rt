@@ -1,6 +1,6 @@
 //! What is proved of the definitions themselves. Each law is the contract of a function that does
 //! nothing: it keeps the definitions honest, and a crate above may rely on it.
-ghost use Rattle.std.specs.Prelude.{◌≡◌, ℕ, ◌+◌, ◌^◌, ◌<◌, ◌≤◌, Bool, ◌==◌, ◌&&◌, ◌||◌, true, false, not, List, [], ◌∷◌, ◌++◌, length, map, take, drop, get_or, slice_get, Option, Some, is_some, option_map, IfSome};
+ghost use Rattle.std.specs.Prelude.{◌≡◌, ℕ, ◌+◌, ◌-◌, ◌^◌, ◌<◌, ◌≤◌, Bool, ◌==◌, ◌&&◌, ◌||◌, true, false, not, List, [], ◌∷◌, ◌++◌, length, map, take, drop, get_or, slice_get, Option, Some, is_some, option_map, IfSome};
 ghost use Rattle.std.specs.Int.{w64, to_le_bytes};
 ghost use Rattle.std.specs.List.{All, list_any};
 ghost use Rattle.std.specs.Cmp.{IsTotalOrder};
@@ -190,6 +190,11 @@ pub fn entries_are_of_their_patches()
 pub fn records_are_read_from_their_ends()
     ensures { (a b : Record) (front : List ℕ) → IsRecord a → IsRecord b → words_of a ≡ front ++ words_of b
         → (front ≡ []) × (a ≡ b) }
+{}
+
+/// A record has at most 36 words with its tag, so that room for records is room for their words.
+pub fn records_have_few_words()
+    ensures { (row : Record) → IsRecord row → length (words_of row) ≤ 36 }
 {}
 
 /// How much there may be of everything, and how long an entry site is. Definitions and code name the limits
