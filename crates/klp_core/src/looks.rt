@@ -81,7 +81,7 @@ impl Manager {
         ensures { result ≡ option_map (λ (t : AnyTask). t.state) (task_at self.now.managed.state.tasks task) }
     {
         let row = self.state.tasks.get(task)?;
-        Some(row.state)
+        Some(row.state.number())
     }
 
     /// The value of a shadow variable, if it is there (`klp_shadow_get`). To look at it is no event, as

@@ -31,7 +31,9 @@ use klp_catalog::Catalog;
 use klp_manager_state::ManagerState;
 use klp_model::{Refusal, Reply};
 use klp_patch::{allocs, block, drop_nops, run_callbacks, unpatch_sites};
-use klp_types::{MAX_FUNCTIONS, MAX_PATCHES, MAX_SITES, MAX_VARIABLES, PatchId, Transition, Which};
+use klp_types::{
+    MAX_FUNCTIONS, MAX_PATCHES, MAX_SITES, MAX_VARIABLES, PatchId, PatchState, Transition, Which,
+};
 
 /// The kind of callback that runs at the end of a transition to this target: post-patch where the patch is
 /// in, post-unpatch where it is out.
@@ -192,7 +194,9 @@ fn rest(manager: &mut ManagerState)
     ensures log { manager.new.log.room ≡ MAX_RECORDS }
 {
     klp_tasks::laws::records_are_few();
-    manager.tasks.set_all(-1, &mut manager.log);
+    manager
+        .tasks
+        .set_all(PatchState::UNDEFINED, &mut manager.log);
     manager.set_moving(None);
 }
 

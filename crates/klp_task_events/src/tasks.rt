@@ -23,7 +23,8 @@ ghost use Rattle.klp_manager_state.specs.Rows.{IsNoted};
 use klp_catalog::Catalog;
 use klp_manager_state::ManagerState;
 use klp_model::{Refusal, Reply};
-use klp_types::{Frames, MAX_TASKS, Mode, Record, TaskId, Transition, Version};
+use klp_tasks::target_state;
+use klp_types::{Frames, MAX_TASKS, Mode, PatchState, Record, TaskId, Transition, Version};
 
 /// A task begins, in user space, at the target of whatever moves, since it has run nothing yet.
 pub fn new_task(manager: &mut ManagerState, task: TaskId) -> Result<Reply, Refusal>
@@ -285,12 +286,12 @@ fn note_alone(manager: &mut ManagerState, row: Record)
 }
 
 /// The state of a task that is brought to whatever moves: -1 where nothing does.
-fn state_wanted(moving: Option<Transition>) -> i8
+fn state_wanted(moving: Option<Transition>) -> PatchState
     ensures { result ≡ state_wanted moving }
 {
     match moving {
-        None => -1,
-        Some(moving) => i8::from(moving.target),
+        None => PatchState::UNDEFINED,
+        Some(moving) => target_state(moving.target),
     }
 }
 

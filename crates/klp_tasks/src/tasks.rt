@@ -14,7 +14,7 @@ ghost use Rattle.klp_tasks.specs.Changes.{Changes, changed, record_of, record_if
 
 use crate::version_set::VersionSet;
 use arrayvec::ArrayVec;
-use klp_types::{Frames, MAX_TASKS, Mode, Record, Records, Task, TaskId, Transition};
+use klp_types::{Frames, MAX_TASKS, Mode, PatchState, Record, Records, Task, TaskId, Transition};
 use std::alloc::{AllocError, Global};
 use std::marker::Model;
 
@@ -52,10 +52,14 @@ fn lags(row: &Option<Task>, target: bool) -> bool
 
 /// The state of a task that is brought to this target: 1 to run the patch, 0 to leave it. At rest it is -1,
 /// which no target is.
-pub fn target_state(target: bool) -> i8
+pub fn target_state(target: bool) -> PatchState
     ensures { result ≡ at_target target }
 {
-    if target { 1 } else { 0 }
+    if target {
+        PatchState::PATCHED
+    } else {
+        PatchState::UNPATCHED
+    }
 }
 
 /// Whether a task sleeps inside of one of the versions. Any other has no frames to be asked for.
@@ -77,7 +81,7 @@ fn is_free(task: &Task, blocked: &VersionSet) -> bool
 }
 
 /// Whether a task has the state: then to set it changes nothing, and nothing is logged.
-fn has_state(task: &Task, state: i8) -> bool
+fn has_state(task: &Task, state: PatchState) -> bool
     ensures { result ≡ int_eq task.now.state state }
 {
     task.state == state
@@ -120,7 +124,7 @@ impl Tasks {
         let mut states = ArrayVec::new();
         for row in &self.rows {
             states.push(match row {
-                Some(task) => Some(task.state),
+                Some(task) => Some(task.state.number()),
                 None => None,
             });
         }
@@ -145,7 +149,7 @@ impl Tasks {
 
     /// A new task is there. It runs in user space. Its state is its caller's to say, since the table
     /// doesn't know what moves.
-    pub fn add(&mut self, task: TaskId, state: i8) -> Record
+    pub fn add(&mut self, task: TaskId, state: PatchState) -> Record
         requires number { task < MAX_TASKS }
         requires free { is_some (task_at self.old task) ≡ false }
         ensures { Changes self.old self.new task result (with_task self.old task (Some (new_task state))) }
@@ -289,7 +293,7 @@ impl Tasks {
     /// Every task gets the state, whatever it is inside of: at a transition's start and end, and where one
     /// is forced. Each task whose state was another is logged, in the order of their numbers. It looks at
     /// all rows.
-    pub fn set_all(&mut self, state: i8, log: &mut Records)
+    pub fn set_all(&mut self, state: PatchState, log: &mut Records)
         requires { length (records_switched 0 self.old (all_in state self.old)) ≤ spare_of log.old }
         ensures tasks { self.new ≡ all_in state self.old }
         ensures records { log.new
@@ -357,7 +361,7 @@ impl Tasks {
 
     /// A task gets the state, if it is there. A record is given only where its state was another, since no
     /// record is kept of an unchanged row.
-    fn set_state(&mut self, task: TaskId, state: i8) -> Option<Record>
+    fn set_state(&mut self, task: TaskId, state: PatchState) -> Option<Record>
         ensures tasks { self.new ≡ changed self.old task (in_state state) }
         ensures row { result ≡ record_if_switched task (task_at self.old task) (task_at self.new task) }
         ensures undo { undone self.new (option_to_list result) ≡ self.old }

@@ -1,6 +1,5 @@
 use Rattle.klp_model.specs.Task.{in_state}
-use Rattle.std.proofs.Common.{◌≡◌, ◌∙◌, refl, arith, length, append-nil, Some, None, w8}
-use Rattle.std.proofs.lemmas.Int.{to_z-of_z}
+use Rattle.std.proofs.Common.{◌≡◌, ◌∙◌, refl, arith, length, append-nil, Some, None}
 use Rattle.klp_tasks.proofs.TaskLemmas.{started, one_changed, has_room, all_changed}
 use Rattle.klp_tasks.proofs.tasks.Tasks.set_all.Goals.{in-Some, in_default}
 use Rattle.klp_tasks.proofs.tasks.Tasks.set_all.Goals as goal
@@ -10,9 +9,8 @@ loop-number-init c = started _ c.args.self.now c.args.log.now
 
 pub note-requires : goal.note-requires
 note-requires c =
-    let state = to_z-of_z w8 c.args.state c.ranges.state in
     has_room (in_state c.args.state) c.loop-number.number c.args.self.now c.loop-number.self c.set_state.new.self c.args.log.now c.loop-number.log c.in-Some.row
-    (rw state at c.loop-number.invariant) (rw state at c.set_state.ensures.tasks) c.in-Some.ensures.row c.requires
+    c.loop-number.invariant c.set_state.ensures.tasks c.in-Some.ensures.row c.requires
 
 pub loop-number-preserved : goal.loop-number-preserved
 loop-number-preserved c =
@@ -24,9 +22,8 @@ loop-number-preserved c =
 
 pub returns-clause-tasks : goal.returns-clause-tasks
 returns-clause-tasks c =
-    let state = to_z-of_z w8 c.args.state c.ranges.state in
     let all : c.loop-number.number ≡ length c.args.self.now = rw (← c.self.view_is) (omega arith) in
-    all_changed (in_state c.args.state) c.loop-number.number c.args.self.now c.loop-number.self c.args.log.now c.loop-number.log (rw state at c.loop-number.invariant) all
+    all_changed (in_state c.args.state) c.loop-number.number c.args.self.now c.loop-number.self c.args.log.now c.loop-number.log c.loop-number.invariant all
 
 pub returns-clause-records : goal.returns-clause-records
 returns-clause-records c = rw (← returns-clause-tasks c) c.loop-number.invariant.records
