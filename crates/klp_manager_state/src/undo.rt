@@ -22,9 +22,8 @@ impl ManagerState {
         }
     }
 
-    /// Gives one row what its record has. Each part is handed the record, and changes nothing where it is
-    /// of another kind, so that no table of who has which is needed (docs/DECISIONS.md, "Records of another
-    /// kind").
+    /// Gives one row what its record has. Each kind goes to the part that has the row, since to hand every
+    /// record to every part costs more than most of them do.
     fn put_back(&mut self, row: &Record)
         requires modules { self.old.modules.loaded ≡ self.old.sites.loaded }
         requires objects { length self.old.sites.loaded ≡ length self.old.sites.image.objects }
@@ -32,11 +31,22 @@ impl ManagerState {
         ensures modules { self.new.modules ≡ record self.old.modules { loaded = self.new.sites.loaded } }
         ensures log { self.new.log ≡ self.old.log }
     {
-        self.world.put_back(*row);
-        self.sites.put_back(*row);
-        self.modules.put_back(*row);
-        self.tasks.put_back(*row);
-        self.pinned.put_back(*row);
-        self.moving = moving_before(self.moving, *row);
+        match row {
+            Record::StackEntry { .. } | Record::HookFlag { .. } => self.sites.put_back(*row),
+            Record::LoadedFlag { .. } => {
+                self.sites.put_back(*row);
+                self.modules.put_back(*row);
+            }
+            Record::TaskRow { .. } | Record::NoTaskRow { .. } => self.tasks.put_back(*row),
+            Record::PinnedFlag { .. } => self.pinned.put_back(*row),
+            Record::Moving { .. } | Record::NothingMoving => {
+                self.moving = moving_before(self.moving, *row);
+            }
+            Record::ShadowVariable { .. }
+            | Record::NoShadowVariable { .. }
+            | Record::StateValue { .. }
+            | Record::StateRow { .. }
+            | Record::InstalledPatch { .. } => self.world.put_back(*row),
+        }
     }
 }
