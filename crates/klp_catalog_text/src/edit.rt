@@ -83,13 +83,15 @@ fn two_numbers(parts: &mut Fields<'_>) -> Result<(u64, u64), TextFaultKind>
 fn alloc_edit(parts: &mut Fields<'_>) -> Result<Edit, TextFaultKind>
     ensures { result ≡ alloc_of parts.old }
 {
-    let (Some(obj), Some(id), Some(value), None) =
-        (parts.next(), parts.next(), parts.next(), parts.next())
-    else {
+    let (Some(obj), Some(id), Some(value), None) = (
+        parts.next(),
+        parts.next(),
+        parts.next(),
+        parts.next(),
+    ) else {
         return Err(TextFaultKind::BadEdit);
     };
-    let (Some(obj), Some(id), Some(value)) =
-        (number64(obj), number64(id), shadow_value(value))
+    let (Some(obj), Some(id), Some(value)) = (number64(obj), number64(id), shadow_value(value))
     else {
         return Err(TextFaultKind::BadEdit);
     };

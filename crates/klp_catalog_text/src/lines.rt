@@ -84,9 +84,12 @@ pub(crate) fn three_words<'a>(words: &mut Words<'a>) -> Option<ThreeWords<'a>>
     ensures { MatchOption result (length words.old ≢ 3)
         (λ found. words.old ≡ found.0.now ∷ found.1.now ∷ found.2.now ∷ []) }
 {
-    let (Some(first), Some(second), Some(third), None) =
-        (words.next(), words.next(), words.next(), words.next())
-    else {
+    let (Some(first), Some(second), Some(third), None) = (
+        words.next(),
+        words.next(),
+        words.next(),
+        words.next(),
+    ) else {
         return None;
     };
     Some((first, second, third))
