@@ -1,5 +1,4 @@
 pub mod BackLemmas
-pub mod TaskLemmas
 pub mod ListLemmas
 pub mod RoomLemmas
 pub mod SymbolLemmas

@@ -1,15 +1,14 @@
 -- Task events, where nothing refuses them.
-use Rattle.std.proofs.Common.{w8, to_z, of_z, ◌≡◌, ℕ, Bool, true, false, [], ◌∷◌, Option, Some, None, Ok, refl, sym, subst}
+use Rattle.std.proofs.Common.{◌≡◌, ℕ, [], ◌∷◌, None, Ok, refl, sym, subst}
 use Rattle.klp_types.specs.declared.record.Record.{Record}
-use Rattle.klp_types.specs.declared.version.Transition.{Transition}
 use Rattle.klp_types.specs.declared.task.Task.{Task}
 use Rattle.klp_model.specs.declared.event.Event.{Event}
 use Rattle.klp_model.specs.declared.event.Reply.{Reply}
 use Rattle.klp_model.specs.EventCalls.{calls}
 use Rattle.klp_model.specs.State.{State, with_tasks}
 use Rattle.klp_model.specs.Step.{accepted}
-use Rattle.klp_model.specs.Task.{Tasks, at_target}
-use Rattle.klp_model.specs.TaskStep.{change, state_wanted}
+use Rattle.klp_model.specs.Task.{Tasks}
+use Rattle.klp_model.specs.TaskStep.{change}
 use Rattle.klp_catalog.specs.Catalog.{Catalog}
 use Rattle.klp_tasks.specs.Changes.{changed}
 use Rattle.klp_manager_state.specs.declared.state.ManagerState.{ManagerState}
@@ -33,15 +32,6 @@ pub task_taken : AreTasksTaken → StepLaws → (before after : ManagerState) (c
 task_taken law steps before after catalog tasks row event reply holds free quiet is left =
     subst (λ (p : ManagerState). TakesEvent before p catalog catalog event (Ok reply)) (sym left)
     (law steps before catalog tasks (record before.log { noted = row ∷ [] }) event reply holds (sym free) quiet is holds.room)
-
--- the state of a task fits into its byte
-pub target_fits : (target : Bool) → to_z w8 (of_z w8 (at_target target)) ≡ at_target target
-target_fits true = refl
-target_fits false = refl
-
-pub wanted_fits : (moving : Option Transition) → to_z w8 (of_z w8 (state_wanted moving)) ≡ state_wanted moving
-wanted_fits None = refl
-wanted_fits (Some move) = target_fits move.target
 
 -- what a change of a row leaves is what the step says
 pub changed_as_said : (law : (state : State) (number : ℕ) (f : Task → Task) → change state number f ≡ with_tasks state (changed state.tasks number f))

@@ -16,7 +16,6 @@ use Rattle.klp_patch_events.proofs.BackLemmas.{callbacks_back}
 use Rattle.klp_manager_state.specs.Managed.{setting_in, state_in}
 use Rattle.klp_manager_state.proofs.StepLemmas.{accepted_at_sites}
 use Rattle.klp_patch_events.proofs.RoomLemmas.{same_objects}
-use Rattle.klp_patch_events.proofs.TaskLemmas.{target_fits}
 use Rattle.klp_model.specs.Task.{all_in}
 use Rattle.klp_patch.specs.Calls.{records_of}
 use Rattle.klp_types.specs.declared.limits.TheConstants.{MAX_KIND_RECORDS}
@@ -49,7 +48,7 @@ returns-clause-accepted g c =
     let same = ap (calls_of c.args.patch PreUn) (same_objects before catalog c.args.patch c.requires.kept) in
     let starts = turned_or_started setting state c.args.patch c.args.value in
     let made : state_in after now ≡ (starts false).1 =
-    ap (λ (p : ManagerState). state_in p now) moved ∙ rw (c.run_callbacks.ensures.world, same, c.set_all.ensures.tasks, c.target_state.ensures, target_fits true) refl
+    ap (λ (p : ManagerState). state_in p now) moved ∙ rw (c.run_callbacks.ensures.world, same, c.set_all.ensures.tasks, c.target_state.ensures) refl
     in
     accepted_at_sites c.steps_keep.ensures before after catalog now (SetEnabled c.args.patch c.args.value) Started c.requires.kept c.requires.free (record {
       says = ap (λ b. (starts b).0) (sym c.requires.rests);

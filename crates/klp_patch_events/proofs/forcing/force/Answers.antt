@@ -2,7 +2,6 @@ use Rattle.std.proofs.Common.{◌≡◌, refl, sym, ap, ◌∙◌, Some, rules, 
 use Rattle.klp_types.specs.Records.{RecordList}
 use Rattle.klp_manager_state.specs.Rows.{rows_in, undone}
 use Rattle.klp_manager_state.proofs.RowLemmas.{switched_back}
-use Rattle.klp_patch_events.proofs.TaskLemmas.{target_fits}
 use Rattle.klp_types.specs.declared.version.Transition.{Transition}
 use Rattle.klp_model.specs.Forcing.{forced}
 use Rattle.klp_model.specs.declared.event.Event.TheVariants.{Force}
@@ -16,7 +15,7 @@ pub returns-clause-taken : goal.returns-clause-taken
 returns-clause-taken g c =
     let made : state_in c.pin.new.manager c.args.catalog.now
     ≡ (forced (setting_in c.args.manager.now c.args.catalog.now) (state_in c.args.manager.now c.args.catalog.now) (Some c.in-Some-moving.moving)).1 =
-    rw (c.pin.ensures.parts, c.set_all.ensures.tasks, c.target_state.ensures, target_fits c.in-Some-moving.moving.target) refl
+    rw (c.pin.ensures.parts, c.set_all.ensures.tasks, c.target_state.ensures) refl
     in
     taken_at_sites c.steps_keep.ensures c.args.manager.now c.pin.new.manager c.args.catalog.now c.args.catalog.now (Force c.args.patch) Done c.requires
     (sym c.force_refusal.ensures ∙ search rules) (record {

@@ -2,7 +2,7 @@ use Rattle.std.proofs.Common.{sym, ◌∙◌, refl}
 use Rattle.klp_model.specs.declared.event.Event.TheVariants.{NewTask}
 use Rattle.klp_model.specs.declared.event.Reply.TheVariants.{Done}
 use Rattle.klp_task_events.proofs.TakenLemmas.{refused_taken}
-use Rattle.klp_task_events.proofs.TaskLemmas.{task_taken, wanted_fits}
+use Rattle.klp_task_events.proofs.TaskLemmas.{task_taken}
 use Rattle.klp_task_events.proofs.tasks.new_task.Goals as goal
 
 pub returns-in-Some-clause-taken : goal.returns-in-Some-clause-taken
@@ -13,5 +13,5 @@ pub returns-clause-taken : goal.returns-clause-taken
 returns-clause-taken c = λ catalog holds.
     task_taken c.changes_of_one_kind_are_taken.ensures.tasks c.steps_keep.ensures c.args.manager.now c.note_alone.new.manager catalog c.add-row.new.self c.add-row.result (NewTask c.args.task) Done holds
     (sym c.in_default.is ∙ c.new_task_refusal.ensures.refusal catalog) refl
-    (rw (c.add-row.ensures.tasks, c.state_wanted.ensures, wanted_fits c.args.manager.now.moving) refl)
+    (rw (c.add-row.ensures.tasks, c.state_wanted.ensures) refl)
     c.note_alone.ensures
