@@ -366,10 +366,12 @@ impl Tasks {
         ensures row { result ≡ record_if_switched task (task_at self.old task) (task_at self.new task) }
         ensures undo { undone self.new (option_to_list result) ≡ self.old }
     {
-        let row = *self.get(task)?;
-        if has_state(&row, state) {
+        let row = self.rows.get_mut(usize::from(task.0))?.as_mut()?;
+        if has_state(row, state) {
             return None;
         }
-        Some(self.replace(task, Some(Task { state, ..row })))
+        let was = *row;
+        row.state = state;
+        Some(Record::TaskRow { task, was })
     }
 }

@@ -4,8 +4,3 @@ pub mod SiteLemmas
 pub mod PaddedLemmas
 pub mod KeyLemmas
 pub mod ScriptLemmas
-pub mod WordLemmas
-pub mod ReadLemmas
-pub mod BackLemmas
-pub mod PartLemmas
-pub mod RecordsLemmas

@@ -13,5 +13,3 @@ pub mod Examples
 pub mod Padded
 pub mod PatchStates
 pub mod Finds
-pub mod Words
-pub mod Decoded

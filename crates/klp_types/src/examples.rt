@@ -1,12 +1,8 @@
 //! Worked examples of the definitions, by computation. A function here does nothing: its contract is the
 //! example, so a definition that comes to something else isn't proved.
-ghost use Rattle.std.specs.Prelude.{◌≡◌, ℕ, pos, negsuc, true, false, List, [], ◌∷◌, ◌++◌, Some, None};
+ghost use Rattle.std.specs.Prelude.{◌≡◌, pos, true, false, List, [], ◌∷◌, ◌++◌, Some, None};
 ghost use Rattle.klp_types.specs.declared.callback.Which.TheVariants.{Pre, Post, PostUn};
 ghost use Rattle.klp_types.specs.declared.version.Version.TheVariants.{Original, New};
-ghost use Rattle.klp_types.specs.declared.task.Mode.TheVariants.{Kernel};
-ghost use Rattle.klp_types.specs.declared.record.Record.{Record};
-ghost use Rattle.klp_types.specs.declared.record.Record.TheVariants.{TaskRow, NoTaskRow, Moving};
-ghost use Rattle.klp_types.specs.Words.{words_of, IsRecord};
 ghost use Rattle.klp_types.specs.Entries.{entries_from};
 ghost use Rattle.klp_types.specs.Pick.{entries_for, newest_version, target_of};
 ghost use Rattle.klp_types.specs.Callbacks.{calls_of, enable_calls, end_of};
@@ -81,16 +77,4 @@ pub fn transitions_end_with_the_callbacks_of_their_target()
     ensures patched { ran (calls_of 0 (end_of true) (objects_refusing_in 3)) ≡ (0, Post) ∷ (1, Post) ∷ (2, Post) ∷ [] }
     ensures withdrawn { ran (calls_of 0 (end_of false) (objects_refusing_in 3))
         ≡ (0, PostUn) ∷ (1, PostUn) ∷ (2, PostUn) ∷ [] }
-{}
-
-/// Words of records: a tag is a record's kind, and 256 for each word before it.
-pub fn words_are_counted_by_their_tags()
-    ensures no_task { words_of (NoTaskRow 1) ≡ 1 ∷ 257 ∷ [] }
-    ensures task { words_of (TaskRow 1 (record { state = negsuc 0; mode = Kernel; frames = [] })) ≡ 1 ∷ 4 ∷ 513 ∷ [] }
-    ensures moving { words_of (Moving (record { patch = 0; target = true })) ≡ 0 ∷ 1 ∷ 521 ∷ [] }
-{}
-
-/// A list ends with no record where its tag is one and its words aren't.
-pub fn words_of_no_record_end_with_none()
-    ensures { (older : List ℕ) (row : Record) → IsRecord row → 5 ∷ 513 ∷ [] ≡ older ++ words_of row → ⊥ }
 {}

@@ -16,8 +16,6 @@ ghost use Rattle.klp_types.specs.Bytes.{symbol_in, patched, resting, text_where}
 ghost use Rattle.klp_types.specs.World.{Installed, World, Shadow, ShadowValue, key_cmp, number_of, variable, states_of};
 ghost use Rattle.klp_types.specs.Script.{Script, alloc_count, is_key, value_taken, edited, edited_at, edited_by, made_of, edits_made, effect, edit_touches, touches};
 ghost use Rattle.klp_types.specs.Callbacks.{Call, after_calls};
-ghost use Rattle.klp_types.specs.declared.record.Record.{Record};
-ghost use Rattle.klp_types.specs.Words.{words_of, IsRecord};
 
 use crate::limits::{
     ANSWER_ROOM, ENTRY_SITE_LEN, MAX_ADDRESS_DIGITS, MAX_BODY, MAX_CALLBACK_RECORDS,
@@ -183,18 +181,6 @@ pub fn entries_are_of_their_patches()
     ensures functions { (setting : Setting) (site : ℕ) (patches : List ℕ)
         → All (λ (e : Entry). IfSome e.func (λ f. f < length (functions_of setting e.patch)))
         (entries_from setting site patches) }
-{}
-
-/// No record's words are the last of another's: so where a list ends with a record, it is one record alone, and
-/// what is before it is as it was before it was written.
-pub fn records_are_read_from_their_ends()
-    ensures { (a b : Record) (front : List ℕ) → IsRecord a → IsRecord b → words_of a ≡ front ++ words_of b
-        → (front ≡ []) × (a ≡ b) }
-{}
-
-/// A record has at most 36 words with its tag, so that room for records is room for their words.
-pub fn records_have_few_words()
-    ensures { (row : Record) → IsRecord row → length (words_of row) ≤ 36 }
 {}
 
 /// How much there may be of everything, and how long an entry site is. Definitions and code name the limits

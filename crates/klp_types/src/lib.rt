@@ -11,15 +11,13 @@
 //! site, and whose it is. Of the text: how a function reads by which sites are hooked, and that sites go
 //! object by object. Of scripts: that an edit changes each shadow variable by itself, which variables,
 //! system states and patches a script leaves, how few variables it adds, and which scripts may change
-//! places. Of words: that no record's are the last of another's, and how many a record has. Also what
-//! each limit is. `examples` has five over a small kernel: nops, the version of the newest entry, where
-//! versions begin, which callbacks run where an object refuses, and which at the end of a transition. Two
-//! more have the words of records.
+//! places. Also what each limit is. `examples` has five over a small kernel: nops, the version of the newest
+//! entry, where versions begin, which callbacks run where an object refuses, and which at the end of a
+//! transition.
 //!
 //! The code is small. [`Records`] logs a record last, gives the newest back, and is emptied; its room is
 //! taken once. [`Frames`] has at most 32 versions: `push` puts one last, or leaves a full list as it is.
-//! [`ShadowValue`] has 0 to 64 bytes, and takes no more. `words` writes a record as words behind others, and
-//! reads the last of them back: `specs/Words` says which words those are. The journal will keep them so.
+//! [`ShadowValue`] has 0 to 64 bytes, and takes no more.
 //! [`Script`] is here, below the world that it changes, so that the catalog's text doesn't wait for that.
 #![tactic(auto)]
 
@@ -36,7 +34,6 @@ mod shadow;
 mod task;
 mod text;
 mod version;
-mod words;
 
 pub use callback::Which;
 pub use edit::Edit;
@@ -57,4 +54,3 @@ pub use shadow::{ShadowKey, ShadowValue};
 pub use task::{Frames, Mode, PatchState, Task, TaskId};
 pub use text::{ObjectText, SymbolText};
 pub use version::{Entry, Target, Transition, Version, is_in_transition};
-pub use words::{read_back, write_record};

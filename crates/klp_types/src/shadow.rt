@@ -77,7 +77,7 @@ impl ShadowValue {
     }
 
     /// How many there are, for a count of words.
-    pub(crate) fn count(&self) -> usize
+    pub fn count(&self) -> usize
         ensures value { result ≡ length self.now }
         ensures limit { result ≤ MAX_VALUE_BYTES }
     {
@@ -85,14 +85,14 @@ impl ShadowValue {
     }
 
     /// The bytes with zeros behind them, as many as the longest value has.
-    pub(crate) fn padded(&self) -> &[u8]
+    pub fn padded(&self) -> &[u8]
         ensures { result.now ≡ padded MAX_VALUE_BYTES 0 self.now }
     {
         &self.bytes
     }
 
     /// The value of the first bytes, where the others are zeros.
-    pub(crate) fn unpadded(bytes: [u8; MAX_VALUE_BYTES], count: u8) -> Option<Self>
+    pub fn unpadded(bytes: [u8; MAX_VALUE_BYTES], count: u8) -> Option<Self>
         requires { count ≤ MAX_VALUE_BYTES }
         ensures { Finds (λ value. (length value ≡ count) × (padded MAX_VALUE_BYTES 0 value ≡ bytes)) result }
     {

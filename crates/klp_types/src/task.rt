@@ -114,7 +114,7 @@ impl Frames {
     }
 
     /// How many there are, for a count of words.
-    pub(crate) fn count(&self) -> usize
+    pub fn count(&self) -> usize
         ensures value { result ≡ length self.now }
         ensures limit { result ≤ MAX_FRAMES }
     {

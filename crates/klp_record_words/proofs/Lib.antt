@@ -1,0 +1,5 @@
+pub mod WordLemmas
+pub mod ReadLemmas
+pub mod BackLemmas
+pub mod PartLemmas
+pub mod RecordsLemmas

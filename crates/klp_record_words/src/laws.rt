@@ -1,0 +1,16 @@
+//! What is proved of the words of records themselves.
+ghost use Rattle.std.specs.Prelude.{◌≡◌, ◌≤◌, List, [], ◌++◌, length};
+ghost use Rattle.klp_types.specs.declared.record.Record.{Record};
+ghost use Rattle.klp_record_words.specs.Words.{words_of, IsRecord};
+
+/// No record's words are the last of another's: so where a list ends with a record, it is one record alone, and
+/// what is before it is as it was before it was written.
+pub fn records_are_read_from_their_ends()
+    ensures { (a b : Record) (front : List ℕ) → IsRecord a → IsRecord b → words_of a ≡ front ++ words_of b
+        → (front ≡ []) × (a ≡ b) }
+{}
+
+/// A record has at most 36 words with its tag, so that room for records is room for their words.
+pub fn records_have_few_words()
+    ensures { (row : Record) → IsRecord row → length (words_of row) ≤ 36 }
+{}
