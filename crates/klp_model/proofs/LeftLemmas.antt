@@ -20,7 +20,8 @@ use Rattle.klp_model.specs.Blocked.{is_version}
 use Rattle.klp_model.specs.Allowed.{is_one_of, AreDistinct, AreAbove, AreStacked}
 use Rattle.klp_types.proofs.EntryLemmas.{entries_from-any}
 use Rattle.klp_model.proofs.OrderLemmas.{equal_either_way}
-use Rattle.klp_model.specs.Observed.{Frame, Seen, seen_from, IsHonestRun}
+use Rattle.klp_model.specs.declared.seen.Seen.{Seen}
+use Rattle.klp_model.specs.Observed.{Frame, seen_from, IsHonestRun}
 use Rattle.klp_model.specs.InPlace.{IsInPlace}
 use Rattle.klp_model.specs.Consistent.{AreCurrent, is_number, StandsIn, AllStand, NoneLeft, is_of_patch, below}
 use Rattle.klp_model.specs.Versions.{version_in, chosen, others}

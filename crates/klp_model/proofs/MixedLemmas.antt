@@ -15,7 +15,8 @@ use Rattle.klp_types.specs.Pick.{is_unpatched}
 use Rattle.klp_model.specs.Blocked.{is_version}
 use Rattle.klp_model.specs.Allowed.{AreDistinct, AreStacked, Allowed}
 use Rattle.klp_types.proofs.EntryLemmas.{list_any-reverse}
-use Rattle.klp_model.specs.Observed.{Frame, Seen, seen_from, IsHonestRun}
+use Rattle.klp_model.specs.declared.seen.Seen.{Seen}
+use Rattle.klp_model.specs.Observed.{Frame, seen_from, IsHonestRun}
 use Rattle.klp_model.specs.InPlace.{IsInPlace}
 use Rattle.klp_model.specs.Consistent.{AreCurrent, is_of_patch, NoneOfPatch, below, NoneBelow, NoneMixed, site_at, site_of, AreNamed, AllNamed}
 use Rattle.klp_model.specs.Versions.{version_in, chosen, others}

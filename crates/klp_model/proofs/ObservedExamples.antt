@@ -19,7 +19,9 @@ use Rattle.klp_model.specs.Refusals.{refusals, accepts, is_there}
 use Rattle.klp_model.specs.Allowed.{Allowed}
 use Rattle.klp_model.specs.Refusals.{NoneHolds}
 use Rattle.klp_model.proofs.RefusalLemmas.{next_accepted}
-use Rattle.klp_model.specs.Observed.{Stacks, with_frames, Seen, Happens, Calls, Watched, begun, is_frame_in, seen_next, seen_run, IsHonestEvent, IsHonestItem, AreHonest, IsHonestRun, seen_from}
+use Rattle.klp_model.specs.declared.seen.Seen.{Seen}
+use Rattle.klp_model.specs.declared.seen.Seen.TheVariants.{Event as Happens, Call as Calls}
+use Rattle.klp_model.specs.Observed.{Stacks, with_frames, Watched, begun, is_frame_in, seen_next, seen_run, IsHonestEvent, IsHonestItem, AreHonest, IsHonestRun, seen_from}
 use Rattle.klp_model.specs.InPlace.{IsInPlace}
 use Rattle.klp_model.specs.ObservedExamples.{kernel, stray_kernel, nobody, one_task, state_of, towards_1, no_frames, inside, watched, start, in_original, late, sleeper_run, stray_run, under_a_task}
 use Rattle.klp_model.proofs.OpeningLemmas.{none_there}

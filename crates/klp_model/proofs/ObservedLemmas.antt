@@ -19,7 +19,9 @@ use Rattle.klp_model.proofs.RefusalLemmas.{none_holds, next_accepted}
 use Rattle.klp_model.proofs.RefusalLemmas.{next_refused}
 use Rattle.klp_model.proofs.AllowedRunLemmas.{allowed_after}
 use Rattle.klp_model.specs.Pick.{pick, pick_by}
-use Rattle.klp_model.specs.Observed.{Frame, Stacks, with_frames, Seen, Happens, Calls, Returns, Watched, called, drop_last, begun, events_of, seen_next, seen_run, opening, seen_from, IsHonestItem, AreHonest, IsHonestRun}
+use Rattle.klp_model.specs.declared.seen.Seen.{Seen}
+use Rattle.klp_model.specs.declared.seen.Seen.TheVariants.{Event as Happens, Call as Calls, Return as Returns}
+use Rattle.klp_model.specs.Observed.{Frame, Stacks, with_frames, Watched, called, drop_last, begun, events_of, seen_next, seen_run, opening, seen_from, IsHonestItem, AreHonest, IsHonestRun}
 use Rattle.klp_model.specs.InPlace.{IsInPlace}
 use Rattle.klp_model.specs.Consistent.{version_now, AreCurrent, AllCurrent}
 use Rattle.klp_model.proofs.PickLemmas.{now}

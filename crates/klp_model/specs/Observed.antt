@@ -5,6 +5,8 @@ use Rattle.klp_types.specs.declared.version.Version.{Version}
 use Rattle.klp_types.specs.declared.version.Target.{Target}
 use Rattle.klp_types.specs.declared.task.Mode.TheVariants.{Kernel}
 use Rattle.klp_model.specs.declared.event.Event.{Event}
+use Rattle.klp_model.specs.declared.seen.Seen.{Seen}
+use Rattle.klp_model.specs.declared.seen.Seen.TheVariants.{Event as Happens, Call as Calls, Return as Returns}
 use Rattle.klp_model.specs.declared.event.Event.TheVariants.{Force, Going, NewTask, Fork, EndTask, ExitToUser, Sleep}
 use Rattle.klp_types.specs.Setting.{Setting}
 use Rattle.klp_model.specs.Task.{task_at, is_in}
@@ -30,12 +32,6 @@ with_frames stacks task frames other = if other == task then frames else stacks 
 
 abbrev pub versions : List Frame → List Version
 versions frames = map (λ (f : Frame). f.version) frames
-
--- an event, a call of a task at a site, or the return of a task from its innermost function
-pub data Seen : Type 0 where
-  Happens : Event → Seen
-  Calls : ℕ → ℕ → Seen
-  Returns : ℕ → Seen
 
 -- a state, and what the tasks are inside of
 pub record Watched : Type 0 where

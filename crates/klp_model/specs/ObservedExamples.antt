@@ -11,7 +11,9 @@ use Rattle.klp_types.specs.declared.task.Mode.TheVariants.{Kernel}
 use Rattle.klp_model.specs.declared.event.Event.TheVariants.{Enable, Poll, Coming, Going, NewTask, EnterKernel, ExitToUser, Sleep, Wake}
 use Rattle.klp_types.specs.declared.task.Task.{Task}
 use Rattle.klp_model.specs.State.{State}
-use Rattle.klp_model.specs.Observed.{Stacks, with_frames, Seen, Happens, Calls, Returns, Watched}
+use Rattle.klp_model.specs.declared.seen.Seen.{Seen}
+use Rattle.klp_model.specs.declared.seen.Seen.TheVariants.{Event as Happens, Call as Calls, Return as Returns}
+use Rattle.klp_model.specs.Observed.{Stacks, with_frames, Watched}
 
 abbrev symbol : ℕ → Symbol
 symbol address = record { name = []; address = address; body = 1 ∷ 2 ∷ 3 ∷ 4 ∷ 5 ∷ [] }

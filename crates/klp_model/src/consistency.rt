@@ -9,7 +9,9 @@ ghost use Rattle.klp_types.specs.declared.task.Mode.TheVariants.{Kernel, User, A
 ghost use Rattle.klp_model.specs.State.{State};
 ghost use Rattle.klp_model.specs.Run.{run};
 ghost use Rattle.klp_model.specs.Blocked.{blocked, is_held};
-ghost use Rattle.klp_model.specs.Observed.{Seen, Happens, Calls, IsHonestItem, IsHonestRun, Watched, events_of, seen_run, seen_from};
+ghost use Rattle.klp_model.specs.declared.seen.Seen.{Seen};
+ghost use Rattle.klp_model.specs.declared.seen.Seen.TheVariants.{Event as Happens, Call as Calls};
+ghost use Rattle.klp_model.specs.Observed.{IsHonestItem, IsHonestRun, Watched, events_of, seen_run, seen_from};
 ghost use Rattle.klp_model.specs.InPlace.{IsInPlace};
 ghost use Rattle.klp_model.specs.Consistent.{version_now, AllCurrent, NoneLeft, NoneMixed, AllNamed};
 ghost use Rattle.klp_model.specs.ObservedExamples.{kernel, stray_kernel, one_task, state_of, towards_1, no_frames, inside, watched, start, in_original, late, sleeper_run, stray_run, under_a_task};

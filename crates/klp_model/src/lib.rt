@@ -3,7 +3,8 @@
 //! What a step does is defined here and nowhere else. `specs/` has the state with its tasks, transitions
 //! and pins, the step of each event, what refuses it, and runs of events, over the image, the patches and
 //! the scripts of `klp_types`. Begin with `specs/State`, `Refusals`, `Step`, `EventCalls`, `Blocked`,
-//! `Allowed` and `Observed`. The code is three enums: [`Event`], [`Reply`] and [`Refusal`].
+//! `Allowed` and `Observed`. The code is four enums: [`Event`], [`Reply`], [`Refusal`] and
+//! [`Seen`].
 //!
 //! `laws` has what is proved of the definitions themselves: when a site has an entry, how a function of a
 //! loaded object reads, and what the text depends on; that a run goes on where the one before it ended;
@@ -34,5 +35,7 @@ pub mod examples;
 pub mod laws;
 pub mod round_trip;
 pub mod round_trip_examples;
+mod seen;
 
 pub use event::{Event, Refusal, Reply};
+pub use seen::Seen;
