@@ -37,7 +37,7 @@ calls_more setting state (first ∷ events) event =
     ap (λ (cs : List Call). callbacks_of setting state first ++ cs) (calls_more setting (next setting state first) events event)
     ∙ sym (append_assoc (callbacks_of setting state first) (callbacks_of_run setting (next setting state first) events) (callbacks_of setting (run setting (next setting state first) events) event))
 
-after_more : RunsAddUp → (managed : Managed) (events : List Event) (event : Event) → after_event (after_events managed events) event ≡ after_events managed (events ++ event ∷ [])
+pub after_more : RunsAddUp → (managed : Managed) (events : List Event) (event : Event) → after_event (after_events managed events) event ≡ after_events managed (events ++ event ∷ [])
 after_more adds managed events event =
     let setting = setting_of managed in
     let state = run setting managed.state events in

@@ -1,8 +1,11 @@
 //! What is proved of what a manager keeps. A function here does nothing: its contract is the law.
-ghost use Rattle.std.specs.Prelude.{◌≡◌};
+ghost use Rattle.std.specs.Prelude.{◌≡◌, List, [], ◌∷◌, ◌++◌};
+ghost use Rattle.klp_model.specs.declared.event.Event.{Event};
 ghost use Rattle.klp_model.specs.InPlace.{IsInPlace};
 ghost use Rattle.klp_modules.specs.Names.{names_of};
 ghost use Rattle.klp_manager_state.specs.Managed.{Managed, setting_of};
+ghost use Rattle.klp_manager_state.specs.Events.{after_event};
+ghost use Rattle.klp_core.specs.Events.{after_events};
 ghost use Rattle.klp_core.specs.Journaled.{Journaled, Stands};
 ghost use Rattle.klp_core.specs.Withdrawal.{GoesOn, LeavesNoTrace};
 
@@ -28,4 +31,13 @@ pub fn what_is_withdrawn_leaves_no_trace()
 {
     gone_at_the_end();
     only_shadow_events_outside();
+}
+
+/// What one more event leaves behind others is what all of them leave: so a call that takes them one by one
+/// can tell what its whole list comes to.
+pub fn events_go_on_where_they_end()
+    ensures { (managed : Managed) (events : List Event) (event : Event)
+        → after_event (after_events managed events) event ≡ after_events managed (events ++ event ∷ []) }
+{
+    klp_catalog::laws::runs_add_up();
 }

@@ -1,13 +1,15 @@
 //! What a manager shows of its state. Each answer is by one definition of the state, and no call changes
 //! anything.
-ghost use Rattle.std.specs.Prelude.{◌≡◌, ◌≤◌, ◌==◌, ◌&&◌, length, None, Some, is_some, option_map, option_and_then, if◌then◌else◌};
+ghost use Rattle.std.specs.Prelude.{◌≡◌, ◌<◌, ◌≤◌, ◌==◌, ◌&&◌, true, length, None, Some, is_some, option_map, option_and_then, if◌then◌else◌};
 ghost use Rattle.std.specs.List.{list_any};
 ghost use Rattle.klp_types.specs.declared.task.Task.{Task as AnyTask};
+ghost use Rattle.klp_types.specs.declared.limits.TheConstants.{MAX_TASKS};
 ghost use Rattle.klp_types.specs.Setting.{state_ids};
 ghost use Rattle.klp_types.specs.World.{variable, state_value};
 ghost use Rattle.klp_types.specs.Pick.{moves};
 ghost use Rattle.klp_model.specs.State.{is_installed, installed_patches};
 ghost use Rattle.klp_model.specs.Task.{task_at};
+ghost use Rattle.klp_model.specs.Frames.{object_of_version};
 ghost use Rattle.klp_model.specs.Bytes.{text_of};
 ghost use Rattle.klp_model.specs.Entries.{entries_of};
 ghost use Rattle.klp_model.specs.Refusals.{enabled_value};
@@ -20,7 +22,9 @@ use crate::view::TextView;
 use arrayvec::ArrayVec;
 use klp_catalog::Catalog;
 use klp_modules::Modules;
-use klp_types::{Entry, MAX_PATCHES, ObjId, PatchId, ShadowKey, ShadowValue, Site, TaskId, Which};
+use klp_types::{
+    Entry, MAX_PATCHES, Mode, ObjId, PatchId, ShadowKey, ShadowValue, Site, TaskId, Version, Which,
+};
 
 impl Manager {
     /// The text of an object, as a processor would run it: `None` where the object isn't loaded. It is
@@ -82,6 +86,23 @@ impl Manager {
     {
         let row = self.state.tasks.get(task)?;
         Some(row.state.number())
+    }
+
+    /// Where a task is, in user space, in the kernel or asleep, if it is there.
+    pub fn mode(&self, task: TaskId) -> Option<Mode>
+        ensures mode { result ≡ option_map (λ (t : AnyTask). t.mode) (task_at self.now.managed.state.tasks task) }
+        ensures number { is_some result ≡ true → task < MAX_TASKS }
+    {
+        let row = self.state.tasks.get(task)?;
+        Some(row.mode)
+    }
+
+    /// The object that a version lies in: that of its site, or that of the function of a patch. `None` where
+    /// image or catalog don't have the version.
+    pub fn object_of(&self, version: Version) -> Option<ObjId>
+        ensures { result ≡ object_of_version (setting_of self.now.managed) version }
+    {
+        self.state.object_of(&self.catalog, version)
     }
 
     /// The value of a shadow variable, if it is there (`klp_shadow_get`). To look at it is no event, as

@@ -1,5 +1,6 @@
 -- Lists kept in an array: one more item, and a whole list written to an array of fillers.
-use Rattle.std.proofs.Common.{◌≡◌, ℕ, zero, suc, ◌+◌, ◌-◌, ◌<◌, ◌≤◌, List, [], ◌∷◌, ◌++◌, length, take, drop, set, replicate, refl, sym, ap, ◌∙◌, arith, length-append, append_assoc}
+use Rattle.std.proofs.Common.{◌≡◌, ℕ, zero, suc, ◌+◌, ◌-◌, ◌<◌, ◌≤◌, List, [], ◌∷◌, ◌++◌, length, take, drop, set, get_or, replicate, refl, sym, ap, ◌∙◌, arith, length-append, append_assoc}
+use Rattle.std.proofs.lemmas.List.{length-take-le, take_more}
 use Rattle.klp_types.specs.Padded.{padded, IsPadded}
 
 set_behind : {A : Type 0} (front : List A) (x v : A) (rest : List A) → set (front ++ x ∷ rest) (length front) v ≡ front ++ v ∷ rest
@@ -44,6 +45,56 @@ module _ {A : Type 0} (room : ℕ) (filler : A) (kept : List A) (count : ℕ) (v
     where
       same : room - length (front ++ v ∷ []) ≡ left
       same = omega (arith, longer)
+
+-- what is taken is no more than there is
+pub few : {A : Type 0} (room : ℕ) (filler : A) (kept : List A) (count : ℕ) → IsPadded room filler kept count → count ≤ length kept
+few room filler kept count h =
+    let long = ap length h.1 ∙ length-append (take count kept) (replicate (room - length (take count kept)) filler) in
+    omega (arith, long, h.0)
+
+-- One item fewer.
+module _ {A : Type 0} (room : ℕ) (filler : A) (kept : List A) (count : ℕ) (h : IsPadded room filler kept (count + 1)) (fits : count < room) where
+  abbrev short : List A
+  short = take count kept
+
+  abbrev last : A
+  last = get_or kept count filler
+
+  abbrev behind : ℕ
+  behind = room - (count + 1)
+
+  within : count < length kept
+  within = omega (arith, few room filler kept (count + 1) h)
+
+  shorter : length short ≡ count
+  shorter = length-take-le count kept (omega (arith, within))
+
+  parted : kept ≡ short ++ last ∷ replicate behind filler
+  parted =
+      h.1 ∙ ap (λ n. take (count + 1) kept ++ replicate (room - n) filler) h.0
+      ∙ ap (λ xs. xs ++ replicate behind filler) (take_more kept count filler within)
+      ∙ append_assoc short (last ∷ []) (replicate behind filler)
+
+  emptied : set kept count filler ≡ short ++ filler ∷ replicate behind filler
+  emptied =
+      ap (λ xs. set xs count filler) parted
+      ∙ ap (λ n. set (short ++ last ∷ replicate behind filler) n filler) (sym shorter)
+      ∙ set_behind short last filler (replicate behind filler)
+
+  -- what is taken then
+  pub left_taken : take count (set kept count filler) ≡ short
+  left_taken =
+      ap (take count) emptied ∙ ap (λ n. take n (short ++ filler ∷ replicate behind filler)) (sym shorter)
+      ∙ take_front short (filler ∷ replicate behind filler)
+
+  pub popped : IsPadded room filler (set kept count filler) count
+  popped = (
+    ap length left_taken ∙ shorter,
+    emptied ∙ ap (λ n. short ++ replicate n filler) one ∙ sym (ap (padded room filler) left_taken),
+  )
+    where
+      one : suc behind ≡ room - length short
+      one = omega (arith, shorter, fits)
 
 drop_fillers : {A : Type 0} (filler : A) (room count : ℕ) → drop count (replicate room filler) ≡ replicate (room - count) filler
 drop_fillers filler room zero = let all : room ≡ room - 0 = omega arith in ap (λ n. replicate n filler) all

@@ -1,4 +1,4 @@
-ghost use Rattle.std.specs.Prelude.{◌≡◌, ◌≤◌, [], ◌∷◌, ◌++◌, length, nat_lt, true, false};
+ghost use Rattle.std.specs.Prelude.{◌≡◌, ◌-◌, ◌≤◌, [], ◌∷◌, ◌++◌, length, take, nat_lt, true, false};
 ghost use Rattle.klp_types.specs.PatchStates.{IsPatchState};
 
 use crate::limits::MAX_FRAMES;
@@ -143,6 +143,16 @@ impl Frames {
             true
         } else {
             false
+        }
+    }
+
+    /// Takes the innermost frame out, if there is one: the task has returned from it.
+    pub fn pop(&mut self)
+        ensures { self.new ≡ take (length self.old - 1) self.old }
+    {
+        if self.count > 0 {
+            self.count -= 1;
+            self.versions[self.count as usize] = Version::Original(Site(0));
         }
     }
 }
