@@ -1,6 +1,6 @@
 //! What a manager shows of its state. Each answer is by one definition of the state, and no call changes
 //! anything.
-ghost use Rattle.std.specs.Prelude.{◌≡◌, ◌<◌, ◌≤◌, ◌==◌, ◌&&◌, true, length, None, Some, is_some, option_map, option_and_then, if◌then◌else◌};
+ghost use Rattle.std.specs.Prelude.{◌≡◌, ◌≤◌, ◌==◌, ◌&&◌, length, None, Some, is_some, option_map, option_and_then, if◌then◌else◌};
 ghost use Rattle.std.specs.List.{list_any};
 ghost use Rattle.klp_types.specs.declared.task.Task.{Task as AnyTask};
 ghost use Rattle.klp_types.specs.declared.limits.TheConstants.{MAX_TASKS};
@@ -91,7 +91,7 @@ impl Manager {
     /// Where a task is, in user space, in the kernel or asleep, if it is there.
     pub fn mode(&self, task: TaskId) -> Option<Mode>
         ensures mode { result ≡ option_map (λ (t : AnyTask). t.mode) (task_at self.now.managed.state.tasks task) }
-        ensures number { is_some result ≡ true → task < MAX_TASKS }
+        ensures rows { length self.now.managed.state.tasks ≡ MAX_TASKS }
     {
         let row = self.state.tasks.get(task)?;
         Some(row.mode)

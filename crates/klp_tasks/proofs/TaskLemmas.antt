@@ -19,7 +19,7 @@ use Rattle.klp_tasks.specs.Members.{VersionFlags, has, IsSetOf}
 use Rattle.klp_tasks.proofs.MemberLemmas.{same_any}
 use Rattle.klp_tasks.specs.Changes.{record_of, put_back, undone, changed_row, changed, record_if_switched, records_switched}
 
-set_back : (tasks : Tasks) (number : ℕ) (row : Option Task) → set (set tasks number row) number (get_or tasks number None) ≡ tasks
+pub set_back : (tasks : Tasks) (number : ℕ) (row : Option Task) → set (set tasks number row) number (get_or tasks number None) ≡ tasks
 set_back [] number row = refl
 set_back (first ∷ tasks) zero row = refl
 set_back (first ∷ tasks) (suc number) row = ap (λ rest. first ∷ rest) (set_back tasks number row)
