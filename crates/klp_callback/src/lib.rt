@@ -8,13 +8,15 @@
 //!
 //! [`run_script`] does what a script says, and is what a callback of another crate calls. Begin with
 //! `src/callback.rt`, then `src/boxed.rt` and `src/counted_box.rt`. A callback can't take memory, and sees
-//! no function stack and no text, since all that it is handed is the world.
+//! no function stack and no text, since all that it is handed is the world. `laws` has which scripts leave
+//! each other alone.
 #![tactic(auto)]
 
 mod boxed;
 mod callback;
 mod counted_box;
 mod edits;
+pub mod laws;
 mod quiet;
 mod refusing;
 mod scripted;

@@ -1,0 +1,20 @@
+//! What a callback's author can rely on about scripts, whoever's they are. A function here does nothing: its
+//! contract is the law.
+ghost use Rattle.std.specs.Prelude.{◌≡◌, ℕ, Bool, ◌||◌, true, false};
+ghost use Rattle.klp_types.specs.declared.shadow.ShadowKey.{ShadowKey};
+ghost use Rattle.klp_types.specs.World.{World, variable};
+ghost use Rattle.klp_types.specs.Script.{Script, effect, touches, Undoes};
+
+/// A script leaves each shadow variable alone that it doesn't touch. So where two scripts undo each other,
+/// they still do after any script that touches none of their variables: it is enough that callbacks which
+/// belong together undo each other, and that no others touch the same variables.
+pub fn scripts_apart_still_undo_each_other()
+    ensures alone { (patch : ℕ) (world : World) (script : Script) (key : ShadowKey) → touches script key ≡ false
+        → variable (effect patch world script) key ≡ variable world key }
+    ensures undo { (patch other : ℕ) (world : World) (script done back : Script)
+        → ((key : ShadowKey) → (touches done key || touches back key) ≡ true → touches script key ≡ false)
+        → Undoes patch back done world → Undoes patch back done (effect other world script) }
+{
+    klp_types::laws::untouched_variables_stay();
+    klp_types::laws::edits_go_key_by_key();
+}
