@@ -1,9 +1,9 @@
 use klp_types::{Frames, ObjId, PatchId, ShadowKey, ShadowValue, TaskId};
-use thiserror::Error;
+use std::{error, fmt};
 
 /// What may happen to the manager. One event is one atomic step, so callbacks, entries and tasks of one
 /// event are never seen apart.
-#[derive(Clone, Copy, Debug, PartialEq, Eq)]
+#[derive(Clone, Copy, Debug)]
 pub enum Event {
     /// The patch is loaded and enabled: its transition starts (the kernel's `klp_enable_patch`). In a
     /// kernel the two are one too, since a patch module enables its patch when it is loaded.
@@ -74,67 +74,58 @@ pub enum Reply {
 }
 
 /// Why an event is refused. The numbers are this project's own, and stay, so that scripts may rely on them.
-#[derive(Clone, Copy, Debug, PartialEq, Eq, Error)]
+#[derive(Clone, Copy, Debug, PartialEq, Eq)]
 pub enum Refusal {
     /// The catalog has no such patch. It is asked first of all, since nothing else is known of such a
     /// number.
-    #[error("NoPatch")]
     NoPatch = 1,
     /// Another patch is in transition. There is one at most, since a task's state says only whether it is
     /// at its target.
-    #[error("Busy")]
     Busy = 2,
     /// The patch is installed already, or the module is loaded already.
-    #[error("AlreadyThere")]
     AlreadyThere = 3,
     /// The patch is pinned: it was forced out, or it was installed when a cumulative patch was forced in. A
     /// task may still be inside of its functions, so it can't come again.
-    #[error("Pinned")]
     Pinned = 4,
     /// The patch isn't compatible with the system states of the installed ones.
-    #[error("Incompatible")]
     Incompatible = 5,
     /// A function of the patch for a loaded object, or of an installed patch for the module that comes,
     /// names no symbol of it, or not one alone.
-    #[error("NoSymbol")]
     NoSymbol = 6,
     /// There is no such module, or it isn't loaded, so nothing can come or go. `vmlinux` is none.
-    #[error("NoModule")]
     NoModule = 7,
     /// A sleeping task is inside of the module, which it would be woken up in once the module is gone.
-    #[error("InUse")]
     InUse = 8,
     /// There is no such task, or its number is above 63, which no task can have.
-    #[error("NoTask")]
     NoTask = 9,
     /// The task is there already: a number is one task's until that ends.
-    #[error("TaskThere")]
     TaskThere = 10,
     /// The task isn't where the event wants it: only a task in the kernel falls asleep, and only a sleeper
     /// wakes.
-    #[error("WrongMode")]
     WrongMode = 11,
     /// There is no such function to be inside of: the image lacks the site, or the catalog the new
     /// function. Whether its object is loaded isn't asked.
-    #[error("BadFrame")]
     BadFrame = 12,
     /// There is no room for another shadow variable, or for all those that the callbacks which the event
     /// may run add. This is asked before the first of them, since an event isn't left half done.
-    #[error("Full")]
     Full = 13,
     /// The journal has no room for another event, and one that couldn't be undone isn't taken.
-    #[error("JournalFull")]
     JournalFull = 14,
     /// No patch is in transition, or not this one.
-    #[error("NotMoving")]
     NotMoving = 15,
     /// The shadow variable is there already, and keeps its value, since the event was to add it.
-    #[error("Exists")]
     Exists = 16,
     /// The patch isn't installed, so it has no files and nothing to be forced.
-    #[error("NotFound")]
     NotFound = 17,
     /// The `enabled` file has this value already, which the kernel refuses too (`enabled_store`).
-    #[error("SameValue")]
     SameValue = 18,
 }
+
+/// Its name, which is what `Debug` prints: one table of the names serves both.
+impl fmt::Display for Refusal {
+    fn fmt<W: fmt::Write>(&self, f: &mut fmt::Formatter<W>) -> fmt::Result {
+        fmt::Debug::fmt(self, f)
+    }
+}
+
+impl error::Error for Refusal {}
