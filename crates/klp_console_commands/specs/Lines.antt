@@ -14,23 +14,20 @@ use Rattle.klp_console_commands.specs.declared.request.Request.TheVariants.{Take
 use Rattle.klp_console_commands.specs.declared.request.Query.TheVariants as look
 use Rattle.klp_console_commands.specs.declared.line.Keyword.{Keyword}
 use Rattle.klp_console_commands.specs.declared.line.Keyword.TheVariants as keyword
-use Rattle.klp_console_commands.specs.Words.{words_of, is_name, number_of, value_of, number_to}
+use Rattle.klp_console_commands.specs.Words.{words_of, is_name, only_word, only_name, two_words, number_of, value_of, number_to}
 use Rattle.klp_console_commands.specs.Names.{NameResolver, patch_of, object_of, task_of, site_of, versions_of, are_frames}
 
 -- load PATCH
 abbrev pub load_line : NameResolver → List (List ℕ) → Result Request LineFault
-load_line names (patch ∷ []) = if is_name patch then (patch_of names patch >>= λ p. Ok (Take (event.Enable p))) else Err BadLine
-load_line names words = Err BadLine
+load_line names words = only_name words >>= λ patch. patch_of names patch >>= λ p. Ok (Take (event.Enable p))
 
 -- insmod OBJECT
 abbrev pub insmod_line : NameResolver → List (List ℕ) → Result Request LineFault
-insmod_line names (object ∷ []) = if is_name object then (object_of names object >>= λ o. Ok (Take (event.Coming o))) else Err BadLine
-insmod_line names words = Err BadLine
+insmod_line names words = only_name words >>= λ object. object_of names object >>= λ o. Ok (Take (event.Coming o))
 
 -- rmmod OBJECT
 abbrev pub rmmod_line : NameResolver → List (List ℕ) → Result Request LineFault
-rmmod_line names (object ∷ []) = if is_name object then (object_of names object >>= λ o. Ok (Take (event.Going o))) else Err BadLine
-rmmod_line names words = Err BadLine
+rmmod_line names words = only_name words >>= λ object. object_of names object >>= λ o. Ok (Take (event.Going o))
 
 -- nothing stands after the first word
 abbrev pub alone : Request → List (List ℕ) → Result Request LineFault
@@ -99,8 +96,7 @@ cat_file names file =
 
 -- cat /proc/T/patch_state, cat /sys/kernel/livepatch/PATCH/FILE
 abbrev pub cat_line : NameResolver → List (List ℕ) → Result Request LineFault
-cat_line names (file ∷ []) = cat_file names file
-cat_line names words = Err BadLine
+cat_line names words = only_word words >>= cat_file names
 
 abbrev pub object_query : NameResolver → List ℕ → List ℕ → Result Request LineFault
 object_query names patch object =
@@ -122,8 +118,7 @@ list_query names directory =
 
 -- ls /sys/kernel/livepatch, and below it
 abbrev pub list_line : NameResolver → List (List ℕ) → Result Request LineFault
-list_line names (directory ∷ []) = list_query names directory
-list_line names words = Err BadLine
+list_line names words = only_word words >>= list_query names
 
 -- task sleep T FRAME..
 abbrev pub sleep_line : NameResolver → ℕ → List (List ℕ) → Result Request LineFault
@@ -132,8 +127,9 @@ sleep_line names number words =
 
 -- task fork T T
 abbrev pub fork_line : ℕ → List (List ℕ) → Result Request LineFault
-fork_line number (child ∷ []) = number_to MAX_TASK_NUMBER child >>= λ c. task_of number >>= λ t. task_of c >>= λ n. Ok (Take (event.Fork t n))
-fork_line number words = Err BadLine
+fork_line number words =
+    only_word words >>= λ child. number_to MAX_TASK_NUMBER child
+    >>= λ c. task_of number >>= λ t. task_of c >>= λ n. Ok (Take (event.Fork t n))
 
 abbrev pub plain_event : List ℕ → ℕ → Result Request LineFault
 plain_event verb number =
@@ -162,8 +158,7 @@ task_line names words = Err BadLine
 
 -- OBJ ID: the key of a variable
 abbrev pub key_of : List (List ℕ) → Result ShadowKey LineFault
-key_of (obj ∷ id ∷ []) = number_of obj >>= λ o. number_of id >>= λ i. Ok (record { obj = o; id = i })
-key_of words = Err BadLine
+key_of words = two_words words >>= λ w. number_of w.0 >>= λ o. number_of w.1 >>= λ i. Ok (record { obj = o; id = i })
 
 -- OBJ ID V: a key and a value
 abbrev pub variable_of : List (List ℕ) → Result (ShadowKey × ShadowValue) LineFault
@@ -184,8 +179,7 @@ free_line words = key_of words >>= λ k. Ok (Take (event.ShadowFree k))
 
 -- shadow freeall ID
 abbrev pub free_all_line : List (List ℕ) → Result Request LineFault
-free_all_line (id ∷ []) = number_of id >>= λ i. Ok (Take (event.ShadowFreeAll i))
-free_all_line words = Err BadLine
+free_all_line words = only_word words >>= λ id. number_of id >>= λ i. Ok (Take (event.ShadowFreeAll i))
 
 -- shadow get OBJ ID
 abbrev pub get_line : List (List ℕ) → Result Request LineFault
@@ -203,33 +197,31 @@ shadow_line (verb ∷ words) =
 
 -- text OBJECT
 abbrev pub text_line : NameResolver → List (List ℕ) → Result Request LineFault
-text_line names (object ∷ []) = if is_name object then (object_of names object >>= λ o. Ok (See (look.Text o))) else Err BadLine
-text_line names words = Err BadLine
+text_line names words = only_name words >>= λ object. object_of names object >>= λ o. Ok (See (look.Text o))
 
 -- stack SYM
 abbrev pub stack_line : NameResolver → List (List ℕ) → Result Request LineFault
-stack_line names (symbol ∷ []) = ok_or (spelling_of symbol) BadLine >>= λ s. site_of names s >>= λ site. Ok (See (look.Stack site))
-stack_line names words = Err BadLine
+stack_line names words =
+    only_word words >>= λ symbol. ok_or (spelling_of symbol) BadLine
+    >>= λ s. site_of names s >>= λ site. Ok (See (look.Stack site))
 
 -- pick T SYM
 abbrev pub pick_line : NameResolver → List (List ℕ) → Result Request LineFault
-pick_line names (task ∷ symbol ∷ []) =
-    number_to MAX_TASK_NUMBER task >>= λ n. ok_or (spelling_of symbol) BadLine
+pick_line names words =
+    two_words words >>= λ w. number_to MAX_TASK_NUMBER w.0 >>= λ n. ok_or (spelling_of w.1) BadLine
     >>= λ s. task_of n >>= λ t. site_of names s >>= λ site. Ok (See (look.Pick t site))
-pick_line names words = Err BadLine
 
 -- runs PATCH OBJECT
 abbrev pub runs_line : NameResolver → List (List ℕ) → Result Request LineFault
-runs_line names (patch ∷ object ∷ []) =
-    if is_name patch && is_name object
-    then (patch_of names patch >>= λ p. object_of names object >>= λ o. Ok (See (look.Runs p o)))
+runs_line names words =
+    two_words words
+    >>= λ w. if is_name w.0 && is_name w.1
+    then (patch_of names w.0 >>= λ p. object_of names w.1 >>= λ o. Ok (See (look.Runs p o)))
     else Err BadLine
-runs_line names words = Err BadLine
 
 -- rewind K
 abbrev pub rewind_line : List (List ℕ) → Result Request LineFault
-rewind_line (mark ∷ []) = number_to MAX_MARK mark >>= λ k. Ok (Rewind k)
-rewind_line words = Err BadLine
+rewind_line words = only_word words >>= λ mark. number_to MAX_MARK mark >>= λ k. Ok (Rewind k)
 
 -- the word that a line begins with
 abbrev pub keyword_of : List ℕ → Option Keyword

@@ -1,5 +1,5 @@
 -- The words of a console line, and what a word is by itself.
-use Rattle.std.specs.Prelude.{ℕ, ◌^◌, ◌==◌, ◌&&◌, not, Bool, nat_lt, nat_le, if◌then◌else◌, List, length, ok_or, Result, Ok, Err}
+use Rattle.std.specs.Prelude.{ℕ, ◌^◌, ◌==◌, ◌&&◌, not, Bool, nat_lt, nat_le, if◌then◌else◌, List, [], ◌∷◌, length, ok_or, Result, Ok, Err}
 use Rattle.std.specs.List.{list_all}
 use Rattle.klp_types.specs.World.{ShadowValue}
 use Rattle.klp_words.specs.Words.{decimal_of, shadow_value_of}
@@ -20,6 +20,23 @@ is_name_byte b = not (b == 47) && not (b == 58)
 -- a word that may name a patch or an object
 abbrev pub is_name : List ℕ → Bool
 is_name word = nat_lt 0 (length word) && list_all is_name_byte word
+
+-- the one word that is left
+abbrev pub only_word : List (List ℕ) → Result (List ℕ) LineFault
+only_word (word ∷ []) = Ok word
+only_word words = Err BadLine
+
+abbrev pub name_of : List ℕ → Result (List ℕ) LineFault
+name_of word = if is_name word then Ok word else Err BadLine
+
+-- the one word that is left, which may name a patch or an object
+abbrev pub only_name : List (List ℕ) → Result (List ℕ) LineFault
+only_name words = only_word words >>= name_of
+
+-- the two words that are left
+abbrev pub two_words : List (List ℕ) → Result (List ℕ × List ℕ) LineFault
+two_words (first ∷ second ∷ []) = Ok (first, second)
+two_words words = Err BadLine
 
 -- decimal digits, of a number of 64 bits
 abbrev pub number_of : List ℕ → Result ℕ LineFault

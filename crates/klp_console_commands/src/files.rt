@@ -6,7 +6,7 @@ ghost use Rattle.klp_console_commands.specs.Lines.{switch, enabled_line, force_l
 use crate::fault::LineFault;
 use crate::names::{NameResolver, task};
 use crate::request::{Query, Request};
-use crate::words::{after_prefix, end, is_name, number_to, word};
+use crate::words::{after_prefix, end, is_name, is_word, number_to, only_word, word};
 use klp_model::Event;
 use klp_types::MAX_TASK_NUMBER;
 use klp_words::{Words, cut};
@@ -26,9 +26,9 @@ const PROC: &[u8] = b"/proc/";
 fn switch(value: &[u8]) -> Result<bool, LineFault>
     ensures { result ≡ switch value.now }
 {
-    if value == b"0".as_slice() {
+    if is_word(value, b"0") {
         Ok(false)
-    } else if value == b"1".as_slice() {
+    } else if is_word(value, b"1") {
         Ok(true)
     } else {
         Err(LineFault::BadValue)
@@ -63,9 +63,9 @@ fn echo_file(value: &[u8], file: &[u8], names: &NameResolver<'_>) -> Result<Requ
     if !is_name(patch) {
         return Err(LineFault::BadLine);
     }
-    if file == b"enabled".as_slice() {
+    if is_word(file, b"enabled") {
         enabled_line(value, patch, names)
-    } else if file == b"force".as_slice() {
+    } else if is_word(file, b"force") {
         force_line(value, patch, names)
     } else {
         Err(LineFault::BadLine)
@@ -84,7 +84,7 @@ pub(crate) fn echo_line(
     let arrow = word(words)?;
     let file = word(words)?;
     end(words)?;
-    if arrow != b">".as_slice() {
+    if !is_word(arrow, b">") {
         return Err(LineFault::BadLine);
     }
     match after_prefix(file, BELOW_PATCHES) {
@@ -98,7 +98,7 @@ fn proc_query(file: &[u8]) -> Result<Request, LineFault>
     ensures { result ≡ proc_query file.now }
 {
     let (number, file) = cut(file, b'/');
-    if file != b"patch_state".as_slice() {
+    if !is_word(file, b"patch_state") {
         return Err(LineFault::BadLine);
     }
     let number = number_to(MAX_TASK_NUMBER, number)?;
@@ -113,9 +113,9 @@ fn patch_query(file: &[u8], names: &NameResolver<'_>) -> Result<Request, LineFau
     if !is_name(patch) {
         return Err(LineFault::BadLine);
     }
-    if file == b"enabled".as_slice() {
+    if is_word(file, b"enabled") {
         Ok(Request::See(Query::Enabled(names.patch(patch)?)))
-    } else if file == b"transition".as_slice() {
+    } else if is_word(file, b"transition") {
         Ok(Request::See(Query::Transition(names.patch(patch)?)))
     } else {
         Err(LineFault::BadLine)
@@ -142,8 +142,7 @@ pub(crate) fn cat_line(
 ) -> Result<Request, LineFault>
     ensures { result ≡ cat_line names.now words.old }
 {
-    let file = word(words)?;
-    end(words)?;
+    let file = only_word(words)?;
     cat_file(file, names)
 }
 
@@ -165,7 +164,7 @@ fn directory_query(directory: &[u8], names: &NameResolver<'_>) -> Result<Request
 fn list_query(directory: &[u8], names: &NameResolver<'_>) -> Result<Request, LineFault>
     ensures { result ≡ list_query names.now directory.now }
 {
-    if directory == PATCHES {
+    if is_word(directory, PATCHES) {
         return Ok(Request::See(Query::Patches));
     }
     match after_prefix(directory, BELOW_PATCHES) {
@@ -181,7 +180,6 @@ pub(crate) fn list_line(
 ) -> Result<Request, LineFault>
     ensures { result ≡ list_line names.now words.old }
 {
-    let directory = word(words)?;
-    end(words)?;
+    let directory = only_word(words)?;
     list_query(directory, names)
 }

@@ -10,7 +10,7 @@ use crate::names::{NameResolver, task};
 use crate::request::{Query, Request};
 use crate::shadow::shadow_line;
 use crate::tasks::task_line;
-use crate::words::{end, is_name, number_to, word};
+use crate::words::{end, is_name, is_word, number_to, only_name, only_word, two_words};
 use klp_catalog::Catalog;
 use klp_model::Event;
 use klp_modules::Modules;
@@ -41,37 +41,37 @@ pub(crate) enum Keyword {
 fn keyword_of(word: &[u8]) -> Option<Keyword>
     ensures { result ≡ keyword_of word.now }
 {
-    if word == b"task".as_slice() {
+    if is_word(word, b"task") {
         Some(Keyword::Task)
-    } else if word == b"poll".as_slice() {
+    } else if is_word(word, b"poll") {
         Some(Keyword::Poll)
-    } else if word == b"shadow".as_slice() {
+    } else if is_word(word, b"shadow") {
         Some(Keyword::Shadow)
-    } else if word == b"cat".as_slice() {
+    } else if is_word(word, b"cat") {
         Some(Keyword::Cat)
-    } else if word == b"echo".as_slice() {
+    } else if is_word(word, b"echo") {
         Some(Keyword::Echo)
-    } else if word == b"load".as_slice() {
+    } else if is_word(word, b"load") {
         Some(Keyword::Load)
-    } else if word == b"insmod".as_slice() {
+    } else if is_word(word, b"insmod") {
         Some(Keyword::Insmod)
-    } else if word == b"rmmod".as_slice() {
+    } else if is_word(word, b"rmmod") {
         Some(Keyword::Rmmod)
-    } else if word == b"ls".as_slice() {
+    } else if is_word(word, b"ls") {
         Some(Keyword::List)
-    } else if word == b"text".as_slice() {
+    } else if is_word(word, b"text") {
         Some(Keyword::Text)
-    } else if word == b"stack".as_slice() {
+    } else if is_word(word, b"stack") {
         Some(Keyword::Stack)
-    } else if word == b"pick".as_slice() {
+    } else if is_word(word, b"pick") {
         Some(Keyword::Pick)
-    } else if word == b"runs".as_slice() {
+    } else if is_word(word, b"runs") {
         Some(Keyword::Runs)
-    } else if word == b"mark".as_slice() {
+    } else if is_word(word, b"mark") {
         Some(Keyword::Mark)
-    } else if word == b"rewind".as_slice() {
+    } else if is_word(word, b"rewind") {
         Some(Keyword::Rewind)
-    } else if word == b"seal".as_slice() {
+    } else if is_word(word, b"seal") {
         Some(Keyword::Seal)
     } else {
         None
@@ -81,33 +81,21 @@ fn keyword_of(word: &[u8]) -> Option<Keyword>
 fn load_line(words: &mut Words<'_>, names: &NameResolver<'_>) -> Result<Request, LineFault>
     ensures { result ≡ load_line names.now words.old }
 {
-    let patch = word(words)?;
-    end(words)?;
-    if !is_name(patch) {
-        return Err(LineFault::BadLine);
-    }
+    let patch = only_name(words)?;
     Ok(Request::Take(Event::Enable(names.patch(patch)?)))
 }
 
 fn insmod_line(words: &mut Words<'_>, names: &NameResolver<'_>) -> Result<Request, LineFault>
     ensures { result ≡ insmod_line names.now words.old }
 {
-    let object = word(words)?;
-    end(words)?;
-    if !is_name(object) {
-        return Err(LineFault::BadLine);
-    }
+    let object = only_name(words)?;
     Ok(Request::Take(Event::Coming(names.object(object)?)))
 }
 
 fn rmmod_line(words: &mut Words<'_>, names: &NameResolver<'_>) -> Result<Request, LineFault>
     ensures { result ≡ rmmod_line names.now words.old }
 {
-    let object = word(words)?;
-    end(words)?;
-    if !is_name(object) {
-        return Err(LineFault::BadLine);
-    }
+    let object = only_name(words)?;
     Ok(Request::Take(Event::Going(names.object(object)?)))
 }
 
@@ -122,19 +110,14 @@ fn alone(request: Request, words: &mut Words<'_>) -> Result<Request, LineFault>
 fn text_line(words: &mut Words<'_>, names: &NameResolver<'_>) -> Result<Request, LineFault>
     ensures { result ≡ text_line names.now words.old }
 {
-    let object = word(words)?;
-    end(words)?;
-    if !is_name(object) {
-        return Err(LineFault::BadLine);
-    }
+    let object = only_name(words)?;
     Ok(Request::See(Query::Text(names.object(object)?)))
 }
 
 fn stack_line(words: &mut Words<'_>, names: &NameResolver<'_>) -> Result<Request, LineFault>
     ensures { result ≡ stack_line names.now words.old }
 {
-    let symbol = word(words)?;
-    end(words)?;
+    let symbol = only_word(words)?;
     let spelling = spelling_of(symbol).ok_or(LineFault::BadLine)?;
     Ok(Request::See(Query::Stack(names.site(&spelling)?)))
 }
@@ -142,9 +125,7 @@ fn stack_line(words: &mut Words<'_>, names: &NameResolver<'_>) -> Result<Request
 fn pick_line(words: &mut Words<'_>, names: &NameResolver<'_>) -> Result<Request, LineFault>
     ensures { result ≡ pick_line names.now words.old }
 {
-    let number = word(words)?;
-    let symbol = word(words)?;
-    end(words)?;
+    let (number, symbol) = two_words(words)?;
     let number = number_to(MAX_TASK_NUMBER, number)?;
     let spelling = spelling_of(symbol).ok_or(LineFault::BadLine)?;
     let task = task(number)?;
@@ -154,9 +135,7 @@ fn pick_line(words: &mut Words<'_>, names: &NameResolver<'_>) -> Result<Request,
 fn runs_line(words: &mut Words<'_>, names: &NameResolver<'_>) -> Result<Request, LineFault>
     ensures { result ≡ runs_line names.now words.old }
 {
-    let patch = word(words)?;
-    let object = word(words)?;
-    end(words)?;
+    let (patch, object) = two_words(words)?;
     if !is_name(patch) || !is_name(object) {
         return Err(LineFault::BadLine);
     }
@@ -167,8 +146,7 @@ fn runs_line(words: &mut Words<'_>, names: &NameResolver<'_>) -> Result<Request,
 fn rewind_line(words: &mut Words<'_>) -> Result<Request, LineFault>
     ensures { result ≡ rewind_line words.old }
 {
-    let mark = word(words)?;
-    end(words)?;
+    let mark = only_word(words)?;
     Ok(Request::Rewind(number_to(MAX_MARK, mark)? as u32))
 }
 

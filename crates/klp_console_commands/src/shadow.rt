@@ -5,7 +5,7 @@ ghost use Rattle.klp_console_commands.specs.Lines.{key_of, variable_of, alloc_li
 
 use crate::fault::LineFault;
 use crate::request::{Query, Request};
-use crate::words::{end, number, value, word};
+use crate::words::{end, is_word, number, only_word, two_words, value, word};
 use klp_model::Event;
 use klp_types::{ShadowKey, ShadowValue};
 use klp_words::Words;
@@ -14,9 +14,7 @@ use klp_words::Words;
 fn key(words: &mut Words<'_>) -> Result<ShadowKey, LineFault>
     ensures { result ≡ key_of words.old }
 {
-    let obj = word(words)?;
-    let id = word(words)?;
-    end(words)?;
+    let (obj, id) = two_words(words)?;
     let obj = number(obj)?;
     let id = number(id)?;
     Ok(ShadowKey { obj, id })
@@ -58,8 +56,7 @@ fn free_line(words: &mut Words<'_>) -> Result<Request, LineFault>
 fn free_all_line(words: &mut Words<'_>) -> Result<Request, LineFault>
     ensures { result ≡ free_all_line words.old }
 {
-    let id = word(words)?;
-    end(words)?;
+    let id = only_word(words)?;
     Ok(Request::Take(Event::ShadowFreeAll(number(id)?)))
 }
 
@@ -75,15 +72,15 @@ pub(crate) fn shadow_line(words: &mut Words<'_>) -> Result<Request, LineFault>
     ensures { result ≡ shadow_line words.old }
 {
     let verb = word(words)?;
-    if verb == b"alloc".as_slice() {
+    if is_word(verb, b"alloc") {
         alloc_line(words)
-    } else if verb == b"getalloc".as_slice() {
+    } else if is_word(verb, b"getalloc") {
         get_or_alloc_line(words)
-    } else if verb == b"free".as_slice() {
+    } else if is_word(verb, b"free") {
         free_line(words)
-    } else if verb == b"freeall".as_slice() {
+    } else if is_word(verb, b"freeall") {
         free_all_line(words)
-    } else if verb == b"get".as_slice() {
+    } else if is_word(verb, b"get") {
         get_line(words)
     } else {
         Err(LineFault::BadLine)

@@ -8,7 +8,7 @@ ghost use Rattle.klp_console_commands.specs.Lines.{sleep_line, fork_line, plain_
 use crate::fault::LineFault;
 use crate::names::{NameResolver, task};
 use crate::request::Request;
-use crate::words::{end, is_name, number_to, word};
+use crate::words::{end, is_name, is_word, number_to, only_word, word};
 use klp_model::Event;
 use klp_types::{Frames, MAX_FRAMES, MAX_INDEX, MAX_TASK_NUMBER};
 use klp_words::{Words, cut, spelling_of};
@@ -75,8 +75,7 @@ fn sleep_line(
 fn fork_line(number: u64, words: &mut Words<'_>) -> Result<Request, LineFault>
     ensures { result ≡ fork_line number words.old }
 {
-    let child = word(words)?;
-    end(words)?;
+    let child = only_word(words)?;
     let child = number_to(MAX_TASK_NUMBER, child)?;
     let parent = task(number)?;
     Ok(Request::Take(Event::Fork(parent, task(child)?)))
@@ -87,15 +86,15 @@ fn fork_line(number: u64, words: &mut Words<'_>) -> Result<Request, LineFault>
 fn plain_event(verb: &[u8], number: u64) -> Result<Request, LineFault>
     ensures { result ≡ plain_event verb.now number }
 {
-    if verb == b"new".as_slice() {
+    if is_word(verb, b"new") {
         Ok(Request::Take(Event::NewTask(task(number)?)))
-    } else if verb == b"end".as_slice() {
+    } else if is_word(verb, b"end") {
         Ok(Request::Take(Event::EndTask(task(number)?)))
-    } else if verb == b"enter".as_slice() {
+    } else if is_word(verb, b"enter") {
         Ok(Request::Take(Event::EnterKernel(task(number)?)))
-    } else if verb == b"exit".as_slice() {
+    } else if is_word(verb, b"exit") {
         Ok(Request::Take(Event::ExitToUser(task(number)?)))
-    } else if verb == b"wake".as_slice() {
+    } else if is_word(verb, b"wake") {
         Ok(Request::Take(Event::Wake(task(number)?)))
     } else {
         Err(LineFault::BadLine)
@@ -120,9 +119,9 @@ pub(crate) fn task_line(
     let verb = word(words)?;
     let word = word(words)?;
     let number = number_to(MAX_TASK_NUMBER, word)?;
-    if verb == b"sleep".as_slice() {
+    if is_word(verb, b"sleep") {
         sleep_line(number, words, names)
-    } else if verb == b"fork".as_slice() {
+    } else if is_word(verb, b"fork") {
         fork_line(number, words)
     } else {
         plain_line(verb, number, words)

@@ -1,8 +1,8 @@
 //! The words of a line, and what a word is by itself, which needs no names.
 
-ghost use Rattle.std.specs.Prelude.{◌≡◌, ℕ, ◌≤◌, true, false, List, ◌∷◌, [], length, drop, nat_eq, IfOk, MatchOption, MatchResult};
+ghost use Rattle.std.specs.Prelude.{◌≡◌, ℕ, ◌≤◌, true, false, List, ◌∷◌, [], length, drop, nat_eq, bytes_eq, Ok, Err, IfOk, MatchOption, MatchResult};
 ghost use Rattle.std.specs.List.{starts_with};
-ghost use Rattle.klp_console_commands.specs.Words.{is_name, number_of, value_of, number_to};
+ghost use Rattle.klp_console_commands.specs.Words.{is_name, only_word, only_name, two_words, number_of, value_of, number_to};
 
 use crate::fault::LineFault;
 use klp_types::ShadowValue;
@@ -25,6 +25,46 @@ pub(crate) fn end(words: &mut Words<'_>) -> Result<(), LineFault>
         None => Ok(()),
         Some(_) => Err(LineFault::BadLine),
     }
+}
+
+/// The one word that is left, or `BadLine` where there is none or another one behind it.
+pub(crate) fn only_word<'a>(words: &mut Words<'a>) -> Result<&'a [u8], LineFault>
+    ensures { MatchResult result (λ word. only_word words.old ≡ Ok word.now) (λ fault. only_word words.old ≡ Err fault) }
+{
+    let (Some(word), None) = (words.next(), words.next()) else {
+        return Err(LineFault::BadLine);
+    };
+    Ok(word)
+}
+
+/// The one word that is left, which may name a patch or an object.
+pub(crate) fn only_name<'a>(words: &mut Words<'a>) -> Result<&'a [u8], LineFault>
+    ensures { MatchResult result (λ word. only_name words.old ≡ Ok word.now) (λ fault. only_name words.old ≡ Err fault) }
+{
+    let word = only_word(words)?;
+    if is_name(word) {
+        Ok(word)
+    } else {
+        Err(LineFault::BadLine)
+    }
+}
+
+/// The two words that are left.
+pub(crate) fn two_words<'a>(words: &mut Words<'a>) -> Result<(&'a [u8], &'a [u8]), LineFault>
+    ensures { MatchResult result (λ found. two_words words.old ≡ Ok (found.0.now, found.1.now))
+        (λ fault. two_words words.old ≡ Err fault) }
+{
+    let (Some(first), Some(second), None) = (words.next(), words.next(), words.next()) else {
+        return Err(LineFault::BadLine);
+    };
+    Ok((first, second))
+}
+
+/// Whether a word is this one, byte by byte.
+pub(crate) fn is_word(word: &[u8], other: &[u8]) -> bool
+    ensures { result ≡ bytes_eq word.now other.now }
+{
+    word == other
 }
 
 /// Whether the word may name a patch or an object: it has neither `/` nor `:`, which separate names.
