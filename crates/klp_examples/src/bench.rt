@@ -6,7 +6,7 @@ use crate::measured::{SCENES, Scene};
 use crate::whole::{TIMES, Whole, Work};
 use klp_catalog::Catalog;
 use klp_core::Manager;
-use klp_program::boot;
+use klp_program::{boot, close};
 use std::alloc::Global;
 use std::fs;
 use std::rt::{Clock, Files};
@@ -51,6 +51,7 @@ fn round<R: Clock>(rt: &R, alloc: Global, text: &str, scene: &mut Scene) -> Resu
             break;
         }
     }
+    close(manager);
     ended
 }
 

@@ -16,5 +16,5 @@ pub use booted::boot;
 pub use fault::Fault;
 pub use file::catalog_in;
 pub use sample::CATALOG;
-pub use serve::{console, served};
+pub use serve::{close, console, served};
 pub use wanted::Words;

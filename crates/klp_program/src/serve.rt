@@ -18,9 +18,9 @@ use std::io::{Read, Write};
 use std::marker::Brand;
 use std::sync::ledger::{Blank, Ledger};
 
-// Drops the manager: a function of its own, since what that does to all that a manager owns is
-// proved faster where nothing is generic.
-fn close(_manager: Manager) {}
+/// Drops a manager. Who owns one ends with this call, since what a drop does to all that a manager owns
+/// is dear to prove, and is proved here once.
+pub fn close(_manager: Manager) {}
 
 // Serves the console by a manager, which goes then.
 fn serve_by<R: Source, W: Sink>(
