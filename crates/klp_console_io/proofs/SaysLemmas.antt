@@ -1,5 +1,5 @@
 -- Saying one text after another.
-use Rattle.std.proofs.Common.{◌≡◌, ℕ, ◌+◌, ◌<◌, ◌≤◌, Bool, true, false, true≢false, List, [], ◌++◌, length, inl, inr, refl, sym, ap, ◌∙◌, subst, append_assoc, append-nil, arith, length-append}
+use Rattle.std.proofs.Common.{◌≡◌, ℕ, ◌+◌, ◌-◌, ◌<◌, ◌≤◌, ◌⊎◌, Bool, true, false, true≢false, List, [], ◌++◌, length, inl, inr, refl, sym, ap, ◌∙◌, subst, append_assoc, append-nil, arith, length-append}
 use Rattle.std.proofs.KnownBytes.{Appends-nil, Appends-trans}
 use Rattle.klp_console_io.specs.Gathered.{Gathered}
 use Rattle.klp_console_io.specs.Written.{Written}
@@ -38,6 +38,16 @@ fits_gathered gathered rest same fits = subst (λ bytes. length bytes ≤ ANSWER
 still_missing : (rest more : List ℕ) → 0 < length rest → 0 < length (rest ++ more)
 still_missing rest more missing = omega (arith, length-append rest more)
 
+-- what isn't held any more after both
+held_on : (a b c : ℕ) (gone more : List ℕ) → b ≡ a - length gone → c ≡ b - length more → c ≡ a - length (gone ++ more)
+held_on a b c gone more first second = omega (arith, first, second, length-append gone more)
+
+-- nothing was written twice, or all that was held was written once
+whole_on : (b c : ℕ) (gone more : List ℕ) → c ≡ b - length more → (gone ≡ []) ⊎ (b ≡ 0) → (more ≡ []) ⊎ (c ≡ 0) → (gone ++ more ≡ []) ⊎ (c ≡ 0)
+whole_on b c gone more left (inl none) (inl nothing) = inl (ap (λ (l : List ℕ). l ++ more) none ∙ nothing)
+whole_on b c gone more left first (inr all) = inr all
+whole_on b c gone more left (inr all) (inl nothing) = inr (omega (arith, left, all))
+
 -- the second text is said
 spoken_on : (a b c : Gathered × Written) (t u : List ℕ) → Spoken a b t → b.0.has_failed ≡ false → Spoken b c u → Spoken a c (t ++ u)
 spoken_on a b c t u first still second = elim first.leaves [
@@ -48,6 +58,8 @@ spoken_on a b c t u first still second = elim first.leaves [
         rest = second.rest;
         moves = subst (λ bytes. Moves a.1 c.1 bytes (first.gone ++ second.gone) second.rest) (append_assoc a.0.bytes t u) moves;
         leaves = leaves_on a b c second.rest calm.2 (λ fit. fits_gathered b.0.bytes first.rest calm.1 (calm.3 fit)) second.leaves;
+        held = held_on a.0.held b.0.held c.0.held first.gone second.gone first.held second.held;
+        whole = λ end. whole_on b.0.held c.0.held first.gone second.gone second.held (first.whole still) (second.whole end);
       }
   | inr blamed ↦ absurd (not_both _ blamed.0 still)
 ]
@@ -64,6 +76,8 @@ failed_on a b t u first failed = elim first.leaves [
       taken = first.moves.taken;
     };
     leaves = inr (blamed.0, blamed.1, still_missing first.rest u blamed.2);
+    held = first.held;
+    whole = λ calm. absurd (not_both _ failed calm);
   }
 ]
 
@@ -96,6 +110,8 @@ says_nothing a = record {
       rest = a.0.bytes;
       moves = record { cut = append-nil a.0.bytes; taken = Appends-nil a.1.taken };
       leaves = inl (still, refl, (refl, refl), λ fit. fit);
+      held = omega arith;
+      whole = λ calm. inl refl;
     },
   );
 }

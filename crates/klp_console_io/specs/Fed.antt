@@ -15,10 +15,12 @@ pub record Fed : Type 0 where
   pub failures : ℕ
   -- how many reads into some room were made, or failed
   pub reads : ℕ
+  -- the room of all reads together
+  pub asked : ℕ
 
 -- what it is to those who read
 abbrev pub supply_of : Fed → Supply
-supply_of fed = record { left = Some fed.left; has_ended = fed.has_ended; failures = fed.failures; reads = fed.reads }
+supply_of fed = record { left = Some fed.left; has_ended = fed.has_ended; failures = fed.failures; reads = fed.reads; asked = fed.asked }
 
 -- how many bytes a read gives into so much room
 abbrev pub given : Fed → ℕ → ℕ

@@ -1,6 +1,7 @@
 pub mod Lines
 pub mod Written
 pub mod Gathered
+pub mod Marks
 pub mod Says
 pub mod Texts
 pub mod Supply

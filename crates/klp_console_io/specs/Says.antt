@@ -1,5 +1,5 @@
 -- What it is to say a text: it is gathered behind what was, and from the front some of it is written.
-use Rattle.std.specs.Prelude.{◌≡◌, ℕ, ◌+◌, ◌<◌, ◌≤◌, true, false, List, ◌++◌, ◌⊎◌, length}
+use Rattle.std.specs.Prelude.{◌≡◌, ℕ, ◌+◌, ◌-◌, ◌<◌, ◌≤◌, true, false, List, [], ◌++◌, ◌⊎◌, length}
 use Rattle.std.specs.Io.KnownBytes.{Appends}
 use Rattle.klp_console_io.specs.Written.{Written}
 use Rattle.klp_console_io.specs.Gathered.{Gathered}
@@ -25,12 +25,15 @@ Leaves before after rest =
     ((after.0.has_failed ≡ false) × (after.0.bytes ≡ rest) × IsWell before.1 after.1 × (length before.0.bytes ≤ ANSWER_ROOM → length rest ≤ ANSWER_ROOM))
     ⊎ ((after.0.has_failed ≡ true) × IsToBlame before.1 after.1 × (0 < length rest))
 
--- The text is said: its bytes are behind those that were gathered. The front of them all was written, and the rest is gathered or missing.
+-- The text is said: its bytes are behind those that were gathered. The front of them all was written, and the rest is gathered or missing. Of the bytes
+-- that are held, those in the front aren't any more; where the sink hasn't failed, nothing was written, or all that is held.
 pub record Spoken (before after : Gathered × Written) (text : List ℕ) : Type 0 where
   pub gone : List ℕ
   pub rest : List ℕ
   pub moves : Moves before.1 after.1 (before.0.bytes ++ text) gone rest
   pub leaves : Leaves before after rest
+  pub held : after.0.held ≡ before.0.held - length gone
+  pub whole : after.0.has_failed ≡ false → (gone ≡ []) ⊎ (after.0.held ≡ 0)
 
 -- After a failure nothing is said: nothing changes.
 unfoldable pub Speaks : Gathered × Written → Gathered × Written → List ℕ → Type 0

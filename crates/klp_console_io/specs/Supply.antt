@@ -11,6 +11,8 @@ pub record Supply : Type 0 where
   pub failures : ℕ
   -- how many reads into some room were made; one that fails counts wherever it reads to
   pub reads : ℕ
+  -- how many bytes were asked for: the room of all reads together
+  pub asked : ℕ
 
 -- A read gave the first n bytes of what is now in the room that it was given.
 pub record Gives (before after : Supply) (room : List ℕ) (n : ℕ) : Type 0 where
@@ -24,10 +26,12 @@ pub record Gives (before after : Supply) (room : List ℕ) (n : ℕ) : Type 0 wh
   pub failures : after.failures ≡ before.failures
   -- a read into some room is counted
   pub reads : 0 < length room → after.reads ≡ before.reads + 1
+  pub asked : after.asked ≡ before.asked + length room
 
--- A read failed. It took nothing, and is counted.
-pub record Fails (before after : Supply) : Type 0 where
+-- A read into this room failed. It took nothing, and is counted.
+pub record Fails (before after : Supply) (room : List ℕ) : Type 0 where
   pub left : Keeps before.left after.left
   pub has_ended : after.has_ended ≡ before.has_ended
   pub failures : after.failures ≡ before.failures + 1
   pub reads : after.reads ≡ before.reads + 1
+  pub asked : after.asked ≡ before.asked + length room

@@ -1,6 +1,6 @@
 //! What is said: gathered first, and written where the room is full, since a write for each word would be a
 //! call of the kernel each.
-ghost use Rattle.std.specs.Prelude.{◌≡◌, ℕ, ◌+◌, ◌<◌, ◌≤◌, ◌⊎◌, false, List, [], length, OnOk, OnErr};
+ghost use Rattle.std.specs.Prelude.{◌≡◌, ℕ, ◌+◌, ◌<◌, ◌≤◌, ◌⊎◌, false, List, [], length, OnOk, IfErr};
 ghost use Rattle.std.specs.Fmt.{decimal, signed_decimal};
 ghost use Rattle.std.specs.Io.KnownBytes.{Appends};
 ghost use Rattle.hex.specs.Hex.{encode_lower};
@@ -21,6 +21,8 @@ const PIECE: usize = 32;
 #[derive(Drop)]
 pub struct Answers {
     bytes: ArrayVec<u8, ANSWER_ROOM>,
+    /// How many of the first bytes were gathered when they were last held, and aren't written yet.
+    held: usize,
     /// Whether the sink has failed. It is kept here, so that whoever says ten words needs to ask once
     /// (docs/DECISIONS.md, "A failed sink").
     has_failed: bool,
@@ -31,26 +33,30 @@ impl Model for Answers {
 
     ghost Value = { Gathered };
 
-    ghost view = { λ a. record { bytes = a.bytes.items; has_failed = a.has_failed } };
+    ghost use Rattle.std.specs.Prelude.{◌≤◌, length};
+
+    ghost view = { λ a. record { bytes = a.bytes.items; held = a.held; has_failed = a.has_failed } };
+
+    ghost invariant = { λ a. a.held ≤ length a.bytes.items };
 }
 
 /// Writes all bytes, in as many writes as it takes. A write that takes none is a failure, since to try
-/// again might never end.
-fn write_all<W: Sink>(writer: &mut W, bytes: &[u8]) -> Result<(), Failed>
+/// again might never end. Then it answers how many bytes were taken before.
+fn write_all<W: Sink>(writer: &mut W, bytes: &[u8]) -> Result<(), usize>
     ensures ok { OnOk result
         (Appends (W.written writer.old).taken (W.written writer.new).taken bytes.now
         × IsWell (W.written writer.old) (W.written writer.new)) }
-    ensures err { OnErr result
-        ((gone rest : List ℕ) × Moves (W.written writer.old) (W.written writer.new) bytes.now gone rest
-        × IsToBlame (W.written writer.old) (W.written writer.new) × (0 < length rest)) }
+    ensures err { IfErr result (λ count.
+        (gone rest : List ℕ) × Moves (W.written writer.old) (W.written writer.new) bytes.now gone rest
+        × IsToBlame (W.written writer.old) (W.written writer.new) × (0 < length rest) × (length gone ≡ count)) }
 {
     let mut done = 0;
     while done < bytes.len() {
         match writer.write(&bytes[done..]) {
-            Err(_) => return Err(Failed),
+            Err(Failed) => return Err(done),
             Ok(count) => {
                 if count == 0 {
-                    return Err(Failed);
+                    return Err(done);
                 }
                 done += count;
             }
@@ -73,10 +79,11 @@ fn in_hex<'a>(piece: &[u8], digits: &'a mut [u8; 2 * PIECE]) -> &'a [u8]
 impl Answers {
     /// Nothing is said yet, and no sink is known: it comes with the first call.
     pub fn new() -> Answers
-        ensures { result ≡ record { bytes = []; has_failed = false } }
+        ensures { result ≡ record { bytes = []; held = 0; has_failed = false } }
     {
         Answers {
             bytes: ArrayVec::new(),
+            held: 0,
             has_failed: false,
         }
     }
@@ -89,6 +96,31 @@ impl Answers {
         self.has_failed
     }
 
+    /// How many bytes are gathered.
+    pub fn len(&self) -> usize
+        ensures { result ≡ length self.now.bytes }
+    {
+        self.bytes.len()
+    }
+
+    /// Holds what is gathered now, and answers how many bytes that is: `held` tells from then on how many
+    /// of them aren't written.
+    pub fn hold(&mut self) -> usize
+        ensures held { self.new ≡ record self.old { held = length self.old.bytes } }
+        ensures result { result ≡ length self.old.bytes }
+    {
+        self.held = self.bytes.len();
+        self.held
+    }
+
+    /// How many of the bytes that were held aren't written: none once all of them are. After a failure it
+    /// tells where the sink stopped.
+    pub fn held(&self) -> usize
+        ensures { result ≡ self.now.held }
+    {
+        self.held
+    }
+
     /// Writes all that was gathered. After a failure it does nothing, so it may be called without asking.
     #[tactic(auto, unfolding(crate::specs::Says::Speaks))]
     pub fn flush<W: Sink>(&mut self, writer: &mut W)
@@ -99,8 +131,14 @@ impl Answers {
             return;
         }
         match write_all(writer, self.bytes.as_slice()) {
-            Ok(()) => self.bytes.clear(),
-            Err(Failed) => self.has_failed = true,
+            Ok(()) => {
+                self.bytes.clear();
+                self.held = 0;
+            }
+            Err(written) => {
+                self.held = self.held.saturating_sub(written);
+                self.has_failed = true;
+            }
         }
     }
 

@@ -23,16 +23,16 @@ impl<L: Ledger> Model for Count<L> {
 }
 
 impl<L: Ledger> Count<L> {
-    /// One more. The book is handed in, since two counts share it.
-    pub fn add(&mut self, book: &mut Book<L>)
-        ensures { self.new ≡ self.old + 1 }
+    /// So many more. The book is handed in, since the counts of a stream share it.
+    pub fn add(&mut self, book: &mut Book<L>, more: usize)
+        ensures { self.new ≡ self.old + more }
     {
-        book.add(&mut self.share, 1);
+        book.add(&mut self.share, more as u64);
     }
 }
 
-/// Two counts in one book, both at 0. A stream needs two, and whoever makes one hands in one blank for
-/// both.
+/// Two counts in one book, both at 0: those of a sink. Whoever makes a stream hands in one blank for all of
+/// its counts.
 pub fn two_counts<L: Ledger>(blank: Blank) -> (Book<L>, Count<L>, Count<L>)
     requires name { blank.name ≡ L.name }
     requires parts { blank.parts ≡ L.parts }
@@ -43,4 +43,24 @@ pub fn two_counts<L: Ledger>(blank: Blank) -> (Book<L>, Count<L>, Count<L>)
     let (book, mut share) = blank.open::<L>();
     let other = share.split_off(1, 0);
     (book, Count { share }, Count { share: other })
+}
+
+/// Three counts in one book, all at 0: those of a source.
+pub fn three_counts<L: Ledger>(blank: Blank) -> (Book<L>, Count<L>, Count<L>, Count<L>)
+    requires name { blank.name ≡ L.name }
+    requires parts { blank.parts ≡ L.parts }
+    requires three { 3 ≤ blank.parts }
+    ensures first { result.1 ≡ 0 }
+    ensures second { result.2 ≡ 0 }
+    ensures third { result.3 ≡ 0 }
+{
+    let (book, mut share) = blank.open::<L>();
+    let second = share.split_off(1, 0);
+    let third = share.split_off(1, 0);
+    (
+        book,
+        Count { share },
+        Count { share: second },
+        Count { share: third },
+    )
 }

@@ -1,7 +1,7 @@
 //! Bytes in memory as a source, so that tests can cut an input as they want.
 ghost use Rattle.std.specs.Prelude.{◌≡◌, ◌<◌, ◌≤◌, ◌↔◌, false, length, Some, IsErr, IfOk, OnErr};
 
-use crate::count::{Count, two_counts};
+use crate::count::{Count, three_counts};
 use crate::due::is_due;
 use crate::sink::Failed;
 use crate::source::Source;
@@ -20,6 +20,7 @@ pub struct Feed<'a, L: Ledger> {
     book: Book<L>,
     failures: Count<L>,
     reads: Count<L>,
+    asked: Count<L>,
 }
 
 impl<'a, L: Ledger> Model for Feed<'a, L> {
@@ -28,24 +29,24 @@ impl<'a, L: Ledger> Model for Feed<'a, L> {
 
     ghost Value = { Fed };
 
-    ghost view = { λ f. record { left = f.left.now; most = f.most; fails_in = f.fails_in; has_ended = f.has_ended; failures = f.failures; reads = f.reads } };
+    ghost view = { λ f. record { left = f.left.now; most = f.most; fails_in = f.fails_in; has_ended = f.has_ended; failures = f.failures; reads = f.reads; asked = f.asked } };
 
     ghost invariant = { λ f. 0 < f.most };
 }
 
 impl<'a, L: Ledger> Feed<'a, L> {
     /// Feeds `bytes`, at most `most` of them in one read, which isn't 0, or the feed would end at once. The
-    /// read of the number `fails_at` fails, counted from 0. The blank is for the two counts, and has two
+    /// read of the number `fails_at` fails, counted from 0. The blank is for the three counts, and has three
     /// parts.
     pub fn new(bytes: &'a [u8], most: usize, fails_at: Option<u32>, blank: Blank) -> Self
         requires most { 0 < most }
         requires name { blank.name ≡ L.name }
         requires parts { blank.parts ≡ L.parts }
-        requires two { 2 ≤ blank.parts }
+        requires three { 3 ≤ blank.parts }
         ensures { result
-            ≡ record { left = bytes.now; most = most; fails_in = fails_at; has_ended = false; failures = 0; reads = 0 } }
+            ≡ record { left = bytes.now; most = most; fails_in = fails_at; has_ended = false; failures = 0; reads = 0; asked = 0 } }
     {
-        let (book, failures, reads) = two_counts(blank);
+        let (book, failures, reads, asked) = three_counts(blank);
         Feed {
             left: bytes,
             most,
@@ -54,6 +55,7 @@ impl<'a, L: Ledger> Feed<'a, L> {
             book,
             failures,
             reads,
+            asked,
         }
     }
 
@@ -76,18 +78,19 @@ impl<'a, L: Ledger> Source for Feed<'a, L> {
     /// fails, which gives none. A read into no room is no end.
     fn read(&mut self, buf: &mut [u8]) -> Result<usize, Failed>
         ensures ok { IfOk result (λ n. Gives (supply_of self.old) (supply_of self.new) buf.new n) }
-        ensures err { OnErr result (Fails (supply_of self.old) (supply_of self.new)) }
+        ensures err { OnErr result (Fails (supply_of self.old) (supply_of self.new) buf.new) }
         ensures due { IsErr result ↔ (self.old.fails_in ≡ Some 0) }
         ensures sooner { self.new.fails_in ≡ one_sooner self.old.fails_in }
         ensures count { IfOk result (λ n. n ≡ given self.old (length buf.old)) }
         ensures most { self.new.most ≡ self.old.most }
     {
         let fails = is_due(&mut self.fails_in);
+        self.asked.add(&mut self.book, buf.len());
         if fails || !buf.is_empty() {
-            self.reads.add(&mut self.book);
+            self.reads.add(&mut self.book, 1);
         }
         if fails {
-            self.failures.add(&mut self.book);
+            self.failures.add(&mut self.book, 1);
             return Err(Failed);
         }
         let count = self.most.min(self.left.len()).min(buf.len());

@@ -16,10 +16,13 @@
 //! a front of what was gathered and of the text, and the rest, at most 4,096 bytes, is gathered; or the
 //! sink failed or took nothing once, and the rest, a byte at least, is lost. After a failure nothing
 //! changes. After `flush` nothing is gathered, unless the sink failed. Numbers, bytes and addresses have
-//! the texts of `specs/Texts`; an address has 16 digits.
+//! the texts of `specs/Texts`; an address has 16 digits. What was gathered when it was last held is told
+//! apart from what comes behind it, so after a failure it is known how much of it was written, and by the
+//! [`Marks`] of lines which of them has the answer that was cut off (`specs/Marks`).
 //!
-//! A failed call of a source or a sink gives or takes nothing. Contracts count reads into room, calls that
-//! failed, and writes that took nothing, and with them say who is to blame where a console stops (`Gives`,
+//! A failed call of a source or a sink gives or takes nothing. Contracts count reads into room, the bytes
+//! that were asked for, calls that failed, and writes that took nothing, and with them say who is to blame
+//! where a console stops (`Gives`,
 //! `Fails` in `specs/Supply`): the counts take no bytes, since they are there for contracts alone.
 //! [`OverRead`] and [`OverWrite`] are readers and writers of std, by what std says of their bytes; [`Feed`]
 //! and [`Taken`] are bytes in memory (`specs/Fed`, `Held`), cut as finely as is asked, with one call that
@@ -32,6 +35,7 @@ mod due;
 mod feed;
 pub mod laws;
 mod line_buffer;
+mod marks;
 mod over_read;
 mod over_write;
 mod sink;
@@ -41,6 +45,7 @@ mod taken;
 pub use answers::Answers;
 pub use feed::Feed;
 pub use line_buffer::{LineBuffer, TooLong};
+pub use marks::{MARKS_ROOM, Mark, Marks};
 pub use over_read::OverRead;
 pub use over_write::OverWrite;
 pub use sink::{Failed, Sink};

@@ -1,7 +1,7 @@
 //! A reader of std as a source: the standard input of the program, and readers in tests.
 ghost use Rattle.std.specs.Prelude.{◌≡◌, ◌≤◌, false};
 
-use crate::count::{Count, two_counts};
+use crate::count::{Count, three_counts};
 use crate::sink::Failed;
 use crate::source::Source;
 use std::io::Read;
@@ -17,6 +17,7 @@ pub struct OverRead<R: Read, L: Ledger> {
     book: Book<L>,
     failures: Count<L>,
     reads: Count<L>,
+    asked: Count<L>,
 }
 
 impl<R: Read, L: Ledger> Model for OverRead<R, L> {
@@ -24,24 +25,25 @@ impl<R: Read, L: Ledger> Model for OverRead<R, L> {
 
     ghost Value = { Supply };
 
-    ghost view = { λ o. record { left = R.remaining o.reader; has_ended = o.has_ended; failures = o.failures; reads = o.reads } };
+    ghost view = { λ o. record { left = R.remaining o.reader; has_ended = o.has_ended; failures = o.failures; reads = o.reads; asked = o.asked } };
 }
 
 impl<R: Read, L: Ledger> OverRead<R, L> {
-    /// Reads from `reader`. The blank is for the two counts, and has two parts.
+    /// Reads from `reader`. The blank is for the three counts, and has three parts.
     pub fn new(reader: R, blank: Blank) -> Self
         requires name { blank.name ≡ L.name }
         requires parts { blank.parts ≡ L.parts }
-        requires two { 2 ≤ blank.parts }
-        ensures { result ≡ record { left = R.remaining reader; has_ended = false; failures = 0; reads = 0 } }
+        requires three { 3 ≤ blank.parts }
+        ensures { result ≡ record { left = R.remaining reader; has_ended = false; failures = 0; reads = 0; asked = 0 } }
     {
-        let (book, failures, reads) = two_counts(blank);
+        let (book, failures, reads, asked) = three_counts(blank);
         OverRead {
             reader,
             has_ended: false,
             book,
             failures,
             reads,
+            asked,
         }
     }
 
@@ -55,6 +57,7 @@ impl<R: Read, L: Ledger> OverRead<R, L> {
             book: _,
             failures: _,
             reads: _,
+            asked: _,
         } = self;
         reader
     }
@@ -64,10 +67,11 @@ impl<R: Read, L: Ledger> Source for OverRead<R, L> {
     ghost supply = { λ o. o };
 
     fn read(&mut self, buf: &mut [u8]) -> Result<usize, Failed> {
+        self.asked.add(&mut self.book, buf.len());
         match self.reader.read(buf) {
             Ok(count) => {
                 if !buf.is_empty() {
-                    self.reads.add(&mut self.book);
+                    self.reads.add(&mut self.book, 1);
                 }
                 if count == 0 && !buf.is_empty() {
                     self.has_ended = true;
@@ -77,8 +81,8 @@ impl<R: Read, L: Ledger> Source for OverRead<R, L> {
             // That this was a failure of the reader no clause says, since std's readers count none
             // (docs/DECISIONS.md, "Failures of std").
             Err(_) => {
-                self.reads.add(&mut self.book);
-                self.failures.add(&mut self.book);
+                self.reads.add(&mut self.book, 1);
+                self.failures.add(&mut self.book, 1);
                 Err(Failed)
             }
         }

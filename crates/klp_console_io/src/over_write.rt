@@ -63,12 +63,12 @@ impl<W: Write, L: Ledger> Sink for OverWrite<W, L> {
         match self.writer.write(bytes) {
             Ok(count) => {
                 if count == 0 && !bytes.is_empty() {
-                    self.stalls.add(&mut self.book);
+                    self.stalls.add(&mut self.book, 1);
                 }
                 Ok(count)
             }
             Err(_) => {
-                self.failures.add(&mut self.book);
+                self.failures.add(&mut self.book, 1);
                 Err(Failed)
             }
         }

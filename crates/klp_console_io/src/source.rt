@@ -12,8 +12,8 @@ pub trait Source {
 
     /// Reads some bytes to the front of `buf`, and answers how many. None into some room is the end, and an
     /// `Err` a failure, which takes nothing. A read into no room counts only where it fails, since it can't
-    /// find the end.
+    /// find the end. The room of all reads is counted too, so that a contract can say how much was asked for.
     fn read(&mut self, buf: &mut [u8]) -> Result<usize, Failed>
         ensures ok { IfOk result (λ n. Gives (supply self.old) (supply self.new) buf.new n) }
-        ensures err { OnErr result (Fails (supply self.old) (supply self.new)) };
+        ensures err { OnErr result (Fails (supply self.old) (supply self.new) buf.new) };
 }

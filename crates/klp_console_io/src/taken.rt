@@ -90,14 +90,14 @@ impl<const ROOM: usize, L: Ledger> Sink for Taken<ROOM, L> {
         ensures most { self.new.most ≡ self.old.most }
     {
         if is_due(&mut self.fails_in) {
-            self.failures.add(&mut self.book);
+            self.failures.add(&mut self.book, 1);
             return Err(Failed);
         }
         let room = self.bytes.remaining_capacity();
         let count = self.most.min(room).min(bytes.len());
         let _ = self.bytes.try_extend_from_slice(&bytes[..count]);
         if count == 0 && !bytes.is_empty() {
-            self.stalls.add(&mut self.book);
+            self.stalls.add(&mut self.book, 1);
         }
         Ok(count)
     }
