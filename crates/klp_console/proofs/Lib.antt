@@ -1,4 +1,7 @@
 pub mod SaidLemmas
+pub mod BackLemmas
+pub mod AheadLemmas
+pub mod HearLemmas
 pub mod WithdrawnLemmas
 pub mod ServeLemmas
 mod LineLemmas

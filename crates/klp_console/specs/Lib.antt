@@ -1,6 +1,7 @@
 pub mod Answered
 pub mod Asked
 pub mod Lines
+pub mod Back
 pub mod Said
 pub mod Served
 pub mod Refusals

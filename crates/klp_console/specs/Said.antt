@@ -2,37 +2,63 @@
 use Rattle.std.specs.Prelude.{◌≡◌, ℕ, ◌+◌, ◌<◌, ◌≤◌, Bool, true, false, List, [], ◌∷◌, ◌++◌, length, count_by, Result, Ok, Err}
 use Rattle.std.specs.Io.KnownBytes.{Appends}
 use Rattle.klp_core.specs.Journaled.{Journaled}
+use Rattle.klp_console_io.specs.declared.marks.Mark.{Mark}
 use Rattle.klp_console_io.specs.Gathered.{Gathered}
 use Rattle.klp_console_io.specs.Written.{Written}
-use Rattle.klp_console_io.specs.Says.{IsToBlame, Says}
-use Rattle.klp_types.specs.declared.limits.TheConstants.{MAX_CONSOLE_LINE, ANSWER_ROOM}
+use Rattle.klp_console_io.specs.Says.{IsWell, IsToBlame, Says}
+use Rattle.klp_types.specs.declared.limits.TheConstants.{MAX_CONSOLE_LINE}
 use Rattle.klp_console.specs.declared.served.Served.{Served}
 use Rattle.klp_console.specs.declared.served.ServeFault.{ServeFault}
 use Rattle.klp_console.specs.declared.served.ServeFault.TheVariants.{Read, Write, LineTooLong}
 use Rattle.klp_console.specs.Answered.{Answer}
+use Rattle.klp_console.specs.Back.{AreMarked}
 use Rattle.klp_console.specs.Lines.{AreAnswered, are_short, texts_of}
 
--- the manager, how many lines were served, and what was gathered and written
+-- the manager, how many lines were served, what was gathered and written, and the marks of gathered lines
 pub record Moment : Type 0 where
   pub manager : Journaled
   pub served : Served
   pub said : Gathered × Written
+  pub marks : List Mark
 
 -- an answer of this kind was said, of which the caller knows whether it was a refusal
 abbrev pub IsSaid : (Answer → Type 0) → Gathered × Written → Gathered × Written → Bool → Type 0
 IsSaid is_answer before after refused = (text : List ℕ) × is_answer (record { text = text; is_refused = refused }) × Says before after text
 
--- lines were answered in order, all answers were said, and the lines were counted
+-- lines were answered in order and counted, from a moment on at which nothing was gathered; the front of their answers was written, and the rest is
+-- gathered
 pub record Serves (before after : Moment) (lines : List (List ℕ)) : Type 0 where
   pub answers : List Answer
   pub answered : AreAnswered before.manager after.manager lines answers
-  pub said : Says before.said after.said (texts_of answers)
   pub counted : after.served.lines ≡ before.served.lines + length lines
   pub refused : after.served.refused ≡ before.served.refused + count_by (λ (a : Answer). a.is_refused) answers
   pub short : are_short lines ≡ true
+  pub gone : List ℕ
+  pub cut : texts_of answers ≡ gone ++ after.said.0.bytes
+  pub written : Appends before.said.1.taken after.said.1.taken gone
+  pub well : IsWell before.said.1 after.said.1
+  pub still : after.said.0.has_failed ≡ false
 
--- The sink is to blame for what is missing of these answers: it took the front `gone`. Of those before the last no more is missing than is gathered at
--- most: so a line is done at most that far ahead of what is written.
+-- of answered lines the last ones are gathered, each with its mark, and the answers to those before them are written
+pub record HasMarks (before after : Moment) (lines : List (List ℕ)) (answers : List Answer) (written : ℕ) : Type 0 where
+  pub early : List (List ℕ)
+  pub held : List (List ℕ)
+  pub lines_are : lines ≡ early ++ held
+  pub early_answers : List Answer
+  pub held_answers : List Answer
+  pub answers_are : answers ≡ early_answers ++ held_answers
+  pub start : Journaled
+  pub answered : AreAnswered before.manager start early early_answers
+  pub all_written : length (texts_of early_answers) ≤ written
+  pub marked : AreMarked after.manager after.manager written (length (texts_of early_answers)) start held held_answers after.marks
+
+-- lines are served, perhaps ahead of their answers, and can be taken back as far as they are ahead
+pub record Ahead (before after : Moment) (lines : List (List ℕ)) : Type 0 where
+  pub serves : Serves before after lines
+  pub has_marks : HasMarks before after lines serves.answers (length serves.gone)
+
+-- The sink is to blame for what is missing of these answers: it took the front `gone`, in which those before the last are whole. So it is the last one
+-- that was cut off.
 pub record Stops (before after : Written) (answers : List Answer) : Type 0 where
   pub early : List Answer
   pub last : Answer
@@ -42,16 +68,35 @@ pub record Stops (before after : Written) (answers : List Answer) : Type 0 where
   pub cut : texts_of answers ≡ gone ++ rest
   pub written : Appends before.taken after.taken gone
   pub missing : 0 < length rest
-  pub few : length (texts_of early) ≤ length gone + ANSWER_ROOM
+  pub whole : length (texts_of early) ≤ length gone
   pub blame : IsToBlame before after
 
+-- the sink failed: of these lines those are done up to the one whose answer it cut off, and nothing behind it stands
+pub record IsCut (before after : Moment) (lines : List (List ℕ)) : Type 0 where
+  pub done : List (List ℕ)
+  pub later : List (List ℕ)
+  pub lines_are : lines ≡ done ++ later
+  pub answers : List Answer
+  pub answered : AreAnswered before.manager after.manager done answers
+  pub short : are_short done ≡ true
+  pub stops : Stops before.said.1 after.said.1 answers
+
+-- lines were served, or the sink failed in one of their answers
+abbrev pub Comes : Moment → Moment → List (List ℕ) → Type 0
+Comes before after lines =
+    (after.said.0.has_failed ≡ false → Ahead before after lines) × (after.said.0.has_failed ≡ true → IsCut before after lines)
+
 -- what became of a piece, cut into lines and a rest that belongs to the next line: all lines were served, or those up to one that is too long, or
--- those up to one whose answer couldn't be written
+-- the sink failed in an answer
 abbrev pub Hears : Moment → Moment → List (List ℕ) → List ℕ → Result Unit ServeFault → Type 0
-Hears before after pieces rest (Ok unit) = (lines : List (List ℕ)) × (pieces ≡ lines ++ rest ∷ []) × Serves before after lines × (after.said.0.has_failed ≡ false)
+Hears before after pieces rest (Ok unit) = (lines : List (List ℕ)) × (pieces ≡ lines ++ rest ∷ []) × Ahead before after lines
 Hears before after pieces rest (Err LineTooLong) =
-    (lines : List (List ℕ)) × (long : List ℕ) × (more : List (List ℕ)) × (pieces ≡ lines ++ long ∷ more) × (MAX_CONSOLE_LINE < length long) × Serves before after lines × (after.said.0.has_failed ≡ false)
+    (lines : List (List ℕ)) × (long : List ℕ) × (more : List (List ℕ)) × (pieces ≡ lines ++ long ∷ more) × (MAX_CONSOLE_LINE < length long) × Ahead before after lines
 Hears before after pieces rest (Err Write) =
-    (lines : List (List ℕ)) × (next : List ℕ) × (more : List (List ℕ)) × (pieces ≡ lines ++ next ∷ more) × (serves : Serves before after lines)
-    × Stops before.said.1 after.said.1 serves.answers × (after.said.0.has_failed ≡ true)
+    (lines : List (List ℕ)) × (next : List ℕ) × (more : List (List ℕ)) × (pieces ≡ lines ++ next ∷ more) × IsCut before after lines × (after.said.0.has_failed ≡ true)
 Hears before after pieces rest (Err Read) = ⊥
+
+-- all that was gathered is written, unless the sink failed
+abbrev pub IsWritten : Gathered → List Mark → Result Unit ServeFault → Type 0
+IsWritten gathered marks (Err Write) = Unit {0}
+IsWritten gathered marks result = (gathered.bytes ≡ []) × (marks ≡ [])

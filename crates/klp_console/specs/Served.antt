@@ -1,11 +1,11 @@
 -- What serving a console comes to.
-use Rattle.std.specs.Prelude.{◌≡◌, ℕ, ◌+◌, ◌<◌, ◌≤◌, true, List, [], ◌∷◌, ◌++◌, length, count_by, ◌⊎◌, Result, Ok, Err}
+use Rattle.std.specs.Prelude.{◌≡◌, ℕ, ◌+◌, ◌*◌, ◌<◌, ◌≤◌, true, List, [], ◌∷◌, ◌++◌, length, count_by, ◌⊎◌, Result, Ok, Err}
 use Rattle.std.specs.Io.KnownBytes.{Appends, Consumes, IsAtEnd}
 use Rattle.klp_core.specs.Journaled.{Journaled}
 use Rattle.klp_console_io.specs.Written.{Written}
 use Rattle.klp_console_io.specs.Says.{IsWell}
 use Rattle.klp_console_io.specs.Supply.{Supply}
-use Rattle.klp_types.specs.declared.limits.TheConstants.{MAX_CONSOLE_LINE, MAX_READS}
+use Rattle.klp_types.specs.declared.limits.TheConstants.{MAX_CONSOLE_LINE, MAX_READS, READ_ROOM}
 use Rattle.klp_console_io.specs.Lines.{lines_and_rest}
 use Rattle.klp_console.specs.declared.served.Served.{Served}
 use Rattle.klp_console.specs.declared.served.ServeFault.{ServeFault}
@@ -20,10 +20,15 @@ pub record Console : Type 0 where
   pub written : Written
   pub manager : Journaled
 
--- these bytes were read, in no more reads than may be made, and these lines of theirs were answered; what was withdrawn by them left no trace
+-- no more reads were made than may be, and each had the whole room: so an input costs no more of them than its source cuts it into
+pub record Asks (before after : Supply) : Type 0 where
+  pub few : after.reads ≤ before.reads + MAX_READS
+  pub whole_room : after.asked + READ_ROOM * before.reads ≡ before.asked + READ_ROOM * after.reads
+
+-- these bytes were read, and these lines of theirs were answered; what was withdrawn by them left no trace
 pub record Reads (before after : Console) (bytes : List ℕ) (lines : List (List ℕ)) (answers : List Answer) : Type 0 where
   pub read : Consumes before.supply.left after.supply.left bytes
-  pub few_reads : after.supply.reads ≤ before.supply.reads + MAX_READS
+  pub asks : Asks before.supply after.supply
   pub answered : AreAnswered before.manager after.manager lines answers
   pub withdrawn : LeaveNoTrace before.manager after.manager lines answers answered
   pub short : are_short lines ≡ true
@@ -78,8 +83,9 @@ abbrev pub AreFirst : Console → List (List ℕ) → List ℕ → Type 0
 AreFirst after lines bytes =
     ((next : List ℕ) × (more : List (List ℕ)) × (lines_and_rest bytes ≡ lines ++ next ∷ more)) ⊎ ((lines ≡ lines_of bytes) × (after.supply.has_ended ≡ true))
 
--- a write failed or took nothing. The lines up to the one whose answer it was are done, and a front of their answers was written. No read failed: so all
--- that is to be said is written before a read is made, which may fail, and none is made once a write has failed
+-- A write failed or took nothing. The lines up to the one whose answer it cut off are done, a front of their answers was written, and nothing behind that
+-- line stands: so however reads cut the input, the bytes that the sink took tell which lines are done. No read failed: so all that is to be said is
+-- written before a read is made, which may fail, and none is made once a write has failed
 pub record HasWriteFailed (before after : Console) : Type 0 where
   pub bytes : List ℕ
   pub lines : List (List ℕ)

@@ -1,16 +1,20 @@
 //! One line is done and answered: what it asks for is read first, so that the manager can be borrowed for
 //! it alone.
-ghost use Rattle.std.specs.Prelude.{◌≡◌, ◌+◌, ◌<◌, ◌≤◌, ◌^◌, false, [], ◌∷◌, length};
+ghost use Rattle.std.specs.Prelude.{◌≡◌, ℕ, ◌+◌, ◌<◌, ◌≤◌, ◌^◌, ◌⊎◌, true, false, cond, List, [], ◌∷◌, ◌++◌, length};
 ghost use Rattle.klp_types.specs.declared.limits.TheConstants.{MAX_CONSOLE_LINE};
-ghost use Rattle.klp_console.specs.Answered.{IsRewoundAs, IsDoneIf};
-ghost use Rattle.klp_console.specs.Said.{IsSaid, Serves};
+ghost use Rattle.klp_console_io.specs.declared.marks.TheConstants.{MARKS_ROOM};
+ghost use Rattle.klp_console_commands.specs.Lines as asked;
+ghost use Rattle.klp_console.specs.Answered.{IsRewoundAs, IsDoneIf, names_in};
+ghost use Rattle.klp_console.specs.Back as back;
+ghost use Rattle.klp_console.specs.Said.{Moment, IsSaid, Ahead, Comes};
 
+use crate::back::{can_be_taken_back, make_ready, mark_line, take_back, write_out};
 use crate::queries::{say_force_nothing, say_query};
 use crate::refusals::{say_bad_mark, say_fault};
 use crate::replies::{say_answer, say_done};
 use crate::served::Served;
 use klp_console_commands::{LineFault, Request, request_of};
-use klp_console_io::{Answers, Sink};
+use klp_console_io::{Answers, Marks, Sink};
 use klp_core::Manager;
 
 /// The events behind the mark are undone. Answers whether there are fewer than it, so that nothing was.
@@ -70,30 +74,101 @@ fn done<W: Sink>(
     }
 }
 
-/// Answers a line, and counts it, also where the sink fails meanwhile: what the line asked for is done.
-pub(crate) fn answer_line<W: Sink>(
+/// Counts a line.
+fn count(served: &mut Served, is_refused: bool)
+    requires room { served.old.lines + 1 < 2 ^ 64 }
+    requires few { served.old.refused ≤ served.old.lines }
+    ensures lines { served.new.lines ≡ served.old.lines + 1 }
+    ensures refused { served.new.refused ≡ served.old.refused + cond is_refused 1 0 }
+    ensures few { served.new.refused ≤ served.new.lines }
+{
+    served.lines += 1;
+    if is_refused {
+        served.refused += 1;
+    }
+}
+
+/// Does what a line asks for and gathers its answer. Where the sink fails meanwhile, in an answer before it,
+/// the line is taken back, which it can be or nothing is gathered before it.
+fn gather<W: Sink>(
+    manager: &mut Manager,
+    request: &Option<Result<Request, LineFault>>,
+    served: &mut Served,
+    answers: &mut Answers,
+    marks: &mut Marks,
+    writer: &mut W,
+)
+    requires still { answers.old.has_failed ≡ false }
+    requires room { served.old.lines + 1 < 2 ^ 64 }
+    requires few { served.old.refused ≤ served.old.lines }
+    requires marks { length marks.old < MARKS_ROOM }
+    requires back { (back.can_be_taken_back request.now ≡ true) ⊎ (marks.old ≡ []) }
+    ensures comes { (before : Moment) (lines : List (List ℕ)) (line : List ℕ)
+        → request.now ≡ asked.request_of (names_in manager.old) line → length line ≤ MAX_CONSOLE_LINE
+        → Ahead before (record {
+          manager = manager.old;
+          served = served.old;
+          said = (answers.old, W.written writer.old);
+          marks = marks.old;
+        }) lines
+        → Comes before (record {
+          manager = manager.new;
+          served = served.new;
+          said = (answers.new, W.written writer.new);
+          marks = marks.new;
+        }) (lines ++ line ∷ []) }
+    ensures few { served.new.refused ≤ served.new.lines }
+    ensures lines { served.new.lines ≡ served.old.lines + 1 }
+{
+    let gathered = answers.hold();
+    let is_refused = done(manager, request, answers, writer);
+    let events = manager.mark();
+    count(served, is_refused);
+    if answers.has_failed() {
+        take_back(manager, marks, answers, gathered);
+    } else {
+        mark_line(marks, answers, events);
+    }
+}
+
+/// Answers a line, and counts it. A line that can be taken back is answered ahead: its answer is gathered
+/// behind those before it. Around any other line all that is gathered is written.
+pub(crate) fn serve_line<W: Sink>(
     manager: &mut Manager,
     line: &[u8],
     served: &mut Served,
     answers: &mut Answers,
+    marks: &mut Marks,
     writer: &mut W,
 )
     requires still { answers.old.has_failed ≡ false }
     requires room { served.old.lines + 1 < 2 ^ 64 }
     requires few { served.old.refused ≤ served.old.lines }
     requires short { length line.now ≤ MAX_CONSOLE_LINE }
-    ensures serves { Serves
-        (record { manager = manager.old; served = served.old; said = (answers.old, W.written writer.old) })
-        (record { manager = manager.new; served = served.new; said = (answers.new, W.written writer.new) })
-        (line.now ∷ []) }
+    ensures comes { (before : Moment) (lines : List (List ℕ))
+        → Ahead before (record {
+          manager = manager.old;
+          served = served.old;
+          said = (answers.old, W.written writer.old);
+          marks = marks.old;
+        }) lines
+        → Comes before (record {
+          manager = manager.new;
+          served = served.new;
+          said = (answers.new, W.written writer.new);
+          marks = marks.new;
+        }) (lines ++ line.now ∷ []) }
     ensures few { served.new.refused ≤ served.new.lines }
+    ensures lines { served.new.lines ≤ served.old.lines + 1 }
 {
     let request = request_of(line, manager.catalog(), manager.modules());
-    let is_refused = done(manager, &request, answers, writer);
-    // made for its contract: what a manager's journal has leads to its state
-    let _standing = manager.mark();
-    served.lines += 1;
-    if is_refused {
-        served.refused += 1;
+    let is_ahead = can_be_taken_back(&request);
+    make_ready(manager, is_ahead, answers, marks, writer);
+    if answers.has_failed() {
+        return;
+    }
+    gather(manager, &request, served, answers, marks, writer);
+    if !is_ahead && !answers.has_failed() {
+        write_out(manager, answers, marks, writer);
     }
 }

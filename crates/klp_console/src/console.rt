@@ -4,13 +4,14 @@ ghost use Rattle.klp_types.specs.declared.limits.TheConstants.{MAX_CONSOLE_LINE}
 ghost use Rattle.klp_console_io.specs.Lines.{lines_and_rest};
 ghost use Rattle.klp_console.specs.declared.served.ServeFault.TheVariants.{Write};
 ghost use Rattle.klp_console.specs.Lines.{whole};
-ghost use Rattle.klp_console.specs.Said.{Hears, Serves};
+ghost use Rattle.klp_console.specs.Said.{Hears, IsCut, IsWritten, Serves};
 ghost use Rattle.klp_console.specs.Served.{ComesTo};
 
-use crate::answer::answer_line;
+use crate::answer::serve_line;
+use crate::back::write_out;
 use crate::hear::hear_lines;
 use crate::served::{ServeFault, Served};
-use klp_console_io::{Answers, Failed, LineBuffer, Sink, Source};
+use klp_console_io::{Answers, Failed, LineBuffer, Marks, Sink, Source};
 use klp_core::Manager;
 use klp_types::{MAX_READS, READ_ROOM};
 
@@ -22,24 +23,38 @@ fn hear<W: Sink>(
     piece: &[u8],
     served: &mut Served,
     answers: &mut Answers,
+    marks: &mut Marks,
     writer: &mut W,
 ) -> Result<(), ServeFault>
     requires still { answers.old.has_failed ≡ false }
     requires room { served.old.lines + length piece.now < 2 ^ 64 }
     requires few { served.old.refused ≤ served.old.lines }
     requires none { answers.old.bytes ≡ [] }
+    requires unmarked { marks.old ≡ [] }
     ensures hears { Hears
-        (record { manager = manager.old; served = served.old; said = (answers.old, W.written writer.old) })
-        (record { manager = manager.new; served = served.new; said = (answers.new, W.written writer.new) })
+        (record {
+          manager = manager.old;
+          served = served.old;
+          said = (answers.old, W.written writer.old);
+          marks = marks.old;
+        })
+        (record {
+          manager = manager.new;
+          served = served.new;
+          said = (answers.new, W.written writer.new);
+          marks = marks.new;
+        })
         (lines_and_rest (line.old ++ piece.now)) line.new result }
     ensures short { IfOk result (λ _. length line.new ≤ MAX_CONSOLE_LINE) }
     ensures few { IfOk result (λ _. served.new.refused ≤ served.new.lines) }
     ensures room { IfOk result (λ _. served.new.lines ≤ served.old.lines + length piece.now) }
-    ensures written { answers.new.has_failed ≡ false → answers.new.bytes ≡ [] }
+    ensures written { IsWritten answers.new marks.new result }
 {
-    klp_console_io::laws::what_is_said_adds_up();
-    let heard = hear_lines(manager, line, piece, served, answers, writer);
-    answers.flush(writer);
+    let heard = hear_lines(manager, line, piece, served, answers, marks, writer);
+    if answers.has_failed() {
+        return Err(ServeFault::Write);
+    }
+    write_out(manager, answers, marks, writer);
     if answers.has_failed() {
         return Err(ServeFault::Write);
     }
@@ -53,26 +68,54 @@ fn end<W: Sink>(
     line: &LineBuffer,
     served: &mut Served,
     answers: &mut Answers,
+    marks: &mut Marks,
     writer: &mut W,
 ) -> Result<(), ServeFault>
     requires still { answers.old.has_failed ≡ false }
     requires room { served.old.lines + 1 < 2 ^ 64 }
     requires few { served.old.refused ≤ served.old.lines }
     requires none { answers.old.bytes ≡ [] }
-    ensures serves { Serves
-        (record { manager = manager.old; served = served.old; said = (answers.old, W.written writer.old) })
-        (record { manager = manager.new; served = served.new; said = (answers.new, W.written writer.new) })
-        (whole (line.now ∷ [])) }
-    ensures written { IfOk result (λ _. (answers.new.has_failed ≡ false) × (answers.new.bytes ≡ [])) }
-    ensures failed { IfErr result (λ fault. (fault ≡ Write) × (answers.new.has_failed ≡ true)) }
+    requires unmarked { marks.old ≡ [] }
+    ensures serves { IfOk result (λ _. Serves
+        (record {
+          manager = manager.old;
+          served = served.old;
+          said = (answers.old, W.written writer.old);
+          marks = marks.old;
+        })
+        (record {
+          manager = manager.new;
+          served = served.new;
+          said = (answers.new, W.written writer.new);
+          marks = marks.new;
+        })
+        (whole (line.now ∷ []))) }
+    ensures written { IfOk result (λ _. answers.new.bytes ≡ []) }
+    ensures write { IfErr result (λ fault. fault ≡ Write) }
+    ensures cut { IfErr result (λ _. IsCut
+        (record {
+          manager = manager.old;
+          served = served.old;
+          said = (answers.old, W.written writer.old);
+          marks = marks.old;
+        })
+        (record {
+          manager = manager.new;
+          served = served.new;
+          said = (answers.new, W.written writer.new);
+          marks = marks.new;
+        })
+        (line.now ∷ []) × (whole (line.now ∷ []) ≡ line.now ∷ [])) }
 {
-    klp_console_io::laws::what_is_said_adds_up();
     let last = line.bytes();
     if last.is_empty() {
         return Ok(());
     }
-    answer_line(manager, last, served, answers, writer);
-    answers.flush(writer);
+    serve_line(manager, last, served, answers, marks, writer);
+    if answers.has_failed() {
+        return Err(ServeFault::Write);
+    }
+    write_out(manager, answers, marks, writer);
     if answers.has_failed() {
         return Err(ServeFault::Write);
     }
@@ -95,7 +138,6 @@ pub fn serve<R: Source, W: Sink>(
     ensures { ComesTo (record { supply = R.supply reader.old; written = W.written writer.old; manager = manager.old })
         (record { supply = R.supply reader.new; written = W.written writer.new; manager = manager.new }) result }
 {
-    klp_console_io::laws::what_is_said_adds_up();
     klp_console_io::laws::lines_add_up();
     klp_core::laws::what_is_withdrawn_leaves_no_trace();
     let _standing = manager.mark();
@@ -105,6 +147,7 @@ pub fn serve<R: Source, W: Sink>(
         refused: 0,
     };
     let mut answers = Answers::new();
+    let mut marks = Marks::new();
     let mut room = [0; READ_ROOM];
     for _read in 0..MAX_READS {
         let count = match reader.read(&mut room) {
@@ -112,13 +155,28 @@ pub fn serve<R: Source, W: Sink>(
             Err(Failed) => return Err(ServeFault::Read),
         };
         if count == 0 {
-            return match end(manager, &line, &mut served, &mut answers, writer) {
+            return match end(
+                manager,
+                &line,
+                &mut served,
+                &mut answers,
+                &mut marks,
+                writer,
+            ) {
                 Ok(()) => Ok(served),
                 Err(fault) => Err(fault),
             };
         }
         let piece = &room[..count];
-        if let Err(fault) = hear(manager, &mut line, piece, &mut served, &mut answers, writer) {
+        if let Err(fault) = hear(
+            manager,
+            &mut line,
+            piece,
+            &mut served,
+            &mut answers,
+            &mut marks,
+            writer,
+        ) {
             return Err(fault);
         }
     }

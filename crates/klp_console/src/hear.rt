@@ -3,11 +3,11 @@
 ghost use Rattle.std.specs.Prelude.{◌≡◌, ◌+◌, ◌<◌, ◌≤◌, ◌^◌, false, [], ◌∷◌, ◌++◌, length, IfOk};
 ghost use Rattle.klp_types.specs.declared.limits.TheConstants.{MAX_CONSOLE_LINE};
 ghost use Rattle.klp_console_io.specs.Lines.{lines_and_rest};
-ghost use Rattle.klp_console.specs.Said.{Hears, Serves};
+ghost use Rattle.klp_console.specs.Said.{Hears};
 
-use crate::answer::answer_line;
+use crate::answer::serve_line;
 use crate::served::{ServeFault, Served};
-use klp_console_io::{Answers, LineBuffer, Sink, TooLong};
+use klp_console_io::{Answers, LineBuffer, Marks, Sink, TooLong};
 use klp_core::Manager;
 
 /// Hears a piece, and answers each line that it ends. After a failure of the sink no further line is done.
@@ -17,21 +17,22 @@ pub(crate) fn hear_lines<W: Sink>(
     piece: &[u8],
     served: &mut Served,
     answers: &mut Answers,
+    marks: &mut Marks,
     writer: &mut W,
 ) -> Result<(), ServeFault>
     requires still { answers.old.has_failed ≡ false }
     requires room { served.old.lines + length piece.now < 2 ^ 64 }
     requires few { served.old.refused ≤ served.old.lines }
     requires none { answers.old.bytes ≡ [] }
+    requires unmarked { marks.old ≡ [] }
     ensures hears { Hears
-        (record { manager = manager.old; served = served.old; said = (answers.old, W.written writer.old) })
-        (record { manager = manager.new; served = served.new; said = (answers.new, W.written writer.new) })
+        (record { manager = manager.old; served = served.old; said = (answers.old, W.written writer.old); marks = marks.old })
+        (record { manager = manager.new; served = served.new; said = (answers.new, W.written writer.new); marks = marks.new })
         (lines_and_rest (line.old ++ piece.now)) line.new result }
     ensures short { IfOk result (λ _. length line.new ≤ MAX_CONSOLE_LINE) }
     ensures few { IfOk result (λ _. served.new.refused ≤ served.new.lines) }
     ensures room { IfOk result (λ _. served.new.lines ≤ served.old.lines + length piece.now) }
 {
-    klp_console_io::laws::what_is_said_adds_up();
     let mut rest = piece;
     while !rest.is_empty() {
         match line.hear(rest) {
@@ -40,13 +41,12 @@ pub(crate) fn hear_lines<W: Sink>(
             Err(TooLong) => return Err(ServeFault::LineTooLong),
             Ok(None) => return Ok(()),
             Ok(Some(after)) => {
-                answer_line(manager, line.bytes(), served, answers, writer);
+                serve_line(manager, line.bytes(), served, answers, marks, writer);
                 line.clear();
                 rest = after;
             }
         }
-        // Asked after each line, so that no line is done whose answer is lost already. The clause allows
-        // more (docs/DECISIONS.md, "Lines ahead of their answers").
+        // asked after each line, since nothing behind the answer that was cut off may be done
         if answers.has_failed() {
             return Err(ServeFault::Write);
         }

@@ -20,6 +20,7 @@
 
 mod answer;
 mod asked;
+mod back;
 mod console;
 mod files;
 mod hear;

@@ -45,7 +45,8 @@ impl Marks {
 
     /// Whether there is no room for another mark, so that what is gathered has to be written first.
     pub fn is_full(&self) -> bool
-        ensures { IsTrue result ↔ (length self.now ≡ MARKS_ROOM) }
+        ensures full { IsTrue result ↔ (length self.now ≡ MARKS_ROOM) }
+        ensures limit { length self.now ≤ MARKS_ROOM }
     {
         self.marks.is_full()
     }

@@ -91,7 +91,7 @@ fn served_over_std<R: Read, W: Write, L: Ledger, M: Ledger>(
     reads: Blank,
     writes: Blank,
 ) -> Result<Served, Fault>
-    requires reads { (reads.name ≡ L.name) × (reads.parts ≡ L.parts) × (2 ≤ reads.parts) }
+    requires reads { (reads.name ≡ L.name) × (reads.parts ≡ L.parts) × (3 ≤ reads.parts) }
     requires writes { (writes.name ≡ M.name) × (writes.parts ≡ M.parts) × (2 ≤ writes.parts) }
 {
     let mut reader = OverRead::<&mut R, L>::new(input, reads);
@@ -111,7 +111,7 @@ pub fn console<R: Read, W: Write, E: Write>(
 ) -> u8
     ensures { (result ≡ 0) ⊎ (result ≡ 1) }
 {
-    let reads = Blank::new(2);
+    let reads = Blank::new(3);
     let writes = Blank::new(2);
     match served_over_std::<R, W, Brand, Brand>(alloc, catalog, input, out, reads, writes) {
         Ok(_) => 0,

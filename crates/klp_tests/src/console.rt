@@ -31,7 +31,7 @@ fn serve_in_memory<L: Ledger, M: Ledger>(
     for_reads: Blank,
     for_writes: Blank,
 ) -> Result<Outcome, AllocError>
-    requires reads { (for_reads.name ≡ L.name) × (for_reads.parts ≡ L.parts) × (2 ≤ for_reads.parts) }
+    requires reads { (for_reads.name ≡ L.name) × (for_reads.parts ≡ L.parts) × (3 ≤ for_reads.parts) }
     requires writes { (for_writes.name ≡ M.name) × (for_writes.parts ≡ M.parts) × (2 ≤ for_writes.parts) }
 {
     let mut feed = Feed::<L>::new(script, MOST, read, for_reads);
@@ -47,7 +47,7 @@ fn serve_script(
     read: Option<u32>,
     write: Option<u32>,
 ) -> Result<Outcome, AllocError> {
-    let for_reads = Blank::new(2);
+    let for_reads = Blank::new(3);
     let for_writes = Blank::new(2);
     serve_in_memory::<Brand, Brand>(alloc, script, read, write, for_reads, for_writes)
 }

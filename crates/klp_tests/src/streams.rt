@@ -36,7 +36,7 @@ fn comes_to<L: Ledger, M: Ledger>(
     reads: Blank,
     writes: Blank,
 ) -> bool
-    requires reads { (reads.name ≡ L.name) × (reads.parts ≡ L.parts) × (2 ≤ reads.parts) }
+    requires reads { (reads.name ≡ L.name) × (reads.parts ≡ L.parts) × (3 ≤ reads.parts) }
     requires writes { (writes.name ≡ M.name) × (writes.parts ≡ M.parts) × (2 ≤ writes.parts) }
 {
     let mut feed = Feed::<L>::new(TEXT, source.0.max(1), source.1, reads);
@@ -57,7 +57,7 @@ fn bytes_in_memory(rt: HostRuntime) {
         ((4, None), (1, None), b"l \n", 0),
     ];
     for (source, sink, written, left) in rows {
-        let (reads, writes) = (Blank::new(2), Blank::new(2));
+        let (reads, writes) = (Blank::new(3), Blank::new(2));
         let right = comes_to::<Brand, Brand>(source, sink, written, left, reads, writes);
         assert!(rt; right);
     }

@@ -3,12 +3,13 @@ use Rattle.std.proofs.lemmas.List.{nil_from_length}
 use Rattle.std.proofs.lemmas.Bool.{eqb-true}
 use Rattle.std.specs.Prelude.{IfSome, IfNone}
 use Rattle.klp_console_io.specs.Lines.{lines_and_rest}
-use Rattle.klp_console.proofs.SaidLemmas.{serves_none, serves_on, stops_at, some_line, one_more}
+use Rattle.klp_console.proofs.SaidLemmas.{some_line, one_more}
+use Rattle.klp_console.proofs.AheadLemmas.{ahead_none}
 use Rattle.klp_console.proofs.hear.hear_lines.Goals as goal
 
 pub loop-rest-init : goal.loop-rest-init
 loop-rest-init g c = record {
-  heard = ([], refl, serves_none c.what_is_said_adds_up.ensures.nothing _);
+  heard = ([], refl, ahead_none _ c.requires.none c.requires.still c.requires.unmarked);
   still = c.requires.still;
   few = c.requires.few;
   room = omega arith;
@@ -27,8 +28,7 @@ returns-then-has_failed-clause-hears g c =
       next.1,
       one_more _ heard.0 _ (lines_and_rest c.in-Ok-Some.after.now) line heard.1 (finished ∙ ap (λ l. l ∷ lines_and_rest c.in-Ok-Some.after.now) (sym c.bytes.ensures.bytes))
           ∙ ap (λ rest. (heard.0 ++ line ∷ []) ++ rest) next.2,
-      serves_on c.what_is_said_adds_up.ensures.adds_up _ _ _ heard.0 (line ∷ []) heard.2 c.answer_line.ensures.serves,
-      stops_at _ _ _ heard.0 line heard.2 c.answer_line.ensures.serves c.requires.still c.requires.none c.loop-rest.invariant.still failed,
+      (c.serve_line.ensures.comes _ heard.0 heard.2).1 failed,
       failed,
     )
 
@@ -45,11 +45,11 @@ loop-rest-preserved g c =
         heard.0 ++ line ∷ [],
         one_more _ heard.0 _ (lines_and_rest c.in-Ok-Some.after.now) line heard.1 (finished ∙ ap (λ l. l ∷ lines_and_rest c.in-Ok-Some.after.now) (sym c.bytes.ensures.bytes))
             ∙ ap (λ l. (heard.0 ++ line ∷ []) ++ lines_and_rest (l ++ c.in-Ok-Some.after.now)) (sym c.clear.ensures),
-        serves_on c.what_is_said_adds_up.ensures.adds_up _ _ _ heard.0 (line ∷ []) heard.2 c.answer_line.ensures.serves,
+        (c.serve_line.ensures.comes _ heard.0 heard.2).0 (sym c.has_failed.ensures ∙ c.if-has_failed.false),
       );
       still = sym c.has_failed.ensures ∙ c.if-has_failed.false;
-      few = c.answer_line.ensures.few;
-      room = omega (arith, shorter, c.answer_line.ensures.serves.counted, c.loop-rest.invariant.room);
+      few = c.serve_line.ensures.few;
+      room = omega (arith, shorter, c.serve_line.ensures.lines, c.loop-rest.invariant.room);
     }
 
 pub returns-clause-hears : goal.returns-clause-hears
@@ -61,7 +61,6 @@ returns-clause-hears g c =
       heard.1 ∙ ap (λ rest. heard.0 ++ lines_and_rest (c.loop-rest.line ++ rest)) empty ∙ ap (λ line. heard.0 ++ lines_and_rest line) (append-nil c.loop-rest.line)
           ∙ ap (λ lines. heard.0 ++ lines) one,
       heard.2,
-      c.loop-rest.invariant.still,
     )
 
 pub returns-in-Ok-None-clause-hears : goal.returns-in-Ok-None-clause-hears
@@ -69,10 +68,10 @@ returns-in-Ok-None-clause-hears g c =
     let heard = c.loop-rest.invariant.heard in
     let unfinished : lines_and_rest (c.loop-rest.line ++ c.loop-rest.rest.now) ≡ c.hear.new.self ∷ [] =
     subst (λ o. IfNone o (lines_and_rest (c.loop-rest.line ++ c.loop-rest.rest.now) ≡ c.hear.new.self ∷ [])) c.in-Ok-None.field-0-is c.in-Ok-None.ensures.unfinished in
-    (heard.0, heard.1 ∙ ap (λ lines. heard.0 ++ lines) unfinished, heard.2, c.loop-rest.invariant.still)
+    (heard.0, heard.1 ∙ ap (λ lines. heard.0 ++ lines) unfinished, heard.2)
 
 pub returns-in-Err-clause-hears : goal.returns-in-Err-clause-hears
 returns-in-Err-clause-hears g c =
     let heard = c.loop-rest.invariant.heard in
     let long = c.in-Err.ensures.too_long in
-    (heard.0, long.0, long.1, heard.1 ∙ ap (λ lines. heard.0 ++ lines) long.2, long.3, heard.2, c.loop-rest.invariant.still)
+    (heard.0, long.0, long.1, heard.1 ∙ ap (λ lines. heard.0 ++ lines) long.2, long.3, heard.2)

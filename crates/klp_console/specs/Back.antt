@@ -1,0 +1,60 @@
+-- Going back from a failed write: which lines' events can be taken back, and what that leaves.
+use Rattle.std.specs.Prelude.{◌≡◌, ℕ, zero, suc, ◌+◌, ◌<◌, ◌≤◌, Bool, true, false, List, [], ◌∷◌, ◌++◌, length, ◌⊎◌, Option, Some, None, Result, Ok}
+use Rattle.klp_model.specs.declared.event.Event.{Event}
+use Rattle.klp_model.specs.declared.event.Event.TheVariants.{Enable, SetEnabled, Poll, Coming, Going}
+use Rattle.klp_core.specs.Journaled.{Journaled}
+use Rattle.klp_core.specs.Rewinding.{IsRewound}
+use Rattle.klp_core.specs.Withdrawal.{GoesOn}
+use Rattle.klp_console_commands.specs.declared.request.Request.{Request}
+use Rattle.klp_console_commands.specs.declared.request.Request.TheVariants.{Take, Rewind, Seal}
+use Rattle.klp_console_commands.specs.declared.fault.LineFault.{LineFault}
+use Rattle.klp_console_io.specs.declared.marks.Mark.{Mark}
+use Rattle.klp_console.specs.Answered.{Answer, IsAnswered}
+
+-- whether an event of this kind runs no callback, in whatever state: patches and modules don't come, go or complete by it
+abbrev pub runs_none : Event → Bool
+runs_none (Enable patch) = false
+runs_none (SetEnabled patch value) = false
+runs_none Poll = false
+runs_none (Coming object) = false
+runs_none (Going object) = false
+runs_none other = true
+
+-- whether what a line asks for leaves nothing that the journal can't take back: no callback's run, and no event that is gone from the journal
+abbrev pub can_be_taken_back : Option (Result Request LineFault) → Bool
+can_be_taken_back (Some (Ok (Take event))) = runs_none event
+can_be_taken_back (Some (Ok (Rewind mark))) = false
+can_be_taken_back (Some (Ok Seal)) = false
+can_be_taken_back other = true
+
+-- the journal leads back: what stood then still stands, first, and no callback has run since
+pub record CanGoBack (earlier now : Journaled) : Type 0 where
+  pub goes_on : GoesOn earlier now
+  pub image : now.managed.image ≡ earlier.managed.image
+  pub catalog : now.managed.catalog ≡ earlier.managed.catalog
+
+-- the events behind so many are taken back, where the write stopped in an answer before them
+abbrev pub IsTakenBack : Journaled → Journaled → Option ℕ → Type 0
+IsTakenBack before after None = after ≡ before
+IsTakenBack before after (Some events) =
+    ((events ≤ length before.groups) × IsRewound before after events) ⊎ ((length before.groups < events) × (after ≡ before))
+
+-- the mark of a gathered line: its answer ends at this place among all answers, of which so many bytes are written, and the journal leads back to
+-- the manager that it left
+pub record IsMarked (left now : Journaled) (written place : ℕ) (mark : Mark) : Type 0 where
+  pub end : written + mark.end ≡ place
+  pub events : mark.events ≡ length left.groups
+  pub back : CanGoBack left now
+
+-- gathered lines in order, each with its mark; the answers begin at this place, and the lines lead to the manager `end`
+abbrev pub AreMarked : (end now : Journaled) (written place : ℕ) (before : Journaled) → List (List ℕ) → List Answer → List Mark → Type 0
+AreMarked end now written place before [] [] [] = end ≡ before
+AreMarked end now written place before (line ∷ lines) (answer ∷ answers) (mark ∷ marks) =
+    (left : Journaled) × IsAnswered before left line answer × IsMarked left now written (place + length answer.text) mark
+    × AreMarked end now written (place + length answer.text) left lines answers marks
+AreMarked end now written place before lines answers marks = ⊥
+
+-- the marks with one more; where nothing of what was gathered before is still held, those before it are forgotten
+abbrev pub marks_on : ℕ → List Mark → Mark → List Mark
+marks_on zero marks mark = mark ∷ []
+marks_on (suc held) marks mark = marks ++ mark ∷ []

@@ -1,0 +1,135 @@
+//! Answers are gathered, so lines may be done ahead of what is written. Where a write fails, the events
+//! behind the line whose answer it cut off are taken back by the journal (docs/DECISIONS.md, "Lines ahead of
+//! their answers").
+ghost use Rattle.std.specs.Prelude.{◌≡◌, ℕ, ◌-◌, ◌<◌, ◌≤◌, ◌⊎◌, true, false, List, [], ◌∷◌, ◌++◌, length};
+ghost use Rattle.klp_console.specs.Back as back;
+ghost use Rattle.klp_console.specs.Back.{IsTakenBack};
+ghost use Rattle.klp_console.specs.Said.{Ahead, Comes, Moment};
+ghost use Rattle.klp_console.specs.declared.served.Served.{Served};
+ghost use Rattle.klp_console_io.specs.Marks.{events_at_cut};
+ghost use Rattle.klp_console_io.specs.declared.marks.TheConstants.{MARKS_ROOM};
+
+use klp_console_commands::{LineFault, Request};
+use klp_console_io::{Answers, Mark, Marks, Sink};
+use klp_core::Manager;
+use klp_model::Event;
+
+/// Whether an event of this kind runs no callback, whatever the state. A run can't be taken back, since
+/// counts of runs stay.
+fn runs_none(event: &Event) -> bool
+    ensures { result ≡ back.runs_none event.now }
+{
+    !matches!(
+        *event,
+        Event::Enable(_)
+            | Event::SetEnabled(_, _)
+            | Event::Poll
+            | Event::Coming(_)
+            | Event::Going(_)
+    )
+}
+
+/// Whether a line may be done ahead of the answers before it and of its own. `seal` and `rewind` take events
+/// from the journal, by which they would be taken back.
+pub(crate) fn can_be_taken_back(request: &Option<Result<Request, LineFault>>) -> bool
+    ensures { result ≡ back.can_be_taken_back request.now }
+{
+    match *request {
+        Some(Ok(Request::Take(ref event))) => runs_none(event),
+        Some(Ok(Request::Rewind(_) | Request::Seal)) => false,
+        _ => true,
+    }
+}
+
+/// Takes back the events behind the line whose answer was cut off, where so many bytes were gathered before
+/// the last line. Where all of these are written, it is the last line's own answer, and that line stays.
+pub(crate) fn take_back(manager: &mut Manager, marks: &Marks, answers: &Answers, gathered: usize)
+    requires { answers.now.held ≤ gathered }
+    ensures { IsTakenBack manager.old manager.new (events_at_cut (gathered - answers.now.held) marks.now) }
+{
+    if let Some(events) = marks.events_at_cut(gathered - answers.held()) {
+        // there are as many, since no line behind the mark took any from the journal
+        let _ = manager.rewind(events);
+    }
+}
+
+/// Marks the line that was answered last. Where all that was gathered before it is written, the marks before
+/// it are forgotten.
+pub(crate) fn mark_line(marks: &mut Marks, answers: &Answers, events: u32)
+    requires { length marks.old < MARKS_ROOM }
+    ensures { marks.new ≡ back.marks_on answers.now.held marks.old
+        (record { end = length answers.now.bytes; events = events }) }
+{
+    if answers.held() == 0 {
+        marks.clear();
+    }
+    marks.push(Mark {
+        end: answers.len(),
+        events,
+    });
+}
+
+/// Writes all that is gathered. Where that fails, the lines behind the answer that was cut off are taken
+/// back.
+pub(crate) fn write_out<W: Sink>(
+    manager: &mut Manager,
+    answers: &mut Answers,
+    marks: &mut Marks,
+    writer: &mut W,
+)
+    requires still { answers.old.has_failed ≡ false }
+    ensures comes { (before : Moment) (lines : List (List ℕ)) (served : Served)
+        → Ahead before (record {
+          manager = manager.old;
+          served = served;
+          said = (answers.old, W.written writer.old);
+          marks = marks.old;
+        }) lines
+        → Comes before (record {
+          manager = manager.new;
+          served = served;
+          said = (answers.new, W.written writer.new);
+          marks = marks.new;
+        }) lines }
+    ensures empty { answers.new.has_failed ≡ false → (answers.new.bytes ≡ []) × (marks.new ≡ []) × (manager.new ≡ manager.old) }
+{
+    let gathered = answers.hold();
+    answers.flush(writer);
+    if answers.has_failed() {
+        take_back(manager, marks, answers, gathered);
+    } else {
+        marks.clear();
+    }
+}
+
+/// Writes all that is gathered before a line that can't be taken back, or where there is no room for another
+/// mark. So whenever a line is done that can't be taken back, all answers before it are written.
+pub(crate) fn make_ready<W: Sink>(
+    manager: &mut Manager,
+    is_ahead: bool,
+    answers: &mut Answers,
+    marks: &mut Marks,
+    writer: &mut W,
+)
+    requires still { answers.old.has_failed ≡ false }
+    ensures comes { (before : Moment) (lines : List (List ℕ)) (served : Served)
+        → Ahead before (record {
+          manager = manager.old;
+          served = served;
+          said = (answers.old, W.written writer.old);
+          marks = marks.old;
+        }) lines
+        → Comes before (record {
+          manager = manager.new;
+          served = served;
+          said = (answers.new, W.written writer.new);
+          marks = marks.new;
+        }) lines }
+    ensures same { answers.new.has_failed ≡ false → manager.new ≡ manager.old }
+    ensures back { answers.new.has_failed ≡ false → (is_ahead ≡ true) ⊎ (marks.new ≡ []) }
+    ensures room { answers.new.has_failed ≡ false → length marks.new < MARKS_ROOM }
+{
+    if !is_ahead || marks.is_full() {
+        write_out(manager, answers, marks, writer);
+    }
+}
