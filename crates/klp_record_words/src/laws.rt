@@ -1,5 +1,5 @@
 //! What is proved of the words of records themselves.
-ghost use Rattle.std.specs.Prelude.{◌≡◌, ◌≤◌, List, [], ◌++◌, length};
+ghost use Rattle.std.specs.Prelude.{◌≡◌, ℕ, ◌≤◌, List, [], ◌++◌, length};
 ghost use Rattle.klp_types.specs.declared.record.Record.{Record};
 ghost use Rattle.klp_record_words.specs.Words.{words_of, IsRecord};
 
