@@ -67,9 +67,10 @@ fn measure_scene<R: Clock + Print>(
         round(rt, alloc, text, scene)?;
     }
     for list in &scene.lists {
-        println!(rt; "{list}")?;
         if rounds > 1 {
-            println!(rt; "{} ns, the best of {} slices", list.best(), list.taken())?;
+            println!(rt; "{list} best {} ns", list.best())?;
+        } else {
+            println!(rt; "{list}")?;
         }
     }
     Ok(())
@@ -99,9 +100,10 @@ fn measure_whole<R: Clock + Print>(
     for _ in 0..rounds {
         whole.round(rt, alloc)?;
     }
-    println!(rt; "{whole}")?;
     if rounds > 1 {
-        println!(rt; "{} ns, the best of {rounds} rounds", whole.best())?;
+        println!(rt; "{whole}: best {} ns", whole.best())?;
+    } else {
+        println!(rt; "{whole}")?;
     }
     Ok(())
 }
@@ -137,7 +139,8 @@ fn measure_both<R: Clock + Print>(
     measure_program(rt, alloc, [large.as_bytes(), small, script], rounds)
 }
 
-/// Measures so many rounds. What was accepted, refused and answered is told, and the time only of several.
+/// Measures so many rounds. Each figure is a line: what was accepted, refused and answered, and behind it the
+/// shortest time, which is told only of several rounds.
 pub(crate) fn run<R: Clock + Files + Print + AllocGlobal>(
     rt: &R,
     alloc: Global,

@@ -46,17 +46,17 @@ const PATCHES_AND_VARIABLES: [Row; 6] = [
         events: Events::Added(0, FEW),
     },
     Row {
-        name: "one more comes and goes",
+        name: "one more comes and goes among 10",
         slices: SLICES,
         events: Events::Pairs,
     },
     Row {
-        name: "490 more of them",
+        name: "490 more shadow variables",
         slices: 1,
         events: Events::Added(FEW, MANY),
     },
     Row {
-        name: "one more comes and goes",
+        name: "one more comes and goes among 500",
         slices: SLICES,
         events: Events::Pairs,
     },
@@ -83,7 +83,7 @@ const CYCLES: [Row; 3] = [
 /// 64 tasks sleep inside of 32 functions each, the innermost of which the patch changes.
 const HELD: [Row; 3] = [
     Row {
-        name: "64 tasks fall asleep",
+        name: "64 tasks fall asleep in patched functions",
         slices: 1,
         events: Events::Asleep(0),
     },
@@ -102,7 +102,7 @@ const HELD: [Row; 3] = [
 /// The same inside of functions that the patch doesn't change.
 const NOT_HELD: [Row; 2] = [
     Row {
-        name: "64 tasks fall asleep",
+        name: "64 tasks fall asleep in other functions",
         slices: 1,
         events: Events::Asleep(100),
     },
@@ -166,7 +166,6 @@ pub(crate) struct Measured {
     pub(crate) is_taken_back: bool,
     accepted: u64,
     refused: u64,
-    taken: u64,
     best: u128,
 }
 
@@ -179,7 +178,6 @@ impl Measured {
             is_taken_back,
             accepted: 0,
             refused: 0,
-            taken: 0,
             best: u128::MAX,
         }
     }
@@ -194,7 +192,6 @@ impl Measured {
         let passed = end?.saturating_duration_since(start?);
         self.accepted = self.accepted.saturating_add(accepted);
         self.refused = self.refused.saturating_add(refused);
-        self.taken = self.taken.saturating_add(1);
         self.best = self.best.min(passed.as_nanos());
         Ok(())
     }
@@ -202,11 +199,6 @@ impl Measured {
     /// The nanoseconds of the shortest slice.
     pub(crate) fn best(&self) -> u128 {
         self.best
-    }
-
-    /// How many slices were taken.
-    pub(crate) fn taken(&self) -> u64 {
-        self.taken
     }
 }
 
