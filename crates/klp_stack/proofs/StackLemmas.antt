@@ -1,93 +1,128 @@
--- A row of entries, oldest first, as the stack that it keeps.
-use Rattle.std.proofs.Common.{◌≡◌, ℕ, suc, ◌+◌, ◌-◌, ◌<◌, ◌≤◌, Bool, true, false, not, ◌&&◌, cond, ltb, leb, List, [], ◌∷◌, ◌++◌, length, take, drop, get_or, reverse, refl, sym, ap, subst, ◌∙◌, arith, length-append, append_assoc, drop-cons, Option, Some, None}
+-- The entry of a patch on a stack, by its place.
+use Rattle.std.proofs.Common.{◌≡◌, ℕ, suc, ◌+◌, ◌-◌, ◌<◌, ◌≤◌, Bool, true, false, not, ◌&&◌, ltb, leb, List, [], ◌∷◌, ◌++◌, length, take, drop, refl, sym, ap, subst, ◌∙◌, arith, length-append, Option, Some, None}
 use Rattle.std.specs.Bool.{◌==◌}
-use Rattle.std.specs.Option.{is_some}
-use Rattle.std.specs.List.{list_any, find, insert, remove, position, position_or_len}
-use Rattle.std.proofs.lemmas.Bool.{eqb-true, lt-ltb, le-leb, leb-true, ltb-true, ltb-false, not-true, not-false, not_from_false, and_parts, and_from, or_from, cond-true}
-use Rattle.std.proofs.lemmas.Grind.{reverse_onto}
-use Rattle.std.proofs.lemmas.List.{reverse-append, length-reverse, take-append-drop, length-take-le, take_more, get_or_default}
-use Rattle.std.proofs.lemmas.List.Folds.{list_any-append, list_any_at, Any-from_list_any}
-use Rattle.std.proofs.lemmas.List.Quantifiers.{position-Some}
-use Rattle.std.proofs.lemmas.List.Sums.{fails_before_first}
-use Rattle.klp_types.proofs.EntryLemmas.{list_any-reverse}
+use Rattle.std.specs.Prelude.{if◌then◌else◌, option_map, is_some, slice_get}
+use Rattle.std.specs.Option.{option_to_list}
+use Rattle.std.specs.List.{find, insert, remove}
+use Rattle.std.proofs.lemmas.Bool.{eqb-true, lt-ltb, le-leb, leb-true, ltb-true, not-true, not-false, not_from_false, and_parts, and_from, or_from, cond-true, cond-false}
+use Rattle.std.proofs.lemmas.List.{take_at, take-append-drop}
+use Rattle.std.proofs.lemmas.List.Folds.{list_any-append}
 use Rattle.klp_types.specs.declared.limits.TheConstants.{MAX_PATCHES}
 use Rattle.klp_types.specs.declared.record.Place.{Place}
 use Rattle.klp_types.specs.declared.version.Entry.{Entry}
 use Rattle.klp_types.specs.declared.version.Transition.{Transition}
-use Rattle.klp_types.specs.declared.version.Version.TheVariants.{Original}
 use Rattle.klp_types.specs.Pick.{newest_version}
 use Rattle.klp_model.specs.Blocked.{held_version, blocked_among}
 use Rattle.klp_stack.specs.Stack.{has_entry, entries_of_others, place_of, IsStack}
 use Rattle.klp_stack.specs.Undo.{may_stand, put_at, put_entry}
-use Rattle.klp_stack.proofs.EntryLemmas.{Stands, stands, no_place, all_others, none_blocked, put_between, at_its_place, its_place, its_others, its_version, its_entry, no_entry, few_entries}
-
--- the entry of a patch, once it is taken out
-pub record Taken (patch : ℕ) (now rest : List Entry) (was : Option Place) : Type 0 where
-  pub stack : IsStack rest
-  pub place : was ≡ place_of patch now
-  pub entries : rest ≡ entries_of_others patch now
-  pub undo : put_entry patch was rest ≡ now
+use Rattle.klp_stack.proofs.EntryLemmas.{stands, no_place, all_others, none_blocked, put_between, at_its_place, its_others, its_version}
 
 abbrev is_own : ℕ → Entry → Bool
 is_own patch entry = entry.patch == patch
 
--- no place is found where no entry passes
-nowhere : {A : Type 0} (test : A → Bool) (xs : List A) → length xs ≤ position_or_len test xs → list_any test xs ≡ false
-nowhere test xs none =
-    elim (list_any test xs) as (λ b. list_any test xs ≡ b → b ≡ false) [
-      | true ↦ λ e. let there = Any-from_list_any test xs e in
-          let fails : test there.1 ≡ false = ap test (sym there.3) ∙ fails_before_first test xs there.0 there.1 (omega arith) in
-          sym there.4 ∙ fails
-      | false ↦ λ e. refl
+-- an entry with those above it and those below it
+pub record Found (patch : ℕ) (entries : List Entry) (place : Place) : Type 0 where
+  pub newer : List Entry
+  pub older : List Entry
+  pub entry : Entry
+  pub is : entries ≡ newer ++ entry ∷ older
+  pub count : length older ≡ place.index
+  pub func : entry.func ≡ place.func
+  pub own : (entry.patch == patch) ≡ true
+  pub none_newer : has_entry patch newer ≡ false
+
+pub found : (patch : ℕ) (entries : List Entry) (place : Place) → place_of patch entries ≡ Some place → Found patch entries place
+found patch [] place is = let no : ⊥ = cc in absurd no
+found patch (entry ∷ older) place is =
+    elim (entry.patch == patch) as (λ b. (entry.patch == patch) ≡ b → (if b then Some (record { index = length older; func = entry.func }) else place_of patch older) ≡ Some place
+    → Found patch (entry ∷ older) place) [
+      | true ↦ λ own here.
+          let at : Place = record { index = length older; func = entry.func } in
+          let same : at ≡ place = cc in
+          record { newer = []; older = older; entry = entry; is = refl; count = ap (λ (p : Place). p.index) same; func = ap (λ (p : Place). p.func) same; own = own; none_newer = refl }
+      | false ↦ λ other there.
+          let rest = found patch older place there in
+          record {
+            newer = entry ∷ rest.newer;
+            older = rest.older;
+            entry = rest.entry;
+            is = ap (λ es. entry ∷ es) rest.is;
+            count = rest.count;
+            func = rest.func;
+            own = rest.own;
+            none_newer = or_from _ _ other rest.none_newer;
+          }
+    ] refl is
+
+pub not_found : (patch : ℕ) (entries : List Entry) → place_of patch entries ≡ None → has_entry patch entries ≡ false
+not_found patch [] none = refl
+not_found patch (entry ∷ older) none =
+    elim (entry.patch == patch) as (λ b. (entry.patch == patch) ≡ b → (if b then Some (record { index = length older; func = entry.func }) else place_of patch older) ≡ None
+    → has_entry patch (entry ∷ older) ≡ false) [
+      | true ↦ λ own here. let no : ⊥ = cc in absurd no
+      | false ↦ λ other there. or_from _ _ other (not_found patch older there)
+    ] refl none
+
+-- whether it is there
+pub has_place : (patch : ℕ) (entries : List Entry) (place : Option Place) → place ≡ place_of patch entries → is_some place ≡ has_entry patch entries
+has_place patch entries None none = sym (not_found patch entries (sym none))
+has_place patch entries (Some place) there =
+    elim (has_entry patch entries) as (λ b. has_entry patch entries ≡ b → true ≡ b) [
+      | true ↦ λ is. refl
+      | false ↦ λ none. let other : place_of patch entries ≡ None = no_place patch entries none in let no : ⊥ = cc in absurd no
     ] refl
 
-pub missing : (patch : ℕ) (row : List Entry) → None ≡ position (is_own patch) row → has_entry patch (reverse row) ≡ false
-missing patch row e =
-    list_any-reverse (is_own patch) row
-    ∙ elim (ltb (position_or_len (is_own patch) row) (length row)) as
-    (λ b. ltb (position_or_len (is_own patch) row) (length row) ≡ b → None ≡ cond b (Some (position_or_len (is_own patch) row)) None → list_any (is_own patch) row ≡ false) [
-      | true ↦ λ t is. cc
-      | false ↦ λ t is. nowhere (is_own patch) row (ltb-false _ _ t)
-    ] refl e
+-- the entry itself
+pub own_entry : (patch : ℕ) (entries : List Entry) → find (is_own patch) entries ≡ option_map (λ (p : Place). record { patch = patch; func = p.func }) (place_of patch entries)
+own_entry patch [] = refl
+own_entry patch (entry ∷ older) =
+    elim (entry.patch == patch) as (λ b. (entry.patch == patch) ≡ b → (if b then Some entry else find (is_own patch) older)
+    ≡ option_map (λ (p : Place). record { patch = patch; func = p.func }) (if b then Some (record { index = length older; func = entry.func }) else place_of patch older)) [
+      | true ↦ λ own. ap (λ n. Some (record { patch = n; func = entry.func })) (eqb-true entry.patch patch own)
+      | false ↦ λ other. own_entry patch older
+    ] refl
 
-pub has_place : (patch : ℕ) (seen row now : List Entry) → seen ≡ row → reverse row ≡ now → is_some (position (is_own patch) seen) ≡ has_entry patch now
-has_place patch seen row now same_row view =
-    ap (λ es. is_some (position (is_own patch) es)) same_row ∙ by (position (is_own patch) row) refl ∙ ap (has_entry patch) view
-  where
-    by : (o : Option ℕ) → o ≡ position (is_own patch) row → is_some o ≡ has_entry patch (reverse row)
-    by None e = sym (missing patch row e)
-    by (Some i) e =
-        let at = position-Some (is_own patch) row i (record { patch = 0; func = None }) (sym e) in
-        sym (list_any-reverse (is_own patch) row ∙ list_any_at (is_own patch) row i (record { patch = 0; func = None }) at.0 at.1)
+-- what holds a sleeper back
+module _ (site : ℕ) (move : Transition) (entries : List Entry) where
+  pub none_held : place_of move.patch entries ≡ None → blocked_among site move entries ≡ []
+  none_held none = none_blocked site move entries (not_found move.patch entries none)
 
--- there is room for a patch without an entry
-pub room : (row entries : List Entry) (entry : Entry) → reverse row ≡ entries → IsStack (reverse row) → entry.patch < MAX_PATCHES → has_entry entry.patch entries ≡ false → length row < MAX_PATCHES
-room row entries entry view stack number none =
-    let few = few_entries (entry ∷ entries) (number, none, subst IsStack view stack) in
-    let same : length row ≡ length entries = sym (length-reverse row) ∙ ap length view in
-    omega arith
+  module _ (place : Place) (there : place_of move.patch entries ≡ Some place) where
+    abbrev at : Found move.patch entries place
+    at = found move.patch entries place there
 
--- The row, parted at a place: what is newer stands on what is older.
-module _ (row : List Entry) (i : ℕ) where
-  parted : reverse row ≡ reverse (drop i row) ++ reverse (take i row)
-  parted = ap reverse (sym (take-append-drop i row)) ∙ reverse-append (take i row) (drop i row)
+    is_held : blocked_among site move entries ≡ held_version site move.target at.entry at.older ∷ []
+    is_held = ap (blocked_among site move) at.is ∙ its_version at.entry at.older site move at.own at.newer at.none_newer
 
-  onto : (entry : Entry) (newer : List Entry) → reverse (entry ∷ newer) ++ reverse (take i row) ≡ reverse newer ++ entry ∷ reverse (take i row)
-  onto entry newer = ap (λ xs. xs ++ reverse (take i row)) (reverse_onto newer entry []) ∙ append_assoc (reverse newer) (entry ∷ []) (reverse (take i row))
+    pub own_held : not move.target ≡ true → newest_version site (record { patch = move.patch; func = place.func } ∷ []) ∷ [] ≡ blocked_among site move entries
+    own_held away =
+        let is : at.entry ≡ record { patch = move.patch; func = place.func } =
+        ap (λ n. record { patch = n; func = at.entry.func }) (eqb-true at.entry.patch move.patch at.own) ∙ ap (λ f. record { patch = move.patch; func = f }) at.func
+        in
+        ap (λ (e : Entry). newest_version site (e ∷ []) ∷ []) (sym is)
+        ∙ ap (λ b. held_version site b at.entry at.older ∷ []) (sym (not-true move.target away)) ∙ sym is_held
 
-  parted_at : (entry : Entry) → i < length row → entry ≡ get_or row i entry → reverse row ≡ reverse (drop (suc i) row) ++ entry ∷ reverse (take i row)
-  parted_at entry within is =
-      parted ∙ ap (λ xs. reverse xs ++ reverse (take i row)) (drop-cons row i entry within ∙ ap (λ e. e ∷ drop (suc i) row) (sym is))
-      ∙ onto entry (drop (suc i) row)
+    next : (older : List Entry) → newest_version site (option_to_list (slice_get older 0)) ≡ newest_version site older
+    next [] = refl
+    next (entry ∷ older) = refl
 
-  removed : reverse (remove row i) ≡ reverse (drop (suc i) row) ++ reverse (take i row)
-  removed = reverse-append (take i row) (drop (suc i) row)
+    below : (newer older : List Entry) (entry : Entry) → slice_get (newer ++ entry ∷ older) (length newer + 1) ≡ slice_get older 0
+    below [] [] entry = refl
+    below [] (second ∷ older) entry = refl
+    below (first ∷ newer) older entry = let more : length (first ∷ newer) + 1 ≡ suc (length newer + 1) = omega arith in ap (slice_get (first ∷ newer ++ entry ∷ older)) more ∙ below newer older entry
 
-  inserted : (entry : Entry) → reverse (insert row i entry) ≡ reverse (drop i row) ++ entry ∷ reverse (take i row)
-  inserted entry = reverse-append (take i row) (entry ∷ drop i row) ∙ onto entry (drop i row)
+    pub within : place.index < length entries
+    within = let long = ap length at.is ∙ length-append at.newer (at.entry ∷ at.older) in omega (arith, long, at.count)
 
-  older_than : i ≤ length row → length (reverse (take i row)) ≡ i
-  older_than within = length-reverse (take i row) ∙ length-take-le i row within
+    pub older_held : not move.target ≡ false → newest_version site (option_to_list (slice_get entries (length entries - place.index))) ∷ [] ≡ blocked_among site move entries
+    older_held towards =
+        let long = ap length at.is ∙ length-append at.newer (at.entry ∷ at.older) in
+        let count : length entries - place.index ≡ length at.newer + 1 = omega (arith, long, at.count) in
+        ap (λ n. newest_version site (option_to_list (slice_get entries n)) ∷ []) count
+        ∙ ap (λ es. newest_version site (option_to_list (slice_get es (length at.newer + 1))) ∷ []) at.is
+        ∙ ap (λ o. newest_version site (option_to_list o) ∷ []) (below at.newer at.older at.entry)
+        ∙ ap (λ v. v ∷ []) (next at.older)
+        ∙ ap (λ b. held_version site b at.entry at.older ∷ []) (sym (not-false move.target towards)) ∙ sym is_held
 
 -- an entry gets its place
 put_there : (patch i : ℕ) (func : Option ℕ) (entries : List Entry) → patch < MAX_PATCHES → has_entry patch entries ≡ false → i ≤ length entries
@@ -99,121 +134,52 @@ put_between_at : (i : ℕ) (entry : Entry) (newer older : List Entry) → length
 put_between_at i entry newer older is =
     ap (λ n. insert (newer ++ older) (length (newer ++ older) - n) entry) (sym is) ∙ at_its_place entry older newer
 
--- what is found at a place
-module _ (patch : ℕ) (seen row : List Entry) (i : ℕ) (entry : Entry) (same_row : seen ≡ row) (stack : IsStack (reverse row)) (found : Some i ≡ position (is_own patch) seen)
-    (is : entry ≡ get_or row i entry) where
-  abbrev newer : List Entry
-  newer = reverse (drop (suc i) row)
+-- the entry of a patch, once it is taken out
+pub record Taken (patch : ℕ) (entries rest : List Entry) (was : Option Place) : Type 0 where
+  pub stack : IsStack rest
+  pub others : rest ≡ entries_of_others patch entries
+  pub undo : put_entry patch was (entries_of_others patch entries) ≡ entries
 
-  abbrev older : List Entry
-  older = reverse (take i row)
+removed_between : (newer older : List Entry) (entry : Entry) (n : ℕ) → n ≡ length newer → remove (newer ++ entry ∷ older) n ≡ newer ++ older
+removed_between newer older entry n at =
+    ap (λ xs. xs ++ drop (suc n) (newer ++ entry ∷ older)) (take_at newer (entry ∷ older) n (sym at))
+    ∙ ap (λ xs. newer ++ xs) (ap (λ m. drop (suc m) (newer ++ entry ∷ older)) at ∙ behind newer)
+  where
+    behind : (newer : List Entry) → drop (suc (length newer)) (newer ++ entry ∷ older) ≡ older
+    behind [] = refl
+    behind (first ∷ newer) = behind newer
 
-  place : position (is_own patch) row ≡ Some i
-  place = sym (found ∙ ap (position (is_own patch)) same_row)
-
-  within : i < length row
-  within = (position-Some (is_own patch) row i entry place).0
-
-  own : (entry.patch == patch) ≡ true
-  own = ap (is_own patch) is ∙ (position-Some (is_own patch) row i entry place).1
-
-  same : entry.patch ≡ patch
-  same = eqb-true entry.patch patch own
-
-  at : reverse row ≡ newer ++ entry ∷ older
-  at = parted_at row i entry within is
-
-  there : Stands entry older newer
-  there = stands entry older newer (subst IsStack at stack)
-
-  none_newer : has_entry patch newer ≡ false
-  none_newer = subst (λ p. has_entry p newer ≡ false) same there.none_newer
-
-  none_older : has_entry patch older ≡ false
-  none_older = subst (λ p. has_entry p older ≡ false) same there.none_older
-
-  none_left : has_entry patch (newer ++ older) ≡ false
-  none_left = list_any-append (is_own patch) newer older ∙ or_from _ _ none_newer none_older
-
-  count : length older ≡ i
-  count = older_than row i (omega (arith, within))
-
-  abbrev was : Option Place
-  was = Some (record { index = i; func = entry.func })
-
-  taken_undo : put_entry patch was (newer ++ older) ≡ reverse row
-  taken_undo =
-      put_there patch i entry.func (newer ++ older) (subst (λ p. p < MAX_PATCHES) same there.number) none_left (omega (arith, length-append newer older, count))
-      ∙ put_between_at i (record { patch = patch; func = entry.func }) newer older count
-      ∙ ap (λ p. newer ++ record { patch = p; func = entry.func } ∷ older) (sym same) ∙ sym at
-
-  pub taken : (rest now : List Entry) → rest ≡ remove row i → reverse row ≡ now → Taken patch now (reverse rest) was
-  taken rest now left view =
-      let parts : reverse rest ≡ newer ++ older = ap reverse left ∙ removed row i in
-      record {
-        stack = subst IsStack (sym parts) there.rest;
-        place = ap (λ n. Some (record { index = n; func = entry.func })) (sym count) ∙ sym (its_place entry older patch own newer none_newer) ∙ ap (place_of patch) (sym at ∙ view);
-        entries = parts ∙ sym (its_others entry older patch own newer none_newer none_older) ∙ ap (entries_of_others patch) (sym at ∙ view);
-        undo = ap (put_entry patch was) parts ∙ taken_undo ∙ view;
-      }
-
-  pub own_entry : (now : List Entry) → reverse row ≡ now → Some entry ≡ find (is_own patch) now
-  own_entry now view = sym (its_entry entry older patch own newer none_newer) ∙ ap (find (is_own patch)) (sym at ∙ view)
-
-  pub held : (site : ℕ) (move : Transition) (now : List Entry) → move.patch ≡ patch → reverse row ≡ now → held_version site move.target entry older ∷ [] ≡ blocked_among site move now
-  held site move now moving view =
-      sym (its_version entry older site move (subst (λ p. (entry.patch == p) ≡ true) (sym moving) own) newer (subst (λ p. has_entry p newer ≡ false) (sym moving) none_newer))
-      ∙ ap (blocked_among site move) (sym at ∙ view)
-
-pub not_taken : (patch : ℕ) (seen row now : List Entry) → seen ≡ row → reverse row ≡ now → IsStack (reverse row) → None ≡ position (is_own patch) seen → Taken patch now now None
-not_taken patch seen row now same_row view stack none =
-    let absent : has_entry patch now ≡ false = subst (λ es. has_entry patch es ≡ false) view (missing patch row (none ∙ ap (position (is_own patch)) same_row)) in
+pub taken : (patch : ℕ) (entries rest : List Entry) (place : Place) → IsStack entries → place_of patch entries ≡ Some place
+    → rest ≡ remove entries (length entries - 1 - place.index) → Taken patch entries rest (Some place)
+taken patch entries rest place stack is left =
+    let at = found patch entries place is in
+    let there = stands at.entry at.older at.newer (subst IsStack at.is stack) in
+    let same : at.entry.patch ≡ patch = eqb-true at.entry.patch patch at.own in
+    let none_older = subst (λ p. has_entry p at.older ≡ false) same there.none_older in
+    let others : entries_of_others patch entries ≡ at.newer ++ at.older = ap (entries_of_others patch) at.is ∙ its_others at.entry at.older patch at.own at.newer at.none_newer none_older in
+    let long = ap length at.is ∙ length-append at.newer (at.entry ∷ at.older) in
+    let count : length entries - 1 - place.index ≡ length at.newer = omega (arith, long, at.count) in
+    let parts : rest ≡ at.newer ++ at.older =
+    left ∙ ap (λ es. remove es (length entries - 1 - place.index)) at.is ∙ removed_between at.newer at.older at.entry (length entries - 1 - place.index) count
+    in
+    let none_left : has_entry patch (at.newer ++ at.older) ≡ false = list_any-append (is_own patch) at.newer at.older ∙ or_from _ _ at.none_newer none_older in
     record {
-      stack = subst IsStack view stack;
-      place = sym (no_place patch now absent);
-      entries = sym (all_others patch now absent);
-      undo = all_others patch now absent;
+      stack = subst IsStack (sym parts) there.rest;
+      others = parts ∙ sym others;
+      undo =
+          ap (put_entry patch (Some place)) others
+          ∙ put_there patch place.index place.func (at.newer ++ at.older) (subst (λ p. p < MAX_PATCHES) same there.number) none_left
+          (omega (arith, length-append at.newer at.older, at.count))
+          ∙ put_between_at place.index (record { patch = patch; func = place.func }) at.newer at.older at.count
+          ∙ ap (λ p. at.newer ++ record { patch = p; func = place.func } ∷ at.older) (sym same)
+          ∙ ap (λ f. at.newer ++ record { patch = at.entry.patch; func = f } ∷ at.older) (sym at.func)
+          ∙ sym at.is;
     }
 
-pub none_own : (patch : ℕ) (seen row now : List Entry) → seen ≡ row → reverse row ≡ now → None ≡ position (is_own patch) seen → None ≡ find (is_own patch) now
-none_own patch seen row now same_row view none =
-    sym (no_entry patch now (subst (λ es. has_entry patch es ≡ false) view (missing patch row (none ∙ ap (position (is_own patch)) same_row))))
+pub not_taken : (patch : ℕ) (entries : List Entry) → place_of patch entries ≡ None → entries_of_others patch entries ≡ entries
+not_taken patch entries none = all_others patch entries (not_found patch entries none)
 
--- What holds a sleeper back.
-module _ (site : ℕ) (move : Transition) (seen row now : List Entry) (same_row : seen ≡ row) (view : reverse row ≡ now) where
-  pub none_held : None ≡ position (is_own move.patch) seen → [] ≡ blocked_among site move now
-  none_held none = sym (none_blocked site move now (subst (λ es. has_entry move.patch es ≡ false) view (missing move.patch row (none ∙ ap (position (is_own move.patch)) same_row))))
-
-  module _ (stack : IsStack (reverse row)) (i : ℕ) (found : Some i ≡ position (is_own move.patch) seen) where
-    pub own_held : (entry : Entry) → not move.target ≡ true → entry ≡ get_or row i entry → newest_version site (entry ∷ []) ∷ [] ≡ blocked_among site move now
-    own_held entry target is =
-        ap (λ b. held_version site b entry (reverse (take i row)) ∷ []) (sym (not-true move.target target))
-        ∙ held move.patch seen row i entry same_row stack found is site move now refl view
-
-    abbrev blank : Entry
-    blank = record { patch = 0; func = None }
-
-    below_all : i < length row
-    below_all = (position-Some (is_own move.patch) row i blank (sym (found ∙ ap (position (is_own move.patch)) same_row))).0
-
-    older_held : not move.target ≡ false → newest_version site (reverse (take i row)) ∷ [] ≡ blocked_among site move now
-    older_held target =
-        ap (λ b. held_version site b (get_or row i blank) (reverse (take i row)) ∷ []) (sym (not-false move.target target))
-        ∙ held move.patch seen row i (get_or row i blank) same_row stack found (get_or_default row i blank (get_or row i blank) below_all) site move now refl view
-
-    pub below_held : (entry : Entry) → not move.target ≡ false → 0 < i → entry ≡ get_or row (i - 1) entry → newest_version site (entry ∷ []) ∷ [] ≡ blocked_among site move now
-    below_held entry target above is =
-        let one_more : i - 1 + 1 ≡ i = omega arith in
-        let top : take i row ≡ take (i - 1) row ++ entry ∷ [] =
-        ap (λ n. take n row) (sym one_more) ∙ take_more row (i - 1) entry (omega (arith, below_all)) ∙ ap (λ e. take (i - 1) row ++ e ∷ []) (sym is) in
-        ap (λ es. newest_version site es ∷ []) (sym (ap reverse top ∙ reverse-append (take (i - 1) row) (entry ∷ []))) ∙ older_held target
-
-    pub original_held : not move.target ≡ false → i ≤ 0 → Original site ∷ [] ≡ blocked_among site move now
-    original_held target lowest =
-        let first : i ≡ 0 = omega arith in
-        ap (λ n. newest_version site (reverse (take n row)) ∷ []) (sym first) ∙ older_held target
-
--- What an entry is put back into.
+-- what an entry is put back into
 may_parts : (a b c : Bool) → (a && not b && c) ≡ true → (a ≡ true) × (b ≡ false) × (c ≡ true)
 may_parts a b c may =
     let last = and_parts (a && not b) c may in
@@ -221,29 +187,33 @@ may_parts a b c may =
     (first.0, not-true b first.1, last.1)
 
 -- an entry that may get a place gets it
-pub record PutIn (row now entries : List Entry) (n i patch : ℕ) (func : Option ℕ) : Type 0 where
-  pub within : n ≤ length row
-  pub room : length row < MAX_PATCHES
-  pub stack : IsStack entries
-  pub is : entries ≡ put_entry patch (Some (record { index = i; func = func })) now
+pub record PutIn (now : List Entry) (i patch : ℕ) (func : Option ℕ) : Type 0 where
+  pub within : i ≤ length now
+  pub is : put_at i (record { patch = patch; func = func }) now ≡ put_entry patch (Some (record { index = i; func = func })) now
+  pub stack : IsStack (put_at i (record { patch = patch; func = func }) now)
 
-pub put_in : (row now : List Entry) (n i patch : ℕ) (func : Option ℕ) → n ≡ i → reverse row ≡ now → IsStack (reverse row) → may_stand patch i now ≡ true
-    → PutIn row now (reverse (insert row n (record { patch = patch; func = func }))) n i patch func
-put_in row now n i patch func here view stack may =
+pub put_in : (now : List Entry) (i patch : ℕ) (func : Option ℕ) → IsStack now → may_stand patch i now ≡ true → PutIn now i patch func
+put_in now i patch func stack may =
     let e : Entry = record { patch = patch; func = func } in
-    let newer = reverse (drop n row) in
-    let older = reverse (take n row) in
     let parts = may_parts (ltb patch MAX_PATCHES) (has_entry patch now) (leb i (length now)) may in
     let number : patch < MAX_PATCHES = ltb-true _ _ parts.0 in
-    let within : n ≤ length row = let le : i ≤ length now = leb-true _ _ parts.2 in omega (arith, length-reverse row, ap length view) in
-    let at : reverse row ≡ newer ++ older = parted row n in
-    let none : has_entry patch (newer ++ older) ≡ false = subst (λ es. has_entry patch es ≡ false) (sym view ∙ at) parts.1 in
-    let put = inserted row n e in
+    let within : i ≤ length now = leb-true _ _ parts.2 in
+    let newer = take (length now - i) now in
+    let older = drop (length now - i) now in
+    let at : newer ++ older ≡ now = take-append-drop (length now - i) now in
+    let none : has_entry patch (newer ++ older) ≡ false = subst (λ es. has_entry patch es ≡ false) (sym at) parts.1 in
     record {
       within = within;
-      room = room row now e view stack number parts.1;
-      stack = subst IsStack (sym put) (put_between e older newer number none (subst IsStack at stack));
-      is =
-          put ∙ sym (put_between_at i e newer older (older_than row n within ∙ here)) ∙ ap (put_at i e) (sym at ∙ view)
-          ∙ sym (put_there patch i func now number parts.1 (leb-true _ _ parts.2));
+      is = sym (put_there patch i func now number parts.1 within);
+      stack = put_between e older newer number none (subst IsStack (sym at) stack);
     }
+
+-- one that may not changes nothing
+pub not_put : (now : List Entry) (patch : ℕ) (place : Place) → may_stand patch place.index now ≡ false → put_entry patch (Some place) now ≡ now
+not_put now patch place may = cond-false _ _ _ may
+
+pub index_within : (patch : ℕ) (entries : List Entry) (place : Place) → place_of patch entries ≡ Some place → place.index < length entries
+index_within patch entries place there =
+    let at = found patch entries place there in
+    let long = ap length at.is ∙ length-append at.newer (at.entry ∷ at.older) in
+    omega (arith, long, at.count)

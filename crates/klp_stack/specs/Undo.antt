@@ -1,5 +1,5 @@
 -- Records put back: each gives the entry of one patch on one stack its place again, or takes it out.
-use Rattle.std.specs.Prelude.{ℕ, ◌-◌, Bool, not, ◌&&◌, nat_lt, nat_le, List, length, insert, slice_set, Option, Some, None, if◌then◌else◌}
+use Rattle.std.specs.Prelude.{ℕ, ◌-◌, Bool, not, ◌&&◌, nat_lt, nat_le, false, List, length, insert, slice_set, Option, Some, None, is_some, if◌then◌else◌}
 use Rattle.klp_types.specs.declared.limits.TheConstants.{MAX_PATCHES}
 use Rattle.klp_types.specs.declared.record.Place.{Place}
 use Rattle.klp_types.specs.declared.record.Record.{Record}
@@ -25,3 +25,8 @@ put_entry patch (Some place) entries =
 abbrev pub put_back : List (List Entry) → Record → List (List Entry)
 put_back stacks (StackEntry site patch was) = slice_set stacks site (put_entry patch was (entries_at stacks site))
 put_back stacks other = stacks
+
+-- whether a record is of an entry that was there: put back, it takes room
+abbrev pub takes_room : Record → Bool
+takes_room (StackEntry site patch was) = is_some was
+takes_room other = false

@@ -6,14 +6,20 @@
 //! put back, gives the equal stacks (`specs/Changes`, `Undo`). `hooks` is how many entries a site has,
 //! `word` the two newest, `blocked` what holds a sleeper back there; a site that isn't there has nothing.
 //!
+//! All entries are in one pool (`specs/Pool`), for [`MAX_ENTRIES`] of all sites together. What is seen of
+//! it from outside is how many more there is room for (`specs/Spare`).
+//!
 //! [`pick`] is the version of the definition (`specs/Pick`), by the word alone: `laws` says that the word
-//! is enough. One site by itself is in `src/stack.rt`.
+//! is enough. One site by itself is in `src/chain.rt`.
 #![tactic(auto)]
 
+mod chain;
 mod handler;
 pub mod laws;
-mod stack;
+mod pool;
+mod slot;
 mod stacks;
 
 pub use handler::{pick, version_of};
+pub use slot::MAX_ENTRIES;
 pub use stacks::Stacks;
