@@ -14,3 +14,4 @@ pub mod RefusalLemmas
 pub mod ModuleShareLemmas
 pub mod ModuleSharesLemmas
 pub mod MayRunLemmas
+pub mod RoomLemmas

@@ -1,5 +1,5 @@
 -- Changes of the entries one after another, and what they note together.
-use Rattle.std.proofs.Common.{◌≡◌, ℕ, ◌+◌, ◌-◌, ◌<◌, ◌≤◌, Bool, true, false, ◌&&◌, Option, List, [], ◌∷◌, ◌++◌, length, set, refl, sym, ap, ◌∙◌, arith, eqb, ltb, length-append, append_assoc}
+use Rattle.std.proofs.Common.{◌≡◌, ℕ, ◌+◌, ◌-◌, ◌<◌, ◌≤◌, Bool, true, false, ◌&&◌, Option, Some, None, List, [], ◌∷◌, ◌++◌, length, set, refl, sym, ap, ◌∙◌, arith, eqb, ltb, length-append, append_assoc}
 use Rattle.std.specs.Prelude.{cond}
 use Rattle.std.proofs.lemmas.Bool.{eqb-true, eqb-false, lt-ltb, le-ltb, ltb-true, ltb-false}
 use Rattle.std.proofs.lemmas.List.{length-set}
@@ -10,6 +10,7 @@ use Rattle.klp_types.specs.declared.record.Record.TheVariants.{StackEntry, Loade
 use Rattle.klp_types.specs.Records.{RecordList, spare_of}
 use Rattle.klp_types.specs.Image.{Image, object_of}
 use Rattle.klp_stack.specs.Stack.{entries_at}
+use Rattle.klp_stack.specs.Spare.{spare_in}
 use Rattle.klp_stack.specs.Undo.{put_entry}
 use Rattle.klp_sites.specs.Table.{SiteTable}
 use Rattle.klp_sites.specs.Changes.{noting}
@@ -20,7 +21,12 @@ use Rattle.klp_patch.proofs.SiteLemmas.{Entries, OfSites}
 
 -- records put back leave the number of sites
 row_keeps : (table : SiteTable) (row : Record) → length (put_back table row).stacks ≡ length table.stacks
-row_keeps table (StackEntry site patch was) = length-set table.stacks site (put_entry patch was (entries_at table.stacks site))
+row_keeps table (StackEntry site patch None) = length-set table.stacks site (put_entry patch None (entries_at table.stacks site))
+row_keeps table (StackEntry site patch (Some place)) = elim (ltb 0 (spare_in table.stacks)) as
+    (λ b. length (cond b (set table.stacks site (put_entry patch (Some place) (entries_at table.stacks site))) table.stacks) ≡ length table.stacks) [
+      | true ↦ length-set table.stacks site (put_entry patch (Some place) (entries_at table.stacks site))
+      | false ↦ refl
+    ]
 row_keeps table (LoadedFlag object was) = elim (ltb object (length table.image.objects)) as
     (λ b. length (cond b (record table { loaded = set table.loaded object was }) table).stacks ≡ length table.stacks) [ true ↦ refl | false ↦ refl ]
 row_keeps table other = refl

@@ -8,13 +8,14 @@ use Rattle.std.proofs.lemmas.List.Elements.{All-nil, All-cons}
 use Rattle.std.proofs.lemmas.List.{length-set}
 use Rattle.std.proofs.lemmas.List.Sums.{sum_by-set, count_by-le-length}
 use Rattle.klp_types.specs.declared.limits.TheConstants.{MAX_SITES}
+use Rattle.klp_types.specs.declared.record.Place.{Place}
 use Rattle.klp_types.specs.declared.record.Record.{Record}
 use Rattle.klp_types.specs.declared.record.Record.TheVariants.{StackEntry, HookFlag}
 use Rattle.klp_types.specs.declared.version.Entry.{Entry}
 use Rattle.klp_types.specs.Entries.{is_empty}
 use Rattle.klp_stack.specs.Stack.{entries_at, has_entry, entries_of_others, place_of, IsStack}
 use Rattle.klp_sites.specs.Table.{SiteTable, is_stacked}
-use Rattle.klp_sites.specs.Changes.{pushed, rows_of_push, rows_of_take}
+use Rattle.klp_sites.specs.Changes.{pushed, taken, rows_of_push, rows_of_take}
 use Rattle.klp_sites.specs.Undo.{is_of_sites}
 use Rattle.klp_patch.specs.Changes.{AreMade, with_nop, without_nop, hooked_count}
 
@@ -74,6 +75,21 @@ pub push_few : (table : SiteTable) (site : ℕ) (entry : Entry) → site < lengt
 push_few table site entry there =
     few_pushed site entry.patch (entries_at table.stacks site) (hooked_count table) (hooked_count (pushed table site entry))
     (sum_by-set (λ es. cond (is_stacked es) 1 0) table.stacks site (entry ∷ entries_at table.stacks site) [] there)
+
+-- A take notes one row more exactly where it unhooks the site.
+few_taken : (site patch : ℕ) (was : Option Place) (entries others : Entries) (before after : ℕ) → has_entry patch entries ≡ true
+    → after + cond (is_stacked entries) 1 0 ≡ before + cond (is_stacked others) 1 0
+    → length (StackEntry site patch was ∷ cond (is_empty others) (HookFlag site true ∷ []) []) + after ≤ 1 + before
+few_taken site patch was [] others before after there count = cc
+few_taken site patch was (entry ∷ older) [] before after there count = omega (arith, count)
+few_taken site patch was (entry ∷ older) (other ∷ others) before after there count = omega (arith, count)
+
+pub take_few : (table : SiteTable) (site patch : ℕ) → site < length table.stacks → has_entry patch (entries_at table.stacks site) ≡ true
+    → length (rows_of_take table site patch) + hooked_count (taken table site patch) ≤ 1 + hooked_count table
+take_few table site patch there has =
+    few_taken site patch (place_of patch (entries_at table.stacks site)) (entries_at table.stacks site) (entries_of_others patch (entries_at table.stacks site)) (hooked_count table)
+    (hooked_count (taken table site patch)) has
+    (sum_by-set (λ es. cond (is_stacked es) 1 0) table.stacks site (entries_of_others patch (entries_at table.stacks site)) [] there)
 
 pub push_fits : (table : SiteTable) (site : ℕ) (entry : Entry) (spare : ℕ) → site < length table.stacks → length table.stacks ≤ MAX_SITES → 1 + MAX_SITES ≤ spare + hooked_count table
     → length (rows_of_push table site entry) ≤ spare

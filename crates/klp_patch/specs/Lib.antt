@@ -1,5 +1,6 @@
 pub mod Covered
 pub mod Changes
+pub mod Room
 pub mod Blocked
 pub mod Loaded
 pub mod Refusing

@@ -9,6 +9,7 @@ ghost use Rattle.klp_catalog.specs.Assembled.{LiesInObject};
 ghost use Rattle.klp_catalog.specs.States.{is_cumulative};
 ghost use Rattle.klp_stack.specs.Stack.{entries_at, has_entry, entries_of_others};
 ghost use Rattle.klp_patch.specs.Covered.{functions_in, is_covered};
+ghost use Rattle.klp_patch.specs.Room.{HasRoom};
 ghost use Rattle.klp_patch.specs.Changes.{AreMade, Notes, with_entry, with_nop, without_nop, hooked_count, most_entries};
 
 use crate::covered::{covered_sites, site_in_scope};
@@ -33,6 +34,8 @@ fn put_functions(
     requires in_object { All (LiesInObject (names_of sites.old.image.objects)) functions.now }
     requires fresh { (site : ℕ) → is_covered sites.old only.now site ≡ true
         → has_entry patch (entries_at sites.old.stacks site) ≡ false }
+    requires room { HasRoom sites.old (is_covered sites.old only.now)
+        (λ site entries. entry_of patch (function_for (map setting_function functions.now) site) false ++ entries) }
     requires records { length functions.now + MAX_SITES ≤ spare_of log.old + hooked_count sites.old }
     ensures entries { AreMade sites.old sites.new (is_covered sites.old only.now)
         (λ site entries. entry_of patch (function_for (map setting_function functions.now) site) false ++ entries) }
@@ -52,6 +55,7 @@ fn put_functions(
 fn put_nops(sites: &mut Sites, patch: PatchId, only: Option<ObjId>, log: &mut Records)
     requires number { patch < MAX_PATCHES }
     requires sites { length sites.old.stacks ≤ MAX_SITES }
+    requires room { HasRoom sites.old (is_covered sites.old only) (λ site entries. with_nop patch entries) }
     requires records { length sites.old.stacks + MAX_SITES ≤ spare_of log.old + hooked_count sites.old }
     ensures entries { AreMade sites.old sites.new (is_covered sites.old only) (λ site entries. with_nop patch entries) }
     ensures notes { Notes sites.old sites.new log.old log.new (length sites.old.stacks) (hooked_count sites.old)
@@ -124,6 +128,7 @@ pub fn patch_sites(
     requires names { catalog.now.names ≡ names_of sites.old.image.objects }
     requires fresh { (site : ℕ) → is_covered sites.old only site ≡ true
         → has_entry patch (entries_at sites.old.stacks site) ≡ false }
+    requires room { HasRoom sites.old (is_covered sites.old only) (with_entry catalog.now patch) }
     requires records { most_entries catalog.now patch sites.old + MAX_SITES ≤ spare_of log.old }
     ensures entries { AreMade sites.old sites.new (is_covered sites.old only) (with_entry catalog.now patch) }
     ensures notes { Notes sites.old sites.new log.old log.new (most_entries catalog.now patch sites.old)

@@ -2,6 +2,7 @@
 //! these, and so is its proof.
 ghost use Rattle.std.specs.Prelude.{◌≡◌, ℕ, ◌+◌, ◌<◌, ◌≤◌, ◌==◌, false, ◌∷◌, length};
 ghost use Rattle.klp_types.specs.Records.{spare_of};
+ghost use Rattle.klp_stack.specs.Spare.{spare_in};
 ghost use Rattle.klp_stack.specs.Stack.{entries_at, has_entry, entries_of_others};
 ghost use Rattle.klp_patch.specs.Changes.{AreMade, Notes, with_nop, without_nop, hooked_count};
 
@@ -15,6 +16,7 @@ pub(crate) fn put(sites: &mut Sites, site: Site, entry: Entry, log: &mut Records
     requires sites { length sites.old.stacks ≤ MAX_SITES }
     requires fresh { has_entry entry.patch (entries_at sites.old.stacks site) ≡ false }
     requires number { entry.patch < MAX_PATCHES }
+    requires room { 0 < spare_in sites.old.stacks }
     requires records { 1 + MAX_SITES ≤ spare_of log.old + hooked_count sites.old }
     ensures entries { AreMade sites.old sites.new (λ other. site == other) (λ other entries. entry ∷ entries) }
     ensures notes { Notes sites.old sites.new log.old log.new 1 (hooked_count sites.old) (hooked_count sites.new) }
@@ -29,6 +31,8 @@ pub(crate) fn put_nop(sites: &mut Sites, site: Site, patch: PatchId, log: &mut R
     requires there { site < length sites.old.stacks }
     requires sites { length sites.old.stacks ≤ MAX_SITES }
     requires number { patch < MAX_PATCHES }
+    requires room { let entries = entries_at sites.old.stacks site in
+        length entries < length (with_nop patch entries) → 0 < spare_in sites.old.stacks }
     requires records { 1 + MAX_SITES ≤ spare_of log.old + hooked_count sites.old }
     ensures entries { AreMade sites.old sites.new (λ other. site == other) (λ other entries. with_nop patch entries) }
     ensures notes { Notes sites.old sites.new log.old log.new 1 (hooked_count sites.old) (hooked_count sites.new) }

@@ -1,7 +1,10 @@
 -- Records put back: each gives one entry or one object what it was.
-use Rattle.std.specs.Prelude.{ℕ, Bool, true, false, nat_lt, List, [], ◌∷◌, length, slice_set, if◌then◌else◌}
+use Rattle.std.specs.Prelude.{ℕ, Bool, true, false, nat_lt, List, [], ◌∷◌, length, slice_set, Option, Some, None, if◌then◌else◌}
+use Rattle.klp_types.specs.declared.record.Place.{Place}
 use Rattle.klp_types.specs.declared.record.Record.{Record}
 use Rattle.klp_types.specs.declared.record.Record.TheVariants.{StackEntry, HookFlag, LoadedFlag}
+use Rattle.klp_types.specs.declared.version.Entry.{Entry}
+use Rattle.klp_stack.specs.Spare.{spare_in}
 use Rattle.klp_stack.specs.Undo as of_stacks
 use Rattle.klp_sites.specs.Table.{SiteTable}
 
@@ -10,10 +13,17 @@ abbrev pub put_loaded : SiteTable → ℕ → Bool → SiteTable
 put_loaded table object was =
     if nat_lt object (length table.image.objects) then record table { loaded = slice_set table.loaded object was } else table
 
+-- the stacks with an entry as the record tells it. One that was there comes back only where there is room for one more:
+-- there always is where the records of changes are put back newest first
+abbrev pub entries_back : List (List Entry) → ℕ → ℕ → Option Place → List (List Entry)
+entries_back stacks site patch None = of_stacks.put_back stacks (StackEntry site patch None)
+entries_back stacks site patch (Some place) =
+    if nat_lt 0 (spare_in stacks) then of_stacks.put_back stacks (StackEntry site patch (Some place)) else stacks
+
 -- the table with one row as the record tells it. A record of a hook changes nothing, as those of rows that aren't the
 -- table's: the hook of a site follows its entries
 abbrev pub put_back : SiteTable → Record → SiteTable
-put_back table (StackEntry site patch was) = record table { stacks = of_stacks.put_back table.stacks (StackEntry site patch was) }
+put_back table (StackEntry site patch was) = record table { stacks = entries_back table.stacks site patch was }
 put_back table (LoadedFlag object was) = put_loaded table object was
 put_back table other = table
 

@@ -1,11 +1,13 @@
-ghost use Rattle.std.specs.Prelude.{◌≡◌, ◌<◌, ◌≤◌, ◌==◌, find, true, false, length, replicate, option_map, slice_index_or, slice_set, IfOk};
+ghost use Rattle.std.specs.Prelude.{◌≡◌, ◌<◌, ◌≤◌, ◌==◌, find, true, false, length, replicate, option_map, slice_index_or, slice_set, is_some, IfOk};
 ghost use Rattle.std.specs.Option.{option_to_list};
 ghost use Rattle.klp_types.specs.Records.{spare_of};
 ghost use Rattle.klp_text.specs.TextImage.{site_count};
 ghost use Rattle.klp_model.specs.Blocked.{blocked_among};
 ghost use Rattle.klp_model.specs.Rows.{word_of};
 ghost use Rattle.klp_types.specs.declared.version.Entry.{Entry as AnyEntry};
+ghost use Rattle.klp_stack.specs.Spare.{spare_in};
 ghost use Rattle.klp_stack.specs.Stack.{IsStack, entries_at, has_entry};
+ghost use Rattle.klp_stack.specs.Undo as of_stacks;
 ghost use Rattle.klp_sites.specs.Table.{bytes_at, image_of, is_hooked_at, opening};
 ghost use Rattle.klp_sites.specs.Changes.{Changes, pushed, taken, rows_of_push, rows_of_take};
 ghost use Rattle.klp_sites.specs.Undo.{put_back, put_loaded};
@@ -67,6 +69,7 @@ impl Sites {
         requires there { site < length self.old.stacks }
         requires fresh { has_entry entry.patch (entries_at self.old.stacks site) ≡ false }
         requires number { entry.patch < MAX_PATCHES }
+        requires room { 0 < spare_in self.old.stacks }
         requires records { length (rows_of_push self.old site entry) ≤ spare_of log.old }
         ensures changes { Changes self.old self.new log.old log.new (pushed self.old site entry)
             (rows_of_push self.old site entry) }
@@ -81,7 +84,7 @@ impl Sites {
     }
 
     /// Takes the entry of a patch out of a site's stack, and unhooks the site with its last, so that a
-    /// function without patches pays for none. The cost is at most the stack's height.
+    /// function without patches pays for none. The cost is the entry's place.
     pub fn take(&mut self, site: Site, patch: PatchId, log: &mut Records)
         requires there { has_entry patch (entries_at self.old.stacks site) ≡ true }
         requires records { length (rows_of_take self.old site patch) ≤ spare_of log.old }
@@ -132,10 +135,22 @@ impl Sites {
         }
     }
 
-    /// Puts an entry of the site back, or takes it out. The hook is written only where it changes, which is
-    /// with the first entry and the last.
+    /// Puts an entry of the site back where there is room for it, or takes it out. There always is room
+    /// where undo puts records back (docs/DECISIONS.md, "Room for an entry that comes back").
     fn put_entry(&mut self, site: Site, patch: PatchId, was: Option<Place>)
         ensures { self.new ≡ put_back self.old (Record.StackEntry site patch was) }
+    {
+        if was.is_none() || self.stacks.spare() > 0 {
+            self.change_entry(site, patch, was);
+        }
+    }
+
+    /// Puts an entry of the site back, or takes it out. The hook is written only where it changes, which is
+    /// with the first entry and the last.
+    fn change_entry(&mut self, site: Site, patch: PatchId, was: Option<Place>)
+        requires { is_some was ≡ true → 0 < spare_in self.old.stacks }
+        ensures { let row = Record.StackEntry site patch was in
+            self.new ≡ record self.old { stacks = of_stacks.put_back self.old.stacks row } }
     {
         // A nop is an entry too, because it has to be run by the handler.
         let was_hooked = self.stacks.hooks(site) > 0;

@@ -9,6 +9,7 @@ use Rattle.klp_patch.specs.Covered.{is_covered}
 use Rattle.klp_patch.proofs.MadeLemmas.{sites_kept, made_both, made_also, notes_put, notes_longer}
 use Rattle.klp_patch.proofs.FunctionLemmas.{is_below, next_function, fresh_number, functions_put}
 use Rattle.klp_patch.proofs.ScopeLemmas.{in_scope_here, all_in_scope}
+use Rattle.klp_patch.proofs.RoomLemmas.{room_for_function}
 use Rattle.klp_patch.proofs.patch.put_functions.Goals as goal
 use Rattle.klp_patch.proofs.patch.put_functions.Goals.{in-Some, in_default}
 
@@ -32,6 +33,22 @@ put-requires-clause-fresh c =
     let site = c.in-Some.site in
     ap (has_entry c.args.patch) (so_far.entries site)
     ∙ fresh_number (is_covered before only site) (number site) i c.args.patch (make site) (entries_at before.stacks site) (sym (c.in-Some.ensures.site site ∙ own site) ∙ eq-eqb site site refl) (c.requires.fresh site)
+
+pub put-requires-clause-room : goal.put-requires-clause-room
+put-requires-clause-room c =
+    let before = c.args.sites.now in
+    let now = c.loop-number.sites in
+    let i = c.loop-number.number in
+    let only = c.args.only.now in
+    let functions = c.args.functions.now in
+    let number : ℕ → Option ℕ = λ site. function_for (map setting_function c.args.functions.now) site in
+    let so_far = c.loop-number.invariant.entries in
+    let below : i < length functions = omega arith in
+    let own = in_scope_here functions _ refl i before now only _ _ so_far c.requires.distinct below c.index-functions-number.result c.index-functions-number.is in
+    let site = c.in-Some.site in
+    let same = sites_kept before now c.args.log.now c.loop-number.log i _ _ c.loop-number.invariant.notes in
+    room_for_function before now (is_covered before only) number c.args.patch i site c.requires.room same so_far c.in-Some.ensures.there
+    (sym (c.in-Some.ensures.site site ∙ own site) ∙ eq-eqb site site refl)
 
 pub loop-number-preserved : goal.loop-number-preserved
 loop-number-preserved c =

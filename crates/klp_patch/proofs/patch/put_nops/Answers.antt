@@ -3,6 +3,7 @@ use Rattle.klp_types.specs.declared.version.Entry.{Entry}
 use Rattle.klp_patch.specs.Covered.{is_covered}
 use Rattle.klp_patch.specs.Changes.{with_nop}
 use Rattle.klp_patch.proofs.MadeLemmas.{sites_kept, next_made, next_passed, notes_put, notes_longer}
+use Rattle.klp_patch.proofs.RoomLemmas.{room_for_nop}
 use Rattle.klp_patch.proofs.patch.put_nops.Goals as goal
 use Rattle.klp_patch.proofs.patch.put_nops.Goals.{then-deref-site, else-deref-site}
 
@@ -15,6 +16,16 @@ pub put_nop-requires-clause-sites : goal.put_nop-requires-clause-sites
 put_nop-requires-clause-sites c =
     let same = sites_kept c.args.sites.now c.loop-site.sites c.args.log.now c.loop-site.log c.loop-site.site _ _ c.loop-site.invariant.notes in
     omega (arith, same, c.requires.sites)
+
+pub put_nop-requires-clause-room : goal.put_nop-requires-clause-room
+put_nop-requires-clause-room c more =
+    let before = c.args.sites.now in
+    let now = c.loop-site.sites in
+    let i = c.loop-site.site in
+    let flag = sym (c.covered_sites-covered.ensures.flags i) ∙ ap (λ flags. get_or flags i false) (sym c.deref.ensures.0) in
+    let same = sites_kept before now c.args.log.now c.loop-site.log i _ _ c.loop-site.invariant.notes in
+    room_for_nop before now (is_covered before c.args.only) c.args.patch i c.requires.room same c.loop-site.invariant.entries
+    (omega (arith, same, c.covered_sites-covered.ensures.length, c.len-site-end.ensures.value)) (flag ∙ c.if-deref-site.true) more
 
 pub loop-site-preserved : goal.loop-site-preserved
 loop-site-preserved c =

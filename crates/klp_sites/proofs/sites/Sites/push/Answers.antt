@@ -1,4 +1,4 @@
-use Rattle.std.proofs.Common.{true, sym, ◌∙◌, ◌∷◌, arith}
+use Rattle.std.proofs.Common.{true, ◌∷◌, arith}
 use Rattle.std.proofs.lemmas.Grind.{common_steps}
 use Rattle.klp_stack.specs.Stack.{entries_at}
 use Rattle.klp_sites.proofs.StepLemmas.{turned, unturned, stacked_from, hooked_now}

@@ -1,4 +1,4 @@
-use Rattle.std.proofs.Common.{true, false, sym, ◌∙◌}
+use Rattle.std.proofs.Common.{true, false}
 use Rattle.klp_stack.specs.Stack.{entries_at, entries_of_others}
 use Rattle.klp_sites.proofs.StepLemmas.{turned, unturned, stacked_from, empty_from, hooked_with}
 use Rattle.klp_sites.proofs.sites.Sites.take.Goals as goal
