@@ -7,7 +7,7 @@ use Rattle.klp_types.specs.FirstOf.{first_of}
 use Rattle.klp_types.specs.Setting.{Setting}
 use Rattle.klp_model.specs.declared.event.Event.TheVariants.{Enable}
 use Rattle.klp_model.specs.declared.event.Refusal.{Refusal}
-use Rattle.klp_model.specs.State.{State, is_installed}
+use Rattle.klp_model.specs.State.{is_moving, State, is_installed}
 use Rattle.klp_model.specs.EventCalls.{lacks_room}
 use Rattle.klp_model.specs.Refusals.{has_patch, refusal, refusals, NoneHolds}
 use Rattle.klp_types.specs.declared.callback.Which.TheVariants.{Pre}
@@ -45,12 +45,13 @@ NoCase = (cases : List (Bool × Refusal)) → is_none (first_of cases) ≡ true 
 pub record Enablable (setting : Setting) (state : State) (patch : ℕ) : Type 0 where
   pub there : has_patch setting patch ≡ true
   pub apart : is_installed state patch ≡ false
+  pub still : is_moving state ≡ false
   pub room : lacks_room setting state (Enable patch) ≡ false
 
 pub enablable : (setting : Setting) (state : State) (patch : ℕ) → NoCase → refusal setting state (Enable patch) ≡ None → Enablable setting state patch
 enablable setting state patch law free =
     let none = law (refusals setting state (Enable patch)) (ap is_none free) in
-    record { there = not-false (has_patch setting patch) none.0; apart = none.1.0; room = none.1.1.1.1.1.1.0 }
+    record { there = not-false (has_patch setting patch) none.0; apart = none.1.0; still = none.1.1.0; room = none.1.1.1.1.1.1.0 }
 
 -- the steps that enabling may take
 

@@ -31,7 +31,7 @@ pub loaded_in_scope : (state : State) (object : Option ℕ) → is_object_in_sco
 loaded_in_scope state None = refl
 loaded_in_scope state (Some object) = refl
 
-on_top : OnTop → (setting : Setting) (site patch : ℕ) (patches : List ℕ) (loaded : Bool)
+pub on_top : OnTop → (setting : Setting) (site patch : ℕ) (patches : List ℕ) (loaded : Bool)
     → (if loaded then entry_of patch (function_for (functions_of setting patch) site) (replaces setting patch && not (is_empty (if loaded then entries_from setting site (reverse patches) else [])))
     ++ (if loaded then entries_from setting site (reverse patches) else []) else (if loaded then entries_from setting site (reverse patches) else []))
     ≡ (if loaded then entries_from setting site (reverse (patches ++ patch ∷ [])) else [])

@@ -12,3 +12,5 @@ pub mod CompleteListLemmas
 pub mod CompleteTaskLemmas
 pub mod CompleteSiteLemmas
 pub mod CompletePollLemmas
+pub mod CountLemmas
+pub mod FitLemmas

@@ -1,9 +1,9 @@
 -- The entries of a module's sites, while the installed patches come to them or leave them one after another.
-use Rattle.std.proofs.Common.{◌≡◌, ℕ, zero, suc, ◌+◌, ◌<◌, Bool, true, false, not, ◌&&◌, ◌||◌, cond, List, [], ◌∷◌, ◌++◌, length, reverse, take, get_or, Some, is_some, refl, sym, ap, ◌∙◌, arith}
+use Rattle.std.proofs.Common.{◌≡◌, ℕ, zero, suc, ◌+◌, ◌<◌, Bool, true, false, not, ◌&&◌, ◌||◌, cond, List, [], ◌∷◌, ◌++◌, length, reverse, take, drop, get_or, ◌≤◌, Some, is_some, refl, sym, ap, subst, ◌∙◌, arith}
 use Rattle.std.specs.Prelude.{◌==◌, if◌then◌else◌}
 use Rattle.std.specs.List.{count_by, filter, list_any}
 use Rattle.std.proofs.lemmas.Bool.{eq-eqb, eqb-true, false_from_ne_true, or_right}
-use Rattle.std.proofs.lemmas.List.{take_more, reverse-append}
+use Rattle.std.proofs.lemmas.List.{take_more, take-append-drop, reverse-append}
 use Rattle.std.proofs.lemmas.List.Folds.{list_any-append, list_any_at}
 use Rattle.std.proofs.lemmas.List.Sums.{sum_by-append}
 use Rattle.std.proofs.Math.Bool.{or-false}
@@ -17,6 +17,9 @@ use Rattle.klp_catalog.specs.Catalog.{Catalog, patches_of}
 use Rattle.klp_stack.specs.Stack.{entries_at, has_entry, entries_of_others}
 use Rattle.klp_sites.specs.Table.{SiteTable}
 use Rattle.klp_patch.specs.Changes.{AreMade, with_entry}
+use Rattle.klp_patch.specs.Room.{FindRoom, HasRoom}
+use Rattle.klp_patch.proofs.RoomLemmas.{count-le, room_for_less}
+use Rattle.klp_patch_events.proofs.CountLemmas.{older_fewer}
 use Rattle.klp_patch.specs.Covered.{is_covered, is_object_in_scope}
 
 -- the image and the patches of a catalog
@@ -280,3 +283,42 @@ all_left law catalog patches object before now own left site =
     left.entries site
     ∙ where_covered (is_covered before (Some object) site) (filter (λ (e : Entry). not (is_one_of e.patch patches)) (entries_at before.stacks site)) [] (entries_at before.stacks site)
     (λ covers. ap (filter (λ (e : Entry). not (is_one_of e.patch patches))) (own site covers) ∙ none_left law (setting_with before.image catalog) site patches)
+
+-- there is room for the entries of one more patch, where there is room for those of all
+pub one_fits : OnTop → (catalog : Catalog) (patches : List ℕ) (i patch object : ℕ) (before now : SiteTable) → i < length patches → patch ≡ get_or patches i patch
+    → HaveCome catalog (take i patches) object before now → length now.stacks ≡ length before.stacks
+    → HasRoom before (is_covered before (Some object)) (λ site entries. entries_from (setting_with before.image catalog) site (reverse patches))
+    → HasRoom now (is_covered now (Some object)) (with_entry catalog patch)
+one_fits law catalog patches i patch object before now below is come same room =
+    room_for_less before now (is_covered before (Some object)) (is_covered now (Some object)) (λ site entries. entries_from (setting_with before.image catalog) site (reverse patches)) (with_entry catalog patch) room same
+    (λ site.
+    let setting = setting_with before.image catalog in
+    let covers = is_covered before (Some object) site in
+    let made : (if is_covered now (Some object) site then with_entry catalog patch site (entries_at now.stacks site) else entries_at now.stacks site)
+    ≡ (if covers then entries_from setting site (reverse (take (i + 1) patches)) else entries_at before.stacks site) =
+    ap (λ b. if b then with_entry catalog patch site (entries_at now.stacks site) else entries_at now.stacks site) (same_cover now before object site come.image come.loaded)
+    ∙ ap (λ es. if covers then with_entry catalog patch site es else es) (come.entries site)
+    ∙ nested covers (with_entry catalog patch site) (entries_from setting site (reverse (take i patches))) (entries_from setting site (reverse (take (i + 1) patches))) (entries_at before.stacks site)
+    (put_on law before.image catalog site patches i patch below is)
+    in
+    let parts : reverse patches ≡ reverse (drop (i + 1) patches) ++ reverse (take (i + 1) patches) =
+    ap reverse (sym (take-append-drop (i + 1) patches)) ∙ reverse-append (take (i + 1) patches) (drop (i + 1) patches)
+    in
+    let fewer : length (entries_from setting site (reverse (take (i + 1) patches))) ≤ length (entries_from setting site (reverse patches)) =
+    subst (λ ps. length (entries_from setting site (reverse (take (i + 1) patches))) ≤ length (entries_from setting site ps)) (sym parts)
+    (older_fewer setting site (reverse (drop (i + 1) patches)) (reverse (take (i + 1) patches)))
+    in
+    subst (λ es. length es ≤ length (if covers then entries_from setting site (reverse patches) else entries_at before.stacks site)) (sym made)
+    (either covers (entries_from setting site (reverse (take (i + 1) patches))) (entries_from setting site (reverse patches)) (entries_at before.stacks site) fewer))
+  where
+    either : (covers : Bool) (one many other : List Entry) → length one ≤ length many → length (if covers then one else other) ≤ length (if covers then many else other)
+    either true one many other few = few
+    either false one many other few = omega arith
+
+-- there is room for those of all, as all sites have no more than these
+pub all_have_room : (setting : Setting) (patches : List ℕ) (table : SiteTable) (covers : ℕ → Bool) (made : ℕ → List Entry → List Entry)
+    → ((site : ℕ) → length (if covers site then made site (entries_at table.stacks site) else entries_at table.stacks site) ≤ length (entries_from setting site (reverse patches)))
+    → FindRoom (λ site. entries_from setting site (reverse patches)) (length table.stacks) → HasRoom table covers made
+all_have_room setting patches table covers made few fits =
+    let all = count-le (λ site. if covers site then made site (entries_at table.stacks site) else entries_at table.stacks site) (λ site. entries_from setting site (reverse patches)) few (length table.stacks) in
+    record { fits = omega (arith, all, fits) }

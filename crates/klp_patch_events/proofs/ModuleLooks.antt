@@ -1,5 +1,5 @@
 -- What is looked at before a module comes: symbols that aren't found.
-use Rattle.std.proofs.Common.{◌≡◌, ℕ, ◌+◌, ◌-◌, Bool, true, false, ◌&&◌, ◌||◌, List, [], ◌∷◌, map, Option, Some, None, refl, sym, ap, ◌∙◌}
+use Rattle.std.proofs.Common.{◌≡◌, ℕ, ◌+◌, Bool, true, false, ◌&&◌, ◌||◌, List, [], ◌∷◌, map, Option, Some, None, refl, sym, ap, ◌∙◌}
 use Rattle.std.specs.Prelude.{◌==◌, is_none, option_map, slice_get, if◌then◌else◌}
 use Rattle.std.specs.List.{filter, list_any, enumerate_from}
 use Rattle.std.proofs.lemmas.List.Folds.{list_any-append}

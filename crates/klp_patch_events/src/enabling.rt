@@ -12,6 +12,7 @@ ghost use Rattle.klp_text.specs.TextImage.{site_count};
 ghost use Rattle.klp_modules.specs.Names.{names_of};
 ghost use Rattle.klp_stack.specs.Stack.{entries_at, has_entry};
 ghost use Rattle.klp_patch.specs.Covered.{is_covered};
+ghost use Rattle.klp_patch.specs.Room.{HasRoom};
 ghost use Rattle.klp_patch.specs.Changes.{AreMade, with_entry};
 ghost use Rattle.klp_model.specs.Refusals.{refusal};
 ghost use Rattle.klp_model.specs.EventCalls.{lacks_room};
@@ -199,6 +200,7 @@ fn start(manager: &mut ManagerState, catalog: &Catalog, patch: PatchId)
     requires sites { site_count manager.old.sites.image ≤ MAX_SITES }
     requires names { catalog.now.names ≡ names_of manager.old.sites.image.objects }
     requires fresh { (site : ℕ) → has_entry patch (entries_at manager.old.sites.stacks site) ≡ false }
+    requires fit { HasRoom manager.old.sites (is_covered manager.old.sites None) (with_entry catalog.now patch) }
     requires tasks { length manager.old.tasks ≡ MAX_TASKS }
     requires records { length manager.old.log.noted ≤ RECORDS_BEFORE_SITES }
     requires log { manager.old.log.room ≡ MAX_RECORDS }

@@ -1,8 +1,9 @@
 //! A module is loaded, or unloaded (livepatch, Livepatch life-cycle; callbacks, the cases of modules).
-ghost use Rattle.std.specs.Prelude.{◌≡◌, ◌+◌, ◌<◌, ◌≤◌, ◌==◌, ◌&&◌, not, nat_lt, true, false, length, is_none, Some, None};
+ghost use Rattle.std.specs.Prelude.{◌≡◌, ◌+◌, ◌<◌, ◌≤◌, ◌==◌, ◌&&◌, not, nat_lt, true, false, length, reverse, is_none, Some, None};
 ghost use Rattle.std.specs.List.{All, count_by, list_any};
 ghost use Rattle.klp_types.specs.declared.limits.TheConstants.{MAX_COMING_EDITS, MAX_GOING_EDITS, MAX_PATCHES};
 ghost use Rattle.klp_types.specs.Callbacks.{allocs_of};
+ghost use Rattle.klp_types.specs.Entries.{entries_from};
 ghost use Rattle.klp_model.specs.declared.event.Event.TheVariants.{Coming, Going};
 ghost use Rattle.klp_model.specs.EventCalls.{lacks_room};
 ghost use Rattle.klp_model.specs.Refusals.{refusal, part_lacks_symbol};
@@ -10,6 +11,7 @@ ghost use Rattle.klp_model.specs.State.{installed_patches};
 ghost use Rattle.klp_catalog.specs.Catalog.{CatalogFunction as FunctionOf, catalog_functions};
 ghost use Rattle.klp_catalog.specs.States.{is_cumulative};
 ghost use Rattle.klp_patch.specs.Calls.{records_of};
+ghost use Rattle.klp_patch.specs.Room.{FindRoom};
 ghost use Rattle.klp_manager_state.specs.Managed.{setting_in, state_in, refused_in, may_run_in, lacks_room_in};
 ghost use Rattle.klp_manager_state.specs.Invariant.{Invariant};
 ghost use Rattle.klp_manager_state.specs.Events.{TakesEvent, AcceptsEvent};
@@ -179,9 +181,14 @@ fn installed_patches(manager: &ManagerState, catalog: &Catalog) -> ArrayVec<Patc
     ensures few { length result.items ≤ MAX_PATCHES }
     ensures numbers { All (λ p. p < MAX_PATCHES) result.items }
     ensures replace { count_by (is_cumulative catalog.now) result.items ≤ 2 }
+    // the entries of them all find room, on all sites
+    ensures fit { FindRoom (λ site. entries_from (setting_in manager.now catalog.now) site
+        (reverse (installed_patches (state_in manager.now catalog.now)))) (length manager.now.sites.stacks) }
 {
     klp_model::laws::at_most_two_patches_replace();
+    // for their contracts, which bound the entries
     let _patches = catalog.patches();
+    let _sites = manager.sites.sites();
     manager.world.installed_list()
 }
 

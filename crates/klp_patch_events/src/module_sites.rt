@@ -11,6 +11,7 @@ ghost use Rattle.klp_catalog.specs.Catalog.{patches_of};
 ghost use Rattle.klp_catalog.specs.States.{is_cumulative};
 ghost use Rattle.klp_stack.specs.Stack.{entries_at};
 ghost use Rattle.klp_patch.specs.Changes.{hooked_count, most_entries};
+ghost use Rattle.klp_patch.specs.Room.{HasRoom};
 ghost use Rattle.klp_patch.specs.Covered.{is_covered};
 ghost use Rattle.klp_manager_state.specs.Rows.{SitesGoBack};
 
@@ -23,6 +24,7 @@ use klp_types::{MAX_PATCHES, ObjId, PatchId, Records};
 fn stacks_are_few(sites: &Sites)
     requires { site_count sites.now.image ≤ MAX_SITES }
     ensures stacks { length sites.now.stacks ≤ MAX_SITES }
+    ensures count { length sites.now.stacks ≡ site_count sites.now.image }
     ensures hooked { hooked_count sites.now ≤ MAX_SITES }
 {
     let _sites = sites.sites();
@@ -55,6 +57,9 @@ pub(crate) fn patch_object(
     requires names { catalog.now.names ≡ names_of sites.old.image.objects }
     requires bare { (site : ℕ) → is_covered sites.old (Some object) site ≡ true
         → entries_at sites.old.stacks site ≡ [] }
+    requires fit { HasRoom sites.old (is_covered sites.old (Some object))
+        (λ site entries. entries_from (record { image = sites.old.image; patches = patches_of catalog.now }) site
+        (reverse patches.now)) }
     requires records { length log.old.noted ≤ RECORDS_BEFORE_SITES }
     requires room { log.old.room ≡ MAX_RECORDS }
     ensures image { sites.new.image ≡ sites.old.image }

@@ -1,4 +1,4 @@
-use Rattle.std.proofs.Common.{◌≡◌, ℕ, true, false, List, None, sym, ap, subst, ◌∙◌, arith}
+use Rattle.std.proofs.Common.{◌≡◌, ℕ, ◌≤◌, true, false, List, length, None, sym, ap, subst, ◌∙◌, arith}
 use Rattle.std.specs.Prelude.{◌++◌}
 use Rattle.std.specs.FinMap as finite
 use Rattle.std.proofs.lemmas.List.{length-map}
@@ -21,6 +21,8 @@ use Rattle.klp_stack.specs.Stack.{entries_at, has_entry}
 use Rattle.klp_patch.specs.Calls.{HasRoomFor, records_of}
 use Rattle.klp_patch.specs.Loaded.{loaded_in}
 use Rattle.klp_patch.specs.Covered.{is_covered}
+use Rattle.klp_patch.specs.Room.{HasRoom}
+use Rattle.klp_types.specs.declared.limits.TheConstants.{MAX_SITES}
 use Rattle.klp_manager_state.specs.declared.state.ManagerState.{ManagerState}
 use Rattle.klp_manager_state.specs.Rows.{rows_in}
 use Rattle.klp_patch_events.proofs.BackLemmas.{callbacks_back}
@@ -30,6 +32,7 @@ use Rattle.klp_manager_state.proofs.InstalledLemmas.{fewer, numbers_of, any-numb
 use Rattle.klp_patch_events.proofs.EnableLemmas.{enablable, started, failed, none_refused, one_refused, same_reply, world_then}
 use Rattle.klp_patch_events.proofs.EntryLemmas.{no_entry_at}
 use Rattle.klp_manager_state.proofs.InstalledLemmas.{numbers-with}
+use Rattle.klp_patch_events.proofs.FitLemmas.{enable_fits}
 use Rattle.klp_patch_events.proofs.enabling.install.Goals as goal
 
 pub put_last-requires-clause-fresh : goal.put_last-requires-clause-fresh
@@ -71,6 +74,23 @@ start-requires-clause-fresh g c = λ site.
     ∙ ap (has_entry c.args.patch) (c.requires.kept.entries site)
     ∙ no_entry_at c.entries_are_of_their_patches.ensures.installed (setting_in parts catalog) (state_in parts catalog) c.args.patch
     (any-numbers c.args.patch parts.world.installed ∙ facts.apart) site
+
+pub start-requires-clause-fit : goal.start-requires-clause-fit
+start-requires-clause-fit g c =
+    let parts = c.args.manager.now in
+    let catalog = c.args.catalog.now in
+    let setting = setting_in parts catalog in
+    let facts = enablable setting (state_in parts catalog) c.args.patch c.events_are_accepted_where_no_case_holds.ensures.none c.requires.free in
+    let few = fewer setting (numbers_of parts.world) c.args.patch c.requires.kept.allowed.distinct c.requires.kept.allowed.known
+    (any-numbers c.args.patch parts.world.installed ∙ facts.apart) facts.there
+    in
+    let many = length-map catalog.patches (setting_patch catalog.names) in
+    let sites : length parts.sites.stacks ≤ MAX_SITES = omega (arith, c.sites.ensures.value, c.sites.ensures.image, c.requires.kept.limits.few_sites) in
+    let fits = enable_fits parts catalog c.requires.kept c.patches.ensures.limits sites c.the_newest_entry_is_on_top.ensures c.args.patch facts.still
+    (omega (arith, few, many, c.patches.ensures.count, c.patches.ensures.limit))
+    in
+    subst (λ (p : ManagerState). HasRoom p.sites (is_covered p.sites None) (with_entry c.run_pre_patch.new.catalog c.args.patch)) (sym c.put_last.ensures.parts)
+    (subst (λ (k : Catalog). HasRoom parts.sites (is_covered parts.sites None) (with_entry k c.args.patch)) (sym c.run_pre_patch.ensures.ran.catalog) fits)
 
 pub start-requires-clause-records : goal.start-requires-clause-records
 start-requires-clause-records g c =

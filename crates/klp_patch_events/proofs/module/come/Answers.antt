@@ -17,7 +17,7 @@ use Rattle.klp_model.specs.ModuleCalls.{Part, part_refuses, parts, coming_calls}
 use Rattle.klp_model.specs.ModuleStep.{come_or_refused}
 use Rattle.klp_model.specs.State.{State, installed_patches, with_world}
 use Rattle.klp_modules.specs.Names.{ModuleTable}
-use Rattle.klp_catalog.specs.Catalog.{Catalog}
+use Rattle.klp_catalog.specs.Catalog.{Catalog, patches_of}
 use Rattle.klp_catalog.specs.Runs.{after_runs}
 use Rattle.klp_patch.specs.Calls.{records_of}
 use Rattle.klp_patch.specs.ModuleShares.{parts_in}
@@ -35,6 +35,7 @@ use Rattle.klp_manager_state.specs.Managed.{setting_in, state_in}
 use Rattle.klp_manager_state.proofs.StepLemmas.{step_accepted, accepted_at_sites}
 use Rattle.klp_patch_events.proofs.ModuleLemmas.{setting_with}
 use Rattle.klp_patch_events.proofs.ModuleSteps.{may_come, none_found, refused_by, told_as, coming_few, came}
+use Rattle.klp_patch_events.proofs.FitLemmas.{come_fits}
 use Rattle.klp_patch_events.proofs.module.come.Goals as goal
 
 pub note-requires : goal.note-requires
@@ -68,6 +69,13 @@ patch_object-requires-clause-records g c =
     let empty = ap (λ (l : RecordList). length l.noted) c.clear.ensures in
     let one = ap (λ (l : RecordList). length l.noted) c.note.ensures ∙ length-append c.run_coming.new.log.noted _ in
     omega (arith, few, ran, variables, empty, one, c.in-None.ensures.ran.records, c.requires.records)
+
+pub patch_object-requires-clause-fit : goal.patch_object-requires-clause-fit
+patch_object-requires-clause-fit g c =
+    let before = c.args.manager.now in
+    let catalog = c.args.catalog.now in
+    come_fits before catalog c.requires.kept c.args.object _ c.installed_patches-installed.ensures.fit c.load.new.self c.load.ensures.table c.run_coming.new.catalog (ap patches_of c.in-None.ensures.ran.catalog)
+    c.deref-in-None.result.now (c.deref-in-None.ensures.0 ∙ c.installed_patches-installed.ensures.value)
 
 pub returns-in-Some-clause-accepted : goal.returns-in-Some-clause-accepted
 returns-in-Some-clause-accepted g c =

@@ -1,8 +1,9 @@
-use Rattle.std.proofs.Common.{refl, length, ap, ◌∙◌, arith, length-append}
+use Rattle.std.proofs.Common.{refl, length, ap, sym, ◌∙◌, arith, length-append}
 use Rattle.klp_types.specs.Records.{RecordList}
 use Rattle.klp_catalog.specs.States.{is_cumulative}
+use Rattle.klp_text.specs.TextImage.{site_count}
 use Rattle.klp_patch_events.proofs.BackLemmas.{patch_back}
-use Rattle.klp_patch_events.proofs.ModuleLemmas.{none_came, still_fresh, one_came, count_more}
+use Rattle.klp_patch_events.proofs.ModuleLemmas.{none_came, still_fresh, one_came, one_fits, count_more}
 use Rattle.klp_patch_events.proofs.module_sites.patch_object.Goals as goal
 
 pub loop-patch-init : goal.loop-patch-init
@@ -34,3 +35,10 @@ loop-patch-preserved g c =
 
 pub returns-clause-noted : goal.returns-clause-noted
 returns-clause-noted g c = c.loop-patch.invariant.back
+
+pub patch_sites-requires-clause-room : goal.patch_sites-requires-clause-room
+patch_sites-requires-clause-room g c =
+    let come = c.loop-patch.invariant.come in
+    one_fits c.the_newest_entry_is_on_top.ensures c.args.catalog.now c.args.patches.now c.loop-patch.patch-index c.patch-item.result c.args.object c.args.sites.now c.loop-patch.sites
+    c.loop-patch-test.true c.patch-item.is come
+    (c.stacks_are_few-in-loop-patch.ensures.count ∙ ap site_count come.image ∙ sym c.stacks_are_few.ensures.count) c.requires.fit
