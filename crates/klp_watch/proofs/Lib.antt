@@ -1,0 +1,7 @@
+pub mod DoneLemmas
+pub mod EnteredLemmas
+pub mod FramesLemmas
+pub mod InsideLemmas
+pub mod RunLemmas
+pub mod TaskLemmas
+pub mod WatchedLemmas

@@ -1,0 +1,66 @@
+//! Events among what tasks do: each is taken, and taken back where it breaks a premise.
+ghost use Rattle.std.specs.Prelude.{◌≡◌, IfOk, IfErr, IfSome, IfNone};
+ghost use Rattle.klp_model.specs.declared.seen.Seen.TheVariants.{Event as Happens};
+ghost use Rattle.klp_model.specs.Observed.{Stacks, begun, IsHonestEvent};
+ghost use Rattle.klp_manager_state.specs.Managed.{setting_of};
+ghost use Rattle.klp_core.specs.Journaled.{Stands};
+ghost use Rattle.klp_watch.specs.Inside.{AreInside};
+ghost use Rattle.klp_watch.specs.Watching.{IsAgainst, IsDone, IsTold};
+
+use crate::cause::Cause;
+use crate::inside::Inside;
+use klp_core::Manager;
+use klp_model::Event;
+use klp_types::Frames;
+
+/// Which premise an accepted event breaks, if it breaks one, by what the tasks are inside of.
+fn against(manager: &Manager, inside: &Inside, event: &Event) -> Option<Cause>
+    ensures found { IfSome result (λ cause. (stacks : Stacks) → AreInside inside.now.rows stacks
+        → IsAgainst (setting_of manager.now.managed) stacks event.now cause) }
+    ensures none { IfNone result ((stacks : Stacks) → AreInside inside.now.rows stacks
+        → IsHonestEvent (setting_of manager.now.managed) stacks event.now) }
+{
+    match event {
+        Event::Sleep(task, frames) if inside.frames(*task) != *frames => Some(Cause::Frames),
+        Event::ExitToUser(task) | Event::EndTask(task) if inside.frames(*task).len() > 0 => {
+            Some(Cause::FramesLeft)
+        }
+        Event::Going(object) if inside.is_entered(manager, *object) => Some(Cause::ModuleInUse),
+        Event::Force(_) => Some(Cause::Forced),
+        _ => None,
+    }
+}
+
+/// A new task is inside of nothing, whatever one with its number was inside of before.
+fn begin(inside: &mut Inside, event: &Event)
+    ensures { (stacks : Stacks) → AreInside inside.old.rows stacks
+        → AreInside inside.new.rows (begun event.now stacks) }
+{
+    match event {
+        Event::NewTask(task) | Event::Fork(_, task) => inside.put(*task, Frames::new()),
+        _ => {}
+    }
+}
+
+/// An event is taken, or refused, which is no fault. One that breaks a premise is taken back by its own
+/// records, so no later item sees it. What these lead back to is known of a manager that stands.
+pub(crate) fn happen(manager: &mut Manager, inside: &mut Inside, event: &Event) -> Result<(), Cause>
+    requires { Stands manager.old }
+    ensures done { IfOk result (λ _. (stacks : Stacks) → AreInside inside.old.rows stacks
+        → IsDone manager.old manager.new stacks (Happens event.now) inside.new.rows) }
+    ensures told { IfErr result (λ cause. (stacks : Stacks) → AreInside inside.old.rows stacks
+        → IsTold manager.old manager.new stacks (Happens event.now) cause) }
+    ensures setting { setting_of manager.new.managed ≡ setting_of manager.old.managed }
+    ensures stands { Stands manager.new }
+{
+    let mark = manager.mark();
+    if manager.apply(*event).is_err() {
+        return Ok(());
+    }
+    if let Some(cause) = against(manager, inside, event) {
+        let _ = manager.rewind(mark);
+        return Err(cause);
+    }
+    begin(inside, event);
+    Ok(())
+}

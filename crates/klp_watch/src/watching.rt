@@ -1,0 +1,110 @@
+ghost use Rattle.std.specs.Prelude.{◌≡◌, ℕ, true, false, List, IfOk, IfErr};
+ghost use Rattle.klp_model.specs.declared.seen.Seen.{Seen as AnyItem};
+ghost use Rattle.klp_model.specs.InPlace.{IsInPlace};
+ghost use Rattle.klp_model.specs.Observed.{Stacks, HasNoTask, IsHonestRun};
+ghost use Rattle.klp_model.specs.Refusals.{is_there};
+ghost use Rattle.klp_manager_state.specs.Managed.{setting_of};
+ghost use Rattle.klp_core.specs.Journaled.{Stands};
+ghost use Rattle.klp_watch.specs.Inside.{AreInside};
+ghost use Rattle.klp_watch.specs.Watching.{AreWatched, IsConsistent, IsDone, IsFault, IsTold};
+
+use crate::cause::{Cause, NotHonest};
+use crate::event::happen;
+use crate::inside::Inside;
+use crate::task::{call, come_back};
+use klp_core::Manager;
+use klp_model::Seen;
+use klp_types::{MAX_TASKS, TaskId};
+
+/// Does the items in order over a manager without tasks, and tells the first that isn't honest. A refused
+/// event is an item done. It takes no memory, and an item costs what its event or its look-up costs; a
+/// module that goes costs a look at all that tasks are inside of.
+///
+/// The item told leaves nothing: an event is taken back by its own records, only its callbacks have run. All
+/// items before it are done. An item that breaks several premises is told by the first of [`Cause`].
+pub fn watch(manager: &mut Manager, items: &[Seen]) -> Result<(), NotHonest>
+    ensures watched { IfOk result (λ _. AreWatched manager.old manager.new items.now) }
+    // what is watched is consistent at every moment
+    ensures consistent { (run : List AnyItem)
+        → IsHonestRun (setting_of manager.old.managed) manager.old.managed.state run
+        → IsConsistent (setting_of manager.old.managed) manager.old.managed.state run }
+    ensures fault { IfErr result (λ fault. IsFault manager.old manager.new items.now fault.item fault.cause) }
+    ensures setting { setting_of manager.new.managed ≡ setting_of manager.old.managed }
+    ensures stands { Stands manager.new }
+{
+    klp_model::consistency::frames_are_current();
+    klp_model::consistency::none_has_left();
+    klp_model::consistency::none_is_mixed();
+    functions_stand(manager);
+    let _standing = manager.mark();
+    if has_task(manager) {
+        return Err(NotHonest {
+            item: 0,
+            cause: Cause::NotOpening,
+        });
+    }
+    watch_all(manager, items)
+}
+
+/// Each function of the catalog is in the object whose function it replaces.
+fn functions_stand(manager: &Manager)
+    ensures { IsInPlace (setting_of manager.now.managed) }
+{
+    klp_core::laws::functions_stand_with_their_objects();
+    let _named = manager.catalog();
+}
+
+/// The items in order, where no task is there at first.
+fn watch_all(manager: &mut Manager, items: &[Seen]) -> Result<(), NotHonest>
+    ensures watched { IfOk result
+        (λ _. HasNoTask manager.old.managed.state → AreWatched manager.old manager.new items.now) }
+    ensures fault { IfErr result (λ fault. HasNoTask manager.old.managed.state
+        → IsFault manager.old manager.new items.now fault.item fault.cause) }
+    ensures setting { setting_of manager.new.managed ≡ setting_of manager.old.managed }
+    ensures stands { Stands manager.new }
+{
+    klp_model::laws::states_stay_allowed();
+    klp_model::consistency::state_is_that_of_the_events();
+    klp_core::laws::events_go_on_where_they_end();
+    let _standing = manager.mark();
+    let mut inside = Inside::new();
+    for (done, item) in items.iter().enumerate() {
+        if let Err(cause) = watch_item(manager, &mut inside, item) {
+            return Err(NotHonest {
+                item: done + 1,
+                cause,
+            });
+        }
+    }
+    Ok(())
+}
+
+/// Whether any task is there. Of the numbers from [`MAX_TASKS`] on none is a task's.
+fn has_task(manager: &Manager) -> bool
+    ensures there { result ≡ true → (task : ℕ) × (is_there manager.now.managed.state task ≡ true) }
+    ensures nobody { result ≡ false → HasNoTask manager.now.managed.state }
+{
+    for number in 0..MAX_TASKS as u8 {
+        if manager.mode(TaskId(number)).is_some() {
+            return true;
+        }
+    }
+    false
+}
+
+/// One item, where the tasks are inside of what is kept.
+fn watch_item(manager: &mut Manager, inside: &mut Inside, item: &Seen) -> Result<(), Cause>
+    ensures done { IfOk result (λ _. (stacks : Stacks) → AreInside inside.old.rows stacks
+        → IsDone manager.old manager.new stacks item.now inside.new.rows) }
+    ensures told { IfErr result (λ cause. (stacks : Stacks) → AreInside inside.old.rows stacks
+        → IsTold manager.old manager.new stacks item.now cause) }
+    ensures setting { setting_of manager.new.managed ≡ setting_of manager.old.managed }
+    ensures stands { Stands manager.new }
+{
+    let _standing = manager.mark();
+    match item {
+        Seen::Event(event) => happen(manager, inside, event),
+        Seen::Call(task, site) => call(manager, inside, *task, *site),
+        Seen::Return(task) => come_back(manager, inside, *task),
+    }
+}
