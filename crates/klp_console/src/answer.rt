@@ -8,7 +8,7 @@ ghost use Rattle.klp_console.specs.Answered.{IsRewoundAs, IsDoneIf, names_in};
 ghost use Rattle.klp_console.specs.Back as back;
 ghost use Rattle.klp_console.specs.Said.{Moment, IsSaid, Ahead, Comes};
 
-use crate::back::{can_be_taken_back, make_ready, mark_line, take_back, write_out};
+use crate::back::{can_be_taken_back, make_ready, mark_line, take_back};
 use crate::queries::{say_force_nothing, say_query};
 use crate::refusals::{say_bad_mark, say_fault};
 use crate::replies::{say_answer, say_done};
@@ -132,7 +132,7 @@ fn gather<W: Sink>(
 }
 
 /// Answers a line, and counts it. A line that can be taken back is answered ahead: its answer is gathered
-/// behind those before it. Around any other line all that is gathered is written.
+/// behind those before it. Before any other line all that is gathered is written.
 pub(crate) fn serve_line<W: Sink>(
     manager: &mut Manager,
     line: &[u8],
@@ -168,7 +168,4 @@ pub(crate) fn serve_line<W: Sink>(
         return;
     }
     gather(manager, &request, served, answers, marks, writer);
-    if !is_ahead && !answers.has_failed() {
-        write_out(manager, answers, marks, writer);
-    }
 }

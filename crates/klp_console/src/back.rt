@@ -29,8 +29,8 @@ fn runs_none(event: &Event) -> bool
     )
 }
 
-/// Whether a line may be done ahead of the answers before it and of its own. `seal` and `rewind` take events
-/// from the journal, by which they would be taken back.
+/// Whether a line may be done ahead of the answers before it. `seal` and `rewind` take events from the
+/// journal, by which they would be taken back.
 pub(crate) fn can_be_taken_back(request: &Option<Result<Request, LineFault>>) -> bool
     ensures { result ≡ back.can_be_taken_back request.now }
 {

@@ -13,17 +13,8 @@ returns-then-has_failed-clause-comes g c =
       λ same. cut_on before _ lines (c.args.line.now ∷ []) ((c.make_ready.ensures.comes before lines c.args.served.now ahead).1 failed),
     )
 
-pub returns-then-not-has_failed-clause-comes : goal.returns-then-not-has_failed-clause-comes
-returns-then-not-has_failed-clause-comes g c =
-    let ready = sym c.has_failed.ensures ∙ c.if-has_failed.false in
-    let still = sym c.has_failed-then-not-is_ahead.ensures ∙ c.if-not-has_failed.true in
-    let is_asked : c.request_of-request.result ≡ asked.request_of (names_in c.args.manager.now) c.args.line.now = search rules in
-    let is = subst (λ m. c.request_of-request.result ≡ asked.request_of (names_in m) c.args.line.now) (sym (c.make_ready.ensures.same ready)) is_asked in
-    λ before lines ahead. c.write_out.ensures.comes before _ c.gather.new.served
-    ((c.gather.ensures.comes before lines c.args.line.now is c.requires.short ((c.make_ready.ensures.comes before lines c.args.served.now ahead).0 ready)).0 still)
-
-pub returns-else-not-is_ahead-clause-comes : goal.returns-else-not-is_ahead-clause-comes
-returns-else-not-is_ahead-clause-comes g c =
+pub returns-clause-comes : goal.returns-clause-comes
+returns-clause-comes g c =
     let ready = sym c.has_failed.ensures ∙ c.if-has_failed.false in
     let is_asked : c.request_of-request.result ≡ asked.request_of (names_in c.args.manager.now) c.args.line.now = search rules in
     let is = subst (λ m. c.request_of-request.result ≡ asked.request_of (names_in m) c.args.line.now) (sym (c.make_ready.ensures.same ready)) is_asked in
