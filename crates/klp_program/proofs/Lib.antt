@@ -1,2 +1,4 @@
 pub mod BootedLemmas
 pub mod ServeLemmas
+pub mod TraceLemmas
+pub mod WatchLemmas

@@ -8,7 +8,7 @@ use Rattle.klp_catalog_text.specs.Text.{plan_of}
 use Rattle.klp_core.specs.Journaled.{Journaled}
 use Rattle.klp_console.specs.declared.served.Served.{Served}
 use Rattle.klp_program.specs.declared.fault.Fault.{Fault}
-use Rattle.klp_program.specs.declared.fault.Fault.TheVariants.{CannotRead, NoMemory, Text, Image, Assemble, Boot, Serve}
+use Rattle.klp_program.specs.declared.fault.Fault.TheVariants.{CannotRead, NoMemory, Text, Image, Assemble, Boot, Serve, Trace}
 use Rattle.klp_program.specs.Booted.{IsBootedOver, never_ran}
 use Rattle.klp_program.specs.Runs.{Streams, ServesBy, RunsPlan, Runs}
 
@@ -57,6 +57,7 @@ serves_plan plan booted before after (Err (Text fault)) is by = absurd by
 serves_plan plan booted before after (Err (Image fault)) is by = absurd by
 serves_plan plan booted before after (Err (Assemble fault)) is by = absurd by
 serves_plan plan booted before after (Err (Boot fault)) is by = absurd by
+serves_plan plan booted before after (Err (Trace fault)) is by = absurd by
 
 -- what is served over a text's plan is served over the text
 pub runs_text : (text : List ℕ) (plan : Plan) (before after : Streams) (result : Result Served Fault)
@@ -68,6 +69,7 @@ runs_text text plan before after (Err (Serve fault)) planned runs =
 runs_text text plan before after (Err CannotRead) planned runs = absurd runs.1
 runs_text text plan before after (Err NoMemory) planned runs = (runs.0, tt)
 runs_text text plan before after (Err (Text fault)) planned runs = absurd runs.1
+runs_text text plan before after (Err (Trace fault)) planned runs = absurd runs.1
 runs_text text plan before after (Err (Image fault)) planned runs = (runs.0, (plan, planned, runs.1))
 runs_text text plan before after (Err (Assemble fault)) planned runs = (runs.0, (plan, planned, runs.1))
 runs_text text plan before after (Err (Boot fault)) planned runs = (runs.0, (plan, planned, runs.1))

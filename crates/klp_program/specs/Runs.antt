@@ -1,5 +1,5 @@
 -- What the program comes to over a catalog's text.
-use Rattle.std.specs.Prelude.{◌≡◌, ℕ, List, Result, Ok, Err}
+use Rattle.std.specs.Prelude.{◌≡◌, ℕ, List, Option, Result, Ok, Err}
 use Rattle.klp_catalog_text.specs.Plan.{Plan}
 use Rattle.klp_catalog_text.specs.Text.{plan_of, IsFaultOf}
 use Rattle.klp_core.specs.Journaled.{Journaled}
@@ -60,3 +60,23 @@ abbrev pub Runs : List ℕ → Streams → Streams → Result Served Fault → T
 Runs text before after (Ok served) = Serves text before after (Ok served)
 Runs text before after (Err (Serve fault)) = Serves text before after (Err fault)
 Runs text before after (Err fault) = (after ≡ before) × IsFault text fault
+
+-- The console was served over streams of std, or nothing was read and nothing was written. Of these streams the bytes are known that were left to read
+-- and that were written before. What they have afterwards isn't: who gets a stream back from a loan doesn't know that it is the one which was lent
+pub record RunsOver (text : List ℕ) (left taken : Option (List ℕ)) (ended : Result Served Fault) : Type 0 where
+  pub before : Streams
+  pub after : Streams
+  pub is_input : before.supply.left ≡ left
+  pub is_output : before.written.taken ≡ taken
+  pub runs : Runs text before after ended
+
+-- the exit status of the program
+abbrev pub status_of : Result Served Fault → ℕ
+status_of (Ok served) = 0
+status_of (Err fault) = 1
+
+-- what the program comes to over streams of std, and its exit status
+pub record Exits (text : List ℕ) (left taken : Option (List ℕ)) (status : ℕ) : Type 0 where
+  pub ended : Result Served Fault
+  pub runs : RunsOver text left taken ended
+  pub is_status : status ≡ status_of ended

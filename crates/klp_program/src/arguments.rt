@@ -7,6 +7,9 @@ use clap::{Arg, ArgMatches, Command};
 use std::alloc::{AllocError, Global};
 use std::io::Write;
 
+/// The name that the program gives itself.
+const NAME: &str = "klpsim";
+
 /// The status of words that are refused.
 const USAGE: u8 = 2;
 
@@ -57,14 +60,27 @@ pub fn words<W: Write>(alloc: Global, given: &[String], err: &mut W) -> Result<W
 pub fn told<W: Write>(fault: Fault, err: &mut W) -> u8
     ensures { result ≡ 1 }
 {
-    let _ = writeln!(err, "klpsim: {fault}");
-    FAULT
+    told_by(NAME, fault, err)
 }
 
 /// Says that words are refused, and answers their exit status.
 pub fn refused<W: Write>(err: &mut W) -> u8
     ensures { result ≡ 2 }
 {
-    let _ = writeln!(err, "klpsim: usage");
+    refused_by(NAME, err)
+}
+
+/// The same of the program of this name.
+pub fn told_by<W: Write>(name: &str, fault: Fault, err: &mut W) -> u8
+    ensures { result ≡ 1 }
+{
+    let _ = writeln!(err, "{name}: {fault}");
+    FAULT
+}
+
+pub fn refused_by<W: Write>(name: &str, err: &mut W) -> u8
+    ensures { result ≡ 2 }
+{
+    let _ = writeln!(err, "{name}: usage");
     USAGE
 }

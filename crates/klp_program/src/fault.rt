@@ -8,6 +8,14 @@ use klp_text::ImageFault;
 use std::alloc::{AllocError, AllocFailed};
 use thiserror::Error;
 
+/// A line of a trace that is no item.
+#[derive(Clone, Copy, Debug, PartialEq, Eq, Error)]
+#[error("trace line {line}: BadItem")]
+pub struct TraceFault {
+    /// Counted from 1.
+    pub line: u64,
+}
+
 /// Why the program ends before its input does.
 #[derive(Clone, Copy, Debug, PartialEq, Eq, Error)]
 pub enum Fault {
@@ -28,6 +36,9 @@ pub enum Fault {
     /// The input or the output failed, or a line is too long.
     #[error(transparent)]
     Serve(ServeFault),
+    /// The trace has a line that is no item.
+    #[error(transparent)]
+    Trace(TraceFault),
 }
 
 // A conversion that is derived has no clause, and `boot` and `served` promise which fault they answer.

@@ -17,7 +17,14 @@ pub fn catalog_in<R: Files + AllocGlobal>(rt: &R, path: Option<String>) -> Resul
     let Some(path) = path else {
         return Ok(CATALOG.to_vec(rt.alloc())?);
     };
-    fs::read(rt, path.as_str()).map_err(|error| match error.kind() {
+    bytes_in(rt, path.as_str())
+}
+
+/// The bytes of the file at this path.
+pub fn bytes_in<R: Files + AllocGlobal>(rt: &R, path: &str) -> Result<Vec<u8>, Fault>
+    ensures { IfErr result (λ fault. (fault ≡ NoMemory) ⊎ (fault ≡ CannotRead)) }
+{
+    fs::read(rt, path).map_err(|error| match error.kind() {
         ErrorKind::OutOfMemory => Fault::NoMemory,
         _ => Fault::CannotRead,
     })

@@ -1,5 +1,6 @@
-//! What the program does, apart from the process: it reads its words and the catalog's file, boots a
-//! manager over the catalog's text, and serves the console by it.
+//! What the programs do, apart from the process: they read their words and the catalog's file, and boot a
+//! manager over the catalog's text. `klpsim` serves the console by it (`src/serve.rt`), and `klpwatch` holds
+//! a trace against the consistency model by it (`src/watch.rt`).
 #![tactic(auto)]
 
 mod arguments;
@@ -9,12 +10,17 @@ mod file;
 mod kind;
 mod sample;
 mod serve;
+mod trace;
+mod verdict;
 mod wanted;
+mod watch;
 
-pub use arguments::{refused, told, words};
+pub use arguments::{refused, refused_by, told, told_by, words};
 pub use booted::boot;
-pub use fault::Fault;
-pub use file::catalog_in;
+pub use fault::{Fault, TraceFault};
+pub use file::{bytes_in, catalog_in};
 pub use sample::CATALOG;
 pub use serve::{close, console, served};
+pub use verdict::{Counts, Verdict};
 pub use wanted::Words;
+pub use watch::{trace_words, watch_trace, watched};

@@ -1,7 +1,7 @@
 //! A manager is booted over a catalog's text, and the console is served by it.
-ghost use Rattle.std.specs.Prelude.{◌≡◌, ◌≤◌, ◌⊎◌, length};
+ghost use Rattle.std.specs.Prelude.{◌≡◌, ◌≤◌, length};
 ghost use Rattle.klp_catalog_text.specs.Within.{AreTargetsWithin};
-ghost use Rattle.klp_program.specs.Runs.{Runs, RunsPlan, ServesBy};
+ghost use Rattle.klp_program.specs.Runs.{Exits, Runs, RunsOver, RunsPlan, ServesBy};
 
 use crate::arguments::told;
 use crate::booted::boot;
@@ -93,6 +93,7 @@ fn served_over_std<R: Read, W: Write, L: Ledger, M: Ledger>(
 ) -> Result<Served, Fault>
     requires reads { (reads.name ≡ L.name) × (reads.parts ≡ L.parts) × (3 ≤ reads.parts) }
     requires writes { (writes.name ≡ M.name) × (writes.parts ≡ M.parts) × (2 ≤ writes.parts) }
+    ensures { RunsOver catalog.now (R.remaining input.old) (W.contents out.old) result }
 {
     let mut reader = OverRead::<&mut R, L>::new(input, reads);
     let mut writer = OverWrite::<&mut W, M>::new(out, writes);
@@ -101,7 +102,8 @@ fn served_over_std<R: Read, W: Write, L: Ledger, M: Ledger>(
 
 /// Serves the input over a catalog's text, until it ends. The answer is the exit status: 0, or 1
 /// where a line on `err` tells the fault. Nothing is written to `out` before the catalog is known
-/// to have none.
+/// to have none. What the streams have afterwards no clause says (docs/DECISIONS.md, "What gathers
+/// answers, and its sink"): tests do.
 pub fn console<R: Read, W: Write, E: Write>(
     alloc: Global,
     catalog: &[u8],
@@ -109,7 +111,7 @@ pub fn console<R: Read, W: Write, E: Write>(
     out: &mut W,
     err: &mut E,
 ) -> u8
-    ensures { (result ≡ 0) ⊎ (result ≡ 1) }
+    ensures { Exits catalog.now (R.remaining input.old) (W.contents out.old) result }
 {
     let reads = Blank::new(3);
     let writes = Blank::new(2);

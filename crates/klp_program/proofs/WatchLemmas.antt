@@ -1,0 +1,59 @@
+-- What a trace comes to, over a plan and over a text.
+use Rattle.std.proofs.Common.{◌≡◌, ℕ, List, refl, sym, subst}
+use Rattle.std.specs.Prelude.{Result, Ok, Err, IfOk, IfErr, MatchResult}
+use Rattle.klp_catalog_text.specs.Plan.{Plan}
+use Rattle.klp_catalog_text.specs.Text.{plan_of}
+use Rattle.klp_model.specs.declared.seen.Seen.{Seen}
+use Rattle.klp_core.specs.Journaled.{Journaled}
+use Rattle.klp_watch.specs.declared.cause.NotHonest.{NotHonest}
+use Rattle.klp_watch.specs.Watching.{AreWatched, IsFault}
+use Rattle.klp_program.specs.declared.fault.Fault.{Fault}
+use Rattle.klp_program.specs.declared.fault.Fault.TheVariants.{CannotRead, NoMemory, Text, Image, Assemble, Boot, Serve, Trace}
+use Rattle.klp_program.specs.declared.verdict.Verdict.{Verdict}
+use Rattle.klp_program.specs.declared.verdict.Verdict.TheVariants.{Honest, Dishonest}
+use Rattle.klp_program.specs.Booted.{IsBootedOver, IsBootFault}
+use Rattle.klp_program.specs.Watches.{counted, IsFound, WatchesBy, WatchesPlan, Watches}
+
+-- the verdict is what watching came to
+pub found_by : {A : Type 0} (before after : Journaled) (items : List Seen) (ended : Result A NotHonest) (verdict : Verdict)
+    → IfOk ended (λ _. AreWatched before after items) → IfErr ended (λ (fault : NotHonest). IsFault before after items fault.item fault.cause)
+    → MatchResult ended (λ _. verdict ≡ Honest (counted items)) (λ fault. verdict ≡ Dishonest fault) → IsFound before after items verdict
+found_by before after items (Ok value) verdict watched told is = subst (IsFound before after items) (sym is) (watched, refl)
+found_by before after items (Err fault) verdict watched told is = subst (IsFound before after items) (sym is) told
+
+-- what is watched by a booted manager is watched over its plan
+pub watches_plan : (plan : Plan) (booted : Journaled) (trace : List ℕ) (result : Result Verdict Fault)
+    → IsBootedOver plan booted → WatchesBy booted trace result → WatchesPlan plan trace result
+watches_plan plan booted trace (Ok verdict) is by = (booted, is, by)
+watches_plan plan booted trace (Err (Trace fault)) is by = (booted, is, by)
+watches_plan plan booted trace (Err NoMemory) is by = tt
+watches_plan plan booted trace (Err CannotRead) is by = absurd by
+watches_plan plan booted trace (Err (Text fault)) is by = absurd by
+watches_plan plan booted trace (Err (Image fault)) is by = absurd by
+watches_plan plan booted trace (Err (Assemble fault)) is by = absurd by
+watches_plan plan booted trace (Err (Boot fault)) is by = absurd by
+watches_plan plan booted trace (Err (Serve fault)) is by = absurd by
+
+-- and where no manager was booted
+pub watches_none : (plan : Plan) (trace : List ℕ) (fault : Fault) → IsBootFault plan fault → WatchesPlan plan trace (Err fault)
+watches_none plan trace (Trace fault) is = absurd is
+watches_none plan trace NoMemory is = is
+watches_none plan trace CannotRead is = is
+watches_none plan trace (Text fault) is = is
+watches_none plan trace (Image fault) is = is
+watches_none plan trace (Assemble fault) is = is
+watches_none plan trace (Boot fault) is = is
+watches_none plan trace (Serve fault) is = is
+
+-- what is watched over a text's plan is watched over the text
+pub watches_text : (text trace : List ℕ) (plan : Plan) (result : Result Verdict Fault)
+    → plan_of text ≡ Ok plan → WatchesPlan plan trace result → Watches text trace result
+watches_text text trace plan (Ok verdict) planned by = (plan, planned, by)
+watches_text text trace plan (Err NoMemory) planned by = tt
+watches_text text trace plan (Err (Text fault)) planned by = absurd by
+watches_text text trace plan (Err CannotRead) planned by = (plan, planned, by)
+watches_text text trace plan (Err (Image fault)) planned by = (plan, planned, by)
+watches_text text trace plan (Err (Assemble fault)) planned by = (plan, planned, by)
+watches_text text trace plan (Err (Boot fault)) planned by = (plan, planned, by)
+watches_text text trace plan (Err (Serve fault)) planned by = (plan, planned, by)
+watches_text text trace plan (Err (Trace fault)) planned by = (plan, planned, by)
