@@ -1,5 +1,5 @@
-//! Streams that fail, end early or never end while the console is served, and lines of the greatest
-//! length. What lines are answered is shown by the examples.
+//! The console over the built-in catalog, in pieces: events of a sleeper, what is taken back, lines of the
+//! greatest length, and a sink without room. What lines are answered is shown by the examples.
 ghost use Rattle.std.specs.Prelude.{◌≡◌, ◌≤◌};
 
 use klp_console::{ServeFault, Served};
@@ -22,34 +22,27 @@ struct Outcome {
     answers: Vec<u8>,
 }
 
-/// Serves the script over the built-in catalog, where these calls fail.
+/// Serves the script over the built-in catalog.
 fn serve_in_memory<L: Ledger, M: Ledger>(
     alloc: Global,
     script: &[u8],
-    read: Option<u32>,
-    write: Option<u32>,
     for_reads: Blank,
     for_writes: Blank,
 ) -> Result<Outcome, AllocError>
     requires reads { (for_reads.name ≡ L.name) × (for_reads.parts ≡ L.parts) × (3 ≤ for_reads.parts) }
     requires writes { (for_writes.name ≡ M.name) × (for_writes.parts ≡ M.parts) × (2 ≤ for_writes.parts) }
 {
-    let mut feed = Feed::<L>::new(script, MOST, read, for_reads);
-    let mut taken = Taken::<ROOM, M>::new(MOST, write, for_writes);
+    let mut feed = Feed::<L>::new(script, MOST, None, for_reads);
+    let mut taken = Taken::<ROOM, M>::new(MOST, None, for_writes);
     let ended = served(alloc, CATALOG, &mut feed, &mut taken);
     let answers = Vec::from_slice(alloc, taken.bytes())?;
     Ok(Outcome { ended, answers })
 }
 
-fn serve_script(
-    alloc: Global,
-    script: &[u8],
-    read: Option<u32>,
-    write: Option<u32>,
-) -> Result<Outcome, AllocError> {
+fn serve_script(alloc: Global, script: &[u8]) -> Result<Outcome, AllocError> {
     let for_reads = Blank::new(3);
     let for_writes = Blank::new(2);
-    serve_in_memory::<Brand, Brand>(alloc, script, read, write, for_reads, for_writes)
+    serve_in_memory::<Brand, Brand>(alloc, script, for_reads, for_writes)
 }
 
 /// Lines, each with its one line of answer.
@@ -128,60 +121,6 @@ fn texts_of(alloc: Global, script: Script) -> Result<Texts, AllocError> {
     Ok(texts)
 }
 
-fn line_feeds(text: &[u8]) -> usize {
-    text.iter().filter(|b| **b == b'\n').count()
-}
-
-/// Whether the k-th read that fails is told, with all lines before it answered and no other.
-fn is_read_failure_told(alloc: Global, texts: &Texts, k: usize) -> Result<bool, AllocError> {
-    let ran = serve_script(alloc, &texts.lines, u32::try_from(k).ok(), None)?;
-    let heard = k.saturating_mul(MOST).min(texts.lines.len());
-    let is_told = ran.ended == Err(Fault::Serve(ServeFault::Read));
-    Ok(
-        is_told
-            && texts.answers.starts_with(&ran.answers)
-            && line_feeds(&ran.answers) == line_feeds(&texts.lines[..heard])
-            && (ran.answers.is_empty() || ran.answers.ends_with(b"\n")),
-    )
-}
-
-/// Whether the k-th write that fails is told, and only a front of the answers was written.
-fn is_write_failure_told(alloc: Global, texts: &Texts, k: usize) -> Result<bool, AllocError> {
-    let ran = serve_script(alloc, &texts.lines, None, u32::try_from(k).ok())?;
-    let is_told = ran.ended == Err(Fault::Serve(ServeFault::Write));
-    Ok(
-        is_told
-            && texts.answers.starts_with(&ran.answers)
-            && ran.answers.len() <= k.saturating_mul(MOST),
-    )
-}
-
-/// Whether each read and each write that fails is told, one after another. The read behind the last byte
-/// fails too, and there are at least as many writes as all at once would take.
-fn are_all_told(alloc: Global, texts: &Texts) -> Result<bool, AllocError> {
-    let mut right = true;
-    for k in 0..=texts.lines.len().div_ceil(MOST) {
-        right = is_read_failure_told(alloc, texts, k)? && right;
-    }
-    for k in 0..texts.answers.len().div_ceil(MOST) {
-        right = is_write_failure_told(alloc, texts, k)? && right;
-    }
-    Ok(right)
-}
-
-fn are_failures_told(alloc: Global, script: Script) -> Result<bool, AllocError> {
-    let texts = texts_of(alloc, script)?;
-    are_all_told(alloc, &texts)
-}
-
-#[test]
-fn each_read_and_each_write_fails_in_its_turn(rt: HostRuntime) {
-    for script in [SLEEPER, REWOUND] {
-        let told = are_failures_told(rt.alloc(), script);
-        assert!(rt; told == Ok(true));
-    }
-}
-
 /// Whether serving these lines comes to this.
 fn comes_to(
     alloc: Global,
@@ -189,7 +128,7 @@ fn comes_to(
     ended: Result<Served, ServeFault>,
     answers: &[u8],
 ) -> Result<bool, AllocError> {
-    let ran = serve_script(alloc, lines, None, None)?;
+    let ran = serve_script(alloc, lines)?;
     Ok(ran.ended == ended.map_err(Fault::Serve) && ran.answers.as_slice() == answers)
 }
 

@@ -8,16 +8,19 @@ ghost use Rattle.klp_catalog_text.specs.Within.{AreTargetsWithin};
 
 use crate::callback::{Watched, copy_of};
 use crate::catalog;
+use crate::input::{Input, serve_input};
 use arrayvec::ArrayVec;
 use klp_callback::Boxed;
 use klp_catalog::Catalog;
 use klp_catalog_text::Plan;
+use klp_console::{ServeFault, Served};
 use klp_core::Manager;
-use klp_model::Event;
+use klp_model::{Event, Seen};
 use klp_modules::Modules;
-use klp_program::Fault;
+use klp_program::{Fault, close};
 use klp_text::Image;
 use klp_types::{ObjId, PatchId, ShadowKey, Site, Which};
+use klp_watch::{NotHonest, watch};
 use klp_world::Script;
 use std::alloc::{AllocError, Global};
 use std::sync::Arc;
@@ -41,13 +44,22 @@ pub enum Step<'a> {
     Events(&'a [Event]),
     Seal,
     Rewind(u32),
+    /// It is watched over these items.
+    Watch(&'a [Seen]),
+    /// The console is served by it.
+    Serve(Input<'a>),
 }
 
 /// What a manager shows once a step is done.
 #[derive(Clone, Copy)]
 pub struct Look {
+    /// What serving came to, and how many bytes were answered until then; none where nothing was served.
+    pub ended: Option<Result<Served, ServeFault>>,
+    pub said: usize,
     /// How many events were accepted and refused; none where it took no events.
     pub counts: (u64, u64),
+    /// The item at which watching found fault; none where nothing was watched.
+    pub fault: Option<NotHonest>,
     /// How many events stand.
     pub mark: u32,
     /// How many records are free.
@@ -68,6 +80,8 @@ pub struct Look {
 pub struct Shown {
     /// After each step.
     pub looks: Vec<Look>,
+    /// What the console answered, of all steps together.
+    pub said: Vec<u8>,
     /// Whether the catalog tells of its patches what `catalog::told` looks for.
     pub told: bool,
     /// How often callbacks ran, as they counted themselves outside of their boxes.
@@ -150,9 +164,19 @@ fn runs(manager: &Manager, which: Which) -> Option<u64> {
     manager.callback_runs(PatchId(0), ObjId(0), which)
 }
 
-fn looked(manager: &Manager, counts: (u64, u64)) -> Look {
-    Look {
+/// Adds what a manager shows. There is room for each look.
+fn add_look(
+    manager: &Manager,
+    counts: (u64, u64),
+    fault: Option<NotHonest>,
+    ended: Option<Result<Served, ServeFault>>,
+    shown: &mut Shown,
+) {
+    let look = Look {
+        ended,
+        said: shown.said.len(),
         counts,
+        fault,
         mark: manager.mark(),
         free: manager.records_free(),
         states: [
@@ -167,45 +191,53 @@ fn looked(manager: &Manager, counts: (u64, u64)) -> Look {
             runs(manager, Which::PostUn),
         ],
         is_bare: is_bare(manager),
-    }
+    };
+    let _ = shown.looks.push(look);
 }
 
-fn at_the_end(manager: &Manager, looks: Vec<Look>) -> Shown {
-    Shown {
-        looks,
-        told: catalog::told(manager.catalog()),
-        seen: 0,
-    }
-}
-
-/// What a manager shows after these steps. There is room for each look.
+/// What a manager shows after these steps, where nothing is shown yet.
 fn after(
     booted: Result<Manager, Fault>,
     steps: &[Step<'_>],
-    mut looks: Vec<Look>,
+    mut shown: Shown,
 ) -> Result<Shown, Fault> {
     let mut manager = booted?;
     for step in steps {
-        let counts = match *step {
-            Step::Events(events) => manager.run(events),
-            Step::Seal => {
-                manager.seal();
-                (0, 0)
-            }
+        let mut counts = (0, 0);
+        let mut fault = None;
+        let mut ended = None;
+        match *step {
+            Step::Events(events) => counts = manager.run(events),
+            Step::Seal => manager.seal(),
             Step::Rewind(mark) => {
                 let _ = manager.rewind(mark);
-                (0, 0)
             }
-        };
-        let _ = looks.push(looked(&manager, counts));
+            Step::Watch(items) => fault = watch(&mut manager, items).err(),
+            Step::Serve(ref input) => {
+                ended = Some(serve_input(&mut manager, input, &mut shown.said));
+            }
+        }
+        add_look(&manager, counts, fault, ended, &mut shown);
     }
-    Ok(at_the_end(&manager, looks))
+    shown.told = catalog::told(manager.catalog());
+    close(manager);
+    Ok(shown)
+}
+
+/// Nothing is shown yet, and there is room for so many looks.
+fn nothing_shown(alloc: Global, looks: usize) -> Result<Shown, AllocError> {
+    Ok(Shown {
+        looks: Vec::with_capacity(alloc, looks)?,
+        said: Vec::new(alloc),
+        told: false,
+        seen: 0,
+    })
 }
 
 /// What a manager shows after these steps. Where memory for a box is refused, a callback is missing.
 pub fn outcome(alloc: Global, given: Given<'_>, steps: &[Step<'_>]) -> Result<Shown, Fault> {
     let plan = Catalog::read(alloc, given.text.as_bytes())?;
-    let looks = Vec::with_capacity(alloc, steps.len())?;
+    let shown = nothing_shown(alloc, steps.len())?;
     let seen = Arc::new(alloc, AtomicU64::new(0))?;
     let mut boxes = Vec::new(alloc);
     for number in 0..given.callbacks {
@@ -213,7 +245,7 @@ pub fn outcome(alloc: Global, given: Given<'_>, steps: &[Step<'_>]) -> Result<Sh
             let _ = boxes.push(Boxed::new(callback));
         }
     }
-    let mut told = after(booted(alloc, plan, boxes), steps, looks)?;
-    told.seen = seen.load(Ordering::SeqCst);
-    Ok(told)
+    let mut shown = after(booted(alloc, plan, boxes), steps, shown)?;
+    shown.seen = seen.load(Ordering::SeqCst);
+    Ok(shown)
 }

@@ -1,0 +1,326 @@
+//! Each read and each write fails in its turn while scripts are served. What was answered stands, and at most
+//! one line more: a second manager that is fed these lines, by the answers alone, shows the same.
+use crate::input::{Input, whole};
+use crate::shown::{Given, Shown, Step, outcome};
+use klp_console::{ServeFault, Served};
+use klp_program::Fault;
+use std::alloc::{AllocError, Global};
+
+/// How many bytes a call gives or takes, where it isn't all at once.
+const PIECE: usize = 7;
+
+/// Callbacks of each kind, which undo each other, and one that refuses.
+const CATALOG: &str = "\
+handler ffffffff81000000
+object vmlinux
+symbol f ffffffff81001000 e80000000090c3
+symbol g ffffffff81002000 e800000000c3
+symbol h ffffffff81003000 e800000000c3
+patch p
+target vmlinux
+func .klp.sym.vmlinux.f,0 f_p ffffffffc0001000
+pre 0 alloc:1:9:5
+post 0 alloc:1:10:6
+preun 0 free:1:10
+postun 0 free:1:9
+patch q
+target vmlinux
+func .klp.sym.vmlinux.g,0 g_q ffffffffc0002000
+pre -16
+";
+
+/// How many callbacks that are.
+const CALLBACKS: usize = 5;
+
+/// All that lines show of a manager, before and after all its events are taken back.
+const LOOKS: &[u8] = b"\
+mark
+ls /sys/kernel/livepatch
+cat /sys/kernel/livepatch/p/enabled
+cat /sys/kernel/livepatch/p/transition
+cat /proc/1/patch_state
+cat /proc/2/patch_state
+text vmlinux
+stack .klp.sym.vmlinux.f,0
+pick 1 .klp.sym.vmlinux.f,0
+runs p vmlinux
+runs q vmlinux
+shadow get 1 9
+shadow get 1 10
+shadow get 4 4
+shadow get 5 5
+rewind 0
+cat /proc/1/patch_state
+text vmlinux
+shadow get 1 9
+shadow get 4 4
+shadow get 5 5
+";
+
+/// Events of tasks, all of which are done ahead of their answers but for the patch's.
+const TASKS: &str = "\
+task new 1
+task enter 1
+task sleep 1 .klp.sym.vmlinux.f,0 .klp.sym.vmlinux.g,0
+task new 2
+shadow alloc 4 4 x0a0b0c
+task new 2
+load p
+task enter 2
+task exit 2
+task wake 1
+task fork 1 3
+task exit 1
+shadow free 4 4
+task exit 3
+task end 3
+poll
+task enter 1
+task end 2
+";
+
+/// Answers of many lines between events.
+const LISTS: &str = "\
+shadow alloc 4 4 4
+text vmlinux
+task new 1
+ls /sys/kernel/livepatch/p
+shadow alloc 5 5 x
+text vmlinux
+load p
+text vmlinux
+shadow free 4 4
+ls /sys/kernel/livepatch/p
+task enter 1
+text vmlinux
+task exit 1
+";
+
+/// What takes events from the journal.
+const TAKEN_BACK: &str = "\
+task new 1
+shadow alloc 4 4 4
+task enter 1
+seal
+task exit 1
+shadow alloc 5 5 5
+mark
+rewind 1
+task new 2
+load p
+task enter 1
+rewind 9
+echo 0 > /sys/kernel/livepatch/p/enabled
+shadow free 4 4
+rewind 2
+task enter 2
+seal
+task exit 2
+rewind 0
+";
+
+/// Callbacks, of which one refuses.
+const CALLING: &str = "\
+task new 1
+load q
+shadow alloc 4 4 4
+load p
+shadow get 1 9
+poll
+runs p vmlinux
+task enter 1
+load q
+echo 0 > /sys/kernel/livepatch/p/enabled
+task exit 1
+shadow free 4 4
+poll
+runs p vmlinux
+load p
+task new 2
+";
+
+/// What a script comes to where nothing fails.
+#[derive(Drop)]
+struct Known {
+    lines: &'static [u8],
+    answers: Vec<u8>,
+    /// Where the answer to each line ends.
+    ends: Vec<usize>,
+    /// What a manager shows that was fed no line, the first, and so on.
+    states: Vec<Vec<u8>>,
+}
+
+/// What is seen of a manager that served a script.
+#[derive(Drop)]
+struct Seen {
+    ended: Option<Result<Served, ServeFault>>,
+    /// Whether a front of all answers was written, and to how many lines the answers are in it.
+    is_front: bool,
+    answered: usize,
+    state: Vec<u8>,
+}
+
+/// What the console answers to these inputs, by one manager.
+fn served(alloc: Global, inputs: &[Step<'_>]) -> Result<Shown, Fault> {
+    let given = Given {
+        text: CATALOG,
+        callbacks: CALLBACKS,
+        runs: 0,
+    };
+    outcome(alloc, given, inputs)
+}
+
+/// The answers to the first input, and to those behind it.
+fn answers(shown: &Shown) -> (&[u8], &[u8]) {
+    let end = shown.looks.first().map_or(0, |look| look.said);
+    let first = shown.said.get(..end).unwrap_or(&[]);
+    (first, shown.said.get(end..).unwrap_or(&[]))
+}
+
+/// What a manager shows behind these lines.
+fn state_after(alloc: Global, lines: &[u8]) -> Result<Vec<u8>, Fault> {
+    let shown = served(
+        alloc,
+        &[Step::Serve(whole(lines)), Step::Serve(whole(LOOKS))],
+    )?;
+    Ok(Vec::from_slice(alloc, answers(&shown).1)?)
+}
+
+/// The lines of a text, each served by itself.
+fn put_lines<'a>(steps: &mut Vec<Step<'a>>, text: &'a str) -> Result<(), AllocError> {
+    for line in text.lines() {
+        steps.push(Step::Serve(whole(line.as_bytes())))?;
+    }
+    Ok(())
+}
+
+/// What a manager shows behind the first lines, and behind one more each time.
+fn put_states(alloc: Global, states: &mut Vec<Vec<u8>>, lines: &[u8]) -> Result<(), Fault> {
+    states.push(state_after(alloc, b"")?)?;
+    for (place, byte) in lines.iter().enumerate() {
+        if *byte == b'\n' {
+            states.push(state_after(alloc, lines.get(..place).unwrap_or(&[]))?)?;
+        }
+    }
+    Ok(())
+}
+
+fn known_of(alloc: Global, script: &'static str) -> Result<Known, Fault> {
+    let mut steps = Vec::new(alloc);
+    put_lines(&mut steps, script)?;
+    let shown = served(alloc, &steps)?;
+    let mut ends = Vec::new(alloc);
+    for look in &shown.looks {
+        ends.push(look.said)?;
+    }
+    let mut states = Vec::new(alloc);
+    put_states(alloc, &mut states, script.as_bytes())?;
+    Ok(Known {
+        lines: script.as_bytes(),
+        answers: Vec::from_slice(alloc, &shown.said)?,
+        ends,
+        states,
+    })
+}
+
+/// Serves the script, and shows what the manager is then.
+fn seen_of(alloc: Global, known: &Known, input: Input<'_>) -> Result<Seen, Fault> {
+    let shown = served(alloc, &[Step::Serve(input), Step::Serve(whole(LOOKS))])?;
+    let (front, state) = answers(&shown);
+    Ok(Seen {
+        ended: shown.looks.first().and_then(|look| look.ended),
+        is_front: known.answers.starts_with(front),
+        answered: known.ends.iter().filter(|end| **end <= front.len()).count(),
+        state: Vec::from_slice(alloc, state)?,
+    })
+}
+
+/// Whether a manager that was fed so many lines shows the same.
+fn is_after(known: &Known, seen: &Seen, lines: usize) -> bool {
+    match known.states.get(lines) {
+        Some(state) => seen.is_front && *state == seen.state,
+        None => false,
+    }
+}
+
+fn line_feeds(text: &[u8]) -> usize {
+    text.iter().filter(|byte| **byte == b'\n').count()
+}
+
+/// Whether the k-th read that fails is told, with all lines before it answered, which stand.
+fn is_read_cut_off(alloc: Global, known: &Known, gives: usize, k: usize) -> Result<bool, Fault> {
+    let input = Input {
+        gives,
+        read: u32::try_from(k).ok(),
+        ..whole(known.lines)
+    };
+    let seen = seen_of(alloc, known, input)?;
+    let heard = k.saturating_mul(gives).min(known.lines.len());
+    Ok(
+        seen.ended == Some(Err(ServeFault::Read))
+            && seen.answered == line_feeds(&known.lines[..heard])
+            && is_after(known, &seen, seen.answered),
+    )
+}
+
+/// Whether the k-th write that fails is told, and the lines stand to which answers were written, with the one
+/// whose answer is cut off. `None` where there are fewer writes.
+fn is_write_cut_off(
+    alloc: Global,
+    known: &Known,
+    cut: [usize; 2],
+    k: usize,
+) -> Result<Option<bool>, Fault> {
+    let [gives, takes] = cut;
+    let input = Input {
+        gives,
+        takes,
+        write: u32::try_from(k).ok(),
+        ..whole(known.lines)
+    };
+    let seen = seen_of(alloc, known, input)?;
+    Ok(match seen.ended {
+        Some(Ok(_)) => None,
+        Some(Err(ServeFault::Write)) => Some(is_after(
+            known,
+            &seen,
+            seen.answered.saturating_add(1),
+        )),
+        _ => Some(false),
+    })
+}
+
+/// Whether each write that fails leaves what was answered, one after another. There are at least as many as
+/// all at once would take.
+fn are_writes_cut_off(alloc: Global, known: &Known, cut: [usize; 2]) -> Result<bool, Fault> {
+    let mut right = true;
+    for k in 0..known.answers.len() {
+        match is_write_cut_off(alloc, known, cut, k)? {
+            Some(is_right) => right = is_right && right,
+            None => return Ok(right && known.answers.len().div_ceil(cut[1].max(1)) <= k),
+        }
+    }
+    Ok(right)
+}
+
+/// Whether each read and each write that fails leaves what was answered. The read behind the last byte fails
+/// too.
+fn are_all_cut_off(alloc: Global, script: &'static str) -> Result<bool, Fault> {
+    let known = known_of(alloc, script)?;
+    let mut right = known.states.len() == known.ends.len().saturating_add(1);
+    for k in 0..=known.lines.len().div_ceil(PIECE) {
+        right = is_read_cut_off(alloc, &known, PIECE, k)? && right;
+    }
+    for cut in [[PIECE, PIECE], [4096, PIECE], [4096, 4096]] {
+        right = are_writes_cut_off(alloc, &known, cut)? && right;
+    }
+    Ok(right)
+}
+
+#[test]
+fn what_was_answered_stands_and_at_most_one_line_more(rt: HostRuntime) {
+    for script in [TASKS, LISTS, TAKEN_BACK, CALLING] {
+        let right = are_all_cut_off(rt.alloc(), script);
+        assert!(rt; right == Ok(true));
+    }
+}

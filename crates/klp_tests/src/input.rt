@@ -1,0 +1,63 @@
+//! The console, served from memory and into memory, with calls that fail.
+ghost use Rattle.std.specs.Prelude.{◌≡◌, ◌≤◌};
+
+use klp_console::{ServeFault, Served, serve};
+use klp_console_io::{Feed, Taken};
+use klp_core::Manager;
+use std::marker::Brand;
+use std::sync::ledger::{Blank, Ledger};
+
+/// How many bytes of answers there is room for.
+const ROOM: usize = 4096;
+
+/// What the console is served, and what the calls are like.
+#[derive(Clone, Copy)]
+pub struct Input<'a> {
+    pub lines: &'a [u8],
+    /// How many bytes a read gives at most, and how many a write takes.
+    pub gives: usize,
+    pub takes: usize,
+    /// Which read fails and which write, counted from 0.
+    pub read: Option<u32>,
+    pub write: Option<u32>,
+}
+
+/// Lines that are read at once, and answered at once.
+pub fn whole(lines: &[u8]) -> Input<'_> {
+    Input {
+        lines,
+        gives: ROOM,
+        takes: ROOM,
+        read: None,
+        write: None,
+    }
+}
+
+/// Serves the console, and adds what it answers.
+fn serve_over<L: Ledger, M: Ledger>(
+    manager: &mut Manager,
+    input: &Input<'_>,
+    said: &mut Vec<u8>,
+    for_reads: Blank,
+    for_writes: Blank,
+) -> Result<Served, ServeFault>
+    requires reads { (for_reads.name ≡ L.name) × (for_reads.parts ≡ L.parts) × (3 ≤ for_reads.parts) }
+    requires writes { (for_writes.name ≡ M.name) × (for_writes.parts ≡ M.parts) × (2 ≤ for_writes.parts) }
+{
+    let mut feed = Feed::<L>::new(input.lines, input.gives.max(1), input.read, for_reads);
+    let mut taken = Taken::<ROOM, M>::new(input.takes.max(1), input.write, for_writes);
+    let ended = serve(&mut feed, &mut taken, manager);
+    let _ = said.extend_from_slice(taken.bytes());
+    ended
+}
+
+/// Serves the console, and adds what it answers.
+pub fn serve_input(
+    manager: &mut Manager,
+    input: &Input<'_>,
+    said: &mut Vec<u8>,
+) -> Result<Served, ServeFault> {
+    let for_reads = Blank::new(3);
+    let for_writes = Blank::new(2);
+    serve_over::<Brand, Brand>(manager, input, said, for_reads, for_writes)
+}
