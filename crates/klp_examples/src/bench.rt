@@ -7,6 +7,7 @@ use crate::whole::{TIMES, Whole, Work};
 use klp_catalog::Catalog;
 use klp_core::Manager;
 use klp_program::{boot, close};
+use klp_watch::{NotHonest, watch};
 use std::alloc::Global;
 use std::fs;
 use std::rt::{Clock, Files};
@@ -26,6 +27,14 @@ fn booted(alloc: Global, text: &str) -> Result<Manager, Fault> {
     Ok(boot(alloc, plan, Vec::new(alloc))?)
 }
 
+// All items of a trace count as accepted where it is honest, else none.
+fn counted(ended: Result<(), NotHonest>, items: usize) -> (u64, u64) {
+    match ended {
+        Ok(()) => (items as u64, 0),
+        Err(_) => (0, items as u64),
+    }
+}
+
 // One round of a scene, over a manager of its own, slice after slice of each list. In each slice the list's
 // events are taken, and those of some lists are then taken back, which alone is measured; the journal has
 // room for one slice. The round is left in one place while it holds the manager: each further way out would
@@ -37,7 +46,11 @@ fn round<R: Clock>(rt: &R, alloc: Global, text: &str, scene: &mut Scene) -> Resu
         for _ in 0..list.slices {
             manager.seal();
             let mut start = Instant::now(rt);
-            let counts = manager.run(&list.events);
+            let counts = if list.items.is_empty() {
+                manager.run(&list.events)
+            } else {
+                counted(watch(&mut manager, &list.items), list.items.len())
+            };
             if list.is_taken_back {
                 start = Instant::now(rt);
                 let _ = manager.rewind(0);

@@ -1,6 +1,6 @@
 //! The events that are measured.
 
-use klp_model::Event;
+use klp_model::{Event, Seen};
 use klp_types::{
     Frames, MAX_FRAMES, MAX_TASKS, PatchId, ShadowKey, ShadowValue, Site, TaskId, Version,
 };
@@ -85,6 +85,8 @@ pub(crate) enum Events {
     Entered,
     /// A task begins, and enters the kernel and leaves it in turn: one event less than the journal takes.
     Turns,
+    /// Tasks begin, enter the kernel, leave it and end in turn.
+    Lives,
     /// A patch is enabled, disabled and gone again.
     Cycle,
     /// As many tasks as there may be fall asleep, and beside them the first patch comes and goes, and
@@ -108,6 +110,7 @@ impl Events {
             Events::Begun => begun(alloc),
             Events::Entered => entered(alloc),
             Events::Turns => turns(alloc),
+            Events::Lives => lives(alloc),
             Events::Cycle => cycle(alloc),
             Events::Mixed => mixed(alloc),
             Events::Asleep(site) => asleep(alloc, Version::Original(Site(site))),
@@ -184,6 +187,33 @@ fn turns(alloc: Global) -> Result<Vec<Event>, AllocError> {
         events.push(Event::ExitToUser(TaskId(0)))?;
     }
     Ok(events)
+}
+
+fn lives(alloc: Global) -> Result<Vec<Event>, AllocError> {
+    let mut events = Vec::new(alloc);
+    for _ in 0..PAIRS {
+        for task in 0..TASKS {
+            events.push(Event::NewTask(TaskId(task)))?;
+            events.push(Event::EnterKernel(TaskId(task)))?;
+            events.push(Event::ExitToUser(TaskId(task)))?;
+            events.push(Event::EndTask(TaskId(task)))?;
+        }
+    }
+    Ok(events)
+}
+
+/// The events as the items of a trace, in which each task that enters the kernel calls a function there and
+/// returns.
+pub(crate) fn trace_of(alloc: Global, events: &[Event]) -> Result<Vec<Seen>, AllocError> {
+    let mut items = Vec::new(alloc);
+    for event in events {
+        items.push(Seen::Event(*event))?;
+        if let Event::EnterKernel(task) = event {
+            items.push(Seen::Call(*task, Site(0)))?;
+            items.push(Seen::Return(*task))?;
+        }
+    }
+    Ok(items)
 }
 
 fn cycle(alloc: Global) -> Result<Vec<Event>, AllocError> {

@@ -1,6 +1,6 @@
-//! Runs the examples, and measures what an event costs and what the program costs as a whole. It is run in
-//! the folder of its data; its word is the number of rounds that are measured. The gate runs one round, for
-//! which no time is told.
+//! Runs the examples, scripts and traces, and measures what an event costs and what the program costs as a
+//! whole. It is run in the folder of its data; its word is the number of rounds that are measured. The gate
+//! runs one round, for which no time is told.
 #![tactic(auto)]
 
 mod bench;
@@ -10,6 +10,7 @@ mod few;
 mod measured;
 mod refused;
 mod tally;
+mod traces;
 mod whole;
 
 use std::alloc::AllocError;
@@ -37,9 +38,10 @@ fn main(rt: HostRuntime) -> Result<ExitCode, Fault> {
         None => 1,
     };
     let print = examples::run(&rt)?;
+    let watch = traces::run(&rt)?;
     let refuse = refused::run(&rt)?;
     bench::run(&rt, rt.alloc(), rounds)?;
-    Ok(if print && refuse {
+    Ok(if print && watch && refuse {
         ExitCode::SUCCESS
     } else {
         ExitCode::FAILURE

@@ -1,8 +1,8 @@
 //! What is measured: lists of events that a manager takes, slice after slice.
 
 use crate::Fault;
-use crate::events::{Events, FEW, MANY};
-use klp_model::Event;
+use crate::events::{Events, FEW, MANY, trace_of};
+use klp_model::{Event, Seen};
 use std::alloc::{AllocError, Global};
 use std::time::Instant;
 use std::{fmt, io};
@@ -21,12 +21,13 @@ pub(crate) struct Row {
     events: Events,
 }
 
-/// The lists that one manager takes, in order, and whether they are taken back each time, which alone is
-/// measured then.
+/// The lists that one manager takes, in order; whether they are taken back each time, which alone is measured
+/// then; and whether they are watched, with calls and returns.
 #[derive(Clone, Copy)]
 pub(crate) struct Rows {
     rows: &'static [Row],
     is_taken_back: bool,
+    is_watched: bool,
 }
 
 const PATCHES_AND_VARIABLES: [Row; 6] = [
@@ -131,27 +132,54 @@ const TAKEN_BACK: [Row; 3] = [
     },
 ];
 
+const LIVES: [Row; 1] = [Row {
+    name: "8 tasks begin, enter, exit and end",
+    slices: SLICES,
+    events: Events::Lives,
+}];
+
+const WATCHED: [Row; 1] = [Row {
+    name: "they also call and return, and are watched",
+    slices: SLICES,
+    events: Events::Lives,
+}];
+
 /// What is measured, each with a manager of its own.
-pub(crate) const SCENES: [Rows; 5] = [
+pub(crate) const SCENES: [Rows; 7] = [
     Rows {
         rows: &PATCHES_AND_VARIABLES,
         is_taken_back: false,
+        is_watched: false,
     },
     Rows {
         rows: &CYCLES,
         is_taken_back: false,
+        is_watched: false,
     },
     Rows {
         rows: &HELD,
         is_taken_back: false,
+        is_watched: false,
     },
     Rows {
         rows: &NOT_HELD,
         is_taken_back: false,
+        is_watched: false,
     },
     Rows {
         rows: &TAKEN_BACK,
         is_taken_back: true,
+        is_watched: false,
+    },
+    Rows {
+        rows: &LIVES,
+        is_taken_back: false,
+        is_watched: false,
+    },
+    Rows {
+        rows: &WATCHED,
+        is_taken_back: false,
+        is_watched: true,
     },
 ];
 
@@ -160,6 +188,8 @@ pub(crate) const SCENES: [Rows; 5] = [
 pub(crate) struct Measured {
     name: &'static str,
     pub(crate) events: Vec<Event>,
+    /// What is watched; empty where it isn't.
+    pub(crate) items: Vec<Seen>,
     /// How often a round takes it.
     pub(crate) slices: u64,
     /// Whether the events are taken back in each slice, and only that is measured.
@@ -170,10 +200,11 @@ pub(crate) struct Measured {
 }
 
 impl Measured {
-    fn new(row: &Row, is_taken_back: bool, events: Vec<Event>) -> Self {
+    fn new(row: &Row, is_taken_back: bool, events: Vec<Event>, items: Vec<Seen>) -> Self {
         Self {
             name: row.name,
             events,
+            items,
             slices: row.slices,
             is_taken_back,
             accepted: 0,
@@ -214,6 +245,15 @@ impl fmt::Display for Measured {
     }
 }
 
+/// What is watched of a list, which is all of it or nothing.
+fn items_of(alloc: Global, events: &[Event], is_watched: bool) -> Result<Vec<Seen>, AllocError> {
+    if is_watched {
+        trace_of(alloc, events)
+    } else {
+        Ok(Vec::new(alloc))
+    }
+}
+
 /// Lists that one manager takes, in order.
 #[derive(Drop)]
 pub(crate) struct Scene {
@@ -224,7 +264,9 @@ impl Scene {
     pub(crate) fn new(alloc: Global, scene: Rows) -> Result<Self, AllocError> {
         let mut lists = Vec::new(alloc);
         for row in scene.rows {
-            lists.push(Measured::new(row, scene.is_taken_back, row.events.list(alloc)?))?;
+            let events = row.events.list(alloc)?;
+            let items = items_of(alloc, &events, scene.is_watched)?;
+            lists.push(Measured::new(row, scene.is_taken_back, events, items))?;
         }
         Ok(Scene { lists })
     }
