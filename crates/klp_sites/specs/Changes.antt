@@ -7,7 +7,7 @@ use Rattle.klp_types.specs.Entries.{is_empty}
 use Rattle.klp_types.specs.Records.{RecordList}
 use Rattle.klp_stack.specs.Stack.{entries_at, entries_of_others, place_of}
 use Rattle.klp_sites.specs.Table.{SiteTable}
-use Rattle.klp_sites.specs.Undo.{undone}
+use Rattle.klp_sites.specs.Undo.{undone, are_due}
 
 -- the table with other entries at a site
 abbrev pub with_entries : SiteTable → ℕ → List Entry → SiteTable
@@ -44,3 +44,5 @@ pub record Changes (before after : SiteTable) (log_before log_after : RecordList
   pub records : log_after ≡ noting log_before rows
   -- these records, put back newest first, give the table before
   pub undo : undone after rows ≡ before
+  -- and each of them can be put back in its turn
+  pub due : are_due after rows ≡ true

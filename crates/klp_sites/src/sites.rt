@@ -10,7 +10,7 @@ ghost use Rattle.klp_stack.specs.Stack.{IsStack, entries_at, has_entry};
 ghost use Rattle.klp_stack.specs.Undo as of_stacks;
 ghost use Rattle.klp_sites.specs.Table.{bytes_at, image_of, is_hooked_at, opening};
 ghost use Rattle.klp_sites.specs.Changes.{Changes, pushed, taken, rows_of_push, rows_of_take};
-ghost use Rattle.klp_sites.specs.Undo.{put_back, put_loaded};
+ghost use Rattle.klp_sites.specs.Undo.{put_back, put_loaded, is_due};
 
 use arrayvec::ArrayVec;
 use klp_stack::Stacks;
@@ -126,6 +126,7 @@ impl Sites {
     /// of another kind: a hook's own record is one, since the entry's has brought the hook back
     /// (docs/DECISIONS.md, "Hooks in undo"). The cost is at most the stack's height.
     pub fn put_back(&mut self, row: Record)
+        requires due { is_due self.old row ≡ true }
         ensures { self.new ≡ put_back self.old row }
     {
         match row {
@@ -135,19 +136,9 @@ impl Sites {
         }
     }
 
-    /// Puts an entry of the site back where there is room for it, or takes it out. There always is room
-    /// where undo puts records back (docs/DECISIONS.md, "Room for an entry that comes back").
-    fn put_entry(&mut self, site: Site, patch: PatchId, was: Option<Place>)
-        ensures { self.new ≡ put_back self.old (Record.StackEntry site patch was) }
-    {
-        if was.is_none() || self.stacks.spare() > 0 {
-            self.change_entry(site, patch, was);
-        }
-    }
-
     /// Puts an entry of the site back, or takes it out. The hook is written only where it changes, which is
     /// with the first entry and the last.
-    fn change_entry(&mut self, site: Site, patch: PatchId, was: Option<Place>)
+    fn put_entry(&mut self, site: Site, patch: PatchId, was: Option<Place>)
         requires { is_some was ≡ true → 0 < spare_in self.old.stacks }
         ensures { let row = Record.StackEntry site patch was in
             self.new ≡ record self.old { stacks = of_stacks.put_back self.old.stacks row } }

@@ -2,7 +2,7 @@ use Rattle.std.proofs.Common.{true, false, nat_lt, sym, ◌∙◌}
 use Rattle.klp_stack.specs.Stack.{entries_at}
 use Rattle.klp_stack.specs.Undo.{put_entry}
 use Rattle.klp_sites.proofs.StepLemmas.{turned, unturned, hooked_from, stacked_from, empty_from, same_flag}
-use Rattle.klp_sites.proofs.sites.Sites.change_entry.Goals as goal
+use Rattle.klp_sites.proofs.sites.Sites.put_entry.Goals as goal
 
 pub invariant_of-self : goal.invariant_of-self
 invariant_of-self c =
