@@ -1,6 +1,7 @@
 -- Records put back give each row what it was, whatever other rows they are among.
-use Rattle.std.proofs.Common.{◌≡◌, ℕ, ◌+◌, ◌-◌, ◌<◌, ◌≤◌, length, take, get_or, arith, Bool, suc, cond, true, false, List, [], ◌∷◌, ◌++◌, Option, Some, None, refl, sym, ap, ◌∙◌}
+use Rattle.std.proofs.Common.{◌≡◌, ℕ, ◌+◌, ◌-◌, ◌<◌, ◌≤◌, length, take, get_or, arith, Bool, suc, cond, true, false, ◌&&◌, List, [], ◌∷◌, ◌++◌, Option, Some, None, refl, sym, ap, ◌∙◌}
 use Rattle.std.specs.Prelude.{slice_set, slice_index_or}
+use Rattle.std.proofs.lemmas.Bool.{and_parts, and_from}
 use Rattle.std.proofs.lemmas.List.{set-set, set-get_or, length-set, take_more}
 use Rattle.std.specs.List.{All}
 use Rattle.std.specs.Option.{option_to_list}
@@ -20,11 +21,49 @@ use Rattle.klp_sites.specs.Changes.{noting}
 use Rattle.klp_sites.specs.Undo as of_sites
 use Rattle.klp_sites.specs.Undo.{is_of_sites}
 use Rattle.klp_world.specs.Undo.{is_of_world}
-use Rattle.klp_manager_state.specs.Rows.{Rows, is_of_tasks, row_of_moving, put_back, undone, WorldGoesBack, SitesGoBack, TasksGoBack, MovingGoesBack, PinsGoBack}
+use Rattle.klp_manager_state.specs.Rows.{Rows, is_of_tasks, row_of_moving, put_back, undone, is_due, are_due, undone_if_due, WorldGoesBack, SitesGoBack, TasksGoBack, MovingGoesBack, PinsGoBack}
 
 undone-append : (rows : Rows) (older newer : List Record) → undone rows (older ++ newer) ≡ undone (undone rows newer) older
 undone-append rows [] newer = refl
 undone-append rows (row ∷ older) newer = ap (λ r. put_back r row) (undone-append rows older newer)
+
+-- the newer ones are due first, and then the older ones at what these give
+due-append : (rows : Rows) (older newer : List Record) → are_due rows newer ≡ true → are_due rows (older ++ newer) ≡ are_due (undone rows newer) older
+due-append rows [] newer due = due
+due-append rows (row ∷ older) newer due = ap (λ r. is_due r row && are_due rows (older ++ newer)) (undone-append rows older newer) ∙ ap (λ b. is_due (undone (undone rows newer) older) row && b) (due-append rows older newer due)
+
+due-parts : (rows : Rows) (older : List Record) (row : Record) → are_due rows (older ++ row ∷ []) ≡ true → (is_due rows row ≡ true) × (are_due (put_back rows row) older ≡ true)
+due-parts rows [] row due = ((and_parts (is_due rows row) true due).0, refl)
+due-parts rows (first ∷ older) row due =
+    let parts = and_parts (is_due (undone rows (older ++ row ∷ [])) first) (are_due rows (older ++ row ∷ [])) due in
+    let rest = due-parts rows older row parts.1 in
+    (rest.0, and_from (is_due (undone (put_back rows row) older) first) (are_due (put_back rows row) older) (ap (λ r. is_due r first) (sym (undone-append rows older (row ∷ []))) ∙ parts.0) rest.1)
+
+-- the sites alone tell what is due
+sites_of : (rows : Rows) (records : List Record) → (undone rows records).sites ≡ of_sites.undone rows.sites records
+sites_of rows [] = refl
+sites_of rows (row ∷ newer) = ap (λ t. of_sites.put_back t row) (sites_of rows newer)
+
+due_at_sites : (rows : Rows) (records : List Record) → of_sites.are_due rows.sites records ≡ true → are_due rows records ≡ true
+due_at_sites rows [] due = refl
+due_at_sites rows (row ∷ newer) due =
+    let parts = and_parts (of_sites.is_due (of_sites.undone rows.sites newer) row) (of_sites.are_due rows.sites newer) due in
+    and_from (is_due (undone rows newer) row) (are_due rows newer) (ap (λ t. of_sites.is_due t row) (sites_of rows newer) ∙ parts.0) (due_at_sites rows newer parts.1)
+
+-- records that are due whatever the rows are
+due_ever : (rows : Rows) (is : Record → Bool) (each : (now : Rows) (row : Record) → is row ≡ true → is_due now row ≡ true) (records : List Record) → All (λ row. is row ≡ true) records → are_due rows records ≡ true
+due_ever rows is each [] all = refl
+due_ever rows is each (row ∷ newer) all =
+    and_from (is_due (undone rows newer) row) (are_due rows newer) (each (undone rows newer) row (All-head (λ row. is row ≡ true) row newer all))
+    (due_ever rows is each newer (All-tail (λ row. is row ≡ true) row newer all))
+
+world_due : (rows : Rows) (row : Record) → is_of_world row ≡ true → is_due rows row ≡ true
+world_due rows (StackEntry site patch was) is = cc
+world_due rows other is = refl
+
+task_due : (rows : Rows) (row : Record) → is_of_tasks row ≡ true → is_due rows row ≡ true
+task_due rows (StackEntry site patch was) is = cc
+task_due rows other is = refl
 
 -- a row of the world is none of the others
 row_of_world : (rows : Rows) (row : Record) → is_of_world row ≡ true → put_back rows row ≡ record rows { world = of_world.put_back rows.world row }
@@ -90,32 +129,36 @@ switched_of_tasks number [] after = All-nil (λ row. is_of_tasks row ≡ true)
 switched_of_tasks number (was ∷ before) [] = All-nil (λ row. is_of_tasks row ≡ true)
 
 -- the newest are put back first
-noted_behind : (rows : Rows) (l0 l1 : RecordList) (records : List Record) → l1 ≡ noting l0 records → undone rows l1.noted ≡ undone (undone rows records) l0.noted
-noted_behind rows l0 l1 records noted = ap (λ (l : RecordList). undone rows l.noted) noted ∙ undone-append rows l0.noted records
+noted_behind : (rows : Rows) (l0 l1 : RecordList) (records : List Record) → l1 ≡ noting l0 records → are_due rows records ≡ true
+    → undone_if_due rows l1.noted ≡ undone_if_due (undone rows records) l0.noted
+noted_behind rows l0 l1 records noted due =
+    ap (λ (l : RecordList). undone_if_due rows l.noted) noted
+    ∙ ap (λ b. cond b (Some (undone rows (l0.noted ++ records))) None) (due-append rows l0.noted records due)
+    ∙ ap (λ r. cond (are_due (undone rows records) l0.noted) (Some r) None) (undone-append rows l0.noted records)
 
 -- rows of the world give the world back
 pub world_back : (before after : World) (l0 l1 : RecordList) (records : List Record) → All (λ row. is_of_world row ≡ true) records → l1 ≡ noting l0 records
     → of_world.undone after records ≡ before → WorldGoesBack before after l0 l1
 world_back before after l0 l1 records all noted undo rows =
     let now : Rows = record rows { world = after } in
-    noted_behind now l0 l1 records noted
-    ∙ ap (λ r. undone r l0.noted) (undone_world now records all ∙ ap (λ (w : World). record rows { world = w }) undo)
+    noted_behind now l0 l1 records noted (due_ever now is_of_world world_due records all)
+    ∙ ap (λ r. undone_if_due r l0.noted) (undone_world now records all ∙ ap (λ (w : World). record rows { world = w }) undo)
 
 -- rows of sites give the sites back
 pub sites_back : (before after : SiteTable) (l0 l1 : RecordList) (records : List Record) → All (λ row. is_of_sites row ≡ true) records → l1 ≡ noting l0 records
-    → of_sites.undone after records ≡ before → SitesGoBack before after l0 l1
-sites_back before after l0 l1 records all noted undo rows =
+    → of_sites.undone after records ≡ before → of_sites.are_due after records ≡ true → SitesGoBack before after l0 l1
+sites_back before after l0 l1 records all noted undo due rows =
     let now : Rows = record rows { sites = after } in
-    noted_behind now l0 l1 records noted
-    ∙ ap (λ r. undone r l0.noted) (undone_sites now records all ∙ ap (λ (t : SiteTable). record rows { sites = t }) undo)
+    noted_behind now l0 l1 records noted (due_at_sites now records due)
+    ∙ ap (λ r. undone_if_due r l0.noted) (undone_sites now records all ∙ ap (λ (t : SiteTable). record rows { sites = t }) undo)
 
 -- rows of tasks give the tasks back
 pub tasks_back : (before after : Tasks) (l0 l1 : RecordList) (records : List Record) → All (λ row. is_of_tasks row ≡ true) records → l1 ≡ noting l0 records
     → of_tasks.undone after records ≡ before → TasksGoBack before after l0 l1
 tasks_back before after l0 l1 records all noted undo rows =
     let now : Rows = record rows { tasks = after } in
-    noted_behind now l0 l1 records noted
-    ∙ ap (λ r. undone r l0.noted) (undone_tasks now records all ∙ ap (λ (t : Tasks). record rows { tasks = t }) undo)
+    noted_behind now l0 l1 records noted (due_ever now is_of_tasks task_due records all)
+    ∙ ap (λ r. undone_if_due r l0.noted) (undone_tasks now records all ∙ ap (λ (t : Tasks). record rows { tasks = t }) undo)
 
 -- tasks that are brought to another state
 pub switched_back : (before after to : Tasks) (l0 l1 : RecordList) → after ≡ to → l1 ≡ noting l0 (of_tasks.records_switched 0 before to)
@@ -127,25 +170,29 @@ switched_back before after to l0 l1 is noted undo =
 pub moving_back : (before after : Option Transition) (l0 l1 : RecordList) → l1 ≡ noting l0 (row_of_moving before ∷ []) → MovingGoesBack before after l0 l1
 moving_back before after l0 l1 noted rows =
     let now : Rows = record rows { moving = after } in
-    noted_behind now l0 l1 (row_of_moving before ∷ []) noted ∙ ap (λ r. undone r l0.noted) (back before)
+    noted_behind now l0 l1 (row_of_moving before ∷ []) noted (due before) ∙ ap (λ r. undone_if_due r l0.noted) (back before)
   where
     back : (was : Option Transition) → put_back (record rows { moving = after }) (row_of_moving was) ≡ record rows { moving = was }
     back None = refl
     back (Some was) = refl
+
+    due : (was : Option Transition) → are_due (record rows { moving = after }) (row_of_moving was ∷ []) ≡ true
+    due None = refl
+    due (Some was) = refl
 
 -- whether an object was loaded is noted
 pub loaded_back : (before after : SiteTable) (object : ℕ) (was : Bool) (l0 l1 : RecordList) → l1 ≡ noting l0 (LoadedFlag object was ∷ [])
     → of_sites.put_back after (LoadedFlag object was) ≡ before → SitesGoBack before after l0 l1
 loaded_back before after object was l0 l1 noted undo rows =
     let now : Rows = record rows { sites = after } in
-    noted_behind now l0 l1 (LoadedFlag object was ∷ []) noted ∙ ap (λ (t : SiteTable). undone (record rows { sites = t }) l0.noted) undo
+    noted_behind now l0 l1 (LoadedFlag object was ∷ []) noted refl ∙ ap (λ (t : SiteTable). undone_if_due (record rows { sites = t }) l0.noted) undo
 
 -- whether a patch was pinned is noted
 pub pinned_back : (before after : List Bool) (patch : ℕ) (was : Bool) (l0 l1 : RecordList) → l1 ≡ noting l0 (PinnedFlag patch was ∷ [])
     → slice_set after patch was ≡ before → PinsGoBack before after l0 l1
 pinned_back before after patch was l0 l1 noted undo rows =
     let now : Rows = record rows { pinned = after } in
-    noted_behind now l0 l1 (PinnedFlag patch was ∷ []) noted ∙ ap (λ (p : List Bool). undone (record rows { pinned = p }) l0.noted) undo
+    noted_behind now l0 l1 (PinnedFlag patch was ∷ []) noted refl ∙ ap (λ (p : List Bool). undone_if_due (record rows { pinned = p }) l0.noted) undo
 
 -- a patch that wasn't pinned is pinned
 pub pinned_now : (flags after : List Bool) (patch : ℕ) (l0 l1 : RecordList) → after ≡ slice_set flags patch true → l1 ≡ noting l0 (PinnedFlag patch false ∷ [])
@@ -154,16 +201,35 @@ pinned_now flags after patch l0 l1 is noted free =
     pinned_back flags after patch false l0 l1 noted
     (ap (λ fs. slice_set fs patch false) is ∙ set-set flags patch true false ∙ ap (slice_set flags patch) (sym free) ∙ set-get_or flags patch false)
 
+-- those that are left are the older ones and the newest
+older_and_newest : (records : List Record) (place : ℕ) (row : Record) → 0 < place → place ≤ length records → row ≡ get_or records (place - 1) row
+    → take place records ≡ take (place - 1) records ++ row ∷ []
+older_and_newest records place row some within is =
+    let below : place - 1 < length records = omega arith in
+    let next : place ≡ (place - 1) + 1 = omega arith in
+    ap (λ n. take n records) next
+    ∙ take_more records (place - 1) row below
+    ∙ ap (λ r. take (place - 1) records ++ r ∷ []) (sym is)
+
 -- the newest that is left is put back, and the older ones are left
 pub one_back : (rows : Rows) (records : List Record) (place : ℕ) (row : Record) → 0 < place → place ≤ length records → row ≡ get_or records (place - 1) row
     → undone (put_back rows row) (take (place - 1) records) ≡ undone rows (take place records)
 one_back rows records place row some within is =
-    let below : place - 1 < length records = omega arith in
-    let next : (place - 1) + 1 ≡ place = omega arith in
-    sym (undone-append rows (take (place - 1) records) (row ∷ []))
-    ∙ ap (λ r. undone rows (take (place - 1) records ++ r ∷ [])) is
-    ∙ ap (undone rows) (sym (take_more records (place - 1) row below))
-    ∙ ap (λ n. undone rows (take n records)) next
+    sym (undone-append rows (take (place - 1) records) (row ∷ [])) ∙ ap (undone rows) (sym (older_and_newest records place row some within is))
+
+-- where all that are left are due, the newest is, and once it is put back, the older ones are
+pub one_due : (rows : Rows) (records : List Record) (place : ℕ) (row : Record) → 0 < place → place ≤ length records → row ≡ get_or records (place - 1) row
+    → are_due rows (take place records) ≡ true → (is_due rows row ≡ true) × (are_due (put_back rows row) (take (place - 1) records) ≡ true)
+one_due rows records place row some within is due =
+    due-parts rows (take (place - 1) records) row (ap (are_due rows) (sym (older_and_newest records place row some within is)) ∙ due)
+
+-- rows that all records give are those that they give put back, and the records are due
+pub given_back : (rows before : Rows) (records : List Record) → undone_if_due rows records ≡ Some before → (undone rows records ≡ before) × (are_due rows records ≡ true)
+given_back rows before records given =
+    elim (are_due rows records) as (λ b. are_due rows records ≡ b → cond b (Some (undone rows records)) None ≡ Some before → (undone rows records ≡ before) × (are_due rows records ≡ true)) [
+      | true ↦ λ due given. (cc, due)
+      | false ↦ λ late given. let no : ⊥ = cc in absurd no
+    ] refl given
 
 flag_put : (table : SiteTable) (object : ℕ) (was : Bool) (within : Bool) → length table.loaded ≡ length table.image.objects
     → length (cond within (record table { loaded = slice_set table.loaded object was }) table).loaded ≡ length (cond within (record table { loaded = slice_set table.loaded object was }) table).image.objects

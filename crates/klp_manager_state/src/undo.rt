@@ -1,6 +1,6 @@
 //! What an event logged is put back. No step is turned round, since the rows have all that there was.
-ghost use Rattle.std.specs.Prelude.{◌≡◌, length};
-ghost use Rattle.klp_manager_state.specs.Rows.{rows_in, put_back, undone};
+ghost use Rattle.std.specs.Prelude.{◌≡◌, true, length};
+ghost use Rattle.klp_manager_state.specs.Rows.{rows_in, put_back, undone, is_due, are_due};
 
 use crate::state::ManagerState;
 use crate::transition::moving_before;
@@ -13,6 +13,7 @@ impl ManagerState {
     pub fn undo(&mut self, rows: &[Record])
         requires modules { self.old.modules.loaded ≡ self.old.sites.loaded }
         requires objects { length self.old.sites.loaded ≡ length self.old.sites.image.objects }
+        requires due { are_due (rows_in self.old) rows.now ≡ true }
         ensures rows { rows_in self.new ≡ undone (rows_in self.old) rows.now }
         ensures modules { self.new.modules ≡ record self.old.modules { loaded = self.new.sites.loaded } }
         ensures log { self.new.log ≡ self.old.log }
@@ -27,6 +28,7 @@ impl ManagerState {
     fn put_back(&mut self, row: &Record)
         requires modules { self.old.modules.loaded ≡ self.old.sites.loaded }
         requires objects { length self.old.sites.loaded ≡ length self.old.sites.image.objects }
+        requires due { is_due (rows_in self.old) row.now ≡ true }
         ensures rows { rows_in self.new ≡ put_back (rows_in self.old) row.now }
         ensures modules { self.new.modules ≡ record self.old.modules { loaded = self.new.sites.loaded } }
         ensures log { self.new.log ≡ self.old.log }

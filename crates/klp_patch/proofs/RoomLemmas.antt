@@ -1,13 +1,11 @@
 -- There is room for each entry of a change, where there is room for all of them.
-use Rattle.std.proofs.Common.{◌≡◌, ℕ, zero, suc, ◌+◌, ◌<◌, ◌≤◌, Bool, true, false, not, ◌&&◌, ◌||◌, cond, List, [], ◌∷◌, ◌++◌, length, map, refl, sym, ap, subst, ◌∙◌, arith, Option, Some, None, eqb, ltb, length-append}
+use Rattle.std.proofs.Common.{◌≡◌, ℕ, zero, suc, ◌+◌, ◌<◌, ◌≤◌, Bool, true, false, not, ◌&&◌, ◌||◌, cond, List, [], ◌∷◌, ◌++◌, length, refl, sym, ap, subst, ◌∙◌, arith, Option, Some, None, ltb, length-append}
 use Rattle.std.proofs.lemmas.Bool.{eqb-true, eq-eqb, le-ltb}
 use Rattle.std.proofs.lemmas.List.Sums.{sum_by-append}
-use Rattle.klp_types.specs.declared.version.Entry.{Entry}
 use Rattle.klp_types.specs.Setting.{Function, function_for}
 use Rattle.klp_types.specs.Entries.{entry_of, is_empty}
 use Rattle.klp_catalog.specs.Catalog.{Catalog}
 use Rattle.klp_catalog.specs.States.{is_cumulative}
-use Rattle.klp_stack.specs.declared.slot.TheConstants.{MAX_ENTRIES}
 use Rattle.klp_stack.specs.Stack.{entries_at, has_entry}
 use Rattle.klp_stack.specs.Spare.{held, spare_in}
 use Rattle.klp_sites.specs.Table.{SiteTable}

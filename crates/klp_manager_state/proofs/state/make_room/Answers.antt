@@ -1,5 +1,4 @@
 use Rattle.std.proofs.Common.{ap, ◌∙◌, false, replicate}
-use Rattle.klp_types.specs.Records.{RecordList}
 use Rattle.klp_manager_state.proofs.state.make_room.Goals as goal
 
 pub returns-clause-pinned : goal.returns-clause-pinned

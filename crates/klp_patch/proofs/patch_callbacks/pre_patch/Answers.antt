@@ -1,10 +1,10 @@
-use Rattle.std.proofs.Common.{rules, w32, to_z, of_z, ◌≡◌, ◌+◌, ◌++◌, false, [], ◌∙◌, ap, sym, arith, drop}
+use Rattle.std.proofs.Common.{rules, w32, to_z, of_z, ◌≡◌, ◌+◌, ◌++◌, [], ◌∙◌, ap, sym, arith, drop}
 use Rattle.std.proofs.lemmas.List.{append-nil}
 use Rattle.klp_types.specs.declared.callback.Which.TheVariants.{Pre}
 use Rattle.klp_types.specs.Script.{is_success}
 use Rattle.klp_catalog.specs.Runs.{objects_at}
 use Rattle.klp_patch.specs.Loaded.{is_loaded_in, loaded_from}
-use Rattle.klp_patch.specs.Refusing.{loaded_call, loaded_status, pre_calls}
+use Rattle.klp_patch.specs.Refusing.{loaded_call, pre_calls}
 use Rattle.klp_patch.proofs.CallLemmas.{from-end}
 use Rattle.klp_patch.proofs.LoopLemmas.{turn, turn-goes_on, turn-stops, refuses-nonzero}
 use Rattle.klp_patch.proofs.RanLemmas.{begins, goes_on, all_ran, room_for_next, objects_so_far, next_pre}

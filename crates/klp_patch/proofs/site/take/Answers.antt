@@ -26,5 +26,6 @@ returns-then-is_some-clause-notes c =
       noted = change.records;
       of_sites = take_of_sites before c.args.site c.args.patch;
       undo = change.undo;
+      due = change.due;
       few = omega (arith, few, ap hooked_count change.table);
     }
