@@ -27,7 +27,8 @@ use Rattle.klp_manager_state.specs.declared.state.ManagerState.{ManagerState}
 use Rattle.klp_manager_state.specs.Events.{TakesEvent, after_event}
 use Rattle.klp_manager_state.specs.Invariant.{Invariant}
 use Rattle.klp_manager_state.specs.Managed.{Managed, setting_of, managed_of, setting_in}
-use Rattle.klp_manager_state.specs.Rows.{Rows, rows_in, rows_before, undone}
+use Rattle.klp_manager_state.specs.Rows.{Rows, rows_in, rows_before, undone, are_due}
+use Rattle.klp_manager_state.proofs.RowLemmas.{given_back}
 use Rattle.klp_core.specs.Journaled.{Journaled, state_told, rows_before_all, journaled_of, AreKept, is_of_a_task, IsSmall, IsStepOf, AreSteps, IsSound, history_in, Stands}
 use Rattle.klp_types.specs.Callbacks.{Call}
 use Rattle.klp_core.specs.Events.{AreCounted}
@@ -59,6 +60,16 @@ step_taken_back setting after (first ∷ newer) group steps = (
   subst (λ r. IsStepOf setting (undone r first.rows) r first) (before_more (undone after group.rows) after newer group refl) steps.0,
   step_taken_back setting after newer group steps.1,
 )
+
+-- the records of the newest group can be put back
+newest_due : (setting : Setting) (after : Rows) (groups : List Group) (group : Group) → AreSteps setting after (groups ++ group ∷ []) → are_due after group.rows ≡ true
+newest_due setting after [] group steps = steps.0.due
+newest_due setting after (first ∷ newer) group steps = newest_due setting after newer group steps.1
+
+pub sound_due : (state : ManagerState) (catalog : Catalog) (groups older : List Group) (newest : Group) (rows : List Record) → IsSound state catalog groups
+    → groups ≡ older ++ newest ∷ [] → rows ≡ newest.rows → are_due (rows_in state) rows ≡ true
+sound_due state catalog groups older newest rows sound parted is =
+    ap (are_due (rows_in state)) is ∙ newest_due (setting_in state catalog) (rows_in state) older newest (subst (AreSteps (setting_in state catalog) (rows_in state)) parted sound.steps)
 
 -- the groups are what happened since the base
 
@@ -98,39 +109,41 @@ same_setting : (before after : Managed) (event : Event) → after ≡ after_even
 same_setting before after event left = ap setting_of left
 
 is_step : (before after : ManagerState) (catalog now : Catalog) (event : Event) (reply : Reply) (rows : List Record) → Invariant before catalog → TakesEvent before after catalog now event (Ok reply)
-    → length rows ≤ MAX_RECORDS → (is_of_a_task event ≡ true → length rows ≡ 1)
+    → are_due (rows_in after) rows ≡ true → length rows ≤ MAX_RECORDS → (is_of_a_task event ≡ true → length rows ≡ 1)
     → IsStepOf (setting_in before catalog) (rows_in before) (rows_in after) (record { event = event; reply = reply; rows = rows })
-is_step before after catalog now event reply rows holds taken few one = record {
+is_step before after catalog now event reply rows holds taken due few one = record {
   kept = kept_in before catalog holds;
   answered = sym taken.takes.answered;
   left = sym (ap (λ (m : Managed). m.state) taken.takes.left);
+  due = due;
   small = record { few = few; one = one };
 }
 
 pub appended_sound : (before after : ManagerState) (catalog now : Catalog) (groups : List Group) (event : Event) (reply : Reply) → IsSound before catalog groups
-    → TakesEvent before after catalog now event (Ok reply) → rows_before after ≡ rows_in before → length after.log.noted ≤ MAX_RECORDS
+    → TakesEvent before after catalog now event (Ok reply) → rows_before after ≡ Some (rows_in before) → length after.log.noted ≤ MAX_RECORDS
     → (is_of_a_task event ≡ true → length after.log.noted ≡ 1)
     → IsSound after now (groups ++ record { event = event; reply = reply; rows = after.log.noted } ∷ [])
-appended_sound before after catalog now groups event reply sound taken undo few one =
+appended_sound before after catalog now groups event reply sound taken noted few one =
+    let back = given_back (rows_in after) (rows_in before) after.log.noted noted in
     let same = same_setting (managed_of before catalog) (managed_of after now) event taken.takes.left in
     record {
       holds = taken.kept;
       steps = subst (λ s. AreSteps s (rows_in after) (groups ++ record { event = event; reply = reply; rows = after.log.noted } ∷ [])) (sym same)
-          (step_appended (setting_in before catalog) (rows_in before) (rows_in after) groups _ undo sound.steps
-          (is_step before after catalog now event reply after.log.noted sound.holds taken few one)
+          (step_appended (setting_in before catalog) (rows_in before) (rows_in after) groups _ back.0 sound.steps
+          (is_step before after catalog now event reply after.log.noted sound.holds taken back.1 few one)
           (subst (λ s. AreKept s (rows_in after)) same (kept_in after now taken.kept)));
     }
 
 pub appended : (before after : ManagerState) (catalog now : Catalog) (groups : List Group) (event : Event) (reply : Reply)
-    → TakesEvent before after catalog now event (Ok reply) → rows_before after ≡ rows_in before → length after.log.noted ≤ MAX_RECORDS
+    → TakesEvent before after catalog now event (Ok reply) → rows_before after ≡ Some (rows_in before) → length after.log.noted ≤ MAX_RECORDS
     → (is_of_a_task event ≡ true → length after.log.noted ≡ 1)
     → Appends (journaled_of before catalog groups) (journaled_of after now (groups ++ record { event = event; reply = reply; rows = after.log.noted } ∷ [])) event reply
-appended before after catalog now groups event reply taken undo few one = record {
+appended before after catalog now groups event reply taken noted few one = record {
   group = record { event = event; reply = reply; rows = after.log.noted };
   noted = record { event_is = refl; reply_is = refl; small = record { few = few; one = one } };
   groups = refl;
   left = taken.takes.left;
-  base = ap state_told (before_more (rows_in before) (rows_in after) groups (record { event = event; reply = reply; rows = after.log.noted }) undo);
+  base = ap state_told (before_more (rows_in before) (rows_in after) groups (record { event = event; reply = reply; rows = after.log.noted }) (given_back (rows_in after) (rows_in before) after.log.noted noted).0);
 }
 
 -- a full journal refuses what nothing else does

@@ -88,7 +88,7 @@ fn try_once_more(manager: &mut ManagerState, catalog: &mut Catalog) -> Reply
     requires free { refused_in manager.old catalog.old Poll ≡ None }
     requires records { records_of (may_run_in manager.old catalog.old Poll) ≤ MAX_KIND_RECORDS }
     ensures accepted { AcceptsEvent manager.old manager.new catalog.old catalog.new Poll result }
-    ensures noted { rows_before manager.new ≡ rows_in manager.old }
+    ensures noted { rows_before manager.new ≡ Some (rows_in manager.old) }
 {
     klp_manager_state::laws::steps_keep();
     let Some(moving) = manager.moving else {
@@ -115,7 +115,7 @@ fn try_tasks(manager: &mut ManagerState, catalog: &Catalog, moving: &Transition)
     } }
     ensures left { result ≡ pending (setting_in manager.old catalog.now) (state_in manager.old catalog.now) moving.now }
     ensures kept { Invariant manager.new catalog.now }
-    ensures noted { rows_before manager.new ≡ rows_in manager.old }
+    ensures noted { rows_before manager.new ≡ Some (rows_in manager.old) }
     ensures records { length manager.new.log.noted ≤ MAX_TASKS }
 {
     klp_model::laws::where_none_lags_none_is_switched();
@@ -140,7 +140,7 @@ fn switch_sleepers(manager: &mut ManagerState, catalog: &Catalog, moving: &Trans
       blocked = manager.new.blocked;
       log = manager.new.log;
     } }
-    ensures noted { rows_before manager.new ≡ rows_in manager.old }
+    ensures noted { rows_before manager.new ≡ Some (rows_in manager.old) }
     ensures records { length manager.new.log.noted ≤ MAX_TASKS }
     ensures log { manager.new.log.room ≡ MAX_RECORDS }
 {

@@ -1,6 +1,6 @@
 //! A patch is disabled, or its transition turns round (livepatch, Disabling; callbacks, the case of a
 //! transition that is reversed).
-ghost use Rattle.std.specs.Prelude.{◌≡◌, ◌≤◌, true, false, None};
+ghost use Rattle.std.specs.Prelude.{◌≡◌, ◌≤◌, true, false, None, Some};
 ghost use Rattle.klp_types.specs.declared.limits.TheConstants.{MAX_KIND_RECORDS};
 ghost use Rattle.klp_types.specs.Pick.{moves};
 ghost use Rattle.klp_model.specs.declared.event.Event.TheVariants.{SetEnabled};
@@ -91,7 +91,7 @@ fn turn(manager: &mut ManagerState, catalog: &mut Catalog, patch: PatchId, value
     requires records { records_of
         (disable_calls (setting_in manager.old catalog.old) (state_in manager.old catalog.old) patch) ≤ MAX_KIND_RECORDS }
     ensures accepted { AcceptsEvent manager.old manager.new catalog.old catalog.new (SetEnabled patch value) result }
-    ensures noted { rows_before manager.new ≡ rows_in manager.old }
+    ensures noted { rows_before manager.new ≡ Some (rows_in manager.old) }
 {
     klp_manager_state::laws::steps_keep();
     if is_in_transition(&manager.moving, patch) {
@@ -114,7 +114,7 @@ fn disable(manager: &mut ManagerState, catalog: &mut Catalog, patch: PatchId, va
         (disable_calls (setting_in manager.old catalog.old) (state_in manager.old catalog.old) patch) ≤ MAX_KIND_RECORDS }
     requires rests { moves manager.old.moving patch ≡ false }
     ensures accepted { AcceptsEvent manager.old manager.new catalog.old catalog.new (SetEnabled patch value) result }
-    ensures noted { rows_before manager.new ≡ rows_in manager.old }
+    ensures noted { rows_before manager.new ≡ Some (rows_in manager.old) }
 {
     klp_manager_state::laws::steps_keep();
     klp_tasks::laws::records_are_few();

@@ -1,5 +1,5 @@
 //! A patch is enabled (livepatch, Enabling; callbacks, pre-patch; cumulative-patches).
-ghost use Rattle.std.specs.Prelude.{◌≡◌, ℕ, ◌+◌, ◌<◌, ◌≤◌, true, false, None, length, slice_index_or, is_none, ◌&&◌};
+ghost use Rattle.std.specs.Prelude.{◌≡◌, ℕ, ◌+◌, ◌<◌, ◌≤◌, true, false, None, Some, length, slice_index_or, is_none, ◌&&◌};
 ghost use Rattle.std.specs.List.{list_any};
 ghost use Rattle.klp_types.specs.declared.limits.TheConstants.{MAX_ENABLING_RECORDS, MAX_LIST_RECORDS, RECORDS_BEFORE_SITES};
 ghost use Rattle.klp_types.specs.World.{with_patch, without_patch};
@@ -128,7 +128,7 @@ fn install(manager: &mut ManagerState, catalog: &mut Catalog, patch: PatchId) ->
     requires free { refused_in manager.old catalog.old (Enable patch) ≡ None }
     requires records { records_of (may_run_in manager.old catalog.old (Enable patch)) ≤ MAX_ENABLING_RECORDS }
     ensures accepted { AcceptsEvent manager.old manager.new catalog.old catalog.new (Enable patch) result }
-    ensures noted { rows_before manager.new ≡ rows_in manager.old }
+    ensures noted { rows_before manager.new ≡ Some (rows_in manager.old) }
 {
     klp_manager_state::laws::steps_keep();
     klp_model::laws::events_are_accepted_where_no_case_holds();
@@ -170,7 +170,7 @@ fn put_last(manager: &mut ManagerState, catalog: &Catalog, patch: PatchId)
               (state_ids catalog.now patch);
           log = manager.new.log;
         } }
-    ensures noted { rows_before manager.new ≡ rows_in manager.old }
+    ensures noted { rows_before manager.new ≡ Some (rows_in manager.old) }
     ensures records { length manager.new.log.noted ≤ MAX_LIST_RECORDS }
     ensures log { manager.new.log.room ≡ MAX_RECORDS }
 {

@@ -1,8 +1,13 @@
 use Rattle.std.proofs.Common.{◌-◌, length, take, sym, ap, subst, ◌∙◌}
 use Rattle.klp_manager_state.specs.Rows.{rows_in, undone}
 use Rattle.klp_core.specs.Journaled.{rows_before_all, IsSound}
-use Rattle.klp_core.proofs.JournalLemmas.{before_more, taken_back}
+use Rattle.klp_core.proofs.JournalLemmas.{before_more, sound_due, taken_back}
 use Rattle.klp_core.proofs.journal.take_newest_back.Goals as goal
+
+pub undo-requires-clause-due : goal.undo-requires-clause-due
+undo-requires-clause-due g c =
+    let parted = c.in-Some.ensures.parted in
+    sound_due c.args.state.now c.args.catalog.now c.args.journal.now _ parted.0 _ c.requires.sound parted.1 parted.2
 
 pub returns-clause-sound : goal.returns-clause-sound
 returns-clause-sound g c =
