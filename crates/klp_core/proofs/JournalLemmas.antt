@@ -28,7 +28,8 @@ use Rattle.klp_manager_state.specs.Events.{TakesEvent, after_event}
 use Rattle.klp_manager_state.specs.Invariant.{Invariant}
 use Rattle.klp_manager_state.specs.Managed.{Managed, setting_of, managed_of, setting_in}
 use Rattle.klp_manager_state.specs.Rows.{Rows, rows_in, rows_before, undone, are_due}
-use Rattle.klp_manager_state.proofs.RowLemmas.{given_back}
+use Rattle.klp_sites.specs.Undo.{tell_changes}
+use Rattle.klp_manager_state.proofs.RowLemmas.{given_back, told_back}
 use Rattle.klp_core.specs.Journaled.{Journaled, state_told, rows_before_all, journaled_of, AreKept, is_of_a_task, IsSmall, IsStepOf, AreSteps, IsSound, history_in, Stands}
 use Rattle.klp_types.specs.Callbacks.{Call}
 use Rattle.klp_core.specs.Events.{AreCounted}
@@ -61,15 +62,16 @@ step_taken_back setting after (first ∷ newer) group steps = (
   step_taken_back setting after newer group steps.1,
 )
 
--- the records of the newest group can be put back
-newest_due : (setting : Setting) (after : Rows) (groups : List Group) (group : Group) → AreSteps setting after (groups ++ group ∷ []) → are_due after group.rows ≡ true
-newest_due setting after [] group steps = steps.0.due
-newest_due setting after (first ∷ newer) group steps = newest_due setting after newer group steps.1
+newest_told : (setting : Setting) (after : Rows) (groups : List Group) (group : Group) → AreSteps setting after (groups ++ group ∷ []) → tell_changes after.sites group.rows ≡ true
+newest_told setting after [] group steps = steps.0.told
+newest_told setting after (first ∷ newer) group steps = newest_told setting after newer group steps.1
 
+-- the records of the newest group can be put back
 pub sound_due : (state : ManagerState) (catalog : Catalog) (groups older : List Group) (newest : Group) (rows : List Record) → IsSound state catalog groups
     → groups ≡ older ++ newest ∷ [] → rows ≡ newest.rows → are_due (rows_in state) rows ≡ true
 sound_due state catalog groups older newest rows sound parted is =
-    ap (are_due (rows_in state)) is ∙ newest_due (setting_in state catalog) (rows_in state) older newest (subst (AreSteps (setting_in state catalog) (rows_in state)) parted sound.steps)
+    ap (are_due (rows_in state)) is
+    ∙ told_back (rows_in state) newest.rows (newest_told (setting_in state catalog) (rows_in state) older newest (subst (AreSteps (setting_in state catalog) (rows_in state)) parted sound.steps))
 
 -- the groups are what happened since the base
 
@@ -109,13 +111,13 @@ same_setting : (before after : Managed) (event : Event) → after ≡ after_even
 same_setting before after event left = ap setting_of left
 
 is_step : (before after : ManagerState) (catalog now : Catalog) (event : Event) (reply : Reply) (rows : List Record) → Invariant before catalog → TakesEvent before after catalog now event (Ok reply)
-    → are_due (rows_in after) rows ≡ true → length rows ≤ MAX_RECORDS → (is_of_a_task event ≡ true → length rows ≡ 1)
+    → tell_changes after.sites rows ≡ true → length rows ≤ MAX_RECORDS → (is_of_a_task event ≡ true → length rows ≡ 1)
     → IsStepOf (setting_in before catalog) (rows_in before) (rows_in after) (record { event = event; reply = reply; rows = rows })
-is_step before after catalog now event reply rows holds taken due few one = record {
+is_step before after catalog now event reply rows holds taken told few one = record {
   kept = kept_in before catalog holds;
   answered = sym taken.takes.answered;
   left = sym (ap (λ (m : Managed). m.state) taken.takes.left);
-  due = due;
+  told = told;
   small = record { few = few; one = one };
 }
 

@@ -14,10 +14,11 @@ use Rattle.klp_model.specs.Stated.{IsStated}
 use Rattle.klp_catalog.specs.Catalog.{Catalog}
 use Rattle.klp_journal.specs.Journal.{Group}
 use Rattle.klp_stack.specs.Stack.{entries_at}
+use Rattle.klp_sites.specs.Undo.{tell_changes}
 use Rattle.klp_manager_state.specs.declared.state.ManagerState.{ManagerState}
 use Rattle.klp_manager_state.specs.Managed.{Managed, setting_of, managed_of, setting_in}
 use Rattle.klp_manager_state.specs.Invariant.{Invariant}
-use Rattle.klp_manager_state.specs.Rows.{Rows, rows_in, undone, are_due}
+use Rattle.klp_manager_state.specs.Rows.{Rows, rows_in, undone}
 
 -- image, catalog and state of a manager; the state that it was booted or sealed in; and what was accepted since, oldest first
 pub record Journaled : Type 0 where
@@ -61,13 +62,13 @@ pub record IsSmall (group : Group) : Type 0 where
   pub few : length group.rows ≤ MAX_RECORDS
   pub one : is_of_a_task group.event ≡ true → length group.rows ≡ 1
 
--- a group stands for a step: the event was accepted with this reply, and led from the one rows to the other, where its records can be put
--- back
+-- a group stands for a step: the event was accepted with this reply, and led from the one rows to the other. Its records tell each entry and
+-- each hook that changed
 pub record IsStepOf (setting : Setting) (before after : Rows) (group : Group) : Type 0 where
   pub kept : AreKept setting before
   pub answered : answer setting (state_told before) group.event ≡ Ok group.reply
   pub left : next setting (state_told before) group.event ≡ state_told after
-  pub due : are_due after group.rows ≡ true
+  pub told : tell_changes after.sites group.rows ≡ true
   pub small : IsSmall group
 
 -- each group stands for a step from the rows that putting it and all newer ones back gives

@@ -1,6 +1,6 @@
 -- Records put back give each row what it was, whatever other rows they are among.
 use Rattle.std.proofs.Common.{◌≡◌, ℕ, ◌+◌, ◌-◌, ◌<◌, ◌≤◌, length, take, get_or, arith, Bool, suc, cond, true, false, ◌&&◌, List, [], ◌∷◌, ◌++◌, Option, Some, None, refl, sym, ap, ◌∙◌}
-use Rattle.std.specs.Prelude.{slice_set, slice_index_or}
+use Rattle.std.specs.Prelude.{slice_set, slice_index_or, is_none}
 use Rattle.std.proofs.lemmas.Bool.{and_parts, and_from}
 use Rattle.std.proofs.lemmas.List.{set-set, set-get_or, length-set, take_more}
 use Rattle.std.specs.List.{All}
@@ -21,17 +21,14 @@ use Rattle.klp_sites.specs.Changes.{noting}
 use Rattle.klp_sites.specs.Undo as of_sites
 use Rattle.klp_sites.specs.Undo.{is_of_sites}
 use Rattle.klp_world.specs.Undo.{is_of_world}
-use Rattle.klp_manager_state.specs.Rows.{Rows, is_of_tasks, row_of_moving, put_back, undone, is_due, are_due, undone_if_due, WorldGoesBack, SitesGoBack, TasksGoBack, MovingGoesBack, PinsGoBack}
+use Rattle.klp_sites.proofs.ExactLemmas.{telling, told_both, told_due as sites_told}
+use Rattle.klp_manager_state.specs.Rows.{Rows, is_of_tasks, row_of_moving, put_back, undone, is_due, are_due, undone_if_told, WorldGoesBack, SitesGoBack, TasksGoBack, MovingGoesBack, PinsGoBack}
 
 undone-append : (rows : Rows) (older newer : List Record) → undone rows (older ++ newer) ≡ undone (undone rows newer) older
 undone-append rows [] newer = refl
 undone-append rows (row ∷ older) newer = ap (λ r. put_back r row) (undone-append rows older newer)
 
--- the newer ones are due first, and then the older ones at what these give
-due-append : (rows : Rows) (older newer : List Record) → are_due rows newer ≡ true → are_due rows (older ++ newer) ≡ are_due (undone rows newer) older
-due-append rows [] newer due = due
-due-append rows (row ∷ older) newer due = ap (λ r. is_due r row && are_due rows (older ++ newer)) (undone-append rows older newer) ∙ ap (λ b. is_due (undone (undone rows newer) older) row && b) (due-append rows older newer due)
-
+-- where all records are due, the newest is, and once it is put back, the older ones are
 due-parts : (rows : Rows) (older : List Record) (row : Record) → are_due rows (older ++ row ∷ []) ≡ true → (is_due rows row ≡ true) × (are_due (put_back rows row) older ≡ true)
 due-parts rows [] row due = ((and_parts (is_due rows row) true due).0, refl)
 due-parts rows (first ∷ older) row due =
@@ -39,31 +36,47 @@ due-parts rows (first ∷ older) row due =
     let rest = due-parts rows older row parts.1 in
     (rest.0, and_from (is_due (undone (put_back rows row) older) first) (are_due (put_back rows row) older) (ap (λ r. is_due r first) (sym (undone-append rows older (row ∷ []))) ∙ parts.0) rest.1)
 
--- the sites alone tell what is due
+-- the sites that records give are those that they give by themselves
 sites_of : (rows : Rows) (records : List Record) → (undone rows records).sites ≡ of_sites.undone rows.sites records
 sites_of rows [] = refl
 sites_of rows (row ∷ newer) = ap (λ t. of_sites.put_back t row) (sites_of rows newer)
 
+-- the sites alone tell what can be put back
 due_at_sites : (rows : Rows) (records : List Record) → of_sites.are_due rows.sites records ≡ true → are_due rows records ≡ true
 due_at_sites rows [] due = refl
 due_at_sites rows (row ∷ newer) due =
     let parts = and_parts (of_sites.is_due (of_sites.undone rows.sites newer) row) (of_sites.are_due rows.sites newer) due in
     and_from (is_due (undone rows newer) row) (are_due rows newer) (ap (λ t. of_sites.is_due t row) (sites_of rows newer) ∙ parts.0) (due_at_sites rows newer parts.1)
 
--- records that are due whatever the rows are
-due_ever : (rows : Rows) (is : Record → Bool) (each : (now : Rows) (row : Record) → is row ≡ true → is_due now row ≡ true) (records : List Record) → All (λ row. is row ≡ true) records → are_due rows records ≡ true
-due_ever rows is each [] all = refl
-due_ever rows is each (row ∷ newer) all =
-    and_from (is_due (undone rows newer) row) (are_due rows newer) (each (undone rows newer) row (All-head (λ row. is row ≡ true) row newer all))
-    (due_ever rows is each newer (All-tail (λ row. is row ≡ true) row newer all))
+-- a row of no site tells nothing of them
+abbrev pub OfOthers : Record → Type 0
+OfOthers row = (table : SiteTable) → (of_sites.is_exact table row None ≡ true) × (of_sites.hook_of row ≡ None)
 
-world_due : (rows : Rows) (row : Record) → is_of_world row ≡ true → is_due rows row ≡ true
-world_due rows (StackEntry site patch was) is = cc
-world_due rows other is = refl
+others_told : (table : SiteTable) (is : Record → Bool) (each : (row : Record) → is row ≡ true → OfOthers row) (records : List Record) → All (λ row. is row ≡ true) records
+    → (of_sites.are_exact table records ≡ true) × (of_sites.first_hook records ≡ None)
+others_told table is each [] all = (refl, refl)
+others_told table is each (row ∷ newer) all =
+    let rest = others_told table is each newer (All-tail (λ row. is row ≡ true) row newer all) in
+    let own = each row (All-head (λ row. is row ≡ true) row newer all) (of_sites.undone table newer) in
+    (and_from (of_sites.is_exact (of_sites.undone table newer) row (of_sites.first_hook newer)) (of_sites.are_exact table newer) (ap (of_sites.is_exact (of_sites.undone table newer) row) rest.1 ∙ own.0) rest.0, own.1)
 
-task_due : (rows : Rows) (row : Record) → is_of_tasks row ≡ true → is_due rows row ≡ true
-task_due rows (StackEntry site patch was) is = cc
-task_due rows other is = refl
+others_tell : (table : SiteTable) (is : Record → Bool) (each : (row : Record) → is row ≡ true → OfOthers row) (records : List Record) → All (λ row. is row ≡ true) records
+    → of_sites.tell_changes table records ≡ true
+others_tell table is each records all =
+    let told = others_told table is each records all in
+    telling table records ∙ and_from (of_sites.are_exact table records) (is_none (of_sites.first_hook records)) told.0 (ap is_none told.1)
+
+world_of_others : (row : Record) → is_of_world row ≡ true → OfOthers row
+world_of_others (StackEntry site patch was) is = let no : ⊥ = cc in absurd no
+world_of_others (HookFlag site was) is = let no : ⊥ = cc in absurd no
+world_of_others (LoadedFlag object was) is = let no : ⊥ = cc in absurd no
+world_of_others other is = λ table. (refl, refl)
+
+task_of_others : (row : Record) → is_of_tasks row ≡ true → OfOthers row
+task_of_others (StackEntry site patch was) is = let no : ⊥ = cc in absurd no
+task_of_others (HookFlag site was) is = let no : ⊥ = cc in absurd no
+task_of_others (LoadedFlag object was) is = let no : ⊥ = cc in absurd no
+task_of_others other is = λ table. (refl, refl)
 
 -- a row of the world is none of the others
 row_of_world : (rows : Rows) (row : Record) → is_of_world row ≡ true → put_back rows row ≡ record rows { world = of_world.put_back rows.world row }
@@ -129,36 +142,36 @@ switched_of_tasks number [] after = All-nil (λ row. is_of_tasks row ≡ true)
 switched_of_tasks number (was ∷ before) [] = All-nil (λ row. is_of_tasks row ≡ true)
 
 -- the newest are put back first
-noted_behind : (rows : Rows) (l0 l1 : RecordList) (records : List Record) → l1 ≡ noting l0 records → are_due rows records ≡ true
-    → undone_if_due rows l1.noted ≡ undone_if_due (undone rows records) l0.noted
-noted_behind rows l0 l1 records noted due =
-    ap (λ (l : RecordList). undone_if_due rows l.noted) noted
-    ∙ ap (λ b. cond b (Some (undone rows (l0.noted ++ records))) None) (due-append rows l0.noted records due)
-    ∙ ap (λ r. cond (are_due (undone rows records) l0.noted) (Some r) None) (undone-append rows l0.noted records)
+noted_behind : (rows : Rows) (l0 l1 : RecordList) (records : List Record) → l1 ≡ noting l0 records → of_sites.tell_changes rows.sites records ≡ true
+    → undone_if_told rows l1.noted ≡ undone_if_told (undone rows records) l0.noted
+noted_behind rows l0 l1 records noted told =
+    ap (λ (l : RecordList). undone_if_told rows l.noted) noted
+    ∙ ap (λ b. cond b (Some (undone rows (l0.noted ++ records))) None) (told_both rows.sites l0.noted records told ∙ ap (λ t. of_sites.tell_changes t l0.noted) (sym (sites_of rows records)))
+    ∙ ap (λ r. cond (of_sites.tell_changes (undone rows records).sites l0.noted) (Some r) None) (undone-append rows l0.noted records)
 
 -- rows of the world give the world back
 pub world_back : (before after : World) (l0 l1 : RecordList) (records : List Record) → All (λ row. is_of_world row ≡ true) records → l1 ≡ noting l0 records
     → of_world.undone after records ≡ before → WorldGoesBack before after l0 l1
 world_back before after l0 l1 records all noted undo rows =
     let now : Rows = record rows { world = after } in
-    noted_behind now l0 l1 records noted (due_ever now is_of_world world_due records all)
-    ∙ ap (λ r. undone_if_due r l0.noted) (undone_world now records all ∙ ap (λ (w : World). record rows { world = w }) undo)
+    noted_behind now l0 l1 records noted (others_tell now.sites is_of_world world_of_others records all)
+    ∙ ap (λ r. undone_if_told r l0.noted) (undone_world now records all ∙ ap (λ (w : World). record rows { world = w }) undo)
 
 -- rows of sites give the sites back
 pub sites_back : (before after : SiteTable) (l0 l1 : RecordList) (records : List Record) → All (λ row. is_of_sites row ≡ true) records → l1 ≡ noting l0 records
-    → of_sites.undone after records ≡ before → of_sites.are_due after records ≡ true → SitesGoBack before after l0 l1
-sites_back before after l0 l1 records all noted undo due rows =
+    → of_sites.undone after records ≡ before → of_sites.tell_changes after records ≡ true → SitesGoBack before after l0 l1
+sites_back before after l0 l1 records all noted undo told rows =
     let now : Rows = record rows { sites = after } in
-    noted_behind now l0 l1 records noted (due_at_sites now records due)
-    ∙ ap (λ r. undone_if_due r l0.noted) (undone_sites now records all ∙ ap (λ (t : SiteTable). record rows { sites = t }) undo)
+    noted_behind now l0 l1 records noted told
+    ∙ ap (λ r. undone_if_told r l0.noted) (undone_sites now records all ∙ ap (λ (t : SiteTable). record rows { sites = t }) undo)
 
 -- rows of tasks give the tasks back
 pub tasks_back : (before after : Tasks) (l0 l1 : RecordList) (records : List Record) → All (λ row. is_of_tasks row ≡ true) records → l1 ≡ noting l0 records
     → of_tasks.undone after records ≡ before → TasksGoBack before after l0 l1
 tasks_back before after l0 l1 records all noted undo rows =
     let now : Rows = record rows { tasks = after } in
-    noted_behind now l0 l1 records noted (due_ever now is_of_tasks task_due records all)
-    ∙ ap (λ r. undone_if_due r l0.noted) (undone_tasks now records all ∙ ap (λ (t : Tasks). record rows { tasks = t }) undo)
+    noted_behind now l0 l1 records noted (others_tell now.sites is_of_tasks task_of_others records all)
+    ∙ ap (λ r. undone_if_told r l0.noted) (undone_tasks now records all ∙ ap (λ (t : Tasks). record rows { tasks = t }) undo)
 
 -- tasks that are brought to another state
 pub switched_back : (before after to : Tasks) (l0 l1 : RecordList) → after ≡ to → l1 ≡ noting l0 (of_tasks.records_switched 0 before to)
@@ -170,29 +183,29 @@ switched_back before after to l0 l1 is noted undo =
 pub moving_back : (before after : Option Transition) (l0 l1 : RecordList) → l1 ≡ noting l0 (row_of_moving before ∷ []) → MovingGoesBack before after l0 l1
 moving_back before after l0 l1 noted rows =
     let now : Rows = record rows { moving = after } in
-    noted_behind now l0 l1 (row_of_moving before ∷ []) noted (due before) ∙ ap (λ r. undone_if_due r l0.noted) (back before)
+    noted_behind now l0 l1 (row_of_moving before ∷ []) noted (told before) ∙ ap (λ r. undone_if_told r l0.noted) (back before)
   where
     back : (was : Option Transition) → put_back (record rows { moving = after }) (row_of_moving was) ≡ record rows { moving = was }
     back None = refl
     back (Some was) = refl
 
-    due : (was : Option Transition) → are_due (record rows { moving = after }) (row_of_moving was ∷ []) ≡ true
-    due None = refl
-    due (Some was) = refl
+    told : (was : Option Transition) → of_sites.tell_changes rows.sites (row_of_moving was ∷ []) ≡ true
+    told None = telling rows.sites (NothingMoving ∷ [])
+    told (Some was) = telling rows.sites (Moving was ∷ [])
 
 -- whether an object was loaded is noted
 pub loaded_back : (before after : SiteTable) (object : ℕ) (was : Bool) (l0 l1 : RecordList) → l1 ≡ noting l0 (LoadedFlag object was ∷ [])
-    → of_sites.put_back after (LoadedFlag object was) ≡ before → SitesGoBack before after l0 l1
-loaded_back before after object was l0 l1 noted undo rows =
+    → of_sites.put_back after (LoadedFlag object was) ≡ before → of_sites.tell_changes after (LoadedFlag object was ∷ []) ≡ true → SitesGoBack before after l0 l1
+loaded_back before after object was l0 l1 noted undo told rows =
     let now : Rows = record rows { sites = after } in
-    noted_behind now l0 l1 (LoadedFlag object was ∷ []) noted refl ∙ ap (λ (t : SiteTable). undone_if_due (record rows { sites = t }) l0.noted) undo
+    noted_behind now l0 l1 (LoadedFlag object was ∷ []) noted told ∙ ap (λ (t : SiteTable). undone_if_told (record rows { sites = t }) l0.noted) undo
 
 -- whether a patch was pinned is noted
 pub pinned_back : (before after : List Bool) (patch : ℕ) (was : Bool) (l0 l1 : RecordList) → l1 ≡ noting l0 (PinnedFlag patch was ∷ [])
     → slice_set after patch was ≡ before → PinsGoBack before after l0 l1
 pinned_back before after patch was l0 l1 noted undo rows =
     let now : Rows = record rows { pinned = after } in
-    noted_behind now l0 l1 (PinnedFlag patch was ∷ []) noted refl ∙ ap (λ (p : List Bool). undone_if_due (record rows { pinned = p }) l0.noted) undo
+    noted_behind now l0 l1 (PinnedFlag patch was ∷ []) noted (telling rows.sites (PinnedFlag patch was ∷ [])) ∙ ap (λ (p : List Bool). undone_if_told (record rows { pinned = p }) l0.noted) undo
 
 -- a patch that wasn't pinned is pinned
 pub pinned_now : (flags after : List Bool) (patch : ℕ) (l0 l1 : RecordList) → after ≡ slice_set flags patch true → l1 ≡ noting l0 (PinnedFlag patch false ∷ [])
@@ -223,13 +236,18 @@ pub one_due : (rows : Rows) (records : List Record) (place : ℕ) (row : Record)
 one_due rows records place row some within is due =
     due-parts rows (take (place - 1) records) row (ap (are_due rows) (sym (older_and_newest records place row some within is)) ∙ due)
 
--- rows that all records give are those that they give put back, and the records are due
-pub given_back : (rows before : Rows) (records : List Record) → undone_if_due rows records ≡ Some before → (undone rows records ≡ before) × (are_due rows records ≡ true)
+-- rows that all records give are those that they give put back, and the records tell what changed
+pub given_back : (rows before : Rows) (records : List Record) → undone_if_told rows records ≡ Some before → (undone rows records ≡ before) × (of_sites.tell_changes rows.sites records ≡ true)
 given_back rows before records given =
-    elim (are_due rows records) as (λ b. are_due rows records ≡ b → cond b (Some (undone rows records)) None ≡ Some before → (undone rows records ≡ before) × (are_due rows records ≡ true)) [
-      | true ↦ λ due given. (cc, due)
-      | false ↦ λ late given. let no : ⊥ = cc in absurd no
-    ] refl given
+    elim (of_sites.tell_changes rows.sites records) as (λ b. of_sites.tell_changes rows.sites records ≡ b → cond b (Some (undone rows records)) None ≡ Some before
+        → (undone rows records ≡ before) × (of_sites.tell_changes rows.sites records ≡ true)) [
+          | true ↦ λ told given. (cc, told)
+          | false ↦ λ other given. let no : ⊥ = cc in absurd no
+        ] refl given
+
+-- records that tell what changed can be put back
+pub told_back : (rows : Rows) (records : List Record) → of_sites.tell_changes rows.sites records ≡ true → are_due rows records ≡ true
+told_back rows records told = due_at_sites rows records (sites_told rows.sites records told)
 
 flag_put : (table : SiteTable) (object : ℕ) (was : Bool) (within : Bool) → length table.loaded ≡ length table.image.objects
     → length (cond within (record table { loaded = slice_set table.loaded object was }) table).loaded ≡ length (cond within (record table { loaded = slice_set table.loaded object was }) table).image.objects

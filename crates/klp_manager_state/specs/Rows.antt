@@ -71,39 +71,39 @@ abbrev pub are_due : Rows → List Record → Bool
 are_due rows [] = true
 are_due rows (row ∷ newer) = is_due (undone rows newer) row && are_due rows newer
 
--- the rows once all records are put back, where each of them is due in its turn; none where one isn't
-abbrev pub undone_if_due : Rows → List Record → Option Rows
-undone_if_due rows records = if are_due rows records then Some (undone rows records) else None
+-- the rows once all records are put back, where each entry and each hook that changed is told, and no other; none where it isn't so. Such
+-- records can be put back
+abbrev pub undone_if_told : Rows → List Record → Option Rows
+undone_if_told rows records = if of_sites.tell_changes rows.sites records then Some (undone rows records) else None
 
--- the rows before all that is noted, where all of it can be put back
+-- the rows before all that is noted
 abbrev pub rows_before : ManagerState → Option Rows
-rows_before manager = undone_if_due (rows_in manager) manager.log.noted
+rows_before manager = undone_if_told (rows_in manager) manager.log.noted
 
--- The rows before all that is noted stay those that they were, whatever the other rows are, and what is noted can still be put back: of a
--- change of the world, of the sites, of the tasks, of what moves and of what is pinned.
+-- The rows before all that is noted stay those that they were, whatever the other rows are: of a change of the world, of the sites, of
+-- the tasks, of what moves and of what is pinned.
 
 abbrev pub WorldGoesBack : World → World → RecordList → RecordList → Type 0
 WorldGoesBack before after log_before log_after =
-    (rows : Rows) → undone_if_due (record rows { world = after }) log_after.noted ≡ undone_if_due (record rows { world = before }) log_before.noted
+    (rows : Rows) → undone_if_told (record rows { world = after }) log_after.noted ≡ undone_if_told (record rows { world = before }) log_before.noted
 
 abbrev pub SitesGoBack : SiteTable → SiteTable → RecordList → RecordList → Type 0
 SitesGoBack before after log_before log_after =
-    (rows : Rows) → undone_if_due (record rows { sites = after }) log_after.noted ≡ undone_if_due (record rows { sites = before }) log_before.noted
+    (rows : Rows) → undone_if_told (record rows { sites = after }) log_after.noted ≡ undone_if_told (record rows { sites = before }) log_before.noted
 
 abbrev pub TasksGoBack : Tasks → Tasks → RecordList → RecordList → Type 0
 TasksGoBack before after log_before log_after =
-    (rows : Rows) → undone_if_due (record rows { tasks = after }) log_after.noted ≡ undone_if_due (record rows { tasks = before }) log_before.noted
+    (rows : Rows) → undone_if_told (record rows { tasks = after }) log_after.noted ≡ undone_if_told (record rows { tasks = before }) log_before.noted
 
 abbrev pub MovingGoesBack : Option Transition → Option Transition → RecordList → RecordList → Type 0
 MovingGoesBack before after log_before log_after =
-    (rows : Rows) → undone_if_due (record rows { moving = after }) log_after.noted ≡ undone_if_due (record rows { moving = before }) log_before.noted
+    (rows : Rows) → undone_if_told (record rows { moving = after }) log_after.noted ≡ undone_if_told (record rows { moving = before }) log_before.noted
 
 abbrev pub PinsGoBack : List Bool → List Bool → RecordList → RecordList → Type 0
 PinsGoBack before after log_before log_after =
-    (rows : Rows) → undone_if_due (record rows { pinned = after }) log_after.noted ≡ undone_if_due (record rows { pinned = before }) log_before.noted
+    (rows : Rows) → undone_if_told (record rows { pinned = after }) log_after.noted ≡ undone_if_told (record rows { pinned = before }) log_before.noted
 
--- an event was taken: where it was accepted, what is noted can be put back and gives the rows before it, and where it was refused, nothing
--- has changed
+-- an event was taken: where it was accepted, what is noted gives the rows before it, and where it was refused, nothing has changed
 pub record IsNoted (before after : ManagerState) (result : Result Reply Refusal) : Type 0 where
   pub accepted : IfOk result (λ reply. rows_before after ≡ Some (rows_in before))
   pub refused : OnErr result (after ≡ before)

@@ -1,7 +1,7 @@
 -- Changes of the entries one after another, and what they note together.
 use Rattle.std.proofs.Common.{◌≡◌, ℕ, ◌+◌, ◌-◌, ◌<◌, ◌≤◌, Bool, true, false, ◌&&◌, Option, List, [], ◌∷◌, ◌++◌, length, set, refl, sym, ap, ◌∙◌, arith, eqb, ltb, length-append, append_assoc}
 use Rattle.std.specs.Prelude.{cond}
-use Rattle.std.proofs.lemmas.Bool.{eqb-true, eqb-false, lt-ltb, le-ltb, ltb-true, ltb-false, and_parts, and_from}
+use Rattle.std.proofs.lemmas.Bool.{eqb-true, eqb-false, lt-ltb, le-ltb, ltb-true, ltb-false}
 use Rattle.std.proofs.lemmas.List.{length-set}
 use Rattle.std.proofs.lemmas.List.Elements.{All-append}
 use Rattle.klp_types.specs.declared.limits.TheConstants.{MAX_SITES}
@@ -13,7 +13,8 @@ use Rattle.klp_stack.specs.Stack.{entries_at}
 use Rattle.klp_stack.specs.Undo.{put_entry}
 use Rattle.klp_sites.specs.Table.{SiteTable}
 use Rattle.klp_sites.specs.Changes.{noting}
-use Rattle.klp_sites.specs.Undo.{put_back, undone, is_due, are_due}
+use Rattle.klp_sites.specs.Undo.{put_back, undone, tell_changes}
+use Rattle.klp_sites.proofs.ExactLemmas.{undone_both, told_both}
 use Rattle.klp_patch.specs.Covered.{is_covered, is_object_in_scope}
 use Rattle.klp_patch.specs.Changes.{AreMade, Notes, hooked_count}
 use Rattle.klp_patch.proofs.SiteLemmas.{Entries, OfSites}
@@ -29,19 +30,6 @@ rows_keep : (table : SiteTable) (rows : List Record) → length (undone table ro
 rows_keep table [] = refl
 rows_keep table (row ∷ newer) = row_keeps (undone table newer) row ∙ rows_keep table newer
 
--- the newer records first, and then the older ones
-undone_both : (table : SiteTable) (rows newer : List Record) → undone table (rows ++ newer) ≡ undone (undone table newer) rows
-undone_both table [] newer = refl
-undone_both table (row ∷ rows) newer = ap (λ t. put_back t row) (undone_both table rows newer)
-
--- the newer ones are due first, and then the older ones at what these give
-due_both : (table : SiteTable) (rows newer : List Record) → are_due (undone table newer) rows ≡ true → are_due table newer ≡ true → are_due table (rows ++ newer) ≡ true
-due_both table [] newer older first = first
-due_both table (row ∷ rows) newer older first =
-    let parts = and_parts (is_due (undone (undone table newer) rows) row) (are_due (undone table newer) rows) older in
-    and_from (is_due (undone table (rows ++ newer)) row) (are_due table (rows ++ newer)) (ap (λ t. is_due t row) (undone_both table rows newer) ∙ parts.0)
-    (due_both table rows newer parts.1 first)
-
 pub sites_kept : (before after : SiteTable) (log_before log_after : RecordList) (most from to : ℕ) → Notes before after log_before log_after most from to → length after.stacks ≡ length before.stacks
 sites_kept before after log_before log_after most from to notes = sym (rows_keep after notes.rows) ∙ ap (λ (t : SiteTable). length t.stacks) notes.undo
 
@@ -56,7 +44,7 @@ module _ (before now after : SiteTable) (log_before log_now log_after : RecordLi
         ∙ ap (λ rows. record log_before { noted = rows }) (append_assoc log_before.noted notes.rows more.rows);
     of_sites = All-append OfSites notes.rows more.rows notes.of_sites more.of_sites;
     undo = undone_both after notes.rows more.rows ∙ ap (λ t. undone t notes.rows) more.undo ∙ notes.undo;
-    due = due_both after notes.rows more.rows (ap (λ t. are_due t notes.rows) more.undo ∙ notes.due) more.due;
+    told = told_both after notes.rows more.rows more.told ∙ ap (λ t. tell_changes t notes.rows) more.undo ∙ notes.told;
     few = omega (arith, length-append notes.rows more.rows, notes.few, more.few, enough, balance);
   }
 
@@ -72,7 +60,7 @@ module _ (before now after : SiteTable) (log_before log_now log_after : RecordLi
       notes_both before now after log_before log_now log_after first second (hooked_count now) (hooked_count before) (hooked_count after) (hooked_count now) notes more most (hooked_count after) (hooked_count before) enough (omega arith)
 
 pub notes_longer : (before after : SiteTable) (log_before log_after : RecordList) (most more from to : ℕ) → most ≤ more → Notes before after log_before log_after most from to → Notes before after log_before log_after more from to
-notes_longer before after log_before log_after most more from to longer notes = record { rows = notes.rows; noted = notes.noted; of_sites = notes.of_sites; undo = notes.undo; due = notes.due; few = omega (arith, notes.few) }
+notes_longer before after log_before log_after most more from to longer notes = record { rows = notes.rows; noted = notes.noted; of_sites = notes.of_sites; undo = notes.undo; told = notes.told; few = omega (arith, notes.few) }
 
 -- how much room a change leaves
 spare_after : (before after : SiteTable) (log_before log_after : RecordList) (most from to : ℕ) (notes : Notes before after log_before log_after most from to)

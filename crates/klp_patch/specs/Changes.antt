@@ -11,7 +11,7 @@ use Rattle.klp_catalog.specs.States.{is_cumulative}
 use Rattle.klp_stack.specs.Stack.{entries_at, has_entry}
 use Rattle.klp_sites.specs.Table.{SiteTable, is_stacked}
 use Rattle.klp_sites.specs.Changes.{noting}
-use Rattle.klp_sites.specs.Undo.{is_of_sites, undone, are_due}
+use Rattle.klp_sites.specs.Undo.{is_of_sites, undone, tell_changes}
 use Rattle.klp_patch.specs.Covered.{functions_in}
 
 -- what a patch puts on the entries of a site: its function, or a nop where it replaces and there are entries
@@ -50,6 +50,6 @@ pub record Notes (before after : SiteTable) (log_before log_after : RecordList) 
   pub of_sites : All (λ row. is_of_sites row ≡ true) rows
   -- put back newest first, they give the table before
   pub undo : undone after rows ≡ before
-  -- and each of them can be put back in its turn
-  pub due : are_due after rows ≡ true
+  -- and each of them tells an entry or a hook that changed
+  pub told : tell_changes after rows ≡ true
   pub few : length rows + from ≤ most + to

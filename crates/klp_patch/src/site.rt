@@ -10,7 +10,6 @@ use klp_sites::Sites;
 use klp_types::{Entry, MAX_PATCHES, MAX_SITES, PatchId, Records, Site};
 
 /// Puts an entry on top of a site's stack. Its clauses count records as those of all sites are added up.
-#[tactic(auto, using(crate::proofs::SiteLemmas::push_of_sites))]
 pub(crate) fn put(sites: &mut Sites, site: Site, entry: Entry, log: &mut Records)
     requires there { site < length sites.old.stacks }
     requires sites { length sites.old.stacks ≤ MAX_SITES }

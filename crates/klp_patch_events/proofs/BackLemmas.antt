@@ -16,4 +16,4 @@ callbacks_back before after world now l0 l1 calls ran = world_back world now l0 
 
 -- a patch came to sites, or left them
 pub patch_back : (before after : SiteTable) (l0 l1 : RecordList) (most from to : ℕ) → Notes before after l0 l1 most from to → SitesGoBack before after l0 l1
-patch_back before after l0 l1 most from to notes = sites_back before after l0 l1 notes.rows notes.of_sites notes.noted notes.undo notes.due
+patch_back before after l0 l1 most from to notes = sites_back before after l0 l1 notes.rows notes.of_sites notes.noted notes.undo notes.told

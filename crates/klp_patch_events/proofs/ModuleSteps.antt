@@ -55,6 +55,7 @@ passed case cases free =
 -- what a module that may come has
 pub record MayCome (setting : Setting) (state : State) (object : ℕ) : Type 0 where
   pub within : object < length setting.image.objects
+  pub absent : is_loaded state object ≡ false
   pub room : lacks_room setting state (Coming object) ≡ false
 
 in_image : (setting : Setting) (object : ℕ) → is_module setting object ≡ true → object < length setting.image.objects
@@ -69,10 +70,11 @@ may_come setting state object free =
     let two = passed there (lacks ∷ full ∷ []) one.1 in
     let three = passed lacks (full ∷ []) two.1 in
     let four = passed full [] three.1 in
-    record { within = in_image setting object (not-false (is_module setting object) one.0); room = four.0 }
+    record { within = in_image setting object (not-false (is_module setting object) one.0); absent = two.0; room = four.0 }
 
 pub record MayGo (setting : Setting) (state : State) (object : ℕ) : Type 0 where
   pub within : object < length setting.image.objects
+  pub there : is_loaded state object ≡ true
   pub room : lacks_room setting state (Going object) ≡ false
 
 pub may_go : (setting : Setting) (state : State) (object : ℕ) → refusal setting state (Going object) ≡ None → MayGo setting state object
@@ -84,6 +86,7 @@ may_go setting state object free =
     let three = passed full [] two.1 in
     record {
       within = in_image setting object (and_parts (is_module setting object) (is_loaded state object) (not-false (is_module setting object && is_loaded state object) one.0)).0;
+      there = (and_parts (is_module setting object) (is_loaded state object) (not-false (is_module setting object && is_loaded state object) one.0)).1;
       room = three.0;
     }
 

@@ -1,10 +1,12 @@
 -- Records put back: each gives one entry or one object what it was.
-use Rattle.std.specs.Prelude.{ℕ, Bool, true, false, ◌&&◌, nat_lt, List, [], ◌∷◌, length, slice_set, Some, if◌then◌else◌}
+use Rattle.std.specs.Prelude.{ℕ, Bool, true, false, not, ◌==◌, ◌&&◌, nat_lt, List, [], ◌∷◌, length, slice_set, Option, Some, None, is_none, slice_index_or, if◌then◌else◌}
+use Rattle.std.specs.Bool.{beq}
 use Rattle.klp_types.specs.declared.record.Record.{Record}
 use Rattle.klp_types.specs.declared.record.Record.TheVariants.{StackEntry, HookFlag, LoadedFlag}
 use Rattle.klp_stack.specs.Spare.{spare_in}
 use Rattle.klp_stack.specs.Undo as of_stacks
-use Rattle.klp_sites.specs.Table.{SiteTable}
+use Rattle.klp_stack.specs.Stack.{entries_at, has_entry}
+use Rattle.klp_sites.specs.Table.{SiteTable, is_hooked_at}
 
 -- an object is loaded or not; nothing changes where there is no such object
 abbrev pub put_loaded : SiteTable → ℕ → Bool → SiteTable
@@ -38,3 +40,42 @@ is_due table other = true
 abbrev pub are_due : SiteTable → List Record → Bool
 are_due table [] = true
 are_due table (row ∷ newer) = is_due (undone table newer) row && are_due table newer
+
+-- what the record of a hook tells: the site, and whether that was hooked
+abbrev pub hook_of : Record → Option (ℕ × Bool)
+hook_of (HookFlag site was) = Some (site, was)
+hook_of other = None
+
+-- the same of the record that a list begins with
+abbrev pub first_hook : List Record → Option (ℕ × Bool)
+first_hook [] = None
+first_hook (row ∷ newer) = hook_of row
+
+-- whether what stands behind an entry's record tells its hook: that of its site, where putting the entry back turns it; none where it doesn't
+abbrev pub is_its_hook : ℕ → Bool → Bool → Option (ℕ × Bool) → Bool
+is_its_hook site now back None = beq now back
+is_its_hook site now back (Some hook) = (hook.0 == site) && (not (beq now back) && beq hook.1 back)
+
+-- whether a record tells a row that changed, where such a hook's record stands behind it. That of an entry is due, and brings the patch's entry
+-- back or takes it away; a hook's stands behind that of the entry with which it came or went; and an object is loaded now or wasn't, not both
+abbrev pub is_exact : SiteTable → Record → Option (ℕ × Bool) → Bool
+is_exact table (StackEntry site patch was) hook =
+    let back = put_back table (StackEntry site patch was) in
+    is_due table (StackEntry site patch was)
+    && (not (beq (has_entry patch (entries_at table.stacks site)) (has_entry patch (entries_at back.stacks site)))
+    && is_its_hook site (is_hooked_at table.stacks site) (is_hooked_at back.stacks site) hook)
+is_exact table (LoadedFlag object was) hook = is_none hook && not (beq (slice_index_or table.loaded object false) was)
+is_exact table other hook = is_none hook
+
+-- whether each record does in its turn: at the table that the newer ones, put back before it, give
+abbrev pub are_exact : SiteTable → List Record → Bool
+are_exact table [] = true
+are_exact table (row ∷ newer) = is_exact (undone table newer) row (first_hook newer) && are_exact table newer
+
+-- whether records tell rows that changed alone, and the hook of each entry that hooked its site or unhooked it: of some, and of any
+unfoldable pub tells : SiteTable → Record → List Record → Bool
+tells table oldest newer = are_exact table (oldest ∷ newer) && is_none (hook_of oldest)
+
+abbrev pub tell_changes : SiteTable → List Record → Bool
+tell_changes table [] = true
+tell_changes table (oldest ∷ newer) = tells table oldest newer

@@ -1,6 +1,7 @@
 use Rattle.std.proofs.Common.{sym, true, false, ap, ◌∙◌, arith}
 use Rattle.klp_stack.specs.Stack.{entries_at, entries_of_others}
 use Rattle.klp_sites.specs.Changes.{rows_of_take}
+use Rattle.klp_sites.proofs.ExactLemmas.{take_told}
 use Rattle.klp_patch.specs.Changes.{hooked_count}
 use Rattle.klp_patch.proofs.SiteLemmas.{unmade_at, looked, all_others, site_there, take_few, take_of_sites}
 use Rattle.klp_patch.proofs.site.take.Goals as goal
@@ -26,6 +27,6 @@ returns-then-is_some-clause-notes c =
       noted = change.records;
       of_sites = take_of_sites before c.args.site c.args.patch;
       undo = change.undo;
-      due = change.due;
+      told = take_told before c.take.new.self c.args.log.now c.take.new.log c.args.site c.args.patch (site_there c.args.patch before.stacks c.args.site there) there change;
       few = omega (arith, few, ap hooked_count change.table);
     }

@@ -25,10 +25,11 @@ use Rattle.klp_stack.specs.Stack.{entries_at}
 use Rattle.klp_sites.specs.Table.{SiteTable}
 use Rattle.klp_patch.specs.Covered.{is_covered}
 use Rattle.klp_manager_state.specs.declared.state.ManagerState.{ManagerState}
-use Rattle.klp_manager_state.specs.Rows.{Rows, rows_in, undone_if_due}
+use Rattle.klp_manager_state.specs.Rows.{Rows, rows_in, undone_if_told}
 use Rattle.klp_types.specs.declared.record.Record.{Record}
 use Rattle.klp_sites.specs.Changes.{noting}
 use Rattle.klp_sites.specs.Undo as of_sites
+use Rattle.klp_sites.proofs.ExactLemmas.{loaded_told}
 use Rattle.klp_manager_state.proofs.RowLemmas.{loaded_back}
 use Rattle.klp_patch_events.proofs.BackLemmas.{callbacks_back}
 use Rattle.klp_manager_state.specs.Managed.{setting_in, state_in}
@@ -144,15 +145,18 @@ pub returns-in-Some-clause-noted : goal.returns-in-Some-clause-noted
 returns-in-Some-clause-noted g c =
     let rows = rows_in c.args.manager.now in
     callbacks_back c.args.catalog.now c.run_coming.new.catalog c.args.manager.now.world c.run_coming.new.world c.clear.new.self c.run_coming.new.log _ c.run_coming.ensures.ran rows
-    ∙ ap (λ (l : RecordList). undone_if_due rows l.noted) c.clear.ensures
+    ∙ ap (λ (l : RecordList). undone_if_told rows l.noted) c.clear.ensures
 
 pub returns-in-None-clause-noted : goal.returns-in-None-clause-noted
 returns-in-None-clause-noted g c =
     let rows = rows_in c.args.manager.now in
+    let may = may_come (setting_in c.args.manager.now c.args.catalog.now) (state_in c.args.manager.now c.args.catalog.now) c.args.object c.requires.free in
+    let within : c.args.object < length c.args.manager.now.sites.loaded = let fact = may.within in omega (arith, fact, c.requires.kept.allowed.objects) in
     let ran : Rows = record rows { world = c.run_coming.new.world } in
     c.patch_object.ensures.noted ran
     ∙ loaded_back c.args.manager.now.sites c.load.new.self c.args.object _ c.run_coming.new.log c.note.new.self
     (c.note.ensures ∙ ap (λ (row : Record). noting c.run_coming.new.log (row ∷ [])) c.load.ensures.row)
-    (ap (of_sites.put_back c.load.new.self) (sym c.load.ensures.row) ∙ c.load.ensures.undo) ran
+    (ap (of_sites.put_back c.load.new.self) (sym c.load.ensures.row) ∙ c.load.ensures.undo)
+    (loaded_told c.args.manager.now.sites c.load.new.self c.args.object true _ within c.load.ensures.table may.absent) ran
     ∙ callbacks_back c.args.catalog.now c.run_coming.new.catalog c.args.manager.now.world c.run_coming.new.world c.clear.new.self c.run_coming.new.log _ c.run_coming.ensures.ran rows
-    ∙ ap (λ (l : RecordList). undone_if_due rows l.noted) c.clear.ensures
+    ∙ ap (λ (l : RecordList). undone_if_told rows l.noted) c.clear.ensures

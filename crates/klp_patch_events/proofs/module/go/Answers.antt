@@ -1,5 +1,5 @@
 use Rattle.std.proofs.Common.{◌≡◌, ◌+◌, length, false, refl, sym, ap, ◌∙◌, arith, [], ◌∷◌}
-use Rattle.std.specs.Prelude.{◌<◌, slice_set}
+use Rattle.std.specs.Prelude.{◌<◌, slice_set, slice_index_or}
 use Rattle.std.specs.FinMap as finite
 use borrow.Author.Tests.{ltb-false}
 use Rattle.klp_types.specs.declared.limits.TheConstants.{MAX_VARIABLES}
@@ -17,10 +17,11 @@ use Rattle.klp_patch.specs.ModuleShares.{parts_in}
 use Rattle.klp_stack.specs.Stack.{entries_at}
 use Rattle.klp_sites.specs.Table.{SiteTable}
 use Rattle.klp_manager_state.specs.declared.state.ManagerState.{ManagerState}
-use Rattle.klp_manager_state.specs.Rows.{Rows, rows_in, undone_if_due}
+use Rattle.klp_manager_state.specs.Rows.{Rows, rows_in, undone_if_told}
 use Rattle.klp_types.specs.declared.record.Record.{Record}
 use Rattle.klp_sites.specs.Changes.{noting}
 use Rattle.klp_sites.specs.Undo as of_sites
+use Rattle.klp_sites.proofs.ExactLemmas.{loaded_told}
 use Rattle.klp_manager_state.proofs.RowLemmas.{loaded_back}
 use Rattle.klp_patch_events.proofs.BackLemmas.{callbacks_back}
 use Rattle.klp_manager_state.specs.Managed.{setting_in, state_in}
@@ -75,10 +76,15 @@ returns-clause-accepted g c =
 pub returns-clause-noted : goal.returns-clause-noted
 returns-clause-noted g c =
     let rows = rows_in c.args.manager.now in
+    let may = may_go (setting_in c.args.manager.now c.args.catalog.now) (state_in c.args.manager.now c.args.catalog.now) c.args.object c.requires.free in
+    let within : c.args.object < length c.unpatch_object.new.sites.loaded =
+    let fact = may.within in let same = ap length c.unpatch_object.ensures.loaded in omega (arith, fact, same, c.requires.kept.allowed.objects)
+    in
     let ran : Rows = record rows { world = c.run_going.new.world } in
     loaded_back c.unpatch_object.new.sites c.unload.new.self c.args.object _ c.unpatch_object.new.log c.note.new.self
     (c.note.ensures ∙ ap (λ (row : Record). noting c.unpatch_object.new.log (row ∷ [])) c.unload.ensures.row)
-    (ap (of_sites.put_back c.unload.new.self) (sym c.unload.ensures.row) ∙ c.unload.ensures.undo) ran
+    (ap (of_sites.put_back c.unload.new.self) (sym c.unload.ensures.row) ∙ c.unload.ensures.undo)
+    (loaded_told c.unpatch_object.new.sites c.unload.new.self c.args.object false _ within c.unload.ensures.table (ap (λ l. slice_index_or l c.args.object false) c.unpatch_object.ensures.loaded ∙ may.there)) ran
     ∙ c.unpatch_object.ensures.noted ran
     ∙ callbacks_back c.args.catalog.now c.run_going.new.catalog c.args.manager.now.world c.run_going.new.world c.clear.new.self c.run_going.new.log _ c.run_going.ensures rows
-    ∙ ap (λ (l : RecordList). undone_if_due rows l.noted) c.clear.ensures
+    ∙ ap (λ (l : RecordList). undone_if_told rows l.noted) c.clear.ensures

@@ -6,6 +6,7 @@ use Rattle.klp_model.specs.State.{with_world}
 use Rattle.klp_manager_state.specs.Managed.{state_in}
 use Rattle.klp_task_events.proofs.ShadowLemmas.{not_there, added, alloc_taken}
 use Rattle.klp_task_events.proofs.TakenLemmas.{refused_taken}
+use Rattle.klp_task_events.proofs.NotedLemmas.{world_noted}
 use Rattle.klp_task_events.proofs.shadow.shadow_alloc.Goals as goal
 
 pub returns-in-Some-clause-taken : goal.returns-in-Some-clause-taken
@@ -21,3 +22,8 @@ returns-clause-taken g c =
     c.args.key c.args.value (variable world c.args.key) (ShadowAlloc c.args.key c.args.value) Done c.requires free refl
     (ap (λ (w : World). (Done, with_world (state_in c.args.manager.now c.args.catalog.now) w)) (sym (added world c.args.key c.args.value (variable world c.args.key) (not_there _ _ free))))
     c.clear.ensures c.alloc.ensures.changes
+
+pub returns-clause-noted : goal.returns-clause-noted
+returns-clause-noted g c =
+    world_noted c.what_is_noted_gives_the_rows_back.ensures.world c.args.manager.now c.alloc.new.self _ c.clear.new.self c.alloc.new.log _ Done
+    (c.what_is_noted_is_of_the_world.ensures.alloc c.args.manager.now.world c.args.key) c.clear.ensures c.alloc.ensures.changes

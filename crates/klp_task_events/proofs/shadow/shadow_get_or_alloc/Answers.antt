@@ -4,6 +4,7 @@ use Rattle.klp_model.specs.declared.event.Event.TheVariants.{ShadowGetOrAlloc}
 use Rattle.klp_model.specs.declared.event.Reply.TheVariants.{Value}
 use Rattle.klp_task_events.proofs.ShadowLemmas.{alloc_taken}
 use Rattle.klp_task_events.proofs.TakenLemmas.{refused_taken}
+use Rattle.klp_task_events.proofs.NotedLemmas.{world_noted}
 use Rattle.klp_task_events.proofs.shadow.shadow_get_or_alloc.Goals as goal
 
 pub returns-in-Some-clause-taken : goal.returns-in-Some-clause-taken
@@ -18,3 +19,8 @@ returns-clause-taken g c =
     c.args.key c.args.value (variable c.args.manager.now.world c.args.key) (ShadowGetOrAlloc c.args.key c.args.value) (Value c.get_or_alloc-there.result) c.requires free refl
     (rw c.get_or_alloc-there.ensures.answer refl)
     c.clear.ensures c.get_or_alloc-there.ensures.changes
+
+pub returns-clause-noted : goal.returns-clause-noted
+returns-clause-noted g c =
+    world_noted c.what_is_noted_gives_the_rows_back.ensures.world c.args.manager.now c.get_or_alloc-there.new.self _ c.clear.new.self c.get_or_alloc-there.new.log _ (Value c.get_or_alloc-there.result)
+    (c.what_is_noted_is_of_the_world.ensures.alloc c.args.manager.now.world c.args.key) c.clear.ensures c.get_or_alloc-there.ensures.changes

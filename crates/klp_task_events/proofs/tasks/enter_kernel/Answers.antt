@@ -6,6 +6,7 @@ use Rattle.klp_model.specs.declared.event.Reply.TheVariants.{Done}
 use Rattle.klp_manager_state.specs.Managed.{state_in}
 use Rattle.klp_task_events.proofs.TakenLemmas.{refused_taken}
 use Rattle.klp_task_events.proofs.TaskLemmas.{task_taken, changed_as_said}
+use Rattle.klp_task_events.proofs.NotedLemmas.{task_noted}
 use Rattle.klp_task_events.proofs.tasks.enter_kernel.Goals as goal
 
 pub returns-in-Some-clause-taken : goal.returns-in-Some-clause-taken
@@ -18,3 +19,6 @@ returns-clause-taken c = λ catalog holds.
     (sym c.in_default.is ∙ c.enter_kernel_refusal.ensures.refusal catalog) refl
     (changed_as_said c.rows_change_as_the_step_says.ensures (state_in c.args.manager.now catalog) c.args.task (λ (t : Task). record t { mode = Kernel }) c.enter-row.new.self Done c.enter-row.ensures.tasks)
     c.note_alone.ensures
+
+pub returns-clause-noted : goal.returns-clause-noted
+returns-clause-noted c = task_noted c.what_is_noted_gives_the_rows_back.ensures.tasks c.args.manager.now c.note_alone.new.manager c.enter-row.new.self _ _ c.enter-row.result Done c.enter-row.ensures c.note_alone.ensures

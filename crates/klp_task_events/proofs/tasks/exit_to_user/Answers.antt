@@ -5,6 +5,7 @@ use Rattle.klp_model.specs.TaskStep.{exited}
 use Rattle.klp_manager_state.specs.Managed.{state_in}
 use Rattle.klp_task_events.proofs.TakenLemmas.{refused_taken}
 use Rattle.klp_task_events.proofs.TaskLemmas.{task_taken, changed_as_said}
+use Rattle.klp_task_events.proofs.NotedLemmas.{task_noted}
 use Rattle.klp_task_events.proofs.tasks.exit_to_user.Goals as goal
 
 pub returns-in-Some-clause-taken : goal.returns-in-Some-clause-taken
@@ -17,3 +18,6 @@ returns-clause-taken c = λ catalog holds.
     (sym c.in_default.is ∙ c.exit_to_user_refusal.ensures.refusal catalog) refl
     (changed_as_said c.rows_change_as_the_step_says.ensures (state_in c.args.manager.now catalog) c.args.task (exited c.args.manager.now.moving) c.leave-row.new.self Done c.leave-row.ensures.tasks)
     c.note_alone.ensures
+
+pub returns-clause-noted : goal.returns-clause-noted
+returns-clause-noted c = task_noted c.what_is_noted_gives_the_rows_back.ensures.tasks c.args.manager.now c.note_alone.new.manager c.leave-row.new.self _ _ c.leave-row.result Done c.leave-row.ensures c.note_alone.ensures

@@ -3,6 +3,7 @@ use Rattle.klp_model.specs.declared.event.Event.TheVariants.{NewTask}
 use Rattle.klp_model.specs.declared.event.Reply.TheVariants.{Done}
 use Rattle.klp_task_events.proofs.TakenLemmas.{refused_taken}
 use Rattle.klp_task_events.proofs.TaskLemmas.{task_taken}
+use Rattle.klp_task_events.proofs.NotedLemmas.{task_noted}
 use Rattle.klp_task_events.proofs.tasks.new_task.Goals as goal
 
 pub returns-in-Some-clause-taken : goal.returns-in-Some-clause-taken
@@ -15,3 +16,6 @@ returns-clause-taken c = λ catalog holds.
     (sym c.in_default.is ∙ c.new_task_refusal.ensures.refusal catalog) refl
     (rw (c.add-row.ensures.tasks, c.state_wanted.ensures) refl)
     c.note_alone.ensures
+
+pub returns-clause-noted : goal.returns-clause-noted
+returns-clause-noted c = task_noted c.what_is_noted_gives_the_rows_back.ensures.tasks c.args.manager.now c.note_alone.new.manager c.add-row.new.self _ _ c.add-row.result Done c.add-row.ensures c.note_alone.ensures

@@ -6,6 +6,7 @@ use Rattle.klp_model.specs.declared.event.Reply.TheVariants.{Done}
 use Rattle.klp_manager_state.specs.Managed.{state_in}
 use Rattle.klp_task_events.proofs.TakenLemmas.{refused_taken}
 use Rattle.klp_task_events.proofs.TaskLemmas.{task_taken, changed_as_said}
+use Rattle.klp_task_events.proofs.NotedLemmas.{task_noted}
 use Rattle.klp_task_events.proofs.tasks.sleep.Goals as goal
 
 pub returns-in-Some-clause-taken : goal.returns-in-Some-clause-taken
@@ -18,3 +19,6 @@ returns-clause-taken g c =
     (sym c.in_default.is ∙ c.sleep_refusal.ensures.refusal) refl
     (changed_as_said c.rows_change_as_the_step_says.ensures (state_in c.args.manager.now c.args.catalog.now) c.args.task (λ (t : Task). record t { mode = Asleep; frames = c.args.frames }) c.sleep-row.new.self Done c.sleep-row.ensures.tasks)
     c.note_alone.ensures
+
+pub returns-clause-noted : goal.returns-clause-noted
+returns-clause-noted g c = task_noted c.what_is_noted_gives_the_rows_back.ensures.tasks c.args.manager.now c.note_alone.new.manager c.sleep-row.new.self _ _ c.sleep-row.result Done c.sleep-row.ensures c.note_alone.ensures

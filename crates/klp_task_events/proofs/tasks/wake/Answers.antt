@@ -7,6 +7,7 @@ use Rattle.klp_model.specs.TaskStep.{change}
 use Rattle.klp_manager_state.specs.Managed.{state_in}
 use Rattle.klp_task_events.proofs.TakenLemmas.{refused_taken}
 use Rattle.klp_task_events.proofs.TaskLemmas.{task_taken, changed_as_said}
+use Rattle.klp_task_events.proofs.NotedLemmas.{task_noted}
 use Rattle.klp_task_events.proofs.tasks.wake.Goals as goal
 
 pub returns-in-Some-clause-taken : goal.returns-in-Some-clause-taken
@@ -20,3 +21,6 @@ returns-clause-taken c = λ catalog holds.
     (ap (λ fs. (Woken fs, change (state_in c.args.manager.now catalog) c.args.task (λ (t : Task). record t { mode = Kernel; frames = [] }))) (sym c.frames_of-frames.ensures)
     ∙ changed_as_said c.rows_change_as_the_step_says.ensures (state_in c.args.manager.now catalog) c.args.task (λ (t : Task). record t { mode = Kernel; frames = [] }) c.wake-row.new.self (Woken c.frames_of-frames.result) c.wake-row.ensures.tasks)
     c.note_alone.ensures
+
+pub returns-clause-noted : goal.returns-clause-noted
+returns-clause-noted c = task_noted c.what_is_noted_gives_the_rows_back.ensures.tasks c.args.manager.now c.note_alone.new.manager c.wake-row.new.self _ _ c.wake-row.result (Woken c.frames_of-frames.result) c.wake-row.ensures c.note_alone.ensures
