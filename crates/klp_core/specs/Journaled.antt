@@ -62,8 +62,8 @@ pub record IsSmall (group : Group) : Type 0 where
   pub few : length group.rows ≤ MAX_RECORDS
   pub one : is_of_a_task group.event ≡ true → length group.rows ≡ 1
 
--- a group stands for a step: the event was accepted with this reply, and led from the one rows to the other. Its records tell each entry and
--- each hook that changed
+-- a group stands for a step: the event was accepted with this reply, and led from the one rows to the other. Of entries, hooks and loaded
+-- flags, its records tell what changed alone
 pub record IsStepOf (setting : Setting) (before after : Rows) (group : Group) : Type 0 where
   pub kept : AreKept setting before
   pub answered : answer setting (state_told before) group.event ≡ Ok group.reply

@@ -13,8 +13,8 @@ use klp_journal::Journal;
 use klp_manager_state::ManagerState;
 use klp_model::{Event, Refusal, Reply};
 
-/// Appends an accepted event with its reply and all that it logged. Which records these are no clause says,
-/// beyond what they undo and how many there are (docs/DECISIONS.md, "Which records an event leaves").
+/// Appends an accepted event with its reply and all that it logged. Which records these are no clause says
+/// whole, beyond what they undo and how many there are (docs/DECISIONS.md, "Which records an event leaves").
 fn append(journal: &mut Journal, event: &Event, reply: &Reply, state: &ManagerState)
     requires room { has_room journal.old ≡ true }
     requires few { state.now.log.room ≡ MAX_RECORDS }

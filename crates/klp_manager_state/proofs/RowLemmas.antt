@@ -240,10 +240,10 @@ one_due rows records place row some within is due =
 pub given_back : (rows before : Rows) (records : List Record) → undone_if_told rows records ≡ Some before → (undone rows records ≡ before) × (of_sites.tell_changes rows.sites records ≡ true)
 given_back rows before records given =
     elim (of_sites.tell_changes rows.sites records) as (λ b. of_sites.tell_changes rows.sites records ≡ b → cond b (Some (undone rows records)) None ≡ Some before
-        → (undone rows records ≡ before) × (of_sites.tell_changes rows.sites records ≡ true)) [
-          | true ↦ λ told given. (cc, told)
-          | false ↦ λ other given. let no : ⊥ = cc in absurd no
-        ] refl given
+    → (undone rows records ≡ before) × (of_sites.tell_changes rows.sites records ≡ true)) [
+      | true ↦ λ told given. (cc, told)
+      | false ↦ λ other given. let no : ⊥ = cc in absurd no
+    ] refl given
 
 -- records that tell what changed can be put back
 pub told_back : (rows : Rows) (records : List Record) → of_sites.tell_changes rows.sites records ≡ true → are_due rows records ≡ true

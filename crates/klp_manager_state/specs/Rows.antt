@@ -71,8 +71,7 @@ abbrev pub are_due : Rows → List Record → Bool
 are_due rows [] = true
 are_due rows (row ∷ newer) = is_due (undone rows newer) row && are_due rows newer
 
--- the rows once all records are put back, where each entry and each hook that changed is told, and no other; none where it isn't so. Such
--- records can be put back
+-- the rows once all records are put back; none where one of them tells an entry, a hook or a loaded flag that didn't change
 abbrev pub undone_if_told : Rows → List Record → Option Rows
 undone_if_told rows records = if of_sites.tell_changes rows.sites records then Some (undone rows records) else None
 

@@ -9,7 +9,8 @@ use klp_types::Record;
 impl ManagerState {
     /// Gives each row what its record has, the newest record, which is last, first. It costs as much as
     /// there are records. No callback runs. Stacks are rows like all others, so nothing is computed anew
-    /// (docs/DECISIONS.md, "Undo by rows").
+    /// (docs/DECISIONS.md, "Undo by rows"). That each record is due, so that its entry finds room, the
+    /// journal knows of its groups.
     pub fn undo(&mut self, rows: &[Record])
         requires modules { self.old.modules.loaded ≡ self.old.sites.loaded }
         requires objects { length self.old.sites.loaded ≡ length self.old.sites.image.objects }

@@ -50,6 +50,6 @@ pub record Notes (before after : SiteTable) (log_before log_after : RecordList) 
   pub of_sites : All (λ row. is_of_sites row ≡ true) rows
   -- put back newest first, they give the table before
   pub undo : undone after rows ≡ before
-  -- and each of them tells an entry or a hook that changed
+  -- and each of them tells an entry or a hook that changed, so that it can be put back
   pub told : tell_changes after rows ≡ true
   pub few : length rows + from ≤ most + to

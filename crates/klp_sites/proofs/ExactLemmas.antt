@@ -114,10 +114,10 @@ push_told before after l0 l1 site entry there fresh change =
     in
     let turns = fresh ∙ ap not (sym has) in
     elim (is_empty older) as (λ b. is_empty older ≡ b → undone after (StackEntry site entry.patch None ∷ cond b (HookFlag site false ∷ []) []) ≡ before
-        → tell_changes after (StackEntry site entry.patch None ∷ cond b (HookFlag site false ∷ []) []) ≡ true) [
-          | true ↦ λ none undo. told_with before after site entry.patch None undo refl turns false (ap not none) hooked
-          | false ↦ λ some undo. told_alone before after site entry.patch None undo refl turns (hooked ∙ sym (ap not some))
-        ] refl change.undo
+    → tell_changes after (StackEntry site entry.patch None ∷ cond b (HookFlag site false ∷ []) []) ≡ true) [
+      | true ↦ λ none undo. told_with before after site entry.patch None undo refl turns false (ap not none) hooked
+      | false ↦ λ some undo. told_alone before after site entry.patch None undo refl turns (hooked ∙ sym (ap not some))
+    ] refl change.undo
   where
     own_entry : (e : Entry) (rest : List Entry) → has_entry e.patch (e ∷ rest) ≡ true
     own_entry e rest = rw (eq-eqb e.patch e.patch refl) refl
@@ -140,11 +140,11 @@ take_told before after l0 l1 site patch there has change =
     let left : entries_at after.stacks site ≡ others = ap (λ (t : SiteTable). entries_at t.stacks site) change.table ∙ get_or-set_same before.stacks site others [] there in
     let turns : has_entry patch seen ≡ not (has_entry patch (entries_at after.stacks site)) = has ∙ sym (ap (λ es. not (has_entry patch es)) left ∙ ap not (none_of_others patch seen)) in
     elim (is_empty others) as (λ b. is_empty others ≡ b → undone after (StackEntry site patch was ∷ cond b (HookFlag site true ∷ []) []) ≡ before
-        → are_due after (StackEntry site patch was ∷ cond b (HookFlag site true ∷ []) []) ≡ true
-        → tell_changes after (StackEntry site patch was ∷ cond b (HookFlag site true ∷ []) []) ≡ true) [
-          | true ↦ λ none undo due. told_with before after site patch was undo (and_parts (is_due after (StackEntry site patch was)) _ due).0 turns true hooked (ap is_stacked left ∙ ap not none)
-          | false ↦ λ some undo due. told_alone before after site patch was undo (and_parts (is_due after (StackEntry site patch was)) _ due).0 turns (ap is_stacked left ∙ ap not some ∙ sym hooked)
-        ] refl change.undo change.due
+    → are_due after (StackEntry site patch was ∷ cond b (HookFlag site true ∷ []) []) ≡ true
+    → tell_changes after (StackEntry site patch was ∷ cond b (HookFlag site true ∷ []) []) ≡ true) [
+      | true ↦ λ none undo due. told_with before after site patch was undo (and_parts (is_due after (StackEntry site patch was)) _ due).0 turns true hooked (ap is_stacked left ∙ ap not none)
+      | false ↦ λ some undo due. told_alone before after site patch was undo (and_parts (is_due after (StackEntry site patch was)) _ due).0 turns (ap is_stacked left ∙ ap not some ∙ sym hooked)
+    ] refl change.undo change.due
 
 -- an object is loaded that wasn't, or unloaded that was
 pub loaded_told : (table after : SiteTable) (object : ℕ) (flag was : Bool) → object < length table.loaded → after ≡ record table { loaded = set table.loaded object flag } → was ≡ not flag

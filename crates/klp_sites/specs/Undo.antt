@@ -51,13 +51,14 @@ abbrev pub first_hook : List Record → Option (ℕ × Bool)
 first_hook [] = None
 first_hook (row ∷ newer) = hook_of row
 
--- whether what stands behind an entry's record tells its hook: that of its site, where putting the entry back turns it; none where it doesn't
+-- whether what stands behind an entry's record is right about the hook: the hook's record, which tells what putting the entry back turns it to,
+-- or none where that leaves it
 abbrev pub is_its_hook : ℕ → Bool → Bool → Option (ℕ × Bool) → Bool
 is_its_hook site now back None = beq now back
 is_its_hook site now back (Some hook) = (hook.0 == site) && (not (beq now back) && beq hook.1 back)
 
--- whether a record tells a row that changed, where such a hook's record stands behind it. That of an entry is due, and brings the patch's entry
--- back or takes it away; a hook's stands behind that of the entry with which it came or went; and an object is loaded now or wasn't, not both
+-- whether a record tells a row that changed, where this hook's record or none stands behind it. An entry's is due, and brings the entry of the
+-- patch back or takes it away; a loaded flag's tells the other flag; and a hook's stands behind an entry's alone
 abbrev pub is_exact : SiteTable → Record → Option (ℕ × Bool) → Bool
 is_exact table (StackEntry site patch was) hook =
     let back = put_back table (StackEntry site patch was) in
@@ -67,15 +68,17 @@ is_exact table (StackEntry site patch was) hook =
 is_exact table (LoadedFlag object was) hook = is_none hook && not (beq (slice_index_or table.loaded object false) was)
 is_exact table other hook = is_none hook
 
--- whether each record does in its turn: at the table that the newer ones, put back before it, give
+-- the same of each of these records, in its turn: at the table that the newer ones, put back before it, give
 abbrev pub are_exact : SiteTable → List Record → Bool
 are_exact table [] = true
 are_exact table (row ∷ newer) = is_exact (undone table newer) row (first_hook newer) && are_exact table newer
 
--- whether records tell rows that changed alone, and the hook of each entry that hooked its site or unhooked it: of some, and of any
+-- whether records tell rows that changed alone: so does each of them, and the oldest is no hook's, which would have no entry's before it.
+-- Records of rows that aren't the table's may be among them
 unfoldable pub tells : SiteTable → Record → List Record → Bool
 tells table oldest newer = are_exact table (oldest ∷ newer) && is_none (hook_of oldest)
 
+-- the same of any list; none tell nothing wrong
 abbrev pub tell_changes : SiteTable → List Record → Bool
 tell_changes table [] = true
 tell_changes table (oldest ∷ newer) = tells table oldest newer

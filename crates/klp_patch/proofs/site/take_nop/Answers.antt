@@ -1,7 +1,7 @@
-use Rattle.std.proofs.Common.{refl, sym, false, ◌∙◌}
+use Rattle.std.proofs.Common.{rules, refl, sym, false, ◌∙◌}
 use Rattle.klp_stack.specs.Stack.{entries_at, entries_of_others}
 use Rattle.klp_patch.specs.Changes.{without_nop}
-use Rattle.klp_patch.proofs.SiteLemmas.{made_alike, unmade_at, looked, none_is, no_nop, nop_goes, function_stays}
+use Rattle.klp_patch.proofs.SiteLemmas.{none_of_sites, made_alike, unmade_at, looked, none_is, no_nop, nop_goes, function_stays}
 use Rattle.klp_patch.proofs.site.take_nop.Goals as goal
 
 pub returns-then-is_none-clause-entries : goal.returns-then-is_none-clause-entries
@@ -20,3 +20,6 @@ pub returns-in_default-clause-entries : goal.returns-in_default-clause-entries
 returns-in_default-clause-entries c =
     let seen = entries_at c.args.sites.now.stacks c.args.site in
     unmade_at c.args.sites.now c.args.site (λ other entries. without_nop c.args.patch entries) (no_nop c.args.patch seen (looked c.args.patch seen _ false c.in_default.ensures.value refl))
+
+pub returns-in_default-clause-notes : goal.returns-in_default-clause-notes
+returns-in_default-clause-notes c = search (rules, none_of_sites)
