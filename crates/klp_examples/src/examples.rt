@@ -1,18 +1,24 @@
 //! Serves each example: its script over its catalog has to print its output, and nothing else, however
-//! few bytes a read gives and a write takes.
+//! few bytes a read gives and a write takes, and where no memory is left once a manager is booted. At once it takes
+//! five seconds at most.
 
-use crate::Fault;
 use crate::few::Few;
+use crate::hoard::Hoard;
 use crate::tally::Tally;
+use crate::{Fault, starved};
 use klp_program::{catalog_in, console};
 use std::alloc::Global;
 use std::fs;
-use std::rt::Files;
+use std::rt::{Clock, Files};
+use std::time::Instant;
 
 /// The examples, a line each: the name of the script and the output, `NAME.script` and `NAME.output`,
 /// and the name of the catalog where that is another, as `CATALOG.catalog`. Lines that begin with `#` say
 /// what the next ones show.
 const INDEX: &str = "index";
+
+/// How many seconds an example takes at most.
+const SECONDS: u64 = 5;
 
 /// What stands for the catalog that is served where no file is named.
 const BUILT_IN: &str = "-";
@@ -115,14 +121,34 @@ fn holds_cut(alloc: Global, example: &Example, cut: Cut) -> bool {
     ran.status == 0 && ran.out == example.output && ran.err.is_empty()
 }
 
+// Whether the example is served in five seconds.
+fn is_quick<R: Clock + AllocGlobal>(rt: &R, example: &Example) -> Result<bool, Fault> {
+    let start = Instant::now(rt)?;
+    let _ = holds_cut(rt.alloc(), example, CUTS[0]);
+    Ok(Instant::now(rt)?.saturating_duration_since(start).as_secs() < SECONDS)
+}
+
+// Whether the example prints what it is to print where no memory is left once a manager is booted.
+fn holds_starved(alloc: Global, example: &Example) -> Result<bool, Fault> {
+    Ok(starved::holds(alloc, &example.catalog, &example.script, &example.output)?)
+}
+
 // Whether the example prints what it is to print, however it is cut. Each cut with which it doesn't is
 // told. The example is borrowed, since each way out would drop it.
-fn holds_all<R: Print + AllocGlobal>(
+fn holds_all<R: Clock + Print + AllocGlobal>(
     rt: &R,
     title: &str,
     example: &Example,
 ) -> Result<bool, Fault> {
     let mut all = true;
+    if !is_quick(rt, example)? {
+        all = false;
+        println!(rt; "{title}: takes more than five seconds")?;
+    }
+    if !holds_starved(rt.alloc(), example)? {
+        all = false;
+        println!(rt; "{title}, without memory: differs")?;
+    }
     for cut in CUTS {
         if !holds_cut(rt.alloc(), example, cut) {
             all = false;
@@ -133,14 +159,14 @@ fn holds_all<R: Print + AllocGlobal>(
 }
 
 // Whether the example of this line of the index holds: a script, and a catalog where that has another name.
-fn holds<R: Files + Print + AllocGlobal>(rt: &R, line: &str) -> Result<bool, Fault> {
+fn holds<R: Clock + Files + Print + AllocGlobal>(rt: &R, line: &str) -> Result<bool, Fault> {
     let (script, catalog) = line.split_once(' ').unwrap_or((line, line));
     let example = example_of(rt, script, catalog)?;
     holds_all(rt, line, &example)
 }
 
 // Counts the examples of the index that hold.
-fn count_all<R: Files + Print + AllocGlobal>(
+fn count_all<R: Clock + Files + Print + AllocGlobal>(
     rt: &R,
     index: &str,
     tally: &mut Tally,
@@ -152,7 +178,8 @@ fn count_all<R: Files + Print + AllocGlobal>(
     Ok(())
 }
 
-fn run_scripts<R: Files + Print + AllocGlobal>(rt: &R) -> Result<Tally, Fault> {
+fn run_scripts<R: Clock + Files + Print + AllocGlobal>(rt: &R) -> Result<Tally, Fault> {
+    let _besieged = Hoard::siege(rt.alloc())?;
     let mut tally = Tally::new();
     let index = fs::read_to_string(rt, INDEX)?;
     count_all(rt, index.as_str(), &mut tally)?;
@@ -160,7 +187,7 @@ fn run_scripts<R: Files + Print + AllocGlobal>(rt: &R) -> Result<Tally, Fault> {
 }
 
 /// Whether all of them hold. How many do and don't is told.
-pub(crate) fn run<R: Files + Print + AllocGlobal>(rt: &R) -> Result<bool, Fault> {
+pub(crate) fn run<R: Clock + Files + Print + AllocGlobal>(rt: &R) -> Result<bool, Fault> {
     let Tally { held, differing } = run_scripts(rt)?;
     println!(rt; "{held} scripts print what is written, {differing} don't")?;
     Ok(differing == 0)

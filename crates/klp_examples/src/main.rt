@@ -1,5 +1,5 @@
-//! Runs the examples, scripts and traces, and measures what an event costs and what the program costs as a
-//! whole. It is run in the folder of its data; its word is the number of rounds that are measured. The gate
+//! Runs the examples, scripts and traces, also without memory, and measures what an event costs and what the
+//! program costs as a whole. It is run in the folder of its data; its word is the number of rounds that are measured. The gate
 //! runs one round, for which no time is told.
 #![tactic(auto)]
 
@@ -7,8 +7,11 @@ mod bench;
 mod events;
 mod examples;
 mod few;
+mod hoard;
 mod measured;
 mod refused;
+mod scarce;
+mod starved;
 mod tally;
 mod traces;
 mod whole;
@@ -40,8 +43,9 @@ fn main(rt: HostRuntime) -> Result<ExitCode, Fault> {
     let print = examples::run(&rt)?;
     let watch = traces::run(&rt)?;
     let refuse = refused::run(&rt)?;
+    let scarce = scarce::run(&rt)?;
     bench::run(&rt, rt.alloc(), rounds)?;
-    Ok(if print && watch && refuse {
+    Ok(if print && watch && refuse && scarce {
         ExitCode::SUCCESS
     } else {
         ExitCode::FAILURE

@@ -10,9 +10,9 @@ use std::{fs, io};
 
 /// Catalogs, each behind a line of what is written to standard error, with a mark in front. A line feed
 /// before a mark isn't the catalog's, so an empty line ends its last line, and else that has no end.
-const CATALOGS: &str = "refused.catalogs";
+pub(crate) const CATALOGS: &str = "refused.catalogs";
 
-const CATALOG_MARK: &str = "\n=== ";
+pub(crate) const CATALOG_MARK: &str = "\n=== ";
 
 /// Starts of catalogs, each behind a mark and a title, and lines that are refused behind it: the line's
 /// kind of fault, and then the line. A start's line with a number in front stands so many times.

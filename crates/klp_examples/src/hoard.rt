@@ -1,0 +1,101 @@
+//! All memory that a process may have, taken, so that each allocation is refused until it is let go.
+
+use std::alloc::{AllocError, Global};
+
+/// The largest block that is tried: half of all that a process can address.
+const LARGEST: usize = 1 << 46;
+
+/// How many blocks there is room for. A machine hands out none that is larger than all of its memory, so there may
+/// be some ten thousands.
+const MOST: usize = 60_000;
+
+/// How much a siege leaves, which is more than a manager takes.
+const SPARE: usize = 1 << 26;
+
+/// Once a block of this size was let go, an allocator keeps those of up to this size, and hands parts of them out.
+const KEPT: usize = 1 << 24;
+
+/// Blocks of memory that nothing else can have.
+#[derive(Drop)]
+pub(crate) struct Hoard {
+    blocks: Vec<Vec<u8>>,
+}
+
+impl Hoard {
+    /// Room for so many blocks.
+    fn new(alloc: Global, most: usize) -> Result<Hoard, AllocError> {
+        Ok(Hoard {
+            blocks: Vec::with_capacity(alloc, most)?,
+        })
+    }
+
+    /// No block yet, and room for as many as a siege may leave.
+    pub(crate) fn small(alloc: Global) -> Result<Hoard, AllocError> {
+        Hoard::new(alloc, MOST / 4)
+    }
+
+    /// All memory but for some 64 megabytes, so that these can be taken and let go again and again.
+    pub(crate) fn siege(alloc: Global) -> Result<Hoard, AllocError> {
+        let mut hoard = Hoard::new(alloc, MOST)?;
+        let spare: Vec<u8> = Vec::with_capacity(alloc, SPARE)?;
+        hoard.take_large(alloc);
+        drop(spare);
+        let kept: Vec<u8> = Vec::with_capacity(alloc, KEPT)?;
+        drop(kept);
+        Ok(hoard)
+    }
+
+    /// Takes blocks of this size until one is refused.
+    fn take(&mut self, alloc: Global, size: usize) {
+        for _ in self.blocks.len()..self.blocks.capacity() {
+            match Vec::with_capacity(alloc, size) {
+                Ok(block) => {
+                    let _ = self.blocks.push(block);
+                }
+                Err(_) => return,
+            }
+        }
+    }
+
+    /// Takes blocks that are larger than what a siege leaves, by half each time.
+    fn take_large(&mut self, alloc: Global) {
+        let mut size = LARGEST;
+        for _ in SPARE.ilog2()..LARGEST.ilog2() {
+            self.take(alloc, size);
+            size /= 2;
+        }
+    }
+
+    /// Takes all that there is, large blocks first, and at last those of each size that an allocator keeps apart.
+    pub(crate) fn take_all(&mut self, alloc: Global) {
+        let mut size = SPARE;
+        for _ in 0..SPARE.ilog2() {
+            self.take(alloc, size);
+            size /= 2;
+        }
+        for words in (1..=u8::MAX).rev() {
+            self.take(alloc, 8 * usize::from(words));
+        }
+    }
+
+    /// Whether room for blocks was left, so that memory was what ended the taking, and the least block is refused.
+    pub(crate) fn is_all(&self, alloc: Global) -> bool {
+        self.blocks.len() < self.blocks.capacity() && Box::new(alloc, 0u8).is_err()
+    }
+
+    /// Some blocks of each size that an allocator keeps apart.
+    pub(crate) fn take_few(&mut self, alloc: Global) {
+        for words in 1..=u8::MAX {
+            for _ in 0..4 {
+                if let Ok(block) = Vec::with_capacity(alloc, 8 * usize::from(words)) {
+                    let _ = self.blocks.push(block);
+                }
+            }
+        }
+    }
+
+    /// Lets all blocks go.
+    pub(crate) fn clear(&mut self) {
+        self.blocks.clear();
+    }
+}
