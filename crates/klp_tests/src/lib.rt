@@ -1,9 +1,9 @@
 //! Tests of what no contract says and no example shows. Of the layers below the manager: what a catalog's text
 //! gives, images that no text comes to, why a name and a position pick no symbol, how many entries all stacks
-//! have room for, records that are put back, and streams in memory. Above them: faults of another number of
-//! callbacks, values of system states, how full a journal is, names and numbers of faults, which item of a trace
-//! is told for which cause, the program's words, and streams that fail, end early or never end while its
-//! console is served, with what stands then. They stand above all crates, so that what they test is proved once.
+//! have room for, and records that are put back. Above them: faults of another number of callbacks, values of
+//! system states, names and numbers of faults, which item of a trace is told for which cause, the program's words,
+//! and streams that it reports as failed. They stand above all crates, so that what they test is proved once. What
+//! fails, ends early or is full is tested by `klp_hostile_tests`.
 #![tactic(auto)]
 
 #[cfg(test)]
@@ -11,15 +11,7 @@ mod callback;
 #[cfg(test)]
 mod catalog;
 #[cfg(test)]
-mod console;
-#[cfg(test)]
-mod cut_off;
-#[cfg(test)]
 mod image;
-#[cfg(test)]
-mod input;
-#[cfg(test)]
-mod journal;
 #[cfg(test)]
 mod modules;
 #[cfg(test)]
@@ -32,8 +24,6 @@ mod program;
 mod shown;
 #[cfg(test)]
 mod stacks;
-#[cfg(test)]
-mod streams;
 #[cfg(test)]
 mod values;
 #[cfg(test)]

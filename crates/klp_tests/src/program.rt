@@ -64,11 +64,13 @@ fn words_name_a_catalog_or_none_or_are_refused(rt: HostRuntime) {
     }
 }
 
-/// Fails at each write, and at each read behind these lines, or else gives an empty line at each read.
+/// Fails at each write, or else takes nothing, and fails at each read behind these lines, or else gives an empty line
+/// at each read.
 #[derive(Drop)]
 struct Broken {
     lines: &'static [u8],
     is_endless: bool,
+    is_full: bool,
 }
 
 impl Read for Broken {
@@ -85,6 +87,9 @@ impl Read for Broken {
 
 impl Write for Broken {
     fn write(&mut self, _buf: &[u8]) -> io::Result<usize> {
+        if self.is_full {
+            return Ok(0);
+        }
         Err(io::Error::from(io::ErrorKind::Other))
     }
 
@@ -93,20 +98,41 @@ impl Write for Broken {
     }
 }
 
+/// A stream that fails.
+fn broken(lines: &'static [u8]) -> Broken {
+    Broken {
+        lines,
+        is_endless: false,
+        is_full: false,
+    }
+}
+
 /// Whether the console ends with status 1 and this line on `err`.
-fn ends_with(alloc: Global, lines: &'static [u8], is_endless: bool, printed: &[u8]) -> bool {
+fn ends_with(alloc: Global, mut input: Broken, mut out: Broken, printed: &[u8]) -> bool {
     let mut err = Vec::new(alloc);
-    let mut input = Broken { lines, is_endless };
-    let mut out = Broken { lines, is_endless };
     let status = console(alloc, CATALOG, &mut input, &mut out, &mut err);
     status == 1 && err.as_slice() == printed
 }
 
 #[test]
 fn streams_that_fail_or_never_end_are_told(rt: HostRuntime) {
-    let read = ends_with(rt.alloc(), b"", false, b"klpsim: Read\n");
-    let write = ends_with(rt.alloc(), b"load p\n", false, b"klpsim: Write\n");
+    let read = ends_with(rt.alloc(), broken(b""), broken(b""), b"klpsim: Read\n");
+    let write = ends_with(
+        rt.alloc(),
+        broken(b"load p\n"),
+        broken(b""),
+        b"klpsim: Write\n",
+    );
+    let full = Broken {
+        is_full: true,
+        ..broken(b"")
+    };
+    let taken = ends_with(rt.alloc(), broken(b"load p\n"), full, b"klpsim: Write\n");
+    let endless = Broken {
+        is_endless: true,
+        ..broken(b"")
+    };
     // an empty line has no answer, so no write fails
-    let endless = ends_with(rt.alloc(), b"", true, b"klpsim: Read\n");
-    assert!(rt; read && write && endless);
+    let endless = ends_with(rt.alloc(), endless, broken(b""), b"klpsim: Read\n");
+    assert!(rt; read && write && taken && endless);
 }

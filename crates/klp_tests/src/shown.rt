@@ -8,12 +8,10 @@ ghost use Rattle.klp_catalog_text.specs.Within.{AreTargetsWithin};
 
 use crate::callback::{Watched, copy_of};
 use crate::catalog;
-use crate::input::{Input, serve_input};
 use arrayvec::ArrayVec;
 use klp_callback::Boxed;
 use klp_catalog::Catalog;
 use klp_catalog_text::Plan;
-use klp_console::{ServeFault, Served};
 use klp_core::Manager;
 use klp_model::{Event, Seen};
 use klp_modules::Modules;
@@ -42,20 +40,14 @@ pub struct Given<'a> {
 pub enum Step<'a> {
     /// It takes these events.
     Events(&'a [Event]),
-    Seal,
     Rewind(u32),
     /// It is watched over these items.
     Watch(&'a [Seen]),
-    /// The console is served by it.
-    Serve(Input<'a>),
 }
 
 /// What a manager shows once a step is done.
 #[derive(Clone, Copy)]
 pub struct Look {
-    /// What serving came to, and how many bytes were answered until then; none where nothing was served.
-    pub ended: Option<Result<Served, ServeFault>>,
-    pub said: usize,
     /// How many events were accepted and refused; none where it took no events.
     pub counts: (u64, u64),
     /// The item at which watching found fault; none where nothing was watched.
@@ -80,8 +72,6 @@ pub struct Look {
 pub struct Shown {
     /// After each step.
     pub looks: Vec<Look>,
-    /// What the console answered, of all steps together.
-    pub said: Vec<u8>,
     /// Whether the catalog tells of its patches what `catalog::told` looks for.
     pub told: bool,
     /// How often callbacks ran, as they counted themselves outside of their boxes.
@@ -165,16 +155,8 @@ fn runs(manager: &Manager, which: Which) -> Option<u64> {
 }
 
 /// Adds what a manager shows. There is room for each look.
-fn add_look(
-    manager: &Manager,
-    counts: (u64, u64),
-    fault: Option<NotHonest>,
-    ended: Option<Result<Served, ServeFault>>,
-    shown: &mut Shown,
-) {
+fn add_look(manager: &Manager, counts: (u64, u64), fault: Option<NotHonest>, shown: &mut Shown) {
     let look = Look {
-        ended,
-        said: shown.said.len(),
         counts,
         fault,
         mark: manager.mark(),
@@ -205,19 +187,14 @@ fn after(
     for step in steps {
         let mut counts = (0, 0);
         let mut fault = None;
-        let mut ended = None;
         match *step {
             Step::Events(events) => counts = manager.run(events),
-            Step::Seal => manager.seal(),
             Step::Rewind(mark) => {
                 let _ = manager.rewind(mark);
             }
             Step::Watch(items) => fault = watch(&mut manager, items).err(),
-            Step::Serve(ref input) => {
-                ended = Some(serve_input(&mut manager, input, &mut shown.said));
-            }
         }
-        add_look(&manager, counts, fault, ended, &mut shown);
+        add_look(&manager, counts, fault, &mut shown);
     }
     shown.told = catalog::told(manager.catalog());
     close(manager);
@@ -228,7 +205,6 @@ fn after(
 fn nothing_shown(alloc: Global, looks: usize) -> Result<Shown, AllocError> {
     Ok(Shown {
         looks: Vec::with_capacity(alloc, looks)?,
-        said: Vec::new(alloc),
         told: false,
         seen: 0,
     })

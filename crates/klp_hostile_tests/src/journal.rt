@@ -1,6 +1,6 @@
 //! What fills a manager's journal, and what `seal` and `rewind` make of it then: how many events were accepted
 //! and refused, how many stand, and how many records are free.
-use crate::shown::{Given, Look, Step, outcome};
+use crate::managed::{Given, Look, Step, outcome};
 use klp_model::Event;
 use klp_program::Fault;
 use klp_types::{PatchId, TaskId};
@@ -195,11 +195,7 @@ fn looks_over(
     put_filling(&mut steps, lists)?;
     put_nearly_filling(&mut steps, lists)?;
     put_rounds(&mut steps, lists)?;
-    let given = Given {
-        text,
-        callbacks: 4,
-        runs: 0,
-    };
+    let given = Given { text, callbacks: 4 };
     Ok(outcome(alloc, given, &steps)?.looks)
 }
 

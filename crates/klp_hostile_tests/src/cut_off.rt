@@ -1,7 +1,7 @@
 //! Each read and each write fails in its turn while scripts are served. What was answered stands, and at most
 //! one line more: a second manager that is fed these lines, by the answers alone, shows the same.
 use crate::input::{Input, whole};
-use crate::shown::{Given, Shown, Step, outcome};
+use crate::managed::{Given, Shown, Step, outcome};
 use klp_console::{ServeFault, Served};
 use klp_program::Fault;
 use std::alloc::{AllocError, Global};
@@ -165,7 +165,6 @@ fn served(alloc: Global, inputs: &[Step<'_>]) -> Result<Shown, Fault> {
     let given = Given {
         text: CATALOG,
         callbacks: CALLBACKS,
-        runs: 0,
     };
     outcome(alloc, given, inputs)
 }
