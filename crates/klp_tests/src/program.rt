@@ -99,7 +99,7 @@ impl Write for Broken {
 }
 
 /// A stream that fails.
-fn broken(lines: &'static [u8]) -> Broken {
+fn failing(lines: &'static [u8]) -> Broken {
     Broken {
         lines,
         is_endless: false,
@@ -116,23 +116,23 @@ fn ends_with(alloc: Global, mut input: Broken, mut out: Broken, printed: &[u8]) 
 
 #[test]
 fn streams_that_fail_or_never_end_are_told(rt: HostRuntime) {
-    let read = ends_with(rt.alloc(), broken(b""), broken(b""), b"klpsim: Read\n");
+    let read = ends_with(rt.alloc(), failing(b""), failing(b""), b"klpsim: Read\n");
     let write = ends_with(
         rt.alloc(),
-        broken(b"load p\n"),
-        broken(b""),
+        failing(b"load p\n"),
+        failing(b""),
         b"klpsim: Write\n",
     );
     let full = Broken {
         is_full: true,
-        ..broken(b"")
+        ..failing(b"")
     };
-    let taken = ends_with(rt.alloc(), broken(b"load p\n"), full, b"klpsim: Write\n");
+    let taken = ends_with(rt.alloc(), failing(b"load p\n"), full, b"klpsim: Write\n");
     let endless = Broken {
         is_endless: true,
-        ..broken(b"")
+        ..failing(b"")
     };
     // an empty line has no answer, so no write fails
-    let endless = ends_with(rt.alloc(), endless, broken(b""), b"klpsim: Read\n");
+    let endless = ends_with(rt.alloc(), endless, failing(b""), b"klpsim: Read\n");
     assert!(rt; read && write && taken && endless);
 }
