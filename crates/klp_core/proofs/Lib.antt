@@ -5,3 +5,4 @@ pub mod ViewLemmas
 pub mod JournalLemmas
 pub mod RunLemmas
 pub mod WithdrawalLemmas
+pub mod Sends

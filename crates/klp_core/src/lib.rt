@@ -19,11 +19,13 @@ mod fault;
 mod journal;
 pub mod laws;
 mod looks;
+mod machine;
 mod manager;
 mod row;
 mod take;
 mod view;
 
 pub use fault::{BadMark, BootFault};
+pub use machine::Machine;
 pub use manager::Manager;
 pub use view::TextView;

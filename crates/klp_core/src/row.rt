@@ -1,8 +1,11 @@
 //! What a call at a hooked site needs to know, and what a task runs there (the kernel's
 //! `klp_ftrace_handler`).
-ghost use Rattle.std.specs.Prelude.{◌≡◌, option_map, unwrap_or};
+ghost use Rattle.std.specs.Prelude.{◌≡◌, ◌≤◌, option_map, option_and_then, length, slice_get, unwrap_or};
 ghost use Rattle.std.specs.Option.{option_to_list};
+ghost use Rattle.klp_types.specs.declared.limits.TheConstants.{MAX_SITES};
 ghost use Rattle.klp_types.specs.Pick.{address_of, newest_version};
+ghost use Rattle.klp_types.specs.Setting.{Function, functions_of};
+ghost use Rattle.klp_text.specs.TextImage.{site_count};
 ghost use Rattle.klp_model.specs.Entries.{is_site_loaded};
 ghost use Rattle.klp_model.specs.Pick.{pick};
 ghost use Rattle.klp_model.specs.Rows.{row_of, word_of, moving_patch};
@@ -26,6 +29,14 @@ fn patch_of(moving: Option<Transition>) -> Option<PatchId>
 }
 
 impl Manager {
+    /// How many sites the image has, loaded or not: one for each symbol.
+    pub fn sites(&self) -> usize
+        ensures count { result ≡ site_count self.now.managed.image }
+        ensures limit { result ≤ MAX_SITES }
+    {
+        self.state.sites.sites()
+    }
+
     /// The two newest entries of a site with their addresses: what a handler would have at hand, so that no
     /// call walks over the stack. `None` where the site isn't one of a loaded object.
     pub fn row(&self, site: Site) -> Option<SiteRow>
@@ -41,6 +52,29 @@ impl Manager {
             top: self.address(version_of(site, word.top)),
             below: self.address(version_of(site, word.below)),
         })
+    }
+
+    /// The patch in transition, if there is one: the rows of its functions' sites say so.
+    pub fn in_transition(&self) -> Option<PatchId>
+        ensures { result ≡ moving_patch self.now.managed.state.moving }
+    {
+        patch_of(self.state.moving)
+    }
+
+    /// How many functions a patch has, over all of its objects; none where there is no such patch.
+    pub fn functions(&self, patch: PatchId) -> usize
+        ensures { result ≡ length (functions_of (setting_of self.now.managed) patch) }
+    {
+        self.catalog.functions(patch).len()
+    }
+
+    /// The site that a patch's function stands in for, by the function's number over all objects. `None`
+    /// where its object has no such symbol, or the patch no such function.
+    pub fn site_of(&self, patch: PatchId, number: usize) -> Option<Site>
+        ensures { result ≡ option_and_then (λ (f : Function). f.site) (slice_get
+            (functions_of (setting_of self.now.managed) patch) number) }
+    {
+        self.catalog.functions(patch).get(number)?.site()
     }
 
     /// What a task runs when it calls a site's function: the version and where it begins. `None` where the

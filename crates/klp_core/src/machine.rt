@@ -1,0 +1,123 @@
+//! What one that owns a manager without naming it asks of it. Manager owns boxes, and a struct that owns one by
+//! name can't be stated with a bound of its own beside; this trait is what stands in between.
+ghost use Rattle.std.specs.Prelude.{◌≡◌, ◌<◌, ◌≤◌, length, option_map, option_and_then, slice_get, IfOk, IfErr};
+ghost use Rattle.klp_types.specs.declared.limits.TheConstants.{MAX_GROUPS, MAX_SITES};
+ghost use Rattle.klp_types.specs.declared.task.Task.{Task as AnyTask};
+ghost use Rattle.klp_text.specs.TextImage.{site_count};
+ghost use Rattle.klp_model.specs.Task.{task_at};
+ghost use Rattle.klp_types.specs.Setting.{Function, functions_of, replaces};
+ghost use Rattle.klp_model.specs.Rows.{row_of, moving_patch};
+ghost use Rattle.klp_manager_state.specs.Managed.{setting_of};
+ghost use Rattle.klp_core.specs.Taking.{IsTaken};
+ghost use Rattle.klp_core.specs.Journaled.{Stands};
+ghost use Rattle.klp_core.specs.Rewinding.{IsRewound};
+
+use crate::fault::BadMark;
+use crate::manager::Manager;
+use klp_model::{Event, Refusal, Reply};
+use klp_types::{PatchId, Site, SiteRow, TaskId};
+
+/// Takes events and takes them back, as [`Manager`] does, and shows what a call of a function needs.
+pub trait Machine {
+    ghost use Rattle.klp_core.specs.Journaled.{Journaled};
+
+    /// What contracts see of it.
+    ghost journaled: { Self → Journaled };
+
+    /// [`Manager::apply`].
+    fn apply(&mut self, event: Event) -> Result<Reply, Refusal>
+        requires room { length (journaled self.old).groups ≤ MAX_GROUPS }
+        ensures taken { IsTaken (journaled self.old) (journaled self.new) event result }
+        ensures setting { setting_of (journaled self.new).managed ≡ setting_of (journaled self.old).managed }
+        ensures stands { Stands (journaled self.new) };
+
+    /// [`Manager::mark`].
+    fn mark(&self) -> u32
+        ensures mark { result ≡ length (journaled self.now).groups }
+        ensures limit { result ≤ MAX_GROUPS }
+        ensures stands { Stands (journaled self.now) };
+
+    /// [`Manager::rewind`].
+    fn rewind(&mut self, mark: u32) -> Result<(), BadMark>
+        requires room { length (journaled self.old).groups ≤ MAX_GROUPS }
+        ensures rewound { IfOk result (λ _. IsRewound (journaled self.old) (journaled self.new) mark) }
+        ensures bad_mark { IfErr result (λ _. length (journaled self.old).groups < mark) }
+        ensures setting { setting_of (journaled self.new).managed ≡ setting_of (journaled self.old).managed }
+        ensures stands { Stands (journaled self.new) };
+
+    /// [`Manager::sites`].
+    fn sites(&self) -> usize
+        ensures count { result ≡ site_count (journaled self.now).managed.image }
+        ensures limit { result ≤ MAX_SITES };
+
+    /// [`Manager::row`].
+    fn row(&self, site: Site) -> Option<SiteRow>
+        ensures { result ≡ row_of (setting_of (journaled self.now).managed)
+            (journaled self.now).managed.state site };
+
+    /// [`Manager::patch_state`].
+    fn patch_state(&self, task: TaskId) -> Option<i8>
+        ensures { result ≡ option_map (λ (t : AnyTask). t.state)
+            (task_at (journaled self.now).managed.state.tasks task) };
+
+    /// [`Manager::in_transition`].
+    fn in_transition(&self) -> Option<PatchId>
+        ensures { result ≡ moving_patch (journaled self.now).managed.state.moving };
+
+    /// Whether a patch is a cumulative one, which replaces all older ones; one that isn't there isn't.
+    fn is_cumulative(&self, patch: PatchId) -> bool
+        ensures { result ≡ replaces (setting_of (journaled self.now).managed) patch };
+
+    /// [`Manager::functions`].
+    fn functions(&self, patch: PatchId) -> usize
+        ensures { result ≡ length (functions_of (setting_of (journaled self.now).managed) patch) };
+
+    /// [`Manager::site_of`].
+    fn site_of(&self, patch: PatchId, number: usize) -> Option<Site>
+        ensures { result ≡ option_and_then (λ (f : Function). f.site) (slice_get
+            (functions_of (setting_of (journaled self.now).managed) patch) number) };
+}
+
+impl Machine for Manager {
+    ghost journaled = { λ m. m };
+
+    fn apply(&mut self, event: Event) -> Result<Reply, Refusal> {
+        self.apply(event)
+    }
+
+    fn mark(&self) -> u32 {
+        self.mark()
+    }
+
+    fn rewind(&mut self, mark: u32) -> Result<(), BadMark> {
+        self.rewind(mark)
+    }
+
+    fn sites(&self) -> usize {
+        self.sites()
+    }
+
+    fn row(&self, site: Site) -> Option<SiteRow> {
+        self.row(site)
+    }
+
+    fn patch_state(&self, task: TaskId) -> Option<i8> {
+        self.patch_state(task)
+    }
+
+    fn in_transition(&self) -> Option<PatchId> {
+        self.in_transition()
+    }
+
+    fn is_cumulative(&self, patch: PatchId) -> bool {
+        self.catalog.is_cumulative(patch)
+    }
+
+    fn functions(&self, patch: PatchId) -> usize {
+        self.functions(patch)
+    }
+
+    fn site_of(&self, patch: PatchId, number: usize) -> Option<Site> {
+        self.site_of(patch, number)
+    }
+}
