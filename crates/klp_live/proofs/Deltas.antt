@@ -1,0 +1,189 @@
+-- What an event of a task leaves of the table: all but the state of that task.
+use Rattle.std.proofs.Common.{◌≡◌, ◌≢◌, ℕ, ◌<◌, ◌≤◌, List, length, Option, None, Some, option_map, slice_index_or, slice_set, Bool, true, false, ◌||◌, is_some, refl, ap, sym, ◌∙◌, arith, subst, ◌⊎◌, inl, inr, ⊎_elim}
+use Rattle.std.proofs.lemmas.Bool.{both_ways}
+use Rattle.std.proofs.Math.Bool.{or-false}
+use Rattle.std.proofs.lemmas.List.{get_or-set_same, get_or-set_other, length-set}
+use Rattle.klp_types.specs.declared.task.Task.{Task}
+use Rattle.klp_types.specs.FirstOf.{unless}
+use Rattle.klp_types.specs.Setting.{Setting, replaces}
+use Rattle.klp_types.specs.Entries.{patches_site}
+use Rattle.klp_types.specs.declared.shadow.ShadowKey.{ShadowKey}
+use Rattle.klp_types.specs.World.{ShadowValue, variable}
+use Rattle.klp_types.specs.Script.{allocated}
+use Rattle.klp_model.specs.State.{State, with_world}
+use Rattle.klp_model.specs.Rows.{row_of, moving_patch}
+use Rattle.klp_model.specs.Task.{task_at}
+use Rattle.klp_model.specs.TaskStep.{change_task, put_task}
+use Rattle.klp_model.specs.Run.{next, state_after}
+use Rattle.klp_model.specs.Step.{accepted}
+use Rattle.klp_model.specs.Refusals.{refusal}
+use Rattle.klp_model.specs.declared.event.Event.{Event}
+use Rattle.klp_model.specs.declared.event.Event.TheVariants.{Enable, SetEnabled, Force, Poll, Coming, Going, NewTask, Fork, EndTask, EnterKernel, ExitToUser, Sleep, Wake, ShadowAlloc, ShadowGetOrAlloc, ShadowFree, ShadowFreeAll}
+use Rattle.klp_model.specs.declared.event.Reply.{Reply}
+use Rattle.klp_model.specs.declared.event.Refusal.{Refusal}
+use Rattle.klp_live.specs.declared.table.Table.{Table}
+use Rattle.klp_live.specs.declared.table.Moved.{Moved}
+use Rattle.klp_live.specs.declared.table.Change.TheVariants.{Task as OfTask, Moved as AllMoved}
+use Rattle.klp_types.specs.Image.{symbols_of}
+use Rattle.klp_live.specs.Dispatch.{IsDispatch, own_state, changed, LeadsOn, task_of, is_of_variables}
+use Rattle.klp_live.specs.Listed.{NewRow, AreRowsOf, is_listed, with_rows}
+use Rattle.klp_live.specs.Touched.{is_touched, is_touched_by, is_inside, patch_moved, module_moved}
+use Rattle.klp_live.proofs.Changes.{length-with_rows, set_rows}
+use Rattle.klp_live.proofs.Staying.{next_stays}
+use Rattle.klp_live.proofs.Tables.{below, or_past, no_row}
+use Rattle.klp_manager_state.specs.Managed.{Managed}
+use Rattle.klp_model.specs.Legal.{History, state_after_history}
+use Rattle.klp_core.specs.Journaled.{Journaled, Stands}
+use Rattle.klp_core.specs.Taking.{Appends}
+use Rattle.klp_live.specs.Admitting.{IsManagerOf}
+
+-- where an accepted event leads a manager of a list
+pub leads : (setting : Setting) (base : State) (before after : Journaled) (list : History) (event : Event) (reply : Reply) → IsManagerOf setting base before list → Stands before
+    → Appends before after event reply → after.managed.state ≡ next setting (state_after_history setting base list) event
+leads setting base before after list event reply of stands appends =
+    let stood : before.managed.state ≡ state_after_history setting base list = rw (← of.setting_is, ← of.base_is, ← of.groups) stands.state in
+    ap (λ (m : Managed). m.state) appends.left ∙ cc (of.setting_is, stood)
+
+module _ (setting : Setting) where
+  -- the rows are the same, and the states of all tasks but one
+  pub record AreAlike (state now : State) (n : ℕ) : Type 0 where
+    pub rows : (site : ℕ) → row_of setting now site ≡ row_of setting state site
+    pub others : (i : ℕ) → i ≢ n → own_state now i ≡ own_state state i
+
+  alike_self : (state : State) (n : ℕ) → AreAlike state state n
+  alike_self state n = record { rows = λ site. refl; others = λ i ne. refl }
+
+  alike_put : (state : State) (n : ℕ) (x : Option Task) → AreAlike state (put_task state n x) n
+  alike_put state n x = record { rows = λ site. refl; others = λ i ne. ap (option_map (λ (t : Task). t.state)) (get_or-set_other state.tasks n i x None ne) }
+
+  alike_change : (state : State) (n : ℕ) (f : Task → Task) (own : Option Task) → AreAlike state (change_task state n f own) n
+  alike_change state n f None = alike_self state n
+  alike_change state n f (Some task) = alike_put state n (Some (f task))
+
+  alike_unless : (state : State) (n : ℕ) (refused : Option Refusal) (outcome : Reply × State) → AreAlike state outcome.1 n → AreAlike state (state_after state (unless refused outcome)) n
+  alike_unless state n None outcome a = a
+  alike_unless state n (Some reason) outcome a = alike_self state n
+
+  alike_accepted : (state : State) (n : ℕ) (event : Event) → task_of event ≡ Some n → AreAlike state (accepted setting state event).1 n
+  alike_accepted state n (NewTask task) is = subst (λ (m : ℕ). AreAlike state (accepted setting state (NewTask task)).1 m) (cc is) (alike_put state task _)
+  alike_accepted state n (Fork parent child) is = subst (λ (m : ℕ). AreAlike state (accepted setting state (Fork parent child)).1 m) (cc is) (alike_put state child _)
+  alike_accepted state n (EndTask task) is = subst (λ (m : ℕ). AreAlike state (accepted setting state (EndTask task)).1 m) (cc is) (alike_put state task _)
+  alike_accepted state n (EnterKernel task) is = subst (λ (m : ℕ). AreAlike state (accepted setting state (EnterKernel task)).1 m) (cc is) (alike_change state task _ (task_at state.tasks task))
+  alike_accepted state n (ExitToUser task) is = subst (λ (m : ℕ). AreAlike state (accepted setting state (ExitToUser task)).1 m) (cc is) (alike_change state task _ (task_at state.tasks task))
+  alike_accepted state n (Sleep task frames) is = subst (λ (m : ℕ). AreAlike state (accepted setting state (Sleep task frames)).1 m) (cc is) (alike_change state task _ (task_at state.tasks task))
+  alike_accepted state n (Wake task) is = subst (λ (m : ℕ). AreAlike state (accepted setting state (Wake task)).1 m) (cc is) (alike_change state task _ (task_at state.tasks task))
+  alike_accepted state n (Enable patch) is = absurd (cc is)
+  alike_accepted state n (SetEnabled patch value) is = absurd (cc is)
+  alike_accepted state n (Force patch) is = absurd (cc is)
+  alike_accepted state n Poll is = absurd (cc is)
+  alike_accepted state n (Coming object) is = absurd (cc is)
+  alike_accepted state n (Going object) is = absurd (cc is)
+  alike_accepted state n (ShadowAlloc key value) is = absurd (cc is)
+  alike_accepted state n (ShadowGetOrAlloc key value) is = absurd (cc is)
+  alike_accepted state n (ShadowFree key) is = absurd (cc is)
+  alike_accepted state n (ShadowFreeAll id) is = absurd (cc is)
+
+  pub alike_next : (state : State) (n : ℕ) (event : Event) → task_of event ≡ Some n → AreAlike state (next setting state event) n
+  alike_next state n event is = alike_unless state n (refusal setting state event) (accepted setting state event) (alike_accepted state n event is)
+
+  own_or_other : (i n : ℕ) → (i ≡ n) ⊎ (i ≢ n)
+  own_or_other i n = ⊎_elim (λ (h : i < n). inr (λ e. omega arith)) (λ (h : n ≤ i). ⊎_elim (λ (l : n < i). inr (λ e. omega arith)) (λ (l : i ≤ n). inl (omega arith)) (below n i)) (below i n)
+
+  -- the table with the one task's state set is that of the state now
+  pub only_task : (state now : State) (table : Table) (n : ℕ) → n < 64 → AreAlike state now n → IsDispatch setting state table
+      → IsDispatch setting now (changed table (OfTask n (own_state now n)))
+  only_task state now table n few alike was = record {
+    height = was.height;
+    width = length-set table.states n (own_state now n) ∙ was.width;
+    sites = λ site. was.sites site ∙ sym (alike.rows site);
+    tasks = λ i. ⊎_elim
+        (λ (e : i ≡ n). subst (λ (k : ℕ). slice_index_or (slice_set table.states n (own_state now n)) k None ≡ own_state now k) (sym e) (get_or-set_same table.states n (own_state now n) None (omega (arith, was.width))))
+        (λ (ne : i ≢ n). get_or-set_other table.states n i (own_state now n) None ne ∙ (was.tasks i ∙ sym (alike.others i ne)))
+        (own_or_other i n);
+  }
+
+  -- the same for an event of that task
+  pub task_changes : (before now : State) (event : Event) (table : Table) (n : ℕ) → n < 64 → task_of event ≡ Some n → now ≡ next setting before event → IsDispatch setting before table
+      → IsDispatch setting now (changed table (OfTask n (own_state now n)))
+  task_changes before now event table n few of is was =
+      only_task before now table n few (subst (λ (s : State). AreAlike before s n) (sym is) (alike_next before n event of)) was
+
+  -- the rows and the states of all tasks are the same
+  pub record AreSame (state now : State) : Type 0 where
+    pub rows : (site : ℕ) → row_of setting now site ≡ row_of setting state site
+    pub states : (i : ℕ) → own_state now i ≡ own_state state i
+
+  same_self : (state : State) → AreSame state state
+  same_self state = record { rows = λ site. refl; states = λ i. refl }
+
+  same_alloc : (state : State) (key : ShadowKey) (value : ShadowValue) (own : Option ShadowValue) → AreSame state (with_world state (allocated state.world key value own))
+  same_alloc state key value None = record { rows = λ site. refl; states = λ i. refl }
+  same_alloc state key value (Some own) = record { rows = λ site. refl; states = λ i. refl }
+
+  same_unless : (state : State) (refused : Option Refusal) (outcome : Reply × State) → AreSame state outcome.1 → AreSame state (state_after state (unless refused outcome))
+  same_unless state None outcome same = same
+  same_unless state (Some reason) outcome same = same_self state
+
+  same_accepted : (state : State) (event : Event) → is_of_variables event ≡ true → AreSame state (accepted setting state event).1
+  same_accepted state (NewTask task) is = absurd (cc is)
+  same_accepted state (Fork parent child) is = absurd (cc is)
+  same_accepted state (EndTask task) is = absurd (cc is)
+  same_accepted state (EnterKernel task) is = absurd (cc is)
+  same_accepted state (ExitToUser task) is = absurd (cc is)
+  same_accepted state (Sleep task frames) is = absurd (cc is)
+  same_accepted state (Wake task) is = absurd (cc is)
+  same_accepted state (Enable patch) is = absurd (cc is)
+  same_accepted state (SetEnabled patch value) is = absurd (cc is)
+  same_accepted state (Force patch) is = absurd (cc is)
+  same_accepted state Poll is = absurd (cc is)
+  same_accepted state (Coming object) is = absurd (cc is)
+  same_accepted state (Going object) is = absurd (cc is)
+  same_accepted state (ShadowAlloc key value) is = record { rows = λ site. refl; states = λ i. refl }
+  same_accepted state (ShadowGetOrAlloc key value) is = same_alloc state key value (variable state.world key)
+  same_accepted state (ShadowFree key) is = record { rows = λ site. refl; states = λ i. refl }
+  same_accepted state (ShadowFreeAll id) is = record { rows = λ site. refl; states = λ i. refl }
+
+  -- a table stays that of the state where an event of shadow variables happens
+  pub nothing_changes : (before now : State) (event : Event) (table : Table) → is_of_variables event ≡ true → now ≡ next setting before event
+      → IsDispatch setting before table → IsDispatch setting now table
+  nothing_changes before now event table of is was =
+      let same = subst (λ (s : State). AreSame before s) (sym is) (same_unless before (refusal setting before event) (accepted setting before event) (same_accepted before event of)) in
+      record { height = was.height; width = was.width; sites = λ site. was.sites site ∙ sym (same.rows site); tasks = λ i. was.tasks i ∙ sym (same.states i) }
+
+  -- a site that isn't listed keeps its row
+  unlisted_stays : (before now : State) (moving : Option ℕ) (event : Event) (list : List NewRow) (site : ℕ) → moving_patch before.moving ≡ moving → now ≡ next setting before event
+      → (is_touched setting moving event site ≡ true → is_listed site list ≡ true) → is_listed site list ≡ false → row_of setting before site ≡ row_of setting now site
+  unlisted_stays before now moving event list site moved is all away = by (is_touched setting moving event site) refl
+    where
+      by : (t : Bool) → is_touched setting moving event site ≡ t → row_of setting before site ≡ row_of setting now site
+      by true touched = absurd (both_ways (is_listed site list) away (all touched))
+      by false untouched =
+          sym (ap (λ s. row_of setting s site) is ∙ next_stays setting before site event (subst (λ m. is_touched setting m event site ≡ false) (sym moved) untouched))
+
+  -- the table with the rows of all sites that the event touches, and the states of all tasks
+  pub moved_leads : (now : State) (moving : Option ℕ) (event : Event) (moved : Moved) → length (symbols_of setting.image.objects) ≤ 256 → AreRowsOf setting now moved.rows.items
+      → ((site : ℕ) → is_touched setting moving event site ≡ true → is_listed site moved.rows.items ≡ true) → length moved.states ≡ 64
+      → ((task : ℕ) → slice_index_or moved.states task None ≡ own_state now task) → LeadsOn setting now moving event (AllMoved moved)
+  moved_leads now moving event moved few are all count states before table was_moving is was = record {
+    height = length-with_rows table.rows moved.rows.items ∙ was.height;
+    width = count;
+    sites = λ site. ⊎_elim
+        (λ (h : site < 256). set_rows setting now table.rows moved.rows.items are site (omega (arith, was.height))
+        (λ away. was.sites site ∙ unlisted_stays before now moving event moved.rows.items site was_moving is (all site) away))
+        (λ (h : 256 ≤ site). or_past (with_rows table.rows moved.rows.items) site None (omega (arith, length-with_rows table.rows moved.rows.items, was.height)) ∙ sym (no_row setting now site (omega arith)))
+        (below site 256);
+    tasks = states;
+  }
+
+  patched_by : (object moved : Option ℕ) (patch site : ℕ) → is_some object ≡ false → moved ≡ Some patch → replaces setting patch ≡ false
+      → (is_touched_by setting moved site || is_inside setting object site) ≡ true → patches_site setting site patch ≡ true
+  patched_by (Some own) moved patch site none is plain touched = absurd (cc none)
+  patched_by None None patch site none is plain touched = absurd (cc is)
+  patched_by None (Some own) patch site none is plain touched =
+      let same : own ≡ patch = cc is in
+      sym (ap (λ b. (b || patches_site setting site patch) || false) plain ∙ or-false (patches_site setting site patch)) ∙ ap (λ p. (replaces setting p || patches_site setting site p) || false) (sym same) ∙ touched
+
+  -- an event that moves one plain patch, and no module, touches the sites of its functions alone
+  pub patched_if_touched : (moving : Option ℕ) (event : Event) (patch site : ℕ) → is_some (module_moved event) ≡ false → patch_moved moving event ≡ Some patch → replaces setting patch ≡ false
+      → is_touched setting moving event site ≡ true → patches_site setting site patch ≡ true
+  patched_if_touched moving event patch site none is plain touched = patched_by (module_moved event) (patch_moved moving event) patch site none is plain touched

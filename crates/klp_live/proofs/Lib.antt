@@ -1,0 +1,9 @@
+pub mod Tables
+pub mod Found
+pub mod Staying
+pub mod Changes
+pub mod Deltas
+pub mod Fronts
+pub mod Adding
+pub mod Rises
+pub mod Picking

@@ -1,0 +1,19 @@
+use Rattle.std.proofs.Common.{arith, rules}
+use Rattle.klp_manager_state.specs.Managed.{setting_of}
+use Rattle.klp_live.proofs.Deltas.{moved_leads, patched_if_touched}
+use Rattle.klp_live.proofs.change.change_of_patches.Goals as goal
+
+pub returns-in_ok-rows_of-in-Some-2 : goal.returns-in_ok-rows_of-in-Some-2
+returns-in_ok-rows_of-in-Some-2 g c =
+    let m = (g.M.Machine.journaled c.args.machine.now).managed in
+    moved_leads
+    (setting_of m)
+    m.state
+    c.args.moving
+    c.args.event.now
+    c.moved-in-Some-2.result
+    (omega (arith, c.sites-sites.ensures.count, c.sites-sites.ensures.limit))
+    (rw c.moved-in-Some-2.ensures.rows c.in_ok-rows_of-in-Some-2.ensures.rows)
+    (λ site touched. rw c.moved-in-Some-2.ensures.rows (c.in_ok-rows_of-in-Some-2.ensures.all site (patched_if_touched (setting_of m) c.args.moving c.args.event.now c.in-Some.patch site (search rules) (search rules) (search rules) touched)))
+    c.moved-in-Some-2.ensures.count
+    c.moved-in-Some-2.ensures.states

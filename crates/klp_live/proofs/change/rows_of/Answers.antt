@@ -1,0 +1,21 @@
+use Rattle.std.proofs.Common.{◌+◌, ◌++◌, arith, ap, sym, ◌∙◌, subst}
+use Rattle.klp_types.specs.Setting.{functions_of}
+use Rattle.klp_manager_state.specs.Managed.{setting_of}
+use Rattle.klp_live.specs.Listed.{new_row}
+use Rattle.klp_live.proofs.Changes.{AreFirst, one_more, all_listed}
+use Rattle.klp_live.proofs.change.rows_of.Goals as goal
+
+pub loop-number-preserved : goal.loop-number-preserved
+loop-number-preserved g c =
+    let m = (g.M.Machine.journaled c.args.machine.now).managed in
+    let functions = functions_of (setting_of m) c.args.patch in
+    let list = c.loop-number.rows.items in
+    subst
+    (AreFirst (setting_of m) m.state functions (c.loop-number.number + 1))
+    (sym (c.in_ok-add_row.ensures ∙ ap (λ site. list ++ new_row (setting_of m) m.state site) c.site_of.ensures))
+    (one_more (setting_of m) m.state functions c.loop-number.number list c.loop-number.invariant)
+
+pub returns-clause-all : goal.returns-clause-all
+returns-clause-all g c =
+    let m = (g.M.Machine.journaled c.args.machine.now).managed in
+    all_listed (setting_of m) m.state c.args.patch c.loop-number.number c.loop-number.rows.items (omega (arith, c.functions-functions.ensures, c.loop-number-test.false)) c.loop-number.invariant

@@ -1,0 +1,75 @@
+-- What the book keeps, and what becomes of an event.
+use Rattle.std.specs.Prelude.{◌≡◌, ◌≢◌, ◌+◌, [], ◌∷◌, ◌++◌, length, Ok, Err}
+use mathlib.Core.List.{IsPrefix}
+use Rattle.logbook.specs.Pages.{Book}
+use Rattle.klp_types.specs.Setting.{Setting}
+use Rattle.klp_model.specs.State.{State}
+use Rattle.klp_model.specs.declared.event.Event.{Event}
+use Rattle.klp_model.specs.declared.event.Refusal.{Refusal}
+use Rattle.klp_model.specs.declared.event.Refusal.TheVariants.{JournalFull}
+use Rattle.klp_model.specs.Legal.{History, IsLegal, state_after_history}
+use Rattle.klp_model.specs.Run.{answer}
+use Rattle.klp_manager_state.specs.Managed.{setting_of}
+use Rattle.klp_core.specs.Journaled.{Journaled, history_in}
+use Rattle.klp_core.specs.Taking.{IsTaken}
+use Rattle.klp_live.specs.Boards.{OnBoard}
+use Rattle.klp_live.specs.Shown.{IsTable}
+use Rattle.klp_live.specs.Seats.{Knows, Told}
+use Rattle.klp_live.specs.declared.refusal.LiveRefusal.{LiveRefusal}
+use Rattle.klp_live.specs.declared.refusal.LiveRefusal.TheVariants.{Refused, NoMemory}
+
+-- a book, as contracts see it: its list, and its manager
+pub record Booked : Type 0 where
+  pub list : History
+  pub manager : Journaled
+
+-- the manager's base is the list's, and its groups are the list's events and replies
+pub record IsManagerOf (setting : Setting) (base : State) (manager : Journaled) (list : History) : Type 0 where
+  pub setting_is : setting_of manager.managed ≡ setting
+  pub base_is : manager.base ≡ base
+  pub groups : history_in manager.groups ≡ list
+
+-- what is published is the table of the list, and nothing waits
+pub record IsShown (setting : Setting) (base : State) (book : Book) (board : OnBoard) (list : History) : Type 0 where
+  pub table : IsTable setting base board.value
+  pub list_is : board.value.seen.log ≡ list
+  pub book_is : board.value.seen.book ≡ book
+  pub done : board.pending ≡ []
+
+-- accepted: one row was appended and published, with the next number
+pub record IsAdmitted (setting : Setting) (base : State) (event : Event) (old new : Booked) (before after : Knows) (told : Told) : Type 0 where
+  pub legal : IsLegal setting base new.list
+  pub answered : answer setting (state_after_history setting base old.list) event ≡ Ok told.reply
+  pub taken : IsTaken old.manager new.manager event (Ok told.reply)
+  pub list : new.list ≡ old.list ++ (event, told.reply) ∷ []
+  pub knew : IsPrefix before.list old.list
+  pub number : told.number ≡ length old.list + 1
+  pub event_is : told.event ≡ event
+  pub told_is : told.list ≡ new.list
+  pub knows : after.list ≡ new.list
+  pub counts : after.accepted ≡ before.accepted + 1
+
+-- refused: nothing has changed but that the seat knows the list
+pub record IsTurnedAway (setting : Setting) (base : State) (event : Event) (old new : Booked) (before after : Knows) (refusal : Refusal) : Type 0 where
+  pub legal : IsLegal setting base new.list
+  pub taken : IsTaken old.manager new.manager event (Err refusal)
+  pub answered : refusal ≢ JournalFull → answer setting (state_after_history setting base old.list) event ≡ Err refusal
+  pub same : new ≡ old
+  pub knew : IsPrefix before.list old.list
+  pub knows : after.list ≡ old.list
+  pub counts : after.accepted ≡ before.accepted
+
+-- taken back, since there was no memory to publish it: nothing has changed, but that callbacks may have run
+pub record IsTakenBack (setting : Setting) (base : State) (old new : Booked) (before after : Knows) : Type 0 where
+  pub legal : IsLegal setting base new.list
+  pub list : new.list ≡ old.list
+  pub state : new.manager.managed.state ≡ old.manager.managed.state
+  pub image : new.manager.managed.image ≡ old.manager.managed.image
+  pub base_is : new.manager.base ≡ old.manager.base
+  pub groups : new.manager.groups ≡ old.manager.groups
+  pub knew : IsPrefix before.list old.list
+  pub knows : after ≡ before
+
+abbrev pub IsRefused : Setting → State → Event → Booked → Booked → Knows → Knows → LiveRefusal → Type 0
+IsRefused setting base event old new before after (Refused refusal) = IsTurnedAway setting base event old new before after refusal
+IsRefused setting base event old new before after NoMemory = IsTakenBack setting base old new before after

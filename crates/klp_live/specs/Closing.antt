@@ -1,0 +1,50 @@
+-- What a pass is told when it submits an event, and what a start comes to when it is closed.
+use Rattle.std.specs.Prelude.{◌≡◌, ◌≢◌, ◌+◌, List, [], ◌∷◌, ◌++◌, length, Result, Ok, Err}
+use Rattle.std.specs.List.{All, sum_by}
+use mathlib.Core.List.{IsPrefix}
+use Rattle.klp_types.specs.Setting.{Setting}
+use Rattle.klp_model.specs.State.{State}
+use Rattle.klp_model.specs.declared.event.Event.{Event}
+use Rattle.klp_model.specs.declared.event.Refusal.{Refusal}
+use Rattle.klp_model.specs.declared.event.Refusal.TheVariants.{JournalFull}
+use Rattle.klp_model.specs.Legal.{History, IsLegal, state_after_history}
+use Rattle.klp_model.specs.Run.{answer}
+use Rattle.klp_core.specs.Journaled.{Journaled}
+use Rattle.klp_live.specs.Admitting.{IsManagerOf}
+use Rattle.klp_live.specs.Seats.{Knows, Told}
+use Rattle.klp_live.specs.declared.refusal.LiveRefusal.{LiveRefusal}
+use Rattle.klp_live.specs.declared.refusal.LiveRefusal.TheVariants.{Refused, NoMemory}
+
+-- the event was taken: it stands last in the list that is known then, behind all that was known before, and was answered as the machine
+-- does in the state before it
+pub record IsSubmitted (setting : Setting) (base : State) (event : Event) (before after : Knows) (told : Told) : Type 0 where
+  pub legal : IsLegal setting base after.list
+  pub older : History
+  pub knew : IsPrefix before.list older
+  pub answered : answer setting (state_after_history setting base older) event ≡ Ok told.reply
+  pub list : after.list ≡ older ++ (event, told.reply) ∷ []
+  pub number : told.number ≡ length after.list
+  pub event_is : told.event ≡ event
+  pub told_is : told.list ≡ after.list
+  pub counts : after.accepted ≡ before.accepted + 1
+
+-- the event was refused: the list that refused it is known then, and begins with all that was known before
+pub record IsTurnedBack (setting : Setting) (base : State) (event : Event) (before after : Knows) (refusal : Refusal) : Type 0 where
+  pub legal : IsLegal setting base after.list
+  pub knew : IsPrefix before.list after.list
+  pub answered : refusal ≢ JournalFull → answer setting (state_after_history setting base after.list) event ≡ Err refusal
+  pub counts : after.accepted ≡ before.accepted
+
+-- what was submitted came to this
+abbrev pub IsOutcome : Setting → State → Event → Knows → Knows → Result Told LiveRefusal → Type 0
+IsOutcome setting base event before after (Ok told) = IsSubmitted setting base event before after told
+IsOutcome setting base event before after (Err (Refused refusal)) = IsTurnedBack setting base event before after refusal
+IsOutcome setting base event before after (Err NoMemory) = after ≡ before
+
+-- what all seats know begins what stands in the manager, and as many events stand as the seats were told of
+pub record IsClosed (setting : Setting) (base : State) (manager : Journaled) (seats : List Knows) : Type 0 where
+  pub list : History
+  pub legal : IsLegal setting base list
+  pub manager_is : IsManagerOf setting base manager list
+  pub known : All (λ (k : Knows). IsPrefix k.list list) seats
+  pub counted : sum_by (λ (k : Knows). k.accepted) seats ≡ length list

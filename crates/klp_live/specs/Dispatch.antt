@@ -1,0 +1,68 @@
+-- The dispatch table: what a call of a hooked function needs, for each site and for each task.
+use Rattle.std.specs.Prelude.{◌≡◌, ℕ, ℤ, Bool, true, false, Option, Some, None, option_map, length, slice_index_or, slice_set}
+use Rattle.klp_types.specs.declared.row.SiteRow.{SiteRow}
+use Rattle.klp_types.specs.declared.task.Task.{Task}
+use Rattle.klp_types.specs.Setting.{Setting}
+use Rattle.klp_model.specs.State.{State}
+use Rattle.klp_model.specs.Task.{task_at}
+use Rattle.klp_model.specs.Rows.{row_of, moving_patch}
+use Rattle.klp_model.specs.Run.{next}
+use Rattle.klp_model.specs.declared.event.Event.{Event}
+use Rattle.klp_model.specs.declared.event.Event.TheVariants.{NewTask, Fork, EndTask, EnterKernel, ExitToUser, Sleep, Wake, ShadowAlloc, ShadowGetOrAlloc, ShadowFree, ShadowFreeAll}
+use Rattle.klp_live.specs.declared.table.Table.{Table}
+use Rattle.klp_live.specs.declared.table.Change.{Change}
+use Rattle.klp_live.specs.declared.table.Change.TheVariants.{Same, Task as OfTask, Moved, All}
+use Rattle.klp_live.specs.Listed.{with_rows}
+
+abbrev pub row_at : Table → ℕ → Option SiteRow
+row_at table site = slice_index_or table.rows site None
+
+abbrev pub state_at : Table → ℕ → Option ℤ
+state_at table task = slice_index_or table.states task None
+
+-- the state of a task, if it is there
+abbrev pub own_state : State → ℕ → Option ℤ
+own_state state task = option_map (λ (t : Task). t.state) (task_at state.tasks task)
+
+-- the table has the row of each site of a loaded object, and the state of each task
+pub record IsDispatch (setting : Setting) (state : State) (table : Table) : Type 0 where
+  pub height : length table.rows ≡ 256
+  pub width : length table.states ≡ 64
+  pub sites : (site : ℕ) → row_at table site ≡ row_of setting state site
+  pub tasks : (task : ℕ) → state_at table task ≡ own_state state task
+
+-- the table after a change
+abbrev pub changed : Table → Change → Table
+changed table Same = table
+changed table (OfTask task state) = record table { states = slice_set table.states task state }
+changed table (Moved moved) = record { rows = with_rows table.rows moved.rows.items; states = moved.states }
+changed table (All all) = all.value
+
+-- the one task that an event may change, where it changes nothing else
+abbrev pub task_of : Event → Option ℕ
+task_of (NewTask task) = Some task
+task_of (Fork parent child) = Some child
+task_of (EndTask task) = Some task
+task_of (EnterKernel task) = Some task
+task_of (ExitToUser task) = Some task
+task_of (Sleep task frames) = Some task
+task_of (Wake task) = Some task
+task_of other = None
+
+-- the event of shadow variables, of which a table shows nothing
+abbrev pub is_of_variables : Event → Bool
+is_of_variables (ShadowAlloc key value) = true
+is_of_variables (ShadowGetOrAlloc key value) = true
+is_of_variables (ShadowFree key) = true
+is_of_variables (ShadowFreeAll id) = true
+is_of_variables other = false
+
+-- a change that makes the table of this state, whatever the table was
+abbrev pub Makes : Setting → State → Change → Type 0
+Makes setting state change = (table : Table) → IsDispatch setting state (changed table change)
+
+-- a change that makes the table of this state of that of the state before the event, where this patch was in transition before it
+abbrev pub LeadsOn : Setting → State → Option ℕ → Event → Change → Type 0
+LeadsOn setting state moving event change =
+    (before : State) (table : Table) → moving_patch before.moving ≡ moving → state ≡ next setting before event → IsDispatch setting before table
+    → IsDispatch setting state (changed table change)

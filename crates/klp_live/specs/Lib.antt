@@ -1,0 +1,13 @@
+pub mod Listed
+pub mod Touched
+pub mod Dispatch
+pub mod Rules
+pub mod Shown
+pub mod Seats
+pub mod Admitting
+pub mod Boards
+pub mod Entering
+pub mod Opening
+pub mod Passing
+pub mod Found
+pub mod Closing

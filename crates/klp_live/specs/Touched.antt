@@ -1,0 +1,32 @@
+-- Which rows of a table an event may change.
+use Rattle.std.specs.Prelude.{ℕ, Bool, false, ◌||◌, Option, Some, None}
+use Rattle.klp_types.specs.Image.{object_of}
+use Rattle.klp_types.specs.Setting.{Setting, replaces, is_at}
+use Rattle.klp_types.specs.Entries.{patches_site}
+use Rattle.klp_model.specs.declared.event.Event.{Event}
+use Rattle.klp_model.specs.declared.event.Event.TheVariants.{Enable, SetEnabled, Poll, Coming, Going}
+
+-- a patch that comes, goes or settles: the rows of its functions' sites, and all rows where it replaces the older ones
+abbrev pub is_touched_by : Setting → Option ℕ → ℕ → Bool
+is_touched_by setting None site = false
+is_touched_by setting (Some patch) site = replaces setting patch || patches_site setting site patch
+
+-- the patch that an event moves, where this one is in transition before it
+abbrev pub patch_moved : Option ℕ → Event → Option ℕ
+patch_moved moving (Enable patch) = Some patch
+patch_moved moving (SetEnabled patch value) = Some patch
+patch_moved moving Poll = moving
+patch_moved moving other = None
+
+-- the module that comes or goes
+abbrev pub module_moved : Event → Option ℕ
+module_moved (Coming object) = Some object
+module_moved (Going object) = Some object
+module_moved other = None
+
+abbrev pub is_inside : Setting → Option ℕ → ℕ → Bool
+is_inside setting None site = false
+is_inside setting (Some object) site = is_at (object_of setting.image.objects site) object
+
+abbrev pub is_touched : Setting → Option ℕ → Event → ℕ → Bool
+is_touched setting moving event site = is_touched_by setting (patch_moved moving event) site || is_inside setting (module_moved event) site

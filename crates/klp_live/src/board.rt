@@ -1,0 +1,109 @@
+//! The board: where the book publishes.
+ghost use Rattle.std.specs.Prelude.{◌≡◌, [], ◌∷◌, ◌++◌, drop, None, Some, MatchBool};
+ghost use Rattle.left_right.specs.Sides.{view};
+ghost use Rattle.klp_live.specs.Shown.{told, Follows, RuleIs, known_of};
+
+use crate::history::Start;
+use crate::published::{News, Published, View};
+use crate::rules::Sees;
+use crossbeam_utils::rule::Protocol;
+use left_right::reader::Reader;
+use left_right::writer::Writer;
+use std::marker::Model;
+use std::sync::Wait;
+
+/// The end that publishes.
+pub type Changes<S> = Writer<Published, Option<News>, View, S>;
+
+/// The end that reads.
+pub type Place<S> = Reader<Published, View, S>;
+
+/// Appends what is to be published, and waits until there is memory: room was kept for it, so it doesn't wait.
+pub fn push<S: Start + Protocol<Published, View>, W: Wait>(
+    rt: &W,
+    changes: &mut Changes<S>,
+    news: Option<News>,
+)
+    ensures desk { changes.new.desk ≡ changes.old.desk }
+    ensures pending { drop changes.new.behind changes.new.log.items ≡ drop changes.old.behind changes.old.log.items ++ news ∷ [] }
+{
+    let mut news = news;
+    for _ in rt.forever() {
+        match changes.append(news) {
+            Ok(()) => return,
+            Err(back) => news = back,
+        }
+    }
+    unreachable!()
+}
+
+/// Publishes one row, for which room was kept.
+pub fn announce<S: Start + Protocol<Published, View>, W: Wait>(
+    rt: &W,
+    changes: Changes<S>,
+    news: News,
+) -> Changes<S>
+    requires rule { RuleIs S.holds S.first S.setting S.base S.book }
+    requires room { drop changes.behind changes.log.items ≡ None ∷ [] }
+    requires follows { Follows S.setting S.base changes.desk.shown.value (told changes.desk.shown.value (Some news)) }
+    ensures shown { result.desk.shown.value ≡ told changes.desk.shown.value (Some news) }
+    ensures pending { drop result.behind result.log.items ≡ [] }
+    ensures known { view result.desk.place ≡ record { known = known_of result.desk.shown.value ∷ [] } }
+{
+    let mut changes = changes;
+    push(rt, &mut changes, Some(news));
+    changes.publish_as::<Sees, W>(rt).0
+}
+
+/// Where the book publishes. The end that publishes waits for its readers when it goes, so the handle for that is kept
+/// beside it: what lies under a lock has to go by itself.
+pub struct Board<S: Start + Protocol<Published, View>, R: Wait + Drop> {
+    changes: Changes<S>,
+    rt: R,
+}
+
+impl<S: Start + Protocol<Published, View>, R: Wait + Drop> Drop for Board<S, R> {
+    /// Waits until no reader is inside, and ends.
+    fn drop(self) {
+        let Board { changes, rt } = self;
+        changes.take(&rt);
+    }
+}
+
+impl<S: Start + Protocol<Published, View>, R: Wait + Drop> Model for Board<S, R> {
+    ghost use Rattle.std.specs.Prelude.{drop};
+    ghost use Rattle.klp_live.specs.Boards.{OnBoard};
+
+    ghost Value = { OnBoard };
+
+    ghost view = { λ b. record { value = b.changes.desk.shown.value; pending = drop b.changes.behind b.changes.log.items } };
+}
+
+impl<S: Start + Protocol<Published, View>, R: Wait + Drop> Board<S, R> {
+    /// The board of this end, which waits by the handle when it goes.
+    pub fn over(changes: Changes<S>, rt: R) -> Board<S, R>
+        ensures { result ≡ record { value = changes.desk.shown.value; pending = drop changes.behind changes.log.items } }
+    {
+        Board { changes, rt }
+    }
+
+    /// Keeps room for one row, and says whether there was memory.
+    pub fn reserve(&mut self) -> bool
+        requires { self.old.pending ≡ [] }
+        ensures { MatchBool result (self.new ≡ record self.old { pending = None ∷ [] }) (self.new ≡ self.old) }
+    {
+        self.changes.append(None).is_ok()
+    }
+
+    /// Publishes one row, for which room was kept.
+    pub fn announce<W: Wait>(&mut self, rt: &W, news: News)
+        requires rule { RuleIs S.holds S.first S.setting S.base S.book }
+        requires room { self.old.pending ≡ None ∷ [] }
+        requires follows { Follows S.setting S.base self.old.value (told self.old.value (Some news)) }
+        ensures { self.new ≡ record { value = told self.old.value (Some news); pending = [] } }
+    {
+        core::mem::replace_with(&mut self.changes, news, |changes, news| {
+            (announce(rt, changes, news), ())
+        })
+    }
+}

@@ -1,0 +1,245 @@
+//! The table of a manager, and what an event changes of it.
+ghost use Rattle.std.specs.Prelude.{◌≡◌, ℕ, ◌<◌, ◌≤◌, ◌++◌, true, false, Some, None, is_some, length, slice_index_or, IfOk, Ok};
+ghost use Rattle.klp_types.specs.declared.limits.TheConstants.{MAX_SITES, MAX_TASKS};
+ghost use Rattle.klp_types.specs.Entries.{patches_site};
+ghost use Rattle.klp_model.specs.Rows.{row_of, moving_patch};
+ghost use Rattle.klp_model.specs.Run.{next};
+ghost use Rattle.klp_manager_state.specs.Managed.{setting_of};
+ghost use Rattle.klp_live.specs.Dispatch.{IsDispatch, own_state, changed, Makes, LeadsOn, is_of_variables, task_of as task_in};
+ghost use Rattle.klp_live.specs.Listed.{AreRowsOf, is_listed, new_row, with_rows};
+ghost use Rattle.klp_live.specs.Touched.{patch_moved as patch_moved_by, module_moved};
+
+use crate::table::{Change, Moved, NewRow, Table};
+use klp_core::Machine;
+use klp_model::Event;
+use klp_model::laws::states_stay_allowed;
+use klp_types::{MAX_SITES, MAX_TASKS, PatchId, Site, SiteRow, TaskId};
+use std::alloc::{AllocError, Global};
+
+/// Sets these rows, one after the other.
+fn put_rows(table: &mut [Option<SiteRow>; MAX_SITES], rows: &[NewRow])
+    ensures { table.new ≡ with_rows table.old rows.now }
+{
+    for place in 0..rows.len() {
+        let (site, row) = rows[place];
+        let site = usize::from(site.0);
+        if site < MAX_SITES {
+            table[site] = row;
+        }
+    }
+}
+
+impl Change {
+    /// Makes the change.
+    pub fn make(&self, table: &mut Table)
+        ensures { table.new ≡ changed table.old self.now }
+    {
+        match self {
+            Change::Same => {}
+            Change::Task(task, state) => {
+                let own = usize::from(task.0);
+                if own < MAX_TASKS {
+                    table.states[own] = *state;
+                }
+            }
+            Change::Moved(moved) => {
+                put_rows(&mut table.rows, &moved.rows);
+                table.states = moved.states;
+            }
+            Change::All(all) => *table = **all,
+        }
+    }
+}
+
+fn fill_rows<M: Machine>(rows: &mut [Option<SiteRow>; MAX_SITES], machine: &M)
+    ensures count { length rows.new ≡ MAX_SITES }
+    ensures rows { let managed = (M.journaled machine.now).managed in
+        (site : ℕ) → site < MAX_SITES
+        → slice_index_or rows.new site None ≡ row_of (setting_of managed) managed.state site }
+{
+    for site in 0..MAX_SITES {
+        rows[site] = machine.row(Site(site as u16));
+    }
+}
+
+fn fill_states<M: Machine>(states: &mut [Option<i8>; MAX_TASKS], machine: &M)
+    ensures count { length states.new ≡ MAX_TASKS }
+    ensures states { (task : ℕ) → task < MAX_TASKS
+        → slice_index_or states.new task None ≡ own_state (M.journaled machine.now).managed.state task }
+{
+    for task in 0..MAX_TASKS {
+        states[task] = machine.patch_state(TaskId(task as u8));
+    }
+}
+
+impl Table {
+    /// A table with no site and no task.
+    pub fn empty() -> Table {
+        Table {
+            rows: [None; MAX_SITES],
+            states: [None; MAX_TASKS],
+        }
+    }
+
+    /// Makes it the table of the manager, at the cost of a look at every site.
+    pub fn fill<M: Machine>(&mut self, machine: &M)
+        ensures { let managed = (M.journaled machine.now).managed in
+            IsDispatch (setting_of managed) managed.state self.new }
+    {
+        states_stay_allowed();
+        let _standing = machine.mark();
+        let _sites = machine.sites();
+        fill_rows(&mut self.rows, machine);
+        fill_states(&mut self.states, machine);
+    }
+}
+
+/// The whole table, at the cost of a look at every site.
+pub fn change_of<M: Machine>(alloc: Global, machine: &M) -> Result<Change, AllocError>
+    ensures { let managed = (M.journaled machine.now).managed in
+        IfOk result (λ change. Makes (setting_of managed) managed.state change) }
+{
+    let mut all = Box::new(alloc, Table::empty())?;
+    all.fill(machine);
+    Ok(Change::All(all))
+}
+
+/// The one task that an event may change, where it changes nothing else.
+fn task_of(event: &Event) -> Option<TaskId>
+    ensures { result ≡ task_in event.now }
+{
+    match event {
+        Event::NewTask(task)
+        | Event::EndTask(task)
+        | Event::EnterKernel(task)
+        | Event::ExitToUser(task)
+        | Event::Sleep(task, _)
+        | Event::Wake(task) => Some(*task),
+        Event::Fork(_, child) => Some(*child),
+        _ => None,
+    }
+}
+
+/// Whether an event is about shadow variables, of which a table shows nothing.
+fn is_of_variables(event: &Event) -> bool
+    ensures { result ≡ is_of_variables event.now }
+{
+    match event {
+        Event::ShadowAlloc(..)
+        | Event::ShadowGetOrAlloc(..)
+        | Event::ShadowFree(_)
+        | Event::ShadowFreeAll(_) => true,
+        _ => false,
+    }
+}
+
+/// The patch that an event moves, where this one was in transition before it.
+fn patch_moved(event: &Event, moving: Option<PatchId>) -> Option<PatchId>
+    ensures { result ≡ patch_moved_by moving event.now }
+{
+    match event {
+        Event::Enable(patch) | Event::SetEnabled(patch, _) => Some(*patch),
+        Event::Poll => moving,
+        _ => None,
+    }
+}
+
+/// Whether an event is that of a module.
+fn is_of_module(event: &Event) -> bool
+    ensures { result ≡ is_some (module_moved event.now) }
+{
+    matches!(event, Event::Coming(_) | Event::Going(_))
+}
+
+/// Adds the row of a site, if there is one.
+fn add_row<M: Machine>(
+    machine: &M,
+    site: Option<Site>,
+    rows: &mut Vec<NewRow>,
+) -> Result<(), AllocError>
+    ensures { let managed = (M.journaled machine.now).managed in
+        IfOk result (λ _. rows.new.items ≡ rows.old.items ++ new_row (setting_of managed) managed.state site) }
+{
+    let Some(site) = site else {
+        return Ok(());
+    };
+    rows.push((site, machine.row(site)))
+        .map_err(AllocError::from)
+}
+
+/// The rows of the sites that a patch has functions for.
+fn rows_of<M: Machine>(
+    alloc: Global,
+    machine: &M,
+    patch: PatchId,
+) -> Result<Vec<NewRow>, AllocError>
+    ensures rows { let managed = (M.journaled machine.now).managed in
+        IfOk result (λ rows. AreRowsOf (setting_of managed) managed.state rows.items) }
+    ensures all { IfOk result (λ rows. (site : ℕ)
+        → patches_site (setting_of (M.journaled machine.now).managed) site patch ≡ true
+        → is_listed site rows.items ≡ true) }
+{
+    let functions = machine.functions(patch);
+    let mut rows = Vec::with_capacity(alloc, functions)?;
+    for number in 0..functions {
+        add_row(machine, machine.site_of(patch, number), &mut rows)?;
+    }
+    Ok(rows)
+}
+
+/// These rows, with the states of all tasks.
+fn moved<M: Machine>(machine: &M, rows: Vec<NewRow>) -> Moved
+    ensures rows { result.rows ≡ rows }
+    ensures count { length result.states ≡ MAX_TASKS }
+    ensures states { (task : ℕ) → slice_index_or result.states task None
+        ≡ own_state (M.journaled machine.now).managed.state task }
+{
+    states_stay_allowed();
+    let _standing = machine.mark();
+    let mut states = [None; MAX_TASKS];
+    fill_states(&mut states, machine);
+    Moved { rows, states }
+}
+
+/// What an event that was just taken changes, which is neither of one task nor of variables.
+fn change_of_patches<M: Machine>(
+    alloc: Global,
+    machine: &M,
+    event: &Event,
+    moving: Option<PatchId>,
+) -> Result<Change, AllocError>
+    ensures { let managed = (M.journaled machine.now).managed in
+        IfOk result (λ change. LeadsOn (setting_of managed) managed.state moving event.now change) }
+{
+    let _sites = machine.sites();
+    if is_of_module(event) {
+        return change_of(alloc, machine);
+    }
+    match patch_moved(event, moving) {
+        None => Ok(Change::Moved(moved(machine, Vec::new(alloc)))),
+        Some(patch) if machine.is_cumulative(patch) => change_of(alloc, machine),
+        Some(patch) => Ok(Change::Moved(moved(machine, rows_of(alloc, machine, patch)?))),
+    }
+}
+
+/// What an event that was just taken changes of the table that was there before it, where this patch was
+/// in transition then. It costs as much as the event's own sites, and the tasks where it may change all.
+pub fn change_after<M: Machine>(
+    alloc: Global,
+    machine: &M,
+    event: &Event,
+    moving: Option<PatchId>,
+) -> Result<Change, AllocError>
+    ensures { let managed = (M.journaled machine.now).managed in
+        IfOk result (λ change. LeadsOn (setting_of managed) managed.state moving event.now change) }
+{
+    if is_of_variables(event) {
+        return Ok(Change::Same);
+    }
+    match task_of(event) {
+        Some(task) if usize::from(task.0) < MAX_TASKS => {
+            Ok(Change::Task(task, machine.patch_state(task)))
+        }
+        _ => change_of_patches(alloc, machine, event, moving),
+    }
+}

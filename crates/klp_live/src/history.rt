@@ -1,0 +1,200 @@
+//! What happened since a start: one history for all threads, which only grows. It exists in contracts
+//! alone; what runs is its length.
+ghost use Rattle.std.specs.Prelude.{◌≡◌, ◌+◌, ◌==◌, ◌<◌, ◌≤◌, ◌^◌, ◌++◌, ◌∷◌, [], length, MatchBool, Ok};
+ghost use mathlib.Core.List.{IsPrefix};
+ghost use Rattle.klp_model.specs.Legal.{IsLegal, state_after_history};
+ghost use Rattle.klp_model.specs.Run.{answer};
+ghost use Rattle.klp_live.specs.Rules.{head_of};
+
+use crate::law::{Add, Law, Nothing, Row};
+use klp_model::laws::histories_grow_and_are_cut_at_their_end;
+use klp_model::{Event, Reply};
+use logbook::{Offer, Seen, Start as Fresh, Word};
+use std::marker::{Brand, Model, PhantomData};
+use std::sync::Wait;
+use std::sync::ledger::Ledger;
+
+/// Which start it is: its history, what it was started over, and how many seats it has.
+pub trait Start: Ledger {
+    ghost use Rattle.std.specs.Prelude.{ℕ};
+    ghost use Rattle.logbook.specs.Pages.{Book};
+    ghost use Rattle.klp_types.specs.Setting.{Setting};
+    ghost use Rattle.klp_model.specs.State.{State};
+
+    ghost book: { Book };
+
+    ghost setting: { Setting };
+
+    ghost base: { State };
+
+    ghost places: { ℕ };
+}
+
+impl Start for Brand {
+    ghost use Rattle.std.specs.Prelude.{[]};
+    ghost use Rattle.klp_model.specs.Opening.{opening_state};
+
+    ghost book = { record { number = 0; log_name = 0; cells_name = 0 } };
+
+    ghost setting = { record { image = record { handler = 0; objects = [] }; patches = [] } };
+
+    ghost base = { opening_state (record { image = record { handler = 0; objects = [] }; patches = [] }) };
+
+    ghost places = { 0 };
+}
+
+/// An empty history, which no start has yet.
+#[derive(Drop)]
+pub struct Opened {
+    pub(crate) head: Word<Row, u64, Law>,
+    pub(crate) seen: Seen<Row, u64, Law>,
+    pub ghost empty: { seen.log ≡ [] },
+    pub ghost head_is: { head ≡ head_of seen.book },
+}
+
+impl Opened {
+    /// An empty history. It takes no memory.
+    pub fn new() -> Opened {
+        let (seen, mut first, _second) = Seen::open(Fresh::alone(), 0, 0);
+        Opened {
+            head: Word::tracked(0, &mut first),
+            seen,
+        }
+    }
+
+    /// The word under a name, and the front that has seen nothing.
+    pub fn named<S: Start>(self) -> (Head<S>, Front<S>)
+        requires { self.seen.book ≡ S.book }
+        ensures { result.1 ≡ [] }
+    {
+        let Opened { head, seen } = self;
+        (
+            Head {
+                word: head,
+                of: PhantomData,
+            },
+            Front {
+                rows: 0,
+                seen,
+                of: PhantomData,
+            },
+        )
+    }
+}
+
+/// The word that only the book has: who adds to the history has it.
+#[derive(Drop)]
+pub struct Head<S: Start> {
+    pub(crate) word: Word<Row, u64, Law>,
+    pub(crate) of: PhantomData<S>,
+    ghost head_is: { word ≡ head_of S.book },
+}
+
+/// A beginning of the history that was seen.
+#[derive(Drop)]
+pub struct Front<S: Start> {
+    pub(crate) rows: u64,
+    pub(crate) seen: Seen<Row, u64, Law>,
+    pub(crate) of: PhantomData<S>,
+}
+
+impl<S: Start> Model for Front<S> {
+    ghost use Rattle.std.specs.Prelude.{◌≡◌, List, length};
+    ghost use Rattle.klp_model.specs.Legal.{History, IsLegal};
+
+    ghost Value = { History };
+
+    ghost view = { λ f. f.seen.log };
+
+    ghost invariant = { λ f. (f.rows ≡ length f.seen.log) × (f.seen.book ≡ S.book) × IsLegal S.setting S.base f.seen.log };
+}
+
+impl<S: Start> Front<S> {
+    /// How many rows it has.
+    pub fn len(&self) -> u64
+        ensures length { result ≡ length self.now }
+        ensures legal { IsLegal S.setting S.base self.now }
+    {
+        self.rows
+    }
+
+    /// A copy, which takes no memory.
+    pub fn again(&self) -> Front<S>
+        ensures { result ≡ self.now }
+    {
+        Front {
+            rows: self.rows,
+            seen: self.seen.again(),
+            of: PhantomData,
+        }
+    }
+
+    /// Whether it has all that another one has, by their lengths: of one history the shorter begins the longer.
+    pub fn covers(&self, other: &Front<S>) -> bool
+        ensures test { MatchBool result (length other.now ≤ length self.now) (length self.now < length other.now) }
+        ensures begins { MatchBool result (IsPrefix other.now self.now) (IsPrefix self.now other.now) }
+    {
+        let mut both = self.seen.again();
+        both.learn(&other.seen);
+        other.rows <= self.rows
+    }
+
+    /// Adds a row to all that was seen, and says whether it did. It did not where the history is longer.
+    pub fn add(&mut self, head: &Head<S>, row: Row) -> bool
+        requires room { length self.old < 2 ^ 62 }
+        requires legal { answer S.setting (state_after_history S.setting S.base self.old) row.0 ≡ Ok row.1 }
+        ensures { MatchBool result (self.new ≡ self.old ++ row ∷ []) (self.new ≡ self.old) }
+    {
+        histories_grow_and_are_cut_at_their_end();
+        let mut seen = self.seen.again();
+        let mut offer: Offer<Row, u64, Law, Nothing> = seen.plain::<Nothing, Row, Add>(&row);
+        let mut pen = seen.no_pen();
+        let rows = self.rows;
+        let found = head
+            .word
+            .compare_exchange::<Add, Nothing>(rows, rows + 1, &mut seen, &mut offer, &mut pen);
+        if found != rows {
+            return false;
+        }
+        self.seen = seen;
+        self.rows = rows + 1;
+        true
+    }
+}
+
+/// Never returns. It stands where two structures would have to disagree, as a history that is longer than the
+/// book that alone adds to it: that they agree is more than their contracts say.
+fn stop<W: Wait>(rt: &W)
+    ensures { ⊥ }
+{
+    for _ in rt.forever() {}
+    unreachable!()
+}
+
+/// One front has all that the other has: returns only then.
+pub fn must_cover<S: Start, W: Wait>(rt: &W, all: &Front<S>, other: &Front<S>)
+    ensures { IsPrefix other.now all.now }
+{
+    if !all.covers(other) {
+        stop(rt);
+    }
+}
+
+/// The front with one more row: returns only where the history had no other.
+pub fn extended<S: Start, W: Wait>(
+    rt: &W,
+    head: &Head<S>,
+    front: &Front<S>,
+    event: &Event,
+    reply: &Reply,
+) -> Front<S>
+    requires room { length front.now < 2 ^ 62 }
+    requires legal { answer S.setting (state_after_history S.setting S.base front.now) event.now ≡ Ok reply.now }
+    ensures { result ≡ front.now ++ (event.now, reply.now) ∷ [] }
+{
+    let mut front = front.again();
+    if !front.add(head, (*event, *reply)) {
+        stop(rt);
+    }
+    front
+}

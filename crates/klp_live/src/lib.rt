@@ -1,0 +1,40 @@
+//! The book: a manager that task threads share, and what it publishes to them.
+//!
+//! [`Book::pair`] opens a book over a manager, with a seat for each thread. [`Book::admit`] takes an event for a seat
+//! (`specs/Admitting`), and [`Seat::enter`] finds what a call of a task runs, without a lock (`specs/Passing`). The
+//! model of a book has what always holds of it: its manager's journal is the list of what was accepted, and what is
+//! published is the dispatch table (`specs/Dispatch`) of that list (`specs/Shown`).
+//!
+//! `history` has the list, `published`, `rules` and `board` how a table is published, `change` what an event changes of
+//! one, `target` what a call finds in one. docs/THREADS.md has all of it in words.
+#![tactic(auto)]
+
+mod board;
+mod book;
+mod change;
+mod history;
+mod law;
+mod live;
+mod opening;
+mod pass;
+mod published;
+mod refusal;
+mod rules;
+mod seat;
+mod table;
+mod target;
+
+pub use book::Book;
+pub use history::{Front, Head, Opened, Start};
+pub use law::{Law, Row};
+pub use live::{BadTask, CloseFault, Live};
+pub use opening::{StartCause, StartFault};
+pub use pass::{Reads, TaskPass};
+pub use published::{Known, News, Published, View};
+pub use refusal::LiveRefusal;
+pub use rules::{Adopt, Same, Sees};
+pub use seat::{Receipt, Seat};
+pub use table::{Change, Moved, NewRow, Table};
+pub use target::{
+    EnterFault, tables_answer_what_the_machine_picks, target_of, what_is_entered_is_what_is_picked,
+};

@@ -1,0 +1,191 @@
+//! A start: the book under its one lock, and its seats, with which tasks that run submit events and enter functions.
+ghost use Rattle.std.specs.Prelude.{◌≡◌, ◌≢◌, ◌<◌, ◌≤◌, [], length, MatchResult, IfOk, IfErr, vec_len};
+ghost use Rattle.std.specs.List.{All, sum_by};
+ghost use mathlib.Core.List.{IsPrefix};
+ghost use Rattle.klp_types.specs.declared.limits.TheConstants.{MAX_TASKS};
+ghost use Rattle.klp_live.specs.Closing.{IsOutcome, IsClosed};
+ghost use Rattle.klp_live.specs.Opening.{IsFresh};
+ghost use Rattle.klp_live.specs.Seats.{Knows};
+ghost use Rattle.klp_live.specs.Shown.{RuleIs};
+
+use crate::book::Book;
+use crate::history::{Front, Opened, Start, must_cover};
+use crate::opening::StartFault;
+use crate::pass::TaskPass;
+use crate::published::{Published, View};
+use crate::refusal::LiveRefusal;
+use crate::seat::{Receipt, Seat};
+use crossbeam_utils::rule::Protocol;
+use klp_core::Machine;
+use klp_model::Event;
+use klp_types::{MAX_TASKS, TaskId};
+use std::alloc::Global;
+use std::sync::ledger::{Blank, Share};
+use std::sync::{Mutex, Wait};
+
+/// The book under the one lock that submitting an event takes. To enter a function takes none.
+#[derive(Drop)]
+pub struct Live<S: Start + Protocol<Published, View>, M: Machine + Drop, R: Wait + Drop> {
+    book: Mutex<Book<S, M, R>>,
+    places: usize,
+    ghost counted: { places ≡ S.places },
+    ghost some: { 0 < places },
+}
+
+/// That no task has this number.
+#[derive(Clone, Copy, Debug, PartialEq, Eq)]
+pub struct BadTask;
+
+/// Seats are missing, so a start can't be closed: it and the seats are handed back.
+#[derive(Drop)]
+pub struct CloseFault<S: Start + Protocol<Published, View>, M: Machine + Drop, R: Wait + Drop> {
+    pub live: Live<S, M, R>,
+    pub seats: Vec<Seat<S>>,
+}
+
+/// Admits an event for a seat.
+fn submit<S: Start + Protocol<Published, View>, M: Machine + Drop, R: Wait + Drop, W: Wait>(
+    book: &mut Book<S, M, R>,
+    rt: &W,
+    alloc: Global,
+    seat: &mut Seat<S>,
+    event: Event,
+) -> Result<Receipt<S>, LiveRefusal>
+    ensures { IsOutcome S.setting S.base event seat.old seat.new result }
+{
+    book.admit(rt, alloc, seat, event)
+}
+
+/// The share of a seat, once it was seen that the list has all that the seat knows.
+fn share_of<S: Start + Protocol<Published, View>, W: Wait>(
+    rt: &W,
+    all: &Front<S>,
+    seat: Seat<S>,
+) -> Share<S>
+    ensures parts { result.parts ≡ 1 }
+    ensures amount { result.amount ≡ seat.accepted }
+    ensures known { IsPrefix seat.list all.now }
+{
+    must_cover(rt, all, &seat.front);
+    let Seat {
+        reader: _reader,
+        front: _front,
+        share,
+    } = seat;
+    share
+}
+
+/// The shares of all seats, of which there is one at least.
+fn shares_of<S: Start + Protocol<Published, View>, W: Wait>(
+    rt: &W,
+    all: &Front<S>,
+    mut seats: Vec<Seat<S>>,
+) -> Share<S>
+    requires some { 0 < vec_len seats }
+    ensures parts { result.parts ≡ vec_len seats }
+    ensures amount { result.amount ≡ sum_by (λ (k : Knows). k.accepted) seats.items }
+    ensures known { All (λ (k : Knows). IsPrefix k.list all.now) seats.items }
+{
+    let Some(last) = seats.pop() else {
+        unreachable!()
+    };
+    let mut sum = share_of(rt, all, last);
+    while let Some(seat) = seats.pop() {
+        sum.merge(share_of(rt, all, seat));
+    }
+    sum
+}
+
+impl<S: Start + Protocol<Published, View>, M: Machine + Drop, R: Wait + Drop> Live<S, M, R> {
+    /// Starts over a manager: its table is published, and the seats are handed out.
+    pub fn start(
+        rt: R,
+        alloc: Global,
+        blank: Blank,
+        opened: Opened,
+        machine: M,
+        places: usize,
+    ) -> Result<(Live<S, M, R>, Vec<Seat<S>>), StartFault<M>>
+        requires name { blank.name ≡ S.name }
+        requires parts { (blank.parts ≡ S.parts) × (blank.parts ≡ places) × (places ≡ S.places) }
+        requires book { opened.seen.book ≡ S.book }
+        requires rule { RuleIs S.holds S.first S.setting S.base S.book }
+        requires fresh { IsFresh S.setting S.base (M.journaled machine) }
+        requires places { (0 < places) × (places ≤ 64) }
+        ensures { MatchResult result
+            (λ pair. (vec_len pair.1 ≡ places) × All (λ seat. seat ≡ record { list = []; accepted = 0 }) pair.1.items)
+            (λ fault. fault.manager ≡ machine) }
+    {
+        match Book::pair(rt, alloc, blank, opened, machine, places) {
+            Ok((book, seats)) => Ok((
+                Live {
+                    book: Mutex::new(book),
+                    places,
+                },
+                seats,
+            )),
+            Err(fault) => Err(fault),
+        }
+    }
+
+    /// A task takes a seat. The number is looked at, and not whether there is such a task: one that is to come may have
+    /// its pass before.
+    pub fn attach(&self, seat: Seat<S>, task: TaskId) -> Result<TaskPass<S>, (Seat<S>, BadTask)>
+        ensures { MatchResult result
+            (λ pass. (pass ≡ record { task = task; knows = seat }) × (task < MAX_TASKS))
+            (λ fault. (fault.0 ≡ seat) × (MAX_TASKS ≤ task)) }
+    {
+        if usize::from(task.0) >= MAX_TASKS {
+            return Err((seat, BadTask));
+        }
+        Ok(TaskPass::new(seat, task))
+    }
+
+    /// Takes the lock, and admits an event for a pass: any pass may submit any event.
+    pub(crate) fn admit<W: Wait>(
+        &self,
+        rt: &W,
+        alloc: Global,
+        seat: &mut Seat<S>,
+        event: Event,
+    ) -> Result<Receipt<S>, LiveRefusal>
+        ensures { IsOutcome S.setting S.base event seat.old seat.new result }
+    {
+        let mut book = self.book.lock(rt);
+        submit(&mut *book, rt, alloc, seat, event)
+    }
+
+    /// Ends the start and gives the manager back, where all seats are handed in.
+    pub fn close<W: Wait>(self, rt: &W, seats: Vec<Seat<S>>) -> Result<M, CloseFault<S, M, R>>
+        requires places { S.places ≡ S.parts }
+        ensures missing { IfErr result (λ fault. (fault.seats ≡ seats) × (vec_len seats ≢ S.places)) }
+        ensures closed { IfOk result (λ machine. (vec_len seats ≡ S.places)
+            × IsClosed S.setting S.base (M.journaled machine) seats.items) }
+    {
+        if seats.len() != self.places {
+            return Err(CloseFault { live: self, seats });
+        }
+        let Live {
+            book,
+            places: _places,
+        } = self;
+        Ok(closed(rt, book.into_inner(), seats))
+    }
+}
+
+/// The manager of a book, once all shares of its events are there.
+fn closed<S: Start + Protocol<Published, View>, M: Machine + Drop, R: Wait + Drop, W: Wait>(
+    rt: &W,
+    book: Book<S, M, R>,
+    seats: Vec<Seat<S>>,
+) -> M
+    requires some { 0 < vec_len seats }
+    requires all { vec_len seats ≡ S.parts }
+    ensures { IsClosed S.setting S.base (M.journaled result) seats.items }
+{
+    let mut book = book;
+    let mut all = shares_of(rt, &book.front, seats);
+    book.total.audit(&mut all);
+    let _rows = book.rows();
+    book.end()
+}

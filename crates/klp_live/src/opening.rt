@@ -1,0 +1,222 @@
+//! The opening of a start: the book with its seats.
+ghost use Rattle.std.specs.Prelude.{◌≡◌, ◌<◌, ◌≤◌, ◌^◌, ◌+◌, [], ◌∷◌, drop, length, IfOk, IfErr, vec_len};
+ghost use Rattle.std.specs.List.{All};
+ghost use Rattle.left_right.specs.Sides.{view};
+ghost use Rattle.klp_live.specs.Dispatch.{IsDispatch, Makes};
+ghost use Rattle.klp_live.specs.Seats.{IsOne};
+ghost use Rattle.klp_live.specs.Shown.{IsTable, RuleIs, known_of};
+ghost use Rattle.klp_live.specs.Admitting.{IsManagerOf};
+ghost use Rattle.klp_live.specs.Opening.{IsFresh, IsEmptyBoard};
+
+use crate::board::{Board, Changes};
+use crate::book::Book;
+use crate::change::change_of;
+use crate::history::{Front, Opened, Start};
+use crate::law::{Law, Row};
+use crate::published::{Published, View};
+use crate::rules::{Adopt, Same, Sees};
+use crate::seat::Seat;
+use crate::table::{Change, Table};
+use crossbeam_utils::rule::Protocol;
+use klp_core::Machine;
+use left_right::writer::Writer;
+use logbook::Seen;
+use std::alloc::{AllocError, Global};
+use std::sync::Wait;
+use std::sync::ledger::{Blank, Share};
+
+/// Why there is no start: memory was refused, or a place for a reader.
+#[derive(Clone, Copy, Debug, PartialEq, Eq)]
+pub enum StartCause {
+    NoMemory,
+    NoPlace,
+}
+
+/// The manager as it was handed in, and why it wasn't started.
+#[derive(Drop)]
+pub struct StartFault<M> {
+    pub manager: M,
+    pub cause: StartCause,
+}
+
+/// The table of no row.
+fn first_of(table: &Table, seen: &Seen<Row, u64, Law>) -> Published
+    ensures { result ≡ record { table = table.now; rows = 0; seen = seen.now } }
+{
+    Published {
+        table: *table,
+        rows: 0,
+        seen: seen.again(),
+    }
+}
+
+/// The table that a change makes, whatever it was before.
+fn table_by<S: Start>(change: Change) -> Table
+    requires { Makes S.setting S.base change }
+    ensures { IsDispatch S.setting S.base result }
+{
+    let mut table = Table::empty();
+    change.make(&mut table);
+    table
+}
+
+/// Publishes once more, so that the writer knows what is published.
+fn known<S: Start + Protocol<Published, View>, W: Wait>(rt: &W, changes: Changes<S>) -> Changes<S>
+    requires rule { RuleIs S.holds S.first S.setting S.base S.book }
+    requires table { IsTable S.setting S.base changes.desk.shown.value }
+    requires room { drop changes.behind changes.log.items ≡ [] }
+    ensures shown { result.desk.shown.value ≡ changes.desk.shown.value }
+    ensures pending { drop result.behind result.log.items ≡ [] }
+    ensures known { view result.desk.place ≡ record { known = known_of result.desk.shown.value ∷ [] } }
+{
+    changes.publish_as::<Sees, W>(rt).0
+}
+
+/// Publishes the table of the empty history.
+fn changes<S: Start + Protocol<Published, View>, W: Wait>(
+    rt: &W,
+    alloc: Global,
+    change: Change,
+    seen: &Seen<Row, u64, Law>,
+    places: usize,
+) -> Result<Changes<S>, AllocError>
+    requires rule { RuleIs S.holds S.first S.setting S.base S.book }
+    requires table { Makes S.setting S.base change }
+    requires empty { seen.now.log ≡ [] }
+    requires book { seen.now.book ≡ S.book }
+    requires places { (0 < places) × (places ≤ 64) }
+    ensures { IfOk result (λ w. IsEmptyBoard S.setting S.base S.book w.desk.shown.value (drop w.behind w.log.items) (view w.desk.place)) }
+{
+    let table = table_by::<S>(change);
+    let first = first_of(&table, seen);
+    let second = first_of(&table, seen);
+    let writer: Changes<S> = Writer::new(alloc, first, second, places)?;
+    Ok(known::<S, W>(rt, writer))
+}
+
+/// Takes a place.
+fn seat<S: Start + Protocol<Published, View>>(
+    changes: &mut Changes<S>,
+    front: &Front<S>,
+    share: Share<S>,
+) -> Result<Seat<S>, AllocError>
+    requires rule { RuleIs S.holds S.first S.setting S.base S.book }
+    requires known { IsOne S.book (view changes.old.desk.place) }
+    requires share { share.parts ≡ 1 }
+    ensures seat { IfOk result (λ seat. seat ≡ record { list = front.now; accepted = share.amount }) }
+    ensures shown { changes.new.desk.shown ≡ changes.old.desk.shown }
+    ensures pending { drop changes.new.behind changes.new.log.items ≡ drop changes.old.behind changes.old.log.items }
+    ensures view { view changes.new.desk.place ≡ view changes.old.desk.place }
+{
+    let mut reader = changes.factory().reader()?;
+    reader.learn::<Adopt>(changes.tell::<Same>());
+    Ok(Seat {
+        reader,
+        front: front.again(),
+        share,
+    })
+}
+
+/// Takes all places.
+fn seats<S: Start + Protocol<Published, View>>(
+    alloc: Global,
+    changes: &mut Changes<S>,
+    front: &Front<S>,
+    share: Share<S>,
+    places: usize,
+) -> Result<Vec<Seat<S>>, StartCause>
+    requires rule { RuleIs S.holds S.first S.setting S.base S.book }
+    requires known { IsOne S.book (view changes.old.desk.place) }
+    requires share { (share.parts ≡ places) × (share.amount ≡ 0) }
+    ensures seats { IfOk result (λ seats. (vec_len seats ≡ places) × All (λ seat. seat ≡ record { list = front.now; accepted = 0 }) seats.items) }
+    ensures shown { changes.new.desk.shown ≡ changes.old.desk.shown }
+    ensures pending { drop changes.new.behind changes.new.log.items ≡ drop changes.old.behind changes.old.log.items }
+{
+    let mut rest = share;
+    let mut all = Vec::new(alloc);
+    for place in 0..places {
+        let part = rest.split_off(1, 0);
+        let Ok(next) = seat(changes, front, part) else {
+            return Err(StartCause::NoPlace);
+        };
+        if all.push(next).is_err() {
+            return Err(StartCause::NoMemory);
+        }
+    }
+    Ok(all)
+}
+
+impl<S: Start + Protocol<Published, View>, M: Machine + Drop, R: Wait + Drop> Book<S, M, R> {
+    /// Opens a book over a manager whose journal is empty: publishes its table, at the cost of a look at every
+    /// site, and gives out the seats. `blank` and `opened` are what the start is named by. The faults are want of
+    /// memory, and a place that `left_right` refuses; the manager comes back as it was handed in.
+    pub fn pair(
+        rt: R,
+        alloc: Global,
+        blank: Blank,
+        opened: Opened,
+        machine: M,
+        places: usize,
+    ) -> Result<(Book<S, M, R>, Vec<Seat<S>>), StartFault<M>>
+        requires name { blank.name ≡ S.name }
+        requires parts { (blank.parts ≡ S.parts) × (blank.parts ≡ places) }
+        requires book { opened.seen.book ≡ S.book }
+        requires rule { RuleIs S.holds S.first S.setting S.base S.book }
+        requires fresh { IsFresh S.setting S.base (M.journaled machine) }
+        requires places { (0 < places) × (places ≤ 64) }
+        ensures book { IfOk result (λ pair. pair.0 ≡ record { list = []; manager = M.journaled machine }) }
+        ensures places { IfOk result (λ pair. vec_len pair.1 ≡ places) }
+        ensures seats { IfOk result (λ pair. All (λ seat. seat ≡ record { list = []; accepted = 0 }) pair.1.items) }
+        ensures fault { IfErr result (λ fault. fault.manager ≡ machine) }
+    {
+        let _standing = machine.mark();
+        let (total, share) = blank.open::<S>();
+        let Ok(change) = change_of(alloc, &machine) else {
+            return Err(StartFault {
+                manager: machine,
+                cause: StartCause::NoMemory,
+            });
+        };
+        let Ok(mut changes) = changes::<S, R>(&rt, alloc, change, &opened.seen, places) else {
+            return Err(StartFault {
+                manager: machine,
+                cause: StartCause::NoMemory,
+            });
+        };
+        let (head, front) = opened.named::<S>();
+        match seats(alloc, &mut changes, &front, share, places) {
+            Err(cause) => {
+                changes.take(&rt);
+                Err(StartFault {
+                    manager: machine,
+                    cause,
+                })
+            }
+            Ok(seats) => Ok((
+                Book {
+                    machine,
+                    board: Board::over(changes, rt),
+                    head,
+                    front,
+                    total,
+                },
+                seats,
+            )),
+        }
+    }
+
+    /// Ends the book, and gives back the manager as it is. It waits until no seat reads.
+    pub fn end(self) -> M
+        ensures machine { M.journaled result ≡ self.manager }
+        ensures kept { IsManagerOf S.setting S.base self.manager self.list }
+    {
+        let Book {
+            machine,
+            board: _board,
+            head: _head,
+            front: _front,
+            total: _total,
+        } = self;
+        machine
+    }
+}

@@ -1,0 +1,167 @@
+//! What a thread that runs a task does.
+ghost use Rattle.std.specs.Prelude.{◌≡◌, ◌⊎◌, MatchOption, IfSome, IfNone};
+ghost use mathlib.Core.List.{IsPrefix};
+ghost use Rattle.klp_model.specs.Legal.{IsLegal};
+ghost use Rattle.left_right.specs.Sides.{view as seen_by};
+ghost use Rattle.klp_live.specs.Seats.{IsOne};
+ghost use Rattle.klp_live.specs.Shown.{RuleIs, IsTable};
+ghost use Rattle.klp_live.specs.Closing.{IsOutcome};
+ghost use Rattle.klp_live.specs.Passing.{IsAnswered, IsEntered};
+
+use crate::board::Place;
+use crate::history::{Front, Start};
+use crate::live::Live;
+use crate::published::{Published, View};
+use crate::refusal::LiveRefusal;
+use crate::seat::{Receipt, Seat};
+use crate::target::{EnterFault, tables_answer_what_the_machine_picks, target_of};
+use crossbeam_utils::rule::{Outcome, Protocol};
+use klp_core::Machine;
+use klp_model::Event;
+use klp_types::{Site, Target, TaskId};
+use std::alloc::Global;
+use std::marker::{Model, PhantomData};
+use std::sync::Wait;
+
+/// What a read of a start tells.
+pub struct Reads<S: Start> {
+    of: PhantomData<S>,
+}
+
+impl<S: Start> Outcome<Published, View> for Reads<S> {
+    ghost use Rattle.klp_live.specs.Passing.{IsRead};
+
+    ghost then = { λ v x y w. IsRead S.setting S.base v x y w };
+}
+
+/// An answer, and the rows that it is by.
+#[derive(Drop)]
+pub struct Answer<S: Start> {
+    found: Result<Target, EnterFault>,
+    front: Front<S>,
+}
+
+/// Reads the table once.
+fn look<S: Start + Protocol<Published, View>>(
+    reader: Place<S>,
+    task: TaskId,
+    site: Site,
+) -> (Place<S>, Option<Answer<S>>)
+    requires rule { RuleIs S.holds S.first S.setting S.base S.book }
+    requires known { IsOne S.book (seen_by reader.place) }
+    ensures known { IsOne S.book (seen_by result.0.place) }
+    ensures found { IfSome result.1 (λ answer. IsAnswered S.setting S.base task site answer.front answer.found) }
+{
+    tables_answer_what_the_machine_picks();
+    match reader.enter_as::<Reads<S>>() {
+        Err(reader) => (reader, None),
+        Ok(reading) => {
+            let shown = reading.get();
+            let answer = Answer {
+                found: target_of(&shown.table, task, site),
+                front: front_of::<S>(shown),
+            };
+            (reading.leave(), Some(answer))
+        }
+    }
+}
+
+/// The rows of a table.
+fn front_of<S: Start>(shown: &Published) -> Front<S>
+    requires table { IsTable S.setting S.base shown.now }
+    requires book { shown.now.seen.book ≡ S.book }
+    ensures { result ≡ shown.now.seen.log }
+{
+    Front {
+        rows: shown.rows,
+        seen: shown.seen.again(),
+        of: PhantomData,
+    }
+}
+
+impl<S: Start + Protocol<Published, View>> Seat<S> {
+    /// What a call of the task at the site runs, by the table that is published: two looks and the steps of
+    /// `left_right`, without a lock or memory, and it never waits. The seat then knows the rows of that table.
+    pub fn enter(&mut self, task: TaskId, site: Site) -> Result<Target, EnterFault>
+        ensures { IsEntered S.setting S.base task site self.old self.new result }
+    {
+        let answer = core::mem::replace_with(&mut self.reader, (task, site), |reader, call| {
+            look::<S>(reader, call.0, call.1)
+        });
+        let Some(answer) = answer else {
+            return Err(EnterFault::NoTable);
+        };
+        if !answer.front.covers(&self.front) {
+            return Err(EnterFault::NoTable);
+        }
+        self.front = answer.front.again();
+        answer.found
+    }
+}
+
+/// A task that runs, with the seat by which its thread knows what happened. It is one task's, so an entry needs no number.
+#[derive(Drop)]
+pub struct TaskPass<S: Start + Protocol<Published, View>> {
+    task: TaskId,
+    seat: Seat<S>,
+}
+
+impl<S: Start + Protocol<Published, View>> Model for TaskPass<S> {
+    ghost use Rattle.klp_live.specs.Passing.{Passing};
+
+    ghost Value = { Passing };
+
+    ghost view = { λ p. record { task = p.task; knows = p.seat } };
+}
+
+impl<S: Start + Protocol<Published, View>> TaskPass<S> {
+    pub(crate) fn new(seat: Seat<S>, task: TaskId) -> TaskPass<S>
+        ensures { result ≡ record { task = task; knows = seat } }
+    {
+        TaskPass { task, seat }
+    }
+
+    /// Gives the seat back: it still knows what the pass knew, and another task may take it.
+    pub fn detach(self) -> Seat<S>
+        ensures { result ≡ self.knows }
+    {
+        let TaskPass { task: _task, seat } = self;
+        seat
+    }
+
+    /// Submits an event under the lock, and so may wait. Afterwards the pass knows of its own event, or of the list that
+    /// refused it.
+    pub fn submit<M: Machine + Drop, R: Wait + Drop, W: Wait>(
+        &mut self,
+        rt: &W,
+        alloc: Global,
+        live: &Live<S, M, R>,
+        event: Event,
+    ) -> Result<Receipt<S>, LiveRefusal>
+        ensures outcome { IsOutcome S.setting S.base event self.old.knows self.new.knows result }
+        ensures task { self.new.task ≡ self.old.task }
+    {
+        live.admit(rt, alloc, &mut self.seat, event)
+    }
+
+    /// Hears of the event of a receipt: each later entry of this pass sees it, and all before it.
+    pub fn hear(&mut self, receipt: &Receipt<S>)
+        ensures own { IsPrefix self.old.knows.list self.new.knows.list }
+        ensures heard { IsPrefix receipt.now.list self.new.knows.list }
+        ensures one { (self.new.knows.list ≡ self.old.knows.list) ⊎ (self.new.knows.list ≡ receipt.now.list) }
+        ensures accepted { self.new.knows.accepted ≡ self.old.knows.accepted }
+        ensures legal { IsLegal S.setting S.base self.new.knows.list }
+        ensures task { self.new.task ≡ self.old.task }
+    {
+        self.seat.hear(receipt)
+    }
+
+    /// What a call of the task at the site runs, by one published table that has all that the pass knows. It takes no
+    /// lock and no memory, and doesn't wait.
+    pub fn enter(&mut self, site: Site) -> Result<Target, EnterFault>
+        ensures entered { IsEntered S.setting S.base self.old.task site self.old.knows self.new.knows result }
+        ensures task { self.new.task ≡ self.old.task }
+    {
+        self.seat.enter(self.task, site)
+    }
+}

@@ -1,0 +1,118 @@
+//! A seat and a receipt: what one task thread knows.
+ghost use Rattle.std.specs.Prelude.{◌≡◌, ◌⊎◌, length};
+ghost use mathlib.Core.List.{IsPrefix};
+ghost use Rattle.klp_model.specs.Legal.{IsLegal};
+ghost use Rattle.klp_live.specs.Seats.{IsLast};
+
+use crate::board::Place;
+use crate::history::{Front, Start};
+use crate::published::{Published, View};
+use crossbeam_utils::rule::Protocol;
+use klp_model::{Event, Reply};
+use std::marker::Model;
+use std::sync::ledger::Share;
+
+/// A place of a start: what it knows, and how many of its events were accepted.
+#[derive(Drop)]
+pub struct Seat<S: Start + Protocol<Published, View>> {
+    pub(crate) reader: Place<S>,
+    pub(crate) front: Front<S>,
+    pub(crate) share: Share<S>,
+}
+
+impl<S: Start + Protocol<Published, View>> Model for Seat<S> {
+    ghost use Rattle.std.specs.Prelude.{◌≡◌};
+    ghost use Rattle.klp_live.specs.Seats.{Knows, IsOne};
+    ghost use Rattle.klp_live.specs.Shown.{RuleIs};
+    ghost use Rattle.left_right.specs.Sides.{view as seen_by};
+
+    ghost Value = { Knows };
+
+    ghost view = { λ k. record { list = k.front; accepted = k.share.amount } };
+
+    ghost invariant = { λ k. (k.share.parts ≡ 1) × IsOne S.book (seen_by k.reader.place) × RuleIs S.holds S.first S.setting S.base S.book };
+}
+
+impl<S: Start + Protocol<Published, View>> Seat<S> {
+    /// How many rows of the book it knows of: those of its last receipt, or of the last table that it read.
+    pub fn rows(&self) -> u64
+        ensures rows { result ≡ length self.now.list }
+        ensures legal { IsLegal S.setting S.base self.now.list }
+    {
+        self.front.len()
+    }
+
+    /// Learns of the event of a receipt, and so of all before it: what the seat knows afterwards is the longer
+    /// of its own list and the receipt's.
+    pub fn hear(&mut self, receipt: &Receipt<S>)
+        ensures own { IsPrefix self.old.list self.new.list }
+        ensures heard { IsPrefix receipt.now.list self.new.list }
+        ensures one { (self.new.list ≡ self.old.list) ⊎ (self.new.list ≡ receipt.now.list) }
+        ensures accepted { self.new.accepted ≡ self.old.accepted }
+        ensures legal { IsLegal S.setting S.base self.new.list }
+    {
+        if !self.front.covers(&receipt.front) {
+            self.front = receipt.front.again();
+        }
+        let _rows = self.front.len();
+    }
+}
+
+/// An accepted event, its reply and its number.
+#[derive(Drop)]
+pub struct Receipt<S: Start> {
+    pub(crate) number: u64,
+    pub(crate) event: Event,
+    pub(crate) reply: Reply,
+    pub(crate) front: Front<S>,
+}
+
+impl<S: Start> Model for Receipt<S> {
+    ghost use Rattle.std.specs.Prelude.{◌≡◌, length};
+    ghost use Rattle.klp_live.specs.Seats.{Told, IsLast};
+
+    ghost Value = { Told };
+
+    ghost view = { λ r. record { number = r.number; event = r.event; reply = r.reply; list = r.front } };
+
+    ghost invariant = { λ r. (r.number ≡ length r.front) × IsLast r.front r.event r.reply };
+}
+
+impl<S: Start> Receipt<S> {
+    /// The receipt of the last row.
+    pub(crate) fn new(event: Event, reply: Reply, front: Front<S>) -> Receipt<S>
+        requires { IsLast front event reply }
+        ensures { result ≡ record { number = length front; event = event; reply = reply; list = front } }
+    {
+        Receipt {
+            number: front.len(),
+            event,
+            reply,
+            front,
+        }
+    }
+    /// The number of its row, counted from 1.
+    pub fn number(&self) -> u64
+        ensures number { result ≡ self.now.number }
+        ensures last { self.now.number ≡ length self.now.list }
+        ensures legal { IsLegal S.setting S.base self.now.list }
+    {
+        let _rows = self.front.len();
+        self.number
+    }
+
+    /// The event that was accepted.
+    pub fn event(&self) -> Event
+        ensures event { result ≡ self.now.event }
+        ensures last { IsLast self.now.list self.now.event self.now.reply }
+    {
+        self.event
+    }
+
+    /// What the event was answered.
+    pub fn reply(&self) -> Reply
+        ensures { result ≡ self.now.reply }
+    {
+        self.reply
+    }
+}
