@@ -138,6 +138,6 @@ pub const MAX_READS: u32 = 1_000_000;
 /// How many bytes the console reads at a time at most. Its room is an array, since serving takes no memory.
 pub const READ_ROOM: usize = 4096;
 
-/// How many bytes of answers the console gathers at most before it writes them. So many may be lost when a
-/// write fails.
+/// How many bytes of answers the console gathers at most before it writes them. Where a write fails, lines
+/// whose answers weren't written are taken back.
 pub const ANSWER_ROOM: usize = 4096;
