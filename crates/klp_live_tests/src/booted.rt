@@ -71,7 +71,28 @@ fn manager_of(alloc: Global, mut plan: Plan) -> Result<Manager, Fault>
 
 /// A manager over the catalog of the tests.
 pub(crate) fn booted(alloc: Global) -> Result<Fresh, Fault> {
-    let plan = Catalog::read(alloc, CATALOG)?;
+    over(alloc, CATALOG)
+}
+
+/// A manager over a catalog without callbacks.
+pub(crate) fn over(alloc: Global, text: &[u8]) -> Result<Fresh, Fault> {
+    let plan = Catalog::read(alloc, text)?;
     let manager = manager_of(alloc, plan)?;
     Ok(Fresh { manager })
+}
+
+/// A catalog of 256 sites, with a patch of 64 functions.
+pub(crate) fn large(alloc: Global) -> Result<String, AllocError> {
+    let mut text = format!(in alloc; "handler ffffffff81000000\nobject vmlinux\n")?;
+    for site in 0..256u64 {
+        let address = 0xffff_ffff_8100_1000 + site * 16;
+        let line = format!(in alloc; "symbol f{site} {address:x} e800000000c3\n")?;
+        text.push_str(line.as_str())?;
+    }
+    text.push_str("patch p\ntarget vmlinux\n")?;
+    for site in 0..64u64 {
+        let line = format!(in alloc; "func .klp.sym.vmlinux.f{site},0 n{site} ffffffffc0000000\n")?;
+        text.push_str(line.as_str())?;
+    }
+    Ok(text)
 }

@@ -2,26 +2,42 @@
 //! stands where memory is refused, and that two threads run over one lock.
 //!
 //! It prints what two seats were told, and the same where one allocation of the book is refused
-//! (`rt try --fail-alloc 1..`): the refused call is made again, over what it left.
+//! (`rt try --fail-alloc N`): the refused call is made again, over what it left. With a number as its word it tells what
+//! an event costs, the best of so many rounds (docs/PERFORMANCE.md).
 #![tactic(auto)]
 
 mod booted;
 mod desk;
+mod measure;
 mod passes;
 mod shows;
 mod starts;
 mod two;
 
-use crate::booted::{Fault, booted};
+use crate::booted::{Fault, booted, large, over};
 use klp_model::Event;
 use klp_types::{PatchId, TaskId};
+use std::alloc::Global;
+use std::env;
+use std::rt::Clock;
+use std::sync::Wait;
+
+/// Measures so many rounds over a large catalog.
+fn measured<R: Wait + Clock + Print>(rt: &R, alloc: Global, rounds: u64) -> Result<(), Fault> {
+    let text = large(alloc)?;
+    let fresh = over(alloc, text.as_str().as_bytes())?;
+    measure::run(rt, alloc, fresh, rounds)?;
+    Ok(())
+}
 
 fn main(rt: HostRuntime) -> Result<(), Fault> {
     let alloc = rt.alloc();
-    let fresh = booted(alloc)?;
+    if let Some(word) = env::args(&rt)?.nth(1) {
+        return measured(&rt, alloc, word.as_str().parse::<u64>().unwrap_or(1));
+    }
     let out = two::start(
         &rt,
-        fresh,
+        booted(alloc)?,
         Event::NewTask(TaskId(1)),
         Event::Enable(PatchId(0)),
     );
