@@ -5,9 +5,9 @@
 //! becomes of the entries of every site (livepatch, Adding and Disabling; cumulative-patches, the nops; the
 //! kernel's `klp_patch_object` and `klp_unpatch_object`): `AreMade` in `specs/Changes`; which sites a
 //! change is about is in `specs/Covered`. They log rows of sites and no others, say how many at most, and
-//! that these undo the change (`Notes`). The bounds are what lets an event be sure of its room for records
-//! beforehand. [`block`] makes the set of versions that hold a sleeper back (`specs/Blocked`): that of the
-//! stacks, and by a law of this crate that of the state.
+//! that these undo the change and tell what changed alone (`Notes`). The bounds are what lets an event be
+//! sure of its room for records beforehand. [`block`] makes the set of versions that hold a sleeper back
+//! (`specs/Blocked`): that of the stacks, and by a law of this crate that of the state.
 //!
 //! Callbacks run as the definitions list them, in that order (callbacks, "Callbacks" and "How it works";
 //! `specs/Calls`, `Loaded`, `ModuleShares`): for a patch the kind asked for of each loaded object; at an

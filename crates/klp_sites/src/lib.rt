@@ -4,9 +4,9 @@
 //! The model is the image, the loaded flags and the entries of each site (`specs/Table`). It has no hooks,
 //! so nobody above has to think of them: that the hooks follow the entries is this crate's invariant. Each
 //! change is of one entry or of one loaded flag, and gives a record of each row that it changes, the hook's
-//! among them (`specs/Changes`). Put back newest first, these give the equal table, each tells a row that
-//! changed, and an entry that comes back finds room (`specs/Undo`). `bytes` are the definition's where
-//! exactly the sites with an entry are hooked.
+//! among them (`specs/Changes`). Put back newest first, these give the equal table, and an entry that comes
+//! back finds room (`specs/Undo`). `bytes` are the definition's where exactly the sites with an entry are
+//! hooked.
 #![tactic(auto)]
 
 mod sites;
