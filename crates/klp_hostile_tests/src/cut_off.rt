@@ -1,7 +1,7 @@
 //! Each read and each write fails in its turn while scripts are served. What was answered stands, and at most
 //! one line more: a second manager that is fed these lines, by the answers alone, shows the same.
 use crate::input::{Input, whole};
-use crate::managed::{Given, Shown, Step, outcome};
+use crate::managed::{Given, Shown, outcome};
 use klp_console::{ServeFault, Served};
 use klp_program::Fault;
 use std::alloc::{AllocError, Global};
@@ -161,7 +161,7 @@ struct Seen {
 }
 
 /// What the console answers to these inputs, by one manager.
-fn served(alloc: Global, inputs: &[Step<'_>]) -> Result<Shown, Fault> {
+fn served(alloc: Global, inputs: &[Input<'_>]) -> Result<Shown, Fault> {
     let given = Given {
         text: CATALOG,
         callbacks: CALLBACKS,
@@ -178,17 +178,14 @@ fn answers(shown: &Shown) -> (&[u8], &[u8]) {
 
 /// What a manager shows behind these lines.
 fn state_after(alloc: Global, lines: &[u8]) -> Result<Vec<u8>, Fault> {
-    let shown = served(
-        alloc,
-        &[Step::Serve(whole(lines)), Step::Serve(whole(LOOKS))],
-    )?;
+    let shown = served(alloc, &[whole(lines), whole(LOOKS)])?;
     Ok(Vec::from_slice(alloc, answers(&shown).1)?)
 }
 
 /// The lines of a text, each served by itself.
-fn put_lines<'a>(steps: &mut Vec<Step<'a>>, text: &'a str) -> Result<(), AllocError> {
+fn put_lines<'a>(inputs: &mut Vec<Input<'a>>, text: &'a str) -> Result<(), AllocError> {
     for line in text.lines() {
-        steps.push(Step::Serve(whole(line.as_bytes())))?;
+        inputs.push(whole(line.as_bytes()))?;
     }
     Ok(())
 }
@@ -205,9 +202,9 @@ fn put_states(alloc: Global, states: &mut Vec<Vec<u8>>, lines: &[u8]) -> Result<
 }
 
 fn known_of(alloc: Global, script: &'static str) -> Result<Known, Fault> {
-    let mut steps = Vec::new(alloc);
-    put_lines(&mut steps, script)?;
-    let shown = served(alloc, &steps)?;
+    let mut inputs = Vec::new(alloc);
+    put_lines(&mut inputs, script)?;
+    let shown = served(alloc, &inputs)?;
     let mut ends = Vec::new(alloc);
     for look in &shown.looks {
         ends.push(look.said)?;
@@ -224,10 +221,10 @@ fn known_of(alloc: Global, script: &'static str) -> Result<Known, Fault> {
 
 /// Serves the script, and shows what the manager is then.
 fn seen_of(alloc: Global, known: &Known, input: Input<'_>) -> Result<Seen, Fault> {
-    let shown = served(alloc, &[Step::Serve(input), Step::Serve(whole(LOOKS))])?;
+    let shown = served(alloc, &[input, whole(LOOKS)])?;
     let (front, state) = answers(&shown);
     Ok(Seen {
-        ended: shown.looks.first().and_then(|look| look.ended),
+        ended: shown.looks.first().map(|look| look.ended),
         is_front: known.answers.starts_with(front),
         answered: known.ends.iter().filter(|end| **end <= front.len()).count(),
         state: Vec::from_slice(alloc, state)?,

@@ -1,7 +1,7 @@
 //! Tests of what fails, ends early or is full: a catalog that is cut after each byte, reads and writes that fail
-//! while the console is served, with what stands then, streams in memory that give or take little, lines that are
-//! too long, and a journal without room. They stand above all crates, so that what they test is proved once. What
-//! a script can show of full tables, and of memory that runs out, is shown by `klp_examples`.
+//! while the console is served, with what stands then, streams in memory that give or take little, and lines that
+//! are too long. They stand above all crates, so that what they test is proved once. What a script can show of full
+//! tables, and of memory that runs out, is shown by `klp_examples`.
 #![tactic(auto)]
 
 #[cfg(test)]
@@ -12,8 +12,6 @@ mod cut;
 mod cut_off;
 #[cfg(test)]
 mod input;
-#[cfg(test)]
-mod journal;
 #[cfg(test)]
 mod managed;
 #[cfg(test)]
