@@ -1,9 +1,10 @@
 //! The book: the manager with what it publishes.
-ghost use Rattle.std.specs.Prelude.{◌≡◌, ◌<◌, ◌≤◌, ◌^◌, length, Ok, MatchResult, MatchOption};
+ghost use Rattle.std.specs.Prelude.{◌≡◌, ◌<◌, ◌≤◌, ◌^◌, length, Ok, Err, MatchResult, MatchOption};
 ghost use Rattle.klp_model.specs.Legal.{IsLegal, state_after_history};
 ghost use Rattle.klp_model.specs.Rows.{moving_patch};
 ghost use Rattle.klp_model.specs.Run.{answer, next};
 ghost use Rattle.klp_manager_state.specs.Managed.{setting_of};
+ghost use Rattle.klp_core.specs.Taking.{IsTaken};
 ghost use Rattle.klp_core.specs.Rewinding.{IsRewound};
 ghost use Rattle.klp_live.specs.Admitting.{IsAdmitted, IsManagerOf, IsRefused};
 ghost use Rattle.klp_live.specs.Publishing.{IsPublished};
@@ -17,7 +18,7 @@ use crate::refusal::LiveRefusal;
 use crate::seat::{Receipt, Seat};
 use crossbeam_utils::rule::Protocol;
 use klp_core::Machine;
-use klp_model::Event;
+use klp_model::{Event, Refusal};
 use klp_types::PatchId;
 use std::alloc::Global;
 use std::marker::Model;
@@ -80,30 +81,41 @@ impl<S: Start + Protocol<Published, View>, M: Machine + Drop, R: Wait + Drop> Bo
         self.publisher.must_cover(rt, seat);
         let mark = self.machine.mark();
         let moving = self.machine.in_transition();
-        match self.machine.apply(event) {
+        match accept(&mut self.machine, event) {
             Err(refusal) => {
                 self.publisher.tell(seat);
                 Err(LiveRefusal::Refused(refusal))
             }
-            Ok(reply) => {
-                let row = row(&event, &reply);
-                match publish(
-                    rt,
-                    alloc,
-                    &self.machine,
-                    &mut self.publisher,
-                    seat,
-                    row,
-                    moving,
-                ) {
-                    Some(receipt) => Ok(receipt),
-                    None => {
-                        take_back(&mut self.machine, mark);
-                        Err(LiveRefusal::NoMemory)
-                    }
+            Ok(row) => match publish(
+                rt,
+                alloc,
+                &self.machine,
+                &mut self.publisher,
+                seat,
+                row,
+                moving,
+            ) {
+                Some(receipt) => Ok(receipt),
+                None => {
+                    take_back(&mut self.machine, mark);
+                    Err(LiveRefusal::NoMemory)
                 }
-            }
+            },
         }
+    }
+}
+
+/// Has the machine take an event, and makes its row.
+fn accept<M: Machine>(machine: &mut M, event: Event) -> Result<Row, Refusal>
+    ensures taken { MatchResult result
+        (λ row. (row.0 ≡ event) × IsTaken (M.journaled machine.old) (M.journaled machine.new) event (Ok row.1))
+        (λ refusal. IsTaken (M.journaled machine.old) (M.journaled machine.new) event (Err refusal)) }
+    ensures setting { setting_of (M.journaled machine.new).managed ≡ setting_of (M.journaled machine.old).managed }
+{
+    let _standing = machine.mark();
+    match machine.apply(event) {
+        Ok(reply) => Ok(row(&event, &reply)),
+        Err(refusal) => Err(refusal),
     }
 }
 
