@@ -92,7 +92,7 @@ impl<S: Start + Protocol<Published, View>, M: Machine + Drop, R: Wait + Drop> Bo
                 &self.machine,
                 &mut self.publisher,
                 seat,
-                row,
+                &row,
                 moving,
             ) {
                 Some(receipt) => Ok(receipt),
@@ -126,18 +126,18 @@ fn publish<S: Start + Protocol<Published, View>, M: Machine, R: Wait + Drop, W: 
     machine: &M,
     publisher: &mut Publisher<S, R>,
     seat: &mut Seat<S>,
-    row: Row,
+    row: &Row,
     moving: Option<PatchId>,
 ) -> Option<Receipt<S>>
     requires room { length publisher.old < 2 ^ 62 }
-    requires answered { answer S.setting (state_after_history S.setting S.base publisher.old) row.0 ≡ Ok row.1 }
+    requires answered { answer S.setting (state_after_history S.setting S.base publisher.old) row.now.0 ≡ Ok row.now.1 }
     requires setting { setting_of (M.journaled machine.now).managed ≡ S.setting }
     requires state { (M.journaled machine.now).managed.state
-        ≡ next S.setting (state_after_history S.setting S.base publisher.old) row.0 }
+        ≡ next S.setting (state_after_history S.setting S.base publisher.old) row.now.0 }
     requires moving { moving ≡ moving_patch (state_after_history S.setting S.base publisher.old).moving }
     ensures { MatchOption result
         ((publisher.new ≡ publisher.old) × (seat.new ≡ seat.old))
-        (λ told. IsPublished S.setting S.base row publisher.old publisher.new seat.old seat.new told) }
+        (λ told. IsPublished S.setting S.base row.now publisher.old publisher.new seat.old seat.new told) }
 {
     match change_after(alloc, machine, &row.0, moving) {
         Ok(change) => publisher.publish(rt, seat, row, change),

@@ -131,30 +131,29 @@ impl<S: Start + Protocol<Published, View>, R: Wait + Drop> Publisher<S, R> {
         &mut self,
         rt: &W,
         seat: &mut Seat<S>,
-        row: Row,
+        row: &Row,
         change: Change,
     ) -> Option<Receipt<S>>
         requires room { length self.old < 2 ^ 62 }
-        requires answered { answer S.setting (state_after_history S.setting S.base self.old) row.0 ≡ Ok row.1 }
-        requires change { IsStep S.setting (state_after_history S.setting S.base self.old) row.0 change }
+        requires answered { answer S.setting (state_after_history S.setting S.base self.old) row.now.0 ≡ Ok row.now.1 }
+        requires change { IsStep S.setting (state_after_history S.setting S.base self.old) row.now.0 change }
         ensures { MatchOption result
             ((self.new ≡ self.old) × (seat.new ≡ seat.old))
-            (λ told. IsPublished S.setting S.base row self.old self.new seat.old seat.new told) }
+            (λ told. IsPublished S.setting S.base row.now self.old self.new seat.old seat.new told) }
     {
         if !append(
             rt,
             &mut self.board,
             &self.head,
             &mut self.front,
-            &row,
+            row,
             change,
         ) {
             return None;
         }
         self.total.add(&mut seat.share, 1);
         self.tell(seat);
-        let (event, reply) = row;
-        Some(Receipt::new(event, reply, self.front.again()))
+        Some(Receipt::new(row, self.front.again()))
     }
 
     /// Once all shares are in one, it is seen that they come to as many events as the history has.
