@@ -24,6 +24,9 @@ use std::time::Instant;
 /// How often each thread looks in a round. What is submitted meanwhile has to fit into the journal.
 const LOOKS: u64 = 20_000;
 
+/// How often the one beside has to submit two events meanwhile.
+const TURNS: u64 = 200;
+
 /// How many threads look beside one that submits. The first time one looks alone.
 const CROWDS: [usize; 4] = [0, 1, 2, 4];
 
@@ -96,7 +99,13 @@ struct Writes<'a, M: Machine + Drop> {
 }
 
 fn write<M: Machine, R: Wait>(rt: &R, table: &RwLock<Table>, machine: &mut M, event: Event) {
-    apply(machine, event);
+    let _standing = machine.mark();
+    if machine.apply(event).is_err() {
+        // The journal is full, and room is made: the task and the patch stay.
+        empty(machine);
+        begin(machine);
+        return;
+    }
     let state = machine.patch_state(TASK);
     let mut table = table.write(rt);
     table.states[usize::from(TASK.0)] = state;
@@ -127,13 +136,41 @@ fn timed<L: Looks<R>, R: Clock>(rt: &R, looker: &mut L) -> io::Result<u128> {
     Ok(if found == LOOKS { took } else { u128::MAX })
 }
 
+/// What the slowest thread took for its looks, in nanoseconds, and how often the one beside worked meanwhile.
+#[derive(Clone, Copy)]
+struct Beside {
+    took: u128,
+    turns: u64,
+}
+
 /// Works until so many have looked.
-fn work_until<W: Works<R>, R>(rt: &R, worker: &mut W, done: &AtomicU64, wanted: u64) {
-    for _turn in 0..u64::MAX {
+fn work_until<W: Works<R>, R>(rt: &R, worker: &mut W, done: &AtomicU64, wanted: u64) -> Beside {
+    let mut turns = 0u64;
+    for turn in 0..u64::MAX {
         if done.load(Ordering::SeqCst) >= wanted {
-            return;
+            break;
         }
         worker.work(rt);
+        turns = turn;
+    }
+    Beside { took: 0, turns }
+}
+
+impl Beside {
+    /// With one thread more.
+    fn and(self, took: u128) -> Beside {
+        Beside {
+            took: self.took.max(took),
+            turns: self.turns,
+        }
+    }
+
+    /// A round counts where the one beside wasn't held up by other programs.
+    fn counted(self) -> Option<u128> {
+        if self.turns < TURNS {
+            return None;
+        }
+        Some(self.took)
     }
 }
 
@@ -143,13 +180,13 @@ fn by_one<L: Looks<R> + Drop + Send, W: Works<R>, R: Threads + Clock + Sync>(
     worker: &mut W,
     done: &AtomicU64,
     wanted: u64,
-) -> u128 {
-    let (took, ()) = join(
+) -> Beside {
+    let (took, beside) = join(
         rt,
         || look_often(rt, looker, done),
         || work_until(rt, worker, done, wanted),
     );
-    took
+    beside.and(took)
 }
 
 fn by_two<L: Looks<R> + Drop + Send, W: Works<R>, R: Threads + Clock + Sync>(
@@ -158,14 +195,14 @@ fn by_two<L: Looks<R> + Drop + Send, W: Works<R>, R: Threads + Clock + Sync>(
     worker: &mut W,
     done: &AtomicU64,
     wanted: u64,
-) -> u128 {
+) -> Beside {
     let (first, second) = lookers;
-    let (one, other) = join(
+    let (took, beside) = join(
         rt,
         || look_often(rt, first, done),
         || by_one(rt, second, worker, done, wanted),
     );
-    one.max(other)
+    beside.and(took)
 }
 
 fn by_four<L: Looks<R> + Drop + Send, W: Works<R>, R: Threads + Clock + Sync>(
@@ -173,9 +210,9 @@ fn by_four<L: Looks<R> + Drop + Send, W: Works<R>, R: Threads + Clock + Sync>(
     lookers: ((L, L), (L, L)),
     worker: &mut W,
     done: &AtomicU64,
-) -> u128 {
+) -> Beside {
     let ((first, second), rest) = lookers;
-    let (one, (two, others)) = join(
+    let (one, (two, beside)) = join(
         rt,
         || look_often(rt, first, done),
         || {
@@ -186,10 +223,10 @@ fn by_four<L: Looks<R> + Drop + Send, W: Works<R>, R: Threads + Clock + Sync>(
             )
         },
     );
-    one.max(two).max(others)
+    beside.and(one).and(two)
 }
 
-/// What the slowest of so many threads took for its looks.
+/// What the slowest of so many threads took for its looks, where the one beside worked often enough meanwhile.
 fn crowd<L: Looks<R> + Drop + Send, W: Works<R>, R: Threads + Clock + Sync>(
     rt: &R,
     threads: usize,
@@ -203,14 +240,14 @@ fn crowd<L: Looks<R> + Drop + Send, W: Works<R>, R: Threads + Clock + Sync>(
         return Some(look_often(rt, first, &done));
     }
     if threads == 1 {
-        return Some(by_one(rt, first, worker, &done, 1));
+        return by_one(rt, first, worker, &done, 1).counted();
     }
     let second = lookers.pop()?;
     if threads == 2 {
-        return Some(by_two(rt, (first, second), worker, &done, 2));
+        return by_two(rt, (first, second), worker, &done, 2).counted();
     }
     let rest = (lookers.pop()?, lookers.pop()?);
-    Some(by_four(rt, ((first, second), rest), worker, &done))
+    by_four(rt, ((first, second), rest), worker, &done).counted()
 }
 
 /// Seats enter, beside one that submits.
@@ -258,6 +295,12 @@ fn entered<
     }
 }
 
+/// The task comes, and the patch is enabled.
+fn begin<M: Machine>(machine: &mut M) {
+    apply(machine, Event::NewTask(TASK));
+    apply(machine, Event::Enable(PATCH));
+}
+
 fn readers<'a>(alloc: Global, table: &'a RwLock<Table>) -> Result<Vec<ByLock<'a>>, AllocError> {
     let mut all = Vec::new(alloc);
     for _thread in 1..SEATS {
@@ -274,8 +317,7 @@ fn locked<M: Machine + Drop, R: Threads + Wait + Clock + Sync>(
     threads: usize,
 ) -> (M, Option<u128>) {
     let mut machine = machine;
-    apply(&mut machine, Event::NewTask(TASK));
-    apply(&mut machine, Event::Enable(PATCH));
+    begin(&mut machine);
     let mut table = Table::empty();
     table.fill(&machine);
     let table = RwLock::new(table);
@@ -354,12 +396,22 @@ fn rounds_of<M: Machine + Drop, R: Threads + Wait + Clock + Sync>(
     (machine, best)
 }
 
+/// The nanoseconds of 1,000 looks, or 0 where no round counted.
+fn by_thousand(took: u128) -> u128 {
+    if took == u128::MAX {
+        return 0;
+    }
+    took / u128::from(LOOKS / 1_000)
+}
+
 fn tell<R: Print>(rt: &R, threads: usize, best: Took) -> io::Result<()> {
-    let by_thousand = u128::from(LOOKS / 1_000);
+    let seats = by_thousand(best.seats);
+    let lock = by_thousand(best.lock);
+    if threads == 0 {
+        return println!(rt; "1,000 looks alone: {seats} ns by a seat, {lock} ns under a read lock");
+    }
     println!(rt;
-        "1,000 looks by each of {threads} threads beside one that submits: {} ns by seats, {} ns under a read lock",
-        best.seats / by_thousand,
-        best.lock / by_thousand
+        "the same by each of {threads} threads, beside one that submits: {seats} ns, {lock} ns"
     )
 }
 
