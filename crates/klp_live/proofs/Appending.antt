@@ -1,6 +1,5 @@
 -- A row that stands next is appended, and what is shown then goes on where the table before it ended.
-use Rattle.std.proofs.Common.{◌≡◌, List, [], ◌∷◌, ◌++◌, length, Option, Some, Ok, refl, ap, sym, subst, ◌∙◌}
-use mathlib.Core.List.{IsPrefix}
+use Rattle.std.proofs.Common.{◌≡◌, [], ◌∷◌, ◌++◌, length, Some, Ok, refl, ap, sym, subst, ◌∙◌}
 use Rattle.klp_types.specs.Setting.{Setting}
 use Rattle.klp_model.specs.State.{State}
 use Rattle.klp_model.specs.declared.event.Event.{Event}

@@ -3,7 +3,6 @@ use Rattle.std.proofs.Common.{rules, ◌≡◌, Err, inl, inr, ⊎_elim, ap, sub
 use mathlib.Core.List.{IsPrefix}
 use Rattle.klp_model.specs.Legal.{History}
 use Rattle.klp_live.specs.Seats.{Knows}
-use Rattle.klp_live.specs.Passing.{IsAnswered}
 use Rattle.klp_live.specs.declared.target.EnterFault.TheVariants.{NoTable}
 use Rattle.klp_live.proofs.seat.Seat.enter.Goals as goal
 
