@@ -1,5 +1,5 @@
 -- What an event of a task leaves of the table: all but the state of that task.
-use Rattle.std.proofs.Common.{◌≡◌, ◌≢◌, ℕ, ◌<◌, ◌≤◌, List, length, Option, None, Some, option_map, slice_index_or, slice_set, Bool, true, false, ◌||◌, is_some, refl, ap, sym, ◌∙◌, arith, subst, ◌⊎◌, inl, inr, ⊎_elim}
+use Rattle.std.proofs.Common.{◌≡◌, ◌≢◌, ℕ, ◌<◌, ◌≤◌, List, length, Option, None, Some, option_map, slice_index_or, slice_set, Bool, true, false, ◌||◌, is_some, refl, ap, sym, ◌∙◌, arith, subst, ◌⊎◌, inl, inr, ⊎_elim, Result, Ok, Err}
 use Rattle.std.proofs.lemmas.Bool.{both_ways}
 use Rattle.std.proofs.Math.Bool.{or-false}
 use Rattle.std.proofs.lemmas.List.{get_or-set_same, get_or-set_other, length-set}
@@ -14,7 +14,7 @@ use Rattle.klp_model.specs.State.{State, with_world}
 use Rattle.klp_model.specs.Rows.{row_of, moving_patch}
 use Rattle.klp_model.specs.Task.{task_at}
 use Rattle.klp_model.specs.TaskStep.{change_task, put_task}
-use Rattle.klp_model.specs.Run.{next, state_after}
+use Rattle.klp_model.specs.Run.{answer, next, state_after}
 use Rattle.klp_model.specs.Step.{accepted}
 use Rattle.klp_model.specs.Refusals.{refusal}
 use Rattle.klp_model.specs.declared.event.Event.{Event}
@@ -31,10 +31,11 @@ use Rattle.klp_live.specs.Touched.{is_touched, is_touched_by, is_inside, patch_m
 use Rattle.klp_live.proofs.Changes.{length-with_rows, set_rows}
 use Rattle.klp_live.proofs.Staying.{next_stays}
 use Rattle.klp_live.proofs.Tables.{below, or_past, no_row}
-use Rattle.klp_manager_state.specs.Managed.{Managed}
+use Rattle.klp_manager_state.specs.Managed.{Managed, setting_of}
 use Rattle.klp_model.specs.Legal.{History, state_after_history}
 use Rattle.klp_core.specs.Journaled.{Journaled, Stands}
-use Rattle.klp_core.specs.Taking.{Appends}
+use Rattle.klp_core.specs.Taking.{Appends, IsTaken, unless_full}
+use Rattle.klp_journal.specs.Journal.{has_room}
 use Rattle.klp_live.specs.Admitting.{IsManagerOf}
 
 -- where an accepted event leads a manager of a list
@@ -43,6 +44,19 @@ pub leads : (setting : Setting) (base : State) (before after : Journaled) (list 
 leads setting base before after list event reply of stands appends =
     let stood : before.managed.state ≡ state_after_history setting base list = rw (← of.setting_is, ← of.base_is, ← of.groups) stands.state in
     ap (λ (m : Managed). m.state) appends.left ∙ cc (of.setting_is, stood)
+
+accepts : (reply : Reply) (room : Bool) (own : Result Reply Refusal) → Ok reply ≡ unless_full room own → own ≡ Ok reply
+accepts reply room (Err refusal) e = absurd (cc e)
+accepts reply true (Ok own) e = sym e
+accepts reply false (Ok own) e = absurd (cc e)
+
+-- what an accepted event is answered in the state of the list
+pub answered : (setting : Setting) (base : State) (before after : Journaled) (list : History) (event : Event) (reply : Reply) → IsManagerOf setting base before list → Stands before
+    → IsTaken before after event (Ok reply) → answer setting (state_after_history setting base list) event ≡ Ok reply
+answered setting base before after list event reply of stands taken =
+    let stood : before.managed.state ≡ state_after_history setting base list = rw (← of.setting_is, ← of.base_is, ← of.groups) stands.state in
+    let own = accepts reply (has_room before.groups) (answer (setting_of before.managed) before.managed.state event) taken.answered in
+    subst (λ (s : State). answer setting s event ≡ Ok reply) stood (subst (λ (s : Setting). answer s before.managed.state event ≡ Ok reply) of.setting_is own)
 
 module _ (setting : Setting) where
   -- the rows are the same, and the states of all tasks but one

@@ -7,3 +7,4 @@ pub mod Fronts
 pub mod Adding
 pub mod Rises
 pub mod Picking
+pub mod Appending

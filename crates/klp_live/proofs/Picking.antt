@@ -1,5 +1,5 @@
 -- What a table answers is what the machine picks.
-use Rattle.std.proofs.Common.{◌≡◌, ℕ, ℤ, zero, suc, ◌+◌, ◌&&◌, ◌<◌, Bool, true, false, List, [], ◌∷◌, ◌++◌, length, reverse, Option, Some, None, is_some, option_map, unwrap_or, slice_get, refl, sym, ap, subst, ◌∙◌, arith, if◌then◌else◌}
+use Rattle.std.proofs.Common.{◌≡◌, ℕ, ℤ, zero, suc, ◌&&◌, ◌<◌, Bool, true, false, List, [], ◌∷◌, ◌++◌, length, reverse, Option, Some, None, is_some, option_map, unwrap_or, slice_get, refl, sym, ap, subst, ◌∙◌, arith, if◌then◌else◌}
 use Rattle.std.specs.List.{list_any}
 use Rattle.std.specs.Result.{result_ok}
 use Rattle.klp_types.specs.declared.task.Task.{Task}
@@ -9,11 +9,11 @@ use Rattle.klp_types.specs.declared.version.Transition.{Transition}
 use Rattle.klp_types.specs.declared.version.Version.{Version}
 use Rattle.klp_types.specs.declared.version.Version.TheVariants.{Original}
 use Rattle.klp_types.specs.Entries.{patches_site, entry_of, entries_from}
-use Rattle.klp_types.specs.Image.{Symbol, symbols_of, symbol_of, object_of}
+use Rattle.klp_types.specs.Image.{symbols_of, symbol_of, object_of}
 use Rattle.klp_types.specs.Pick.{moves, is_unpatched, entries_for, version_of, newest_version, address_of, target_of}
 use Rattle.klp_types.specs.Setting.{Setting, Function, functions_of, function_for, is_at, replaces}
 use Rattle.klp_model.specs.Entries.{is_object_loaded, is_site_loaded, entries_of}
-use Rattle.klp_model.specs.Pick.{pick, pick_by, pick_in}
+use Rattle.klp_model.specs.Pick.{pick, pick_by}
 use Rattle.klp_model.specs.State.{State, installed_patches}
 use Rattle.klp_model.specs.Task.{task_at}
 use Rattle.klp_model.proofs.PickLemmas.{site_inside}

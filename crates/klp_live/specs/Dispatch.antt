@@ -66,3 +66,7 @@ abbrev pub LeadsOn : Setting → State → Option ℕ → Event → Change → T
 LeadsOn setting state moving event change =
     (before : State) (table : Table) → moving_patch before.moving ≡ moving → state ≡ next setting before event → IsDispatch setting before table
     → IsDispatch setting state (changed table change)
+
+-- a change that makes of the table of this state that of the state after the event
+abbrev pub IsStep : Setting → State → Event → Change → Type 0
+IsStep setting state event change = (table : Table) → IsDispatch setting state table → IsDispatch setting (next setting state event) (changed table change)

@@ -5,6 +5,7 @@ pub mod Rules
 pub mod Shown
 pub mod Seats
 pub mod Admitting
+pub mod Publishing
 pub mod Boards
 pub mod Entering
 pub mod Opening

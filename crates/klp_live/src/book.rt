@@ -1,58 +1,50 @@
 //! The book: the manager with what it publishes.
-ghost use Rattle.std.specs.Prelude.{◌≡◌, ◌≤◌, [], ◌∷◌, None, length, MatchResult, IfSome, IfNone};
-ghost use Rattle.klp_types.specs.declared.limits.TheConstants.{MAX_SITES};
-ghost use Rattle.klp_text.specs.TextImage.{site_count};
+ghost use Rattle.std.specs.Prelude.{◌≡◌, ◌<◌, ◌≤◌, ◌^◌, length, Ok, Err, MatchResult, MatchOption};
 ghost use Rattle.klp_model.specs.Legal.{IsLegal, state_after_history};
 ghost use Rattle.klp_model.specs.Rows.{moving_patch};
-ghost use Rattle.klp_model.specs.Run.{next};
+ghost use Rattle.klp_model.specs.Run.{answer, next};
 ghost use Rattle.klp_manager_state.specs.Managed.{setting_of};
-ghost use Rattle.klp_live.specs.Dispatch.{IsDispatch, changed};
-ghost use Rattle.klp_live.specs.Admitting.{IsAdmitted, IsManagerOf, IsRefused, IsShown};
+ghost use Rattle.klp_core.specs.Taking.{IsTaken};
+ghost use Rattle.klp_core.specs.Rewinding.{IsRewound};
+ghost use Rattle.klp_live.specs.Admitting.{IsAdmitted, IsManagerOf, IsRefused};
+ghost use Rattle.klp_live.specs.Publishing.{IsPublished};
 
-use crate::board::Board;
 use crate::change::change_after;
-use crate::history::{Front, Head, Start, extended, must_cover};
-use crate::published::{News, Published, View};
+use crate::history::Start;
+use crate::law::{Row, row};
+use crate::published::{Published, View};
+use crate::publisher::Publisher;
 use crate::refusal::LiveRefusal;
 use crate::seat::{Receipt, Seat};
-use crate::table::Change;
 use crossbeam_utils::rule::Protocol;
 use klp_core::Machine;
-use klp_model::Event;
+use klp_model::{Event, Refusal};
 use klp_types::PatchId;
 use std::alloc::Global;
 use std::marker::Model;
-use std::sync::{Wait, ledger};
+use std::sync::Wait;
 
 /// The manager with its history and what is published of it. Who has it alone can have events accepted, so it
 /// belongs under a lock, or in one thread. When it goes it waits, by the handle that it keeps, until no seat reads.
 #[derive(Drop)]
 pub struct Book<S: Start + Protocol<Published, View>, M: Machine + Drop, R: Wait + Drop> {
     pub(crate) machine: M,
-    pub(crate) board: Board<S, R>,
-    pub(crate) head: Head<S>,
-    pub(crate) front: Front<S>,
-    pub(crate) total: ledger::Book<S>,
+    pub(crate) publisher: Publisher<S, R>,
 }
 
 impl<S: Start + Protocol<Published, View>, M: Machine + Drop, R: Wait + Drop> Model
     for Book<S, M, R> {
-    ghost use Rattle.std.specs.Prelude.{◌≡◌, length};
     ghost use Rattle.std.specs.Coded.{codes};
     ghost use Rattle.klp_world.specs.Coded.{world_code};
-    ghost use Rattle.klp_live.specs.Admitting.{Booked, IsManagerOf, IsShown};
-    ghost use Rattle.klp_live.specs.Shown.{RuleIs};
+    ghost use Rattle.klp_live.specs.Admitting.{Booked, IsManagerOf};
 
     ghost Value = { Booked };
 
     ghost coded = { Prim.hlevel (codes, world_code) };
 
-    ghost view = { λ b. record { list = b.front; manager = M.journaled b.machine } };
+    ghost view = { λ b. record { list = b.publisher; manager = M.journaled b.machine } };
 
-    ghost invariant = { λ b. IsManagerOf S.setting S.base (M.journaled b.machine) b.front
-        × IsShown S.setting S.base S.book b.board b.front
-        × (b.total.total ≡ length b.front)
-        × RuleIs S.holds S.first S.setting S.base S.book };
+    ghost invariant = { λ b. IsManagerOf S.setting S.base (M.journaled b.machine) b.publisher };
 }
 
 impl<S: Start + Protocol<Published, View>, M: Machine + Drop, R: Wait + Drop> Book<S, M, R> {
@@ -61,7 +53,7 @@ impl<S: Start + Protocol<Published, View>, M: Machine + Drop, R: Wait + Drop> Bo
         ensures rows { result ≡ length self.now.list }
         ensures legal { IsLegal S.setting S.base self.now.list }
     {
-        self.front.len()
+        self.publisher.front().len()
     }
 
     /// The manager, for looks: only `admit` changes it, so that what it is and what is published are one.
@@ -86,72 +78,78 @@ impl<S: Start + Protocol<Published, View>, M: Machine + Drop, R: Wait + Drop> Bo
             (λ told. IsAdmitted S.setting S.base event self.old self.new seat.old seat.new told)
             (λ fault. IsRefused S.setting S.base event self.old self.new seat.old seat.new fault) }
     {
-        must_cover(rt, &self.front, &seat.front);
+        self.publisher.must_cover(rt, seat);
         let mark = self.machine.mark();
         let moving = self.machine.in_transition();
-        match self.machine.apply(event) {
+        match accept(&mut self.machine, event) {
             Err(refusal) => {
-                seat.front = self.front.again();
+                self.publisher.tell(seat);
                 Err(LiveRefusal::Refused(refusal))
             }
-            Ok(reply) => {
-                let _standing = self.machine.mark();
-                let Some(change) = prepare(
-                    alloc,
-                    &self.machine,
-                    &mut self.board,
-                    &self.front,
-                    &event,
-                    moving,
-                ) else {
-                    let _ = self.machine.rewind(mark);
-                    return Err(LiveRefusal::NoMemory);
-                };
-                let front = extended(rt, &self.head, &self.front, &event, &reply);
-                let _rows = front.len();
-                self.board.announce(rt, news(change, &front));
-                self.total.add(&mut seat.share, 1);
-                seat.front = front.again();
-                self.front = front.again();
-                Ok(Receipt::new(event, reply, front))
-            }
+            Ok(row) => match publish(
+                rt,
+                alloc,
+                &self.machine,
+                &mut self.publisher,
+                seat,
+                &row,
+                moving,
+            ) {
+                Some(receipt) => Ok(receipt),
+                None => {
+                    take_back(&mut self.machine, mark);
+                    Err(LiveRefusal::NoMemory)
+                }
+            },
         }
     }
 }
 
-/// What an event that was just taken changes of the table, with room for it on the board.
-fn prepare<S: Start + Protocol<Published, View>, M: Machine, R: Wait + Drop>(
-    alloc: Global,
-    machine: &M,
-    board: &mut Board<S, R>,
-    front: &Front<S>,
-    event: &Event,
-    moving: Option<PatchId>,
-) -> Option<Change>
-    requires shown { IsShown S.setting S.base S.book board.old front.now }
-    requires setting { setting_of (M.journaled machine.now).managed ≡ S.setting }
-    requires state { (M.journaled machine.now).managed.state
-        ≡ next S.setting (state_after_history S.setting S.base front.now) event.now }
-    requires moving { moving ≡ moving_patch (state_after_history S.setting S.base front.now).moving }
-    ensures change { IfSome result (λ change. IsDispatch S.setting (M.journaled machine.now).managed.state
-        (changed board.old.value.table change)) }
-    ensures room { IfSome result (λ _. board.new ≡ record board.old { pending = None ∷ [] }) }
-    ensures none { IfNone result (board.new ≡ board.old) }
+/// Has the machine take an event, and makes its row.
+fn accept<M: Machine>(machine: &mut M, event: Event) -> Result<Row, Refusal>
+    ensures taken { MatchResult result
+        (λ row. (row.0 ≡ event) × IsTaken (M.journaled machine.old) (M.journaled machine.new) event (Ok row.1))
+        (λ refusal. IsTaken (M.journaled machine.old) (M.journaled machine.new) event (Err refusal)) }
+    ensures setting { setting_of (M.journaled machine.new).managed ≡ setting_of (M.journaled machine.old).managed }
 {
-    let change = change_after(alloc, machine, event, moving).ok()?;
-    if board.reserve() { Some(change) } else { None }
+    let _standing = machine.mark();
+    match machine.apply(event) {
+        Ok(reply) => Ok(row(&event, &reply)),
+        Err(refusal) => Err(refusal),
+    }
 }
 
-/// The row that was just added, with what it changes.
-fn news<S: Start>(change: Change, front: &Front<S>) -> News
-    ensures change { result.change ≡ change }
-    ensures rows { result.rows ≡ length front.now }
-    ensures log { result.seen.log ≡ front.now }
-    ensures book { result.seen.book ≡ S.book }
+/// Publishes the row of an event that was just taken, where there is memory for what it changes of the table.
+fn publish<S: Start + Protocol<Published, View>, M: Machine, R: Wait + Drop, W: Wait>(
+    rt: &W,
+    alloc: Global,
+    machine: &M,
+    publisher: &mut Publisher<S, R>,
+    seat: &mut Seat<S>,
+    row: &Row,
+    moving: Option<PatchId>,
+) -> Option<Receipt<S>>
+    requires room { length publisher.old < 2 ^ 62 }
+    requires answered { answer S.setting (state_after_history S.setting S.base publisher.old) row.now.0 ≡ Ok row.now.1 }
+    requires setting { setting_of (M.journaled machine.now).managed ≡ S.setting }
+    requires state { (M.journaled machine.now).managed.state
+        ≡ next S.setting (state_after_history S.setting S.base publisher.old) row.now.0 }
+    requires moving { moving ≡ moving_patch (state_after_history S.setting S.base publisher.old).moving }
+    ensures { MatchOption result
+        ((publisher.new ≡ publisher.old) × (seat.new ≡ seat.old))
+        (λ told. IsPublished S.setting S.base row.now publisher.old publisher.new seat.old seat.new told) }
 {
-    News {
-        change,
-        rows: front.rows,
-        seen: front.seen.again(),
+    match change_after(alloc, machine, &row.0, moving) {
+        Ok(change) => publisher.publish(rt, seat, row, change),
+        Err(_) => None,
     }
+}
+
+/// Takes back what was taken since this mark.
+fn take_back<M: Machine>(machine: &mut M, mark: u32)
+    requires { mark ≤ length (M.journaled machine.old).groups }
+    ensures { IsRewound (M.journaled machine.old) (M.journaled machine.new) mark }
+{
+    let _standing = machine.mark();
+    let _ = machine.rewind(mark);
 }

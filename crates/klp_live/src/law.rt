@@ -1,9 +1,18 @@
 //! The rule of the history.
+ghost use Rattle.std.specs.Prelude.{◌≡◌};
+
 use klp_model::{Event, Reply};
 use logbook::{Gain, Plain, Play, Rule};
 
 /// An accepted event with its reply.
 pub type Row = (Event, Reply);
+
+/// The row of an event that was answered so.
+pub fn row(event: &Event, reply: &Reply) -> Row
+    ensures { result ≡ (event.now, reply.now) }
+{
+    (*event, *reply)
+}
 
 /// The rule of the history: its word is its length.
 pub struct Law;

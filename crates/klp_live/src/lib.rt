@@ -5,8 +5,8 @@
 //! model of a book has what always holds of it: its manager's journal is the list of what was accepted, and what is
 //! published is the dispatch table (`specs/Dispatch`) of that list (`specs/Shown`).
 //!
-//! `history` has the list, `published`, `rules` and `board` how a table is published, `change` what an event changes of
-//! one, `target` what a call finds in one. docs/THREADS.md has all of it in words.
+//! `history` has the list, `publisher`, `published`, `rules` and `board` how a table is published, `change` what an event
+//! changes of one, `target` what a call finds in one. docs/THREADS.md has all of it in words.
 #![tactic(auto)]
 
 mod board;
@@ -18,6 +18,7 @@ mod live;
 mod opening;
 mod pass;
 mod published;
+mod publisher;
 mod refusal;
 mod rules;
 mod seat;

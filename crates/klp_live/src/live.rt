@@ -184,8 +184,8 @@ fn closed<S: Start + Protocol<Published, View>, M: Machine + Drop, R: Wait + Dro
     ensures { IsClosed S.setting S.base (M.journaled result) seats.items }
 {
     let mut book = book;
-    let mut all = shares_of(rt, &book.front, seats);
-    book.total.audit(&mut all);
+    let mut all = shares_of(rt, book.publisher.front(), seats);
+    book.publisher.audit(&mut all);
     let _rows = book.rows();
     book.end()
 }

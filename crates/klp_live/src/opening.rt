@@ -14,6 +14,7 @@ use crate::change::change_of;
 use crate::history::{Front, Opened, Start};
 use crate::law::{Law, Row};
 use crate::published::{Published, View};
+use crate::publisher::Publisher;
 use crate::rules::{Adopt, Same, Sees};
 use crate::seat::Seat;
 use crate::table::{Change, Table};
@@ -195,10 +196,7 @@ impl<S: Start + Protocol<Published, View>, M: Machine + Drop, R: Wait + Drop> Bo
             Ok(seats) => Ok((
                 Book {
                     machine,
-                    board: Board::over(changes, rt),
-                    head,
-                    front,
-                    total,
+                    publisher: Publisher::new(Board::over(changes, rt), head, front, total),
                 },
                 seats,
             )),
@@ -212,10 +210,7 @@ impl<S: Start + Protocol<Published, View>, M: Machine + Drop, R: Wait + Drop> Bo
     {
         let Book {
             machine,
-            board: _board,
-            head: _head,
-            front: _front,
-            total: _total,
+            publisher: _publisher,
         } = self;
         machine
     }

@@ -1,5 +1,5 @@
 //! What a thread that runs a task does.
-ghost use Rattle.std.specs.Prelude.{◌≡◌, ◌⊎◌, MatchOption, IfSome, IfNone};
+ghost use Rattle.std.specs.Prelude.{◌≡◌, ◌⊎◌, Err, IfSome};
 ghost use mathlib.Core.List.{IsPrefix};
 ghost use Rattle.klp_model.specs.Legal.{IsLegal};
 ghost use Rattle.left_right.specs.Sides.{view as seen_by};
@@ -79,6 +79,18 @@ fn front_of<S: Start>(shown: &Published) -> Front<S>
     }
 }
 
+/// Takes an answer that isn't older than what is known, and knows its rows then.
+fn adopt<S: Start>(front: &mut Front<S>, answer: Answer<S>) -> Result<Target, EnterFault>
+    ensures { ((result ≡ Err EnterFault.NoTable) × (front.new ≡ front.old))
+        ⊎ ((result ≡ answer.found) × (front.new ≡ answer.front) × IsPrefix front.old front.new) }
+{
+    if !answer.front.covers(front) {
+        return Err(EnterFault::NoTable);
+    }
+    *front = answer.front.again();
+    answer.found
+}
+
 impl<S: Start + Protocol<Published, View>> Seat<S> {
     /// What a call of the task at the site runs, by the table that is published: two looks and the steps of
     /// `left_right`, without a lock or memory, and it never waits. The seat then knows the rows of that table.
@@ -88,14 +100,10 @@ impl<S: Start + Protocol<Published, View>> Seat<S> {
         let answer = core::mem::replace_with(&mut self.reader, (task, site), |reader, call| {
             look::<S>(reader, call.0, call.1)
         });
-        let Some(answer) = answer else {
-            return Err(EnterFault::NoTable);
-        };
-        if !answer.front.covers(&self.front) {
-            return Err(EnterFault::NoTable);
+        match answer {
+            Some(answer) => adopt(&mut self.front, answer),
+            None => Err(EnterFault::NoTable),
         }
-        self.front = answer.front.again();
-        answer.found
     }
 }
 

@@ -6,6 +6,7 @@ ghost use Rattle.klp_live.specs.Seats.{IsLast};
 
 use crate::board::Place;
 use crate::history::{Front, Start};
+use crate::law::Row;
 use crate::published::{Published, View};
 use crossbeam_utils::rule::Protocol;
 use klp_model::{Event, Reply};
@@ -80,17 +81,18 @@ impl<S: Start> Model for Receipt<S> {
 
 impl<S: Start> Receipt<S> {
     /// The receipt of the last row.
-    pub(crate) fn new(event: Event, reply: Reply, front: Front<S>) -> Receipt<S>
-        requires { IsLast front event reply }
-        ensures { result ≡ record { number = length front; event = event; reply = reply; list = front } }
+    pub(crate) fn new(row: &Row, front: Front<S>) -> Receipt<S>
+        requires { IsLast front row.now.0 row.now.1 }
+        ensures { result ≡ record { number = length front; event = row.now.0; reply = row.now.1; list = front } }
     {
         Receipt {
             number: front.len(),
-            event,
-            reply,
+            event: row.0,
+            reply: row.1,
             front,
         }
     }
+
     /// The number of its row, counted from 1.
     pub fn number(&self) -> u64
         ensures number { result ≡ self.now.number }

@@ -3,11 +3,12 @@
 //!
 //! It prints what two seats were told, and the same where one allocation of the book is refused
 //! (`rt try --fail-alloc N`): the refused call is made again, over what it left. With a number as its word it tells what
-//! an event costs, the best of so many rounds (docs/PERFORMANCE.md).
+//! an event and an entry cost, the best of so many rounds (docs/PERFORMANCE.md).
 #![tactic(auto)]
 
 mod booted;
 mod desk;
+mod entries;
 mod measure;
 mod passes;
 mod shows;
@@ -21,12 +22,17 @@ use std::alloc::Global;
 use std::env;
 use std::rt::Clock;
 use std::sync::Wait;
+use std::thread::Threads;
 
 /// Measures so many rounds over a large catalog.
-fn measured<R: Wait + Clock + Print>(rt: &R, alloc: Global, rounds: u64) -> Result<(), Fault> {
+fn measured<R: Threads + Wait + Clock + Print + Sync>(
+    rt: &R,
+    alloc: Global,
+    rounds: u64,
+) -> Result<(), Fault> {
     let text = large(alloc)?;
-    let fresh = over(alloc, text.as_str().as_bytes())?;
-    measure::run(rt, alloc, fresh, rounds)?;
+    measure::run(rt, alloc, over(alloc, text.as_str().as_bytes())?, rounds)?;
+    entries::run(rt, alloc, over(alloc, text.as_str().as_bytes())?, rounds)?;
     Ok(())
 }
 

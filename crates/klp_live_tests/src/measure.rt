@@ -40,7 +40,7 @@ const NONE: Best = Best {
 };
 
 /// The nanoseconds since a moment.
-fn since<R: Clock>(rt: &R, start: Instant) -> io::Result<u128> {
+pub(crate) fn since<R: Clock>(rt: &R, start: Instant) -> io::Result<u128> {
     Ok(
         Instant::now(rt)?
             .saturating_duration_since(start)
@@ -48,7 +48,7 @@ fn since<R: Clock>(rt: &R, start: Instant) -> io::Result<u128> {
     )
 }
 
-fn apply<M: Machine>(machine: &mut M, event: Event) {
+pub(crate) fn apply<M: Machine>(machine: &mut M, event: Event) {
     let _standing = machine.mark();
     let _ = machine.apply(event);
 }
@@ -78,7 +78,7 @@ fn apply_cycles<M: Machine, R: Clock>(rt: &R, machine: &mut M, best: &mut Best) 
 }
 
 /// Takes back what was applied.
-fn empty<M: Machine>(machine: &mut M)
+pub(crate) fn empty<M: Machine>(machine: &mut M)
     ensures { (M.journaled machine.new).groups ≡ [] }
 {
     let _standing = machine.mark();

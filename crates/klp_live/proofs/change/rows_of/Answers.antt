@@ -1,4 +1,4 @@
-use Rattle.std.proofs.Common.{◌+◌, ◌++◌, arith, ap, sym, ◌∙◌, subst}
+use Rattle.std.proofs.Common.{rules, ◌+◌, ◌++◌, arith, ap, sym, ◌∙◌, subst}
 use Rattle.klp_types.specs.Setting.{functions_of}
 use Rattle.klp_manager_state.specs.Managed.{setting_of}
 use Rattle.klp_live.specs.Listed.{new_row}
@@ -19,3 +19,6 @@ pub returns-clause-all : goal.returns-clause-all
 returns-clause-all g c =
     let m = (g.M.Machine.journaled c.args.machine.now).managed in
     all_listed (setting_of m) m.state c.args.patch c.loop-number.number c.loop-number.rows.items (omega (arith, c.functions-functions.ensures, c.loop-number-test.false)) c.loop-number.invariant
+
+pub loop-number-init : goal.loop-number-init
+loop-number-init g c = search rules

@@ -1,0 +1,15 @@
+-- What publishing a row comes to.
+use Rattle.std.specs.Prelude.{◌≡◌, ◌+◌, [], ◌∷◌, ◌++◌, length}
+use Rattle.klp_types.specs.Setting.{Setting}
+use Rattle.klp_model.specs.State.{State}
+use Rattle.klp_model.specs.declared.event.Event.{Event}
+use Rattle.klp_model.specs.declared.event.Reply.{Reply}
+use Rattle.klp_model.specs.Legal.{History, IsLegal}
+use Rattle.klp_live.specs.Seats.{Knows, Told}
+
+-- the row stands last, with the next number. The seat knows the whole list, and has one event more
+pub record IsPublished (setting : Setting) (base : State) (row : Event × Reply) (old new : History) (before after : Knows) (told : Told) : Type 0 where
+  pub legal : IsLegal setting base new
+  pub list : new ≡ old ++ row ∷ []
+  pub told_is : told ≡ record { number = length old + 1; event = row.0; reply = row.1; list = new }
+  pub knows : after ≡ record { list = new; accepted = before.accepted + 1 }

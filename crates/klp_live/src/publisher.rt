@@ -1,0 +1,168 @@
+//! The publisher: the history of what was accepted, and the board that shows its table.
+ghost use Rattle.std.specs.Prelude.{◌≡◌, ◌<◌, ◌^◌, ◌++◌, ◌∷◌, [], length, Ok, MatchBool, MatchOption};
+ghost use mathlib.Core.List.{IsPrefix};
+ghost use Rattle.klp_model.specs.Legal.{IsLegal, state_after_history};
+ghost use Rattle.klp_model.specs.Run.{answer};
+ghost use Rattle.klp_live.specs.Dispatch.{IsStep};
+ghost use Rattle.klp_live.specs.Admitting.{IsShown};
+ghost use Rattle.klp_live.specs.Publishing.{IsPublished};
+ghost use Rattle.klp_live.specs.Shown.{RuleIs};
+
+use crate::board::Board;
+use crate::history::{Front, Head, Start, extended, must_cover};
+use crate::law::Row;
+use crate::published::{News, Published, View};
+use crate::seat::{Receipt, Seat};
+use crate::table::Change;
+use crossbeam_utils::rule::Protocol;
+use std::marker::Model;
+use std::sync::Wait;
+use std::sync::ledger::{Book as Ledger, Share};
+
+/// The history, which nobody else can add to, with what is published of it and how many events all seats had accepted.
+#[derive(Drop)]
+pub struct Publisher<S: Start + Protocol<Published, View>, R: Wait + Drop> {
+    pub(crate) board: Board<S, R>,
+    pub(crate) head: Head<S>,
+    pub(crate) front: Front<S>,
+    pub(crate) total: Ledger<S>,
+}
+
+impl<S: Start + Protocol<Published, View>, R: Wait + Drop> Model for Publisher<S, R> {
+    ghost use Rattle.std.specs.Prelude.{◌≡◌, length};
+    ghost use Rattle.klp_model.specs.Legal.{History};
+    ghost use Rattle.klp_live.specs.Admitting.{IsShown};
+    ghost use Rattle.klp_live.specs.Shown.{RuleIs};
+
+    ghost Value = { History };
+
+    ghost view = { λ p. p.front };
+
+    ghost invariant = { λ p. IsShown S.setting S.base S.book p.board p.front
+        × (p.total.total ≡ length p.front)
+        × RuleIs S.holds S.first S.setting S.base S.book };
+}
+
+/// The row that was just added, with what it changes.
+fn news<S: Start>(change: Change, front: &Front<S>) -> News
+    ensures change { result.change ≡ change }
+    ensures rows { result.rows ≡ length front.now }
+    ensures log { result.seen.log ≡ front.now }
+    ensures book { result.seen.book ≡ S.book }
+{
+    News {
+        change,
+        rows: front.rows,
+        seen: front.seen.again(),
+    }
+}
+
+/// Appends a row and shows it, where there is room for it, and says whether it did.
+fn append<S: Start + Protocol<Published, View>, R: Wait + Drop, W: Wait>(
+    rt: &W,
+    board: &mut Board<S, R>,
+    head: &Head<S>,
+    front: &mut Front<S>,
+    row: &Row,
+    change: Change,
+) -> bool
+    requires rule { RuleIs S.holds S.first S.setting S.base S.book }
+    requires shown { IsShown S.setting S.base S.book board.old front.old }
+    requires room { length front.old < 2 ^ 62 }
+    requires answered { answer S.setting (state_after_history S.setting S.base front.old) row.now.0 ≡ Ok row.now.1 }
+    requires change { IsStep S.setting (state_after_history S.setting S.base front.old) row.now.0 change }
+    ensures front { MatchBool result (front.new ≡ front.old ++ row.now ∷ []) (front.new ≡ front.old) }
+    ensures shown { IsShown S.setting S.base S.book board.new front.new }
+{
+    if !board.reserve() {
+        return false;
+    }
+    let next = extended(rt, head, front, &row.0, &row.1);
+    board.announce(rt, news(change, &next));
+    *front = next;
+    true
+}
+
+impl<S: Start + Protocol<Published, View>, R: Wait + Drop> Publisher<S, R> {
+    /// The publisher of a history that the board shows.
+    pub fn new(
+        board: Board<S, R>,
+        head: Head<S>,
+        front: Front<S>,
+        total: Ledger<S>,
+    ) -> Publisher<S, R>
+        requires shown { IsShown S.setting S.base S.book board front }
+        requires counted { total.total ≡ length front }
+        requires rule { RuleIs S.holds S.first S.setting S.base S.book }
+        ensures { result ≡ front }
+    {
+        Publisher {
+            board,
+            head,
+            front,
+            total,
+        }
+    }
+
+    /// The history.
+    pub fn front(&self) -> &Front<S>
+        ensures front { result.now ≡ self.now }
+    {
+        &self.front
+    }
+
+    /// The seat knows a beginning of the history: returns only then.
+    pub fn must_cover<W: Wait>(&self, rt: &W, seat: &Seat<S>)
+        ensures { IsPrefix seat.now.list self.now }
+    {
+        must_cover(rt, &self.front, &seat.front);
+    }
+
+    /// The seat then knows all of the history.
+    pub fn tell(&self, seat: &mut Seat<S>)
+        ensures { seat.new ≡ record { list = self.now; accepted = seat.old.accepted } }
+    {
+        seat.front = self.front.again();
+    }
+
+    /// Appends the row of an event that was accepted, publishes it, and counts it for the seat, which is told of it.
+    /// Where there is no memory for that, nothing has changed.
+    pub fn publish<W: Wait>(
+        &mut self,
+        rt: &W,
+        seat: &mut Seat<S>,
+        row: &Row,
+        change: Change,
+    ) -> Option<Receipt<S>>
+        requires room { length self.old < 2 ^ 62 }
+        requires answered { answer S.setting (state_after_history S.setting S.base self.old) row.now.0 ≡ Ok row.now.1 }
+        requires change { IsStep S.setting (state_after_history S.setting S.base self.old) row.now.0 change }
+        ensures { MatchOption result
+            ((self.new ≡ self.old) × (seat.new ≡ seat.old))
+            (λ told. IsPublished S.setting S.base row.now self.old self.new seat.old seat.new told) }
+    {
+        if !append(
+            rt,
+            &mut self.board,
+            &self.head,
+            &mut self.front,
+            row,
+            change,
+        ) {
+            return None;
+        }
+        self.total.add(&mut seat.share, 1);
+        self.tell(seat);
+        Some(Receipt::new(row, self.front.again()))
+    }
+
+    /// Once all shares are in one, it is seen that they come to as many events as the history has.
+    pub fn audit(&mut self, all: &mut Share<S>)
+        requires { all.old.parts ≡ S.parts }
+        ensures history { self.new ≡ self.old }
+        ensures whole { all.new.amount ≡ length self.old }
+        ensures same { all.new.amount ≡ all.old.amount }
+    {
+        self.total.audit(all);
+    }
+}
