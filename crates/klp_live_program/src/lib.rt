@@ -1,0 +1,8 @@
+//! Two task threads over a catalog: the steps of each are read out of one text (`src/step_lines.rt`).
+#![tactic(auto)]
+
+mod fault;
+mod step_lines;
+
+pub use fault::{ReadFault, StepsFault, StepsFaultKind};
+pub use step_lines::{MAX_STEPS, Steps, steps_of};
