@@ -1,5 +1,5 @@
 -- Each ledger is that of its blank.
-use Rattle.klp_hostile_tests.proofs.input.serve_input.Given as goal
+use Rattle.klp_tests.proofs.input.serve_input.Given as goal
 
 abbrev pub ghosts-serve_over-L-Ledger : goal.ghosts-serve_over-L-Ledger
 ghosts-serve_over-L-Ledger g a = record { name = a.for_reads.name; parts = a.for_reads.parts }

@@ -1,5 +1,5 @@
 -- Each ledger is that of its blank.
-use Rattle.klp_hostile_tests.proofs.console.serve_script.Given as goal
+use Rattle.klp_tests.proofs.console.serve_script.Given as goal
 
 abbrev pub ghosts-serve_in_memory-L-Ledger : goal.ghosts-serve_in_memory-L-Ledger
 ghosts-serve_in_memory-L-Ledger a = record { name = a.for_reads.name; parts = a.for_reads.parts }
