@@ -2,7 +2,10 @@
 #![tactic(auto)]
 
 mod fault;
+mod race;
+mod running;
 mod step_lines;
 
-pub use fault::{ReadFault, StepsFault, StepsFaultKind};
+pub use fault::{LiveFault, ReadFault, StepsFault, StepsFaultKind};
+pub use running::live;
 pub use step_lines::{MAX_STEPS, Steps, steps_of};
