@@ -10,6 +10,13 @@ use std::io::Write;
 /// The name that the program gives itself.
 const NAME: &str = "klpsim";
 
+/// The word for two task threads, and the names of what is given.
+const LIVE: &str = "live";
+
+const CATALOG: &str = "CATALOG";
+
+const STEPS: &str = "STEPS";
+
 /// The status of words that are refused.
 const USAGE: u8 = 2;
 
@@ -17,27 +24,51 @@ const USAGE: u8 = 2;
 const FAULT: u8 = 1;
 
 fn command<'a>(alloc: Global) -> Result<Command<'a>, AllocError> {
-    let console = Command::new(alloc, "console").arg(Arg::new(alloc, "CATALOG"))?;
-    Command::new(alloc, "klpsim")
+    let console = Command::new(alloc, "console").arg(Arg::new(alloc, CATALOG))?;
+    let live = Command::new(alloc, LIVE)
+        .arg(Arg::new(alloc, CATALOG).required(true))?
+        .arg(Arg::new(alloc, STEPS).required(true))?;
+    Command::new(alloc, NAME)
         .no_binary_name(true)
-        .subcommand(console)
+        .subcommand(console)?
+        .subcommand(live)
+}
+
+// The path that is given under this name.
+fn path_of(
+    alloc: Global,
+    matches: &ArgMatches<'_>,
+    name: &str,
+) -> Result<Option<String>, AllocError> {
+    match matches.get_str(name) {
+        Some(path) => Ok(Some(String::from_str(alloc, path)?)),
+        None => Ok(None),
+    }
 }
 
 // What words ask for that were read.
-fn asked(alloc: Global, matches: &ArgMatches<'_>) -> Result<Words, AllocError> {
-    let Some((_, console)) = matches.subcommand() else {
-        return Ok(Words::Console(None));
+fn asked(alloc: Global, matches: &ArgMatches<'_>) -> Result<Option<Words>, AllocError> {
+    let Some((name, given)) = matches.subcommand() else {
+        return Ok(Some(Words::Console(None)));
     };
-    match console.get_str("CATALOG") {
-        Some(path) => Ok(Words::Console(Some(String::from_str(alloc, path)?))),
-        None => Ok(Words::Console(None)),
+    let catalog = path_of(alloc, given, CATALOG)?;
+    if name != LIVE {
+        return Ok(Some(Words::Console(catalog)));
+    }
+    match (catalog, path_of(alloc, given, STEPS)?) {
+        (Some(catalog), Some(steps)) => Ok(Some(Words::Live(catalog, steps))),
+        _ => Ok(None),
     }
 }
 
 fn parsed(alloc: Global, given: &[String]) -> Result<Words, Option<Fault>> {
     let command = command(alloc).map_err(|_| Some(Fault::NoMemory))?;
     match command.try_get_matches_from(given) {
-        Ok(matches) => asked(alloc, &matches).map_err(|_| Some(Fault::NoMemory)),
+        Ok(matches) => match asked(alloc, &matches) {
+            Ok(Some(words)) => Ok(words),
+            Ok(None) => Err(None),
+            Err(_) => Err(Some(Fault::NoMemory)),
+        },
         Err(error) if error.kind() == ErrorKind::OutOfMemory => Err(Some(Fault::NoMemory)),
         Err(_) => Err(None),
     }

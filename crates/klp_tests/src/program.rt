@@ -5,15 +5,26 @@ use std::alloc::{AllocError, Global};
 use std::io;
 use std::io::{Read, Write};
 
-/// Words, and the catalog that they name, or the status.
-type Case = (&'static [&'static str], Result<Option<&'static str>, u8>);
+/// The files that words name, in their order, or the status.
+type Asked<'a> = Result<(&'static str, Option<&'a str>, Option<&'a str>), u8>;
 
-const CASES: [Case; 15] = [
-    (&[], Ok(None)),
-    (&["console"], Ok(None)),
-    (&["console", "fix.catalog"], Ok(Some("fix.catalog"))),
-    (&["console", "-"], Ok(Some("-"))),
-    (&["console", "--", "-x"], Ok(Some("-x"))),
+/// Words, and what they ask for.
+type Case = (&'static [&'static str], Asked<'static>);
+
+const CASES: [Case; 21] = [
+    (&[], Ok(("console", None, None))),
+    (&["console"], Ok(("console", None, None))),
+    (
+        &["console", "fix.catalog"],
+        Ok(("console", Some("fix.catalog"), None)),
+    ),
+    (&["console", "-"], Ok(("console", Some("-"), None))),
+    (&["console", "--", "-x"], Ok(("console", Some("-x"), None))),
+    (
+        &["live", "fix.catalog", "steps"],
+        Ok(("live", Some("fix.catalog"), Some("steps"))),
+    ),
+    (&["live", "-", "-"], Ok(("live", Some("-"), Some("-")))),
     (&["--help"], Err(2)),
     (&["-h"], Err(2)),
     (&["help"], Err(2)),
@@ -23,7 +34,11 @@ const CASES: [Case; 15] = [
     (&["console", "fix.catalog", "more"], Err(2)),
     (&["console", "--help"], Err(2)),
     (&["console", "-x"], Err(2)),
-    (&["live", "fix.catalog", "steps"], Err(2)),
+    (&["live"], Err(2)),
+    (&["live", "fix.catalog"], Err(2)),
+    (&["live", "fix.catalog", "steps", "more"], Err(2)),
+    (&["live", "fix.catalog", "-x"], Err(2)),
+    (&["live", "--help"], Err(2)),
 ];
 
 fn strings(alloc: Global, given: &[&str]) -> Result<Vec<String>, AllocError> {
@@ -34,18 +49,21 @@ fn strings(alloc: Global, given: &[&str]) -> Result<Vec<String>, AllocError> {
     Ok(strings)
 }
 
+fn asked(words: &Words) -> (&'static str, Option<&str>, Option<&str>) {
+    match words {
+        Words::Console(Some(catalog)) => ("console", Some(catalog.as_str()), None),
+        Words::Console(None) => ("console", None, None),
+        Words::Live(catalog, steps) => ("live", Some(catalog.as_str()), Some(steps.as_str())),
+    }
+}
+
 /// Whether these words are answered so. Where they are refused, and only then, a line says so.
-fn is_answer(
-    alloc: Global,
-    given: &[&str],
-    wanted: Result<Option<&str>, u8>,
-) -> Result<bool, AllocError> {
+fn is_answer(alloc: Global, given: &[&str], wanted: Asked<'_>) -> Result<bool, AllocError> {
     let given = strings(alloc, given)?;
     let mut err = Vec::new(alloc);
     let answer = words(alloc, &given, &mut err);
     let told = match &answer {
-        Ok(Words::Console(Some(path))) => Ok(Some(path.as_str())),
-        Ok(Words::Console(None)) => Ok(None),
+        Ok(words) => Ok(asked(words)),
         Err(status) => Err(*status),
     };
     let printed = if wanted.is_ok() {
@@ -57,7 +75,7 @@ fn is_answer(
 }
 
 #[test]
-fn words_name_a_catalog_or_none_or_are_refused(rt: HostRuntime) {
+fn words_name_files_or_none_or_are_refused(rt: HostRuntime) {
     for (number, (given, wanted)) in CASES.iter().enumerate() {
         let told = is_answer(rt.alloc(), given, *wanted);
         assert!(rt; told == Ok(true), "case {number}");

@@ -91,7 +91,7 @@ pub fn opened(alloc: Global, plan: &mut Plan) -> Result<(Image, Modules), Fault>
 }
 
 /// Boots a manager over a plan with these callbacks, as many as they may be.
-fn booted(alloc: Global, mut plan: Plan, callbacks: Vec<Boxed>) -> Result<Manager, Fault>
+pub fn booted(alloc: Global, mut plan: Plan, callbacks: Vec<Boxed>) -> Result<Manager, Fault>
     requires { AreTargetsWithin (length plan.objects) plan.patches }
 {
     let (image, modules) = opened(alloc, &mut plan)?;

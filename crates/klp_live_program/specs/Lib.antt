@@ -1,0 +1,4 @@
+pub mod Living
+pub mod Racing
+pub mod Reading
+pub mod Steps

@@ -1,0 +1,58 @@
+-- What the steps of two tasks come to over a catalog's text.
+use Rattle.std.specs.Prelude.{◌≡◌, ℕ, List, length, Result, Ok, Err}
+use Rattle.std.specs.Str.Lines.{lines}
+use Rattle.klp_catalog_text.specs.Plan.{Plan}
+use Rattle.klp_catalog_text.specs.Text.{plan_of, IsFaultOf}
+use Rattle.klp_core.specs.Journaled.{Journaled}
+use Rattle.klp_program.specs.declared.fault.Fault.{Fault}
+use Rattle.klp_program.specs.declared.fault.Fault.TheVariants.{Text, Serve}
+use Rattle.klp_program.specs.Booted.{IsBootedOver, IsBootFault}
+use Rattle.klp_bodies.specs.declared.step.Step.{Step}
+use Rattle.klp_live_program.specs.declared.race.Done.{Done}
+use Rattle.klp_live_program.specs.declared.fault.ReadFault.{ReadFault}
+use Rattle.klp_live_program.specs.declared.fault.ReadFault.TheVariants.{NoMemory as NoneForSteps, Steps as OfLine}
+use Rattle.klp_live_program.specs.declared.fault.LiveFault.{LiveFault}
+use Rattle.klp_live_program.specs.declared.fault.LiveFault.TheVariants.{Program, Steps, NoMemory, NoPlace, Held}
+use Rattle.klp_live_program.specs.Steps.{AreSteps, IsFirstFault}
+
+-- all steps of the text are done, each by its task
+pub record HasDone (booted : Journaled) (text : List ℕ) (done : Done) : Type 0 where
+  pub first : List Step
+  pub second : List Step
+  pub steps : AreSteps booted (lines text) first second
+  pub first_done : done.first ≡ length first
+  pub second_done : done.second ≡ length second
+
+-- why steps that were read aren't all done and shown: want of memory or of a place, or a failed write
+abbrev pub IsRunFault : LiveFault → Type 0
+IsRunFault (Program (Serve fault)) = Unit {0}
+IsRunFault (Program fault) = ⊥
+IsRunFault (Steps fault) = ⊥
+IsRunFault NoMemory = Unit {0}
+IsRunFault NoPlace = Unit {0}
+IsRunFault Held = Unit {0}
+
+-- why steps aren't read
+abbrev pub read_fault : ReadFault → LiveFault
+read_fault NoneForSteps = NoMemory
+read_fault (OfLine fault) = Steps fault
+
+-- over a manager
+abbrev pub LivesBy : Journaled → List ℕ → Result Done LiveFault → Type 0
+LivesBy booted text (Ok done) = HasDone booted text done
+LivesBy booted text (Err (Steps fault)) = IsFirstFault booted (lines text) fault.line fault.kind
+LivesBy booted text (Err fault) = IsRunFault fault
+
+-- over a plan, of which a manager is booted, or none is
+abbrev pub LivesPlan : Plan → List ℕ → Result Done LiveFault → Type 0
+LivesPlan plan text (Ok done) = (booted : Journaled) × IsBootedOver plan booted × HasDone booted text done
+LivesPlan plan text (Err (Steps fault)) = (booted : Journaled) × IsBootedOver plan booted × IsFirstFault booted (lines text) fault.line fault.kind
+LivesPlan plan text (Err (Program (Serve fault))) = Unit {0}
+LivesPlan plan text (Err (Program fault)) = IsBootFault plan fault
+LivesPlan plan text (Err fault) = Unit {0}
+
+-- over a catalog's text
+abbrev pub Lives : List ℕ → List ℕ → Result Done LiveFault → Type 0
+Lives catalog text (Err (Program (Text fault))) = IsFaultOf catalog fault.line fault.kind
+Lives catalog text (Err NoMemory) = Unit {0}
+Lives catalog text result = (plan : Plan) × (plan_of catalog ≡ Ok plan) × LivesPlan plan text result

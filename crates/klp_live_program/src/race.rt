@@ -1,0 +1,194 @@
+//! Two task threads run their steps over one machine, and all that was accepted is taken back.
+ghost use Rattle.std.specs.Prelude.{◌≡◌, ◌<◌, ◌≤◌, [], length, vec_len, IsSome, IsSomeAnd, IfOk, IfErr};
+ghost use Rattle.klp_types.specs.declared.limits.TheConstants.{MAX_TASKS};
+ghost use Rattle.klp_live.specs.Opening.{IsFresh};
+ghost use Rattle.klp_live.specs.Shown.{RuleIs};
+ghost use Rattle.klp_manager_state.specs.Managed.{setting_of};
+ghost use Rattle.klp_bodies.specs.Jobs.{body_of, steps_of, ended_of, outcomes_of};
+ghost use Rattle.klp_live_program.specs.Racing.{IsBack};
+ghost use Rattle.klp_live_program.specs.Living.{IsRunFault};
+
+use crate::fault::LiveFault;
+use crate::step_lines::{MAX_STEPS, Steps};
+use crossbeam_utils::rule::Protocol;
+use klp_bodies::{BodyCause, Gate, Job, Step, TaskBody, run_two};
+use klp_core::Machine;
+use klp_live::{Live, Opened, Published, Seat, Start, View};
+use klp_types::TaskId;
+use std::alloc::Global;
+use std::marker::Brand;
+use std::sync::Wait;
+use std::sync::ledger::Blank;
+use std::thread::Threads;
+
+/// The tasks that run.
+pub(crate) const FIRST: TaskId = TaskId(1);
+
+pub(crate) const SECOND: TaskId = TaskId(2);
+
+/// A gate that lets everybody in.
+#[derive(Clone, Copy)]
+struct Open;
+
+impl Gate for Open {
+    ghost use Rattle.std.specs.Prelude.{◌≡◌, true};
+
+    ghost answers = { λ _ _ _ is_let_in. is_let_in ≡ true };
+
+    fn before(&self, _task: TaskId, _step: u32) -> bool {
+        true
+    }
+}
+
+/// How many steps of each task are done.
+#[derive(Clone, Copy)]
+pub(crate) struct Done {
+    pub(crate) first: usize,
+    pub(crate) second: usize,
+}
+
+/// The job of a task that takes a seat.
+fn job_of<S: Start + Protocol<Published, View>, M: Machine + Drop, R: Wait + Drop>(
+    alloc: Global,
+    live: &Live<S, M, R>,
+    seat: Seat<S>,
+    task: TaskId,
+    steps: Vec<Step>,
+) -> Job<S, Open>
+    requires there { task < MAX_TASKS }
+    requires few { vec_len steps ≤ MAX_STEPS }
+    ensures body { IsSome (body_of result) }
+    ensures steps { steps_of result ≡ steps.items }
+{
+    match live.attach(seat, task) {
+        Ok(pass) => Job::new(alloc, TaskBody::new(pass, task, Open), steps),
+        Err(_) => unreachable!(),
+    }
+}
+
+/// The seat of a job that has run, and how many of its steps are done: all of them.
+fn ended<S: Start + Protocol<Published, View>>(
+    job: Job<S, Open>,
+) -> Result<(Seat<S>, usize), LiveFault>
+    requires { IsSomeAnd (ended_of job) (λ ended. IfOk ended (λ _. length (outcomes_of job) ≡ length (steps_of job))) }
+    ensures done { IfOk result (λ pair. pair.1 ≡ length (steps_of job)) }
+    ensures fault { IfErr result IsRunFault }
+{
+    let (ended, outcomes) = job.end();
+    match ended {
+        Ok(pass) => Ok((pass.detach(), outcomes.len())),
+        Err(fault) => Err(match fault.cause {
+            BodyCause::Held => LiveFault::Held,
+            BodyCause::NoMemory => LiveFault::NoMemory,
+        }),
+    }
+}
+
+/// Both tasks run their steps, and give their seats back.
+fn run_both<
+    S: Start + Protocol<Published, View> + Send + Sync,
+    M: Machine + Drop + Send,
+    R: Threads + Wait + Sync,
+>(
+    rt: &R,
+    alloc: Global,
+    live: &Live<S, M, &R>,
+    seats: Vec<Seat<S>>,
+    steps: Steps,
+) -> Result<(Vec<Seat<S>>, Done), LiveFault>
+    requires two { vec_len seats ≡ 2 }
+    requires first { vec_len steps.first ≤ MAX_STEPS }
+    requires second { vec_len steps.second ≤ MAX_STEPS }
+    ensures done { IfOk result (λ both. (vec_len both.0 ≡ 2)
+        × (both.1.first ≡ vec_len steps.first) × (both.1.second ≡ vec_len steps.second)) }
+    ensures fault { IfErr result IsRunFault }
+{
+    let mut seats = seats;
+    let (Some(second), Some(first)) = (seats.pop(), seats.pop()) else {
+        unreachable!()
+    };
+    let Steps {
+        first: of_first,
+        second: of_second,
+    } = steps;
+    let mut one = job_of(alloc, live, first, FIRST, of_first);
+    let mut two = job_of(alloc, live, second, SECOND, of_second);
+    run_two(rt, alloc, live, &mut one, &mut two);
+    let (one, first) = ended(one)?;
+    let (two, second) = ended(two)?;
+    seats.push(one)?;
+    seats.push(two)?;
+    Ok((seats, Done { first, second }))
+}
+
+/// Starts, has both tasks run, and ends.
+fn started<
+    S: Start + Protocol<Published, View> + Send + Sync,
+    M: Machine + Drop + Send,
+    R: Threads + Wait + Sync,
+>(
+    rt: &R,
+    alloc: Global,
+    blank: Blank,
+    opened: Opened,
+    machine: M,
+    steps: Steps,
+) -> Result<(M, Done), LiveFault>
+    requires name { blank.name ≡ S.name }
+    requires parts { (blank.parts ≡ S.parts) × (blank.parts ≡ 2) × (S.places ≡ 2) }
+    requires book { opened.seen.book ≡ S.book }
+    requires rule { RuleIs S.holds S.first S.setting S.base S.book }
+    requires fresh { IsFresh S.setting S.base (M.journaled machine) }
+    requires first { vec_len steps.first ≤ MAX_STEPS }
+    requires second { vec_len steps.second ≤ MAX_STEPS }
+    ensures done { IfOk result (λ ran. (setting_of (M.journaled ran.0).managed ≡ S.setting) × ((M.journaled ran.0).base ≡ S.base)
+        × (ran.1.first ≡ vec_len steps.first) × (ran.1.second ≡ vec_len steps.second)) }
+    ensures fault { IfErr result IsRunFault }
+{
+    let (live, seats) = match Live::<S, M, &R>::start(rt, alloc, blank, opened, machine, 2) {
+        Ok(start) => start,
+        Err(fault) => return Err(LiveFault::of_start(fault.cause)),
+    };
+    let (seats, done) = run_both(rt, alloc, &live, seats, steps)?;
+    match live.close(rt, seats) {
+        Ok(machine) => Ok((machine, done)),
+        Err(_) => unreachable!(),
+    }
+}
+
+/// Has both tasks run over a machine from which nothing is to be taken back, and takes all that was accepted back. The
+/// owner of a machine picks the start.
+pub(crate) fn raced<M: Machine + Drop + Send, R: Threads + Wait + Sync>(
+    rt: &R,
+    alloc: Global,
+    machine: M,
+    steps: Steps,
+) -> Result<(M, Done), LiveFault>
+    requires empty { (M.journaled machine).groups ≡ [] }
+    requires first { vec_len steps.first ≤ MAX_STEPS }
+    requires second { vec_len steps.second ≤ MAX_STEPS }
+    ensures done { IfOk result (λ ran. IsBack (M.journaled machine) (M.journaled ran.0)
+        × (ran.1.first ≡ vec_len steps.first) × (ran.1.second ≡ vec_len steps.second)) }
+    ensures fault { IfErr result IsRunFault }
+{
+    let (machine, done) = started::<Brand, M, R>(
+        rt,
+        alloc,
+        Blank::new(2),
+        Opened::new(),
+        machine,
+        steps,
+    )?;
+    Ok((taken_back(machine), done))
+}
+
+/// The machine without what was accepted.
+fn taken_back<M: Machine>(machine: M) -> M
+    ensures setting { setting_of (M.journaled result).managed ≡ setting_of (M.journaled machine).managed }
+    ensures state { (M.journaled result).managed.state ≡ (M.journaled machine).base }
+{
+    let mut machine = machine;
+    let _standing = machine.mark();
+    let _ = machine.rewind(0);
+    machine
+}

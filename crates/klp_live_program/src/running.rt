@@ -1,0 +1,217 @@
+//! A manager is booted over a catalog's text, and two task threads run the steps of another text over it.
+ghost use Rattle.std.specs.Prelude.{◌≡◌, ◌≤◌, ◌⊎◌, [], length, vec_len, IfOk, IfErr, MatchResult};
+ghost use Rattle.std.specs.Str.Lines.{lines};
+ghost use Rattle.klp_types.specs.declared.limits.TheConstants.{MAX_GROUPS};
+ghost use Rattle.klp_catalog_text.specs.Within.{AreTargetsWithin};
+ghost use Rattle.klp_live_program.specs.declared.step_lines.TheConstants.{MAX_STEPS};
+ghost use Rattle.klp_live_program.specs.Racing.{IsPrepared};
+ghost use Rattle.klp_live_program.specs.Steps.{AreSteps, IsReadFault};
+ghost use Rattle.klp_live_program.specs.Living.{IsRunFault, LivesBy, LivesPlan, Lives};
+
+use crate::fault::{LiveFault, ReadFault};
+use crate::race::{Done, FIRST, SECOND, raced};
+use crate::step_lines::{Steps, steps_of};
+use klp_callback::{Boxed, Scripted};
+use klp_catalog::Catalog;
+use klp_catalog_text::Plan;
+use klp_console::{ServeFault, serve};
+use klp_console_io::{OverRead, OverWrite};
+use klp_core::{Machine, Manager};
+use klp_model::Event;
+use klp_program::{Fault, boot};
+use klp_types::{MAX_OBJECTS, ObjId};
+use std::alloc::{AllocError, Global};
+use std::io::Write;
+use std::marker::Brand;
+use std::sync::Wait;
+use std::sync::ledger::{Blank, Ledger};
+use std::thread::Threads;
+
+/// A line of the console for each object that is loaded, which asks for its text.
+fn texts(alloc: Global, manager: &Manager) -> Result<Vec<u8>, AllocError> {
+    let modules = manager.modules();
+    let mut lines = Vec::new(alloc);
+    for number in 0..MAX_OBJECTS as u8 {
+        let object = ObjId(number);
+        if let Some(name) = modules.object_name(object)
+            && modules.is_loaded(object)
+        {
+            let line = format!(in alloc; "text {name}\n")?;
+            lines.extend_from_slice(line.as_bytes())?;
+        }
+    }
+    Ok(lines)
+}
+
+/// The console's answers to these lines.
+fn answer<W: Write, L: Ledger, M: Ledger>(
+    manager: &mut Manager,
+    mut lines: &[u8],
+    out: &mut W,
+    reads: Blank,
+    writes: Blank,
+) -> Result<(), ServeFault>
+    requires reads { (reads.name ≡ L.name) × (reads.parts ≡ L.parts) × (3 ≤ reads.parts) }
+    requires writes { (writes.name ≡ M.name) × (writes.parts ≡ M.parts) × (2 ≤ writes.parts) }
+{
+    let mut reader = OverRead::<&mut &[u8], L>::new(&mut lines, reads);
+    let mut writer = OverWrite::<&mut W, M>::new(out, writes);
+    match serve(&mut reader, &mut writer, manager) {
+        Ok(_) => Ok(()),
+        Err(fault) => Err(fault),
+    }
+}
+
+/// What is done with a manager before and after its tasks run. It is a trait since one that has tasks run names no
+/// manager: a library can't hand one on to what asks a trait of it (docs/DECISIONS.md, "A manager that runs tasks").
+trait Runs: Machine {
+    /// The steps of a text, by the names that it has.
+    fn steps(&self, alloc: Global, text: &[u8]) -> Result<Steps, ReadFault>
+        ensures steps { MatchResult result
+            (λ steps. AreSteps (Self.journaled self.now) (lines text.now) steps.first.items steps.second.items)
+            (λ fault. IsReadFault (Self.journaled self.now) (lines text.now) fault) };
+
+    /// Has both tasks come, and nothing to be taken back any more.
+    fn prepare(&mut self)
+        requires room { length (Self.journaled self.old).groups ≤ MAX_GROUPS }
+        ensures prepared { IsPrepared (Self.journaled self.old) (Self.journaled self.new) };
+
+    /// Writes how many steps of each task are done, and the text of each object that is loaded.
+    fn show<W: Write>(&mut self, alloc: Global, done: Done, out: &mut W) -> Result<Done, LiveFault>
+        requires room { length (Self.journaled self.old).groups ≤ MAX_GROUPS }
+        ensures same { IfOk result (λ shown. shown ≡ done) }
+        ensures fault { IfErr result IsRunFault };
+}
+
+impl Runs for Manager {
+    fn steps(&self, alloc: Global, text: &[u8]) -> Result<Steps, ReadFault> {
+        steps_of(alloc, text, self)
+    }
+
+    fn prepare(&mut self) {
+        let _ = self.run(&[Event::NewTask(FIRST), Event::NewTask(SECOND)]);
+        self.seal();
+    }
+
+    fn show<W: Write>(
+        &mut self,
+        alloc: Global,
+        done: Done,
+        out: &mut W,
+    ) -> Result<Done, LiveFault> {
+        let Ok(lines) = texts(alloc, self) else {
+            return Err(LiveFault::NoMemory);
+        };
+        if writeln!(out, "task 1 {}\ntask 2 {}", done.first, done.second).is_err() {
+            return Err(LiveFault::Program(Fault::Serve(ServeFault::Write)));
+        }
+        match answer::<W, Brand, Brand>(self, &lines, out, Blank::new(3), Blank::new(2)) {
+            Ok(()) => Ok(done),
+            Err(fault) => Err(LiveFault::Program(Fault::Serve(fault))),
+        }
+    }
+}
+
+/// Has both tasks run, and shows what came of it. The machine goes then.
+fn race<M: Runs + Drop + Send, W: Write, R: Threads + Wait + Sync>(
+    rt: &R,
+    alloc: Global,
+    machine: M,
+    steps: Steps,
+    out: &mut W,
+) -> Result<Done, LiveFault>
+    requires empty { (M.journaled machine).groups ≡ [] }
+    requires first { vec_len steps.first ≤ MAX_STEPS }
+    requires second { vec_len steps.second ≤ MAX_STEPS }
+    ensures done { IfOk result (λ done. (done.first ≡ vec_len steps.first) × (done.second ≡ vec_len steps.second)) }
+    ensures fault { IfErr result IsRunFault }
+{
+    match raced::<M, R>(rt, alloc, machine, steps) {
+        Ok((machine, done)) => {
+            let mut machine = machine;
+            let _standing = machine.mark();
+            machine.show(alloc, done, out)
+        }
+        Err(fault) => Err(fault),
+    }
+}
+
+/// Reads the steps, and has both tasks run.
+fn live_by<M: Runs + Drop + Send, W: Write, R: Threads + Wait + Sync>(
+    rt: &R,
+    alloc: Global,
+    machine: M,
+    text: &[u8],
+    out: &mut W,
+) -> Result<Done, LiveFault>
+    ensures { LivesBy (M.journaled machine) text.now result }
+{
+    let mut machine = machine;
+    match machine.steps(alloc, text) {
+        Ok(steps) => {
+            let _standing = machine.mark();
+            machine.prepare();
+            race(rt, alloc, machine, steps, out)
+        }
+        Err(fault) => Err(LiveFault::of_reading(fault)),
+    }
+}
+
+// Boots a manager over a plan, and has both tasks run. The callbacks are made here, as where the console is served, but
+// all of one kind.
+fn live_plan<W: Write, R: Threads + Wait + Sync>(
+    rt: &R,
+    alloc: Global,
+    plan: Plan,
+    text: &[u8],
+    out: &mut W,
+) -> Result<Done, LiveFault>
+    requires { AreTargetsWithin (length plan.objects) plan.patches }
+    ensures { LivesPlan plan text.now result }
+{
+    let mut callbacks = Vec::new(alloc);
+    while let Some(script) = plan.script(callbacks.len()) {
+        let callback = Box::new(alloc, Scripted::new(script.copy()))?;
+        callbacks.push(Boxed::new(callback))?;
+    }
+    let manager = boot(alloc, plan, callbacks)?;
+    live_by::<Manager, W, R>(rt, alloc, manager, text, out)
+}
+
+/// Boots a manager over the catalog's text, has tasks 1 and 2 run the steps of the other text in threads of their own, at
+/// once where a second thread can be made, takes back all that was accepted, and writes how many steps of each are done
+/// and the text of each object that is loaded. Nothing is written before all of that is done.
+pub(crate) fn lived<W: Write, R: Threads + Wait + Sync>(
+    rt: &R,
+    alloc: Global,
+    catalog: &[u8],
+    text: &[u8],
+    out: &mut W,
+) -> Result<Done, LiveFault>
+    ensures { Lives catalog.now text.now result }
+{
+    match Catalog::read(alloc, catalog) {
+        Ok(plan) => live_plan(rt, alloc, plan, text, out),
+        Err(fault) => Err(LiveFault::Program(Fault::Text(fault))),
+    }
+}
+
+/// The same, with the exit status: 0, or 1 where a line on `err` tells the fault.
+pub fn live<W: Write, E: Write, R: Threads + Wait + Sync>(
+    rt: &R,
+    alloc: Global,
+    catalog: &[u8],
+    text: &[u8],
+    out: &mut W,
+    err: &mut E,
+) -> u8
+    ensures { (result ≡ 0) ⊎ (result ≡ 1) }
+{
+    match lived(rt, alloc, catalog, text, out) {
+        Ok(_) => 0,
+        Err(fault) => {
+            let _ = writeln!(err, "klpsim: {fault}");
+            1
+        }
+    }
+}

@@ -1,0 +1,85 @@
+//! What a manager over a catalog's text answers while it serves the console, input after input. All tests that serve
+//! one share it, as those that hand it events share `shown`, and for the same reason.
+
+use crate::input::{Input, serve_input};
+use crate::shown::booted;
+use arrayvec::ArrayVec;
+use klp_callback::{Boxed, Scripted};
+use klp_catalog::Catalog;
+use klp_catalog_text::Plan;
+use klp_console::{ServeFault, Served};
+use klp_core::Manager;
+use klp_program::{Fault, close};
+use klp_world::Script;
+use std::alloc::{AllocError, Global};
+
+/// What a manager is booted over: a catalog's text, with so many callbacks.
+#[derive(Clone, Copy)]
+pub struct Given<'a> {
+    pub text: &'a str,
+    pub callbacks: usize,
+}
+
+/// What an input came to, and how many bytes were answered until then.
+#[derive(Clone, Copy)]
+pub struct Look {
+    pub ended: Result<Served, ServeFault>,
+    pub said: usize,
+}
+
+/// What a manager answered.
+#[derive(Drop)]
+pub struct Shown {
+    /// After each input.
+    pub looks: Vec<Look>,
+    /// What was answered to all of them together.
+    pub said: Vec<u8>,
+}
+
+/// The script of this number in the order of the text, or one that does nothing.
+fn script_at(plan: &Plan, number: usize) -> Script {
+    match plan.script(number) {
+        Some(script) => script.copy(),
+        None => Script {
+            edits: ArrayVec::new(),
+            status: 0,
+        },
+    }
+}
+
+/// What a manager answers to these inputs, where nothing is shown yet. There is room for each look.
+fn after(
+    booted: Result<Manager, Fault>,
+    inputs: &[Input<'_>],
+    mut shown: Shown,
+) -> Result<Shown, Fault> {
+    let mut manager = booted?;
+    for input in inputs {
+        let ended = serve_input(&mut manager, input, &mut shown.said);
+        let said = shown.said.len();
+        let _ = shown.looks.push(Look { ended, said });
+    }
+    close(manager);
+    Ok(shown)
+}
+
+/// Nothing is shown yet, and there is room for so many looks.
+fn nothing_shown(alloc: Global, looks: usize) -> Result<Shown, AllocError> {
+    Ok(Shown {
+        looks: Vec::with_capacity(alloc, looks)?,
+        said: Vec::new(alloc),
+    })
+}
+
+/// What a manager answers to these inputs. Where memory for a box is refused, a callback is missing.
+pub fn outcome(alloc: Global, given: Given<'_>, inputs: &[Input<'_>]) -> Result<Shown, Fault> {
+    let plan = Catalog::read(alloc, given.text.as_bytes())?;
+    let shown = nothing_shown(alloc, inputs.len())?;
+    let mut boxes = Vec::new(alloc);
+    for number in 0..given.callbacks {
+        if let Ok(callback) = Box::new(alloc, Scripted::new(script_at(&plan, number))) {
+            let _ = boxes.push(Boxed::new(callback));
+        }
+    }
+    after(booted(alloc, plan, boxes), inputs, shown)
+}
