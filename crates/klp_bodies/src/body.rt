@@ -1,0 +1,64 @@
+//! A body: what one task does, step by step.
+ghost use Rattle.std.specs.Prelude.{◌≡◌, ◌<◌};
+ghost use Rattle.klp_types.specs.declared.limits.TheConstants.{MAX_TASKS};
+
+use crate::fault::BodyFault;
+use crate::gate::Gate;
+use crate::run::run_steps;
+use crate::step::{Outcome, Step};
+use crossbeam_utils::rule::Protocol;
+use klp_core::Machine;
+use klp_live::{Live, Published, Start, TaskPass, View};
+use klp_types::{MAX_TASKS, TaskId};
+use std::alloc::Global;
+use std::sync::Wait;
+
+/// A task's pass, with the gate that is asked before each of its steps.
+#[derive(Drop)]
+pub struct TaskBody<S: Start + Protocol<Published, View>, G: Gate + Drop> {
+    pub pass: TaskPass<S>,
+    pub gate: G,
+    task: TaskId,
+    ghost same: { pass.task ≡ task },
+    ghost there: { task < MAX_TASKS },
+}
+
+impl<S: Start + Protocol<Published, View>, G: Gate + Drop> TaskBody<S, G> {
+    ghost use Rattle.std.specs.Prelude.{◌^◌, ◌++◌, List, length, MatchResult};
+    ghost use Rattle.klp_bodies.specs.declared.step.Outcome.{Outcome as AnyOutcome};
+    ghost use Rattle.klp_bodies.specs.Running.{IsFinished, IsCutShort};
+
+    /// The body of a task that has this pass, whose number it is told again.
+    pub fn new(pass: TaskPass<S>, task: TaskId, gate: G) -> TaskBody<S, G>
+        requires same { pass.task ≡ task }
+        requires there { task < MAX_TASKS }
+        ensures pass { result.pass ≡ pass }
+        ensures gate { result.gate ≡ gate }
+    {
+        TaskBody { pass, gate, task }
+    }
+
+    /// Does the steps, one after the other, each once the gate lets the task in, and puts what each comes to behind what
+    /// is on `out`. It may wait wherever it submits an event. Where it stops before the last step, the outcomes of the
+    /// steps that are done are on `out`.
+    pub fn run<M: Machine + Drop, R: Wait + Drop, W: Wait>(
+        self,
+        rt: &W,
+        alloc: Global,
+        live: &Live<S, M, R>,
+        steps: &[Step],
+        out: &mut Vec<Outcome>,
+    ) -> Result<TaskPass<S>, BodyFault<S>>
+        requires { length steps.now < 2 ^ 32 }
+        ensures { (outcomes : List AnyOutcome) × (out.new.items ≡ out.old.items ++ outcomes) × MatchResult result
+            (λ pass. IsFinished S.setting S.base (G.answers self.gate) self.pass pass steps.now outcomes)
+            (λ fault. IsCutShort S.setting S.base (G.answers self.gate) self.pass fault.pass fault.cause steps.now outcomes) }
+    {
+        let TaskBody { pass, gate, task } = self;
+        let mut pass = pass;
+        match run_steps(rt, alloc, live, task, &gate, &mut pass, steps, out) {
+            Ok(()) => Ok(pass),
+            Err(cause) => Err(BodyFault { pass, cause }),
+        }
+    }
+}

@@ -1,0 +1,19 @@
+//! Why a body has stopped before its last step.
+use crossbeam_utils::rule::Protocol;
+use klp_live::{Published, Start, TaskPass, View};
+
+/// Why a body has stopped.
+#[derive(Clone, Copy, Debug, PartialEq, Eq)]
+pub enum BodyCause {
+    /// The gate was asked 1,000,000 times before a step, and didn't let the task in.
+    Held,
+    /// There was no memory, for the outcomes of all steps or to admit an event, which changed nothing then.
+    NoMemory,
+}
+
+/// A body that has stopped before a step: its pass, which knows what it knew there, and why.
+#[derive(Drop)]
+pub struct BodyFault<S: Start + Protocol<Published, View>> {
+    pub pass: TaskPass<S>,
+    pub cause: BodyCause,
+}

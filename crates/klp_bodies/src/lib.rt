@@ -1,0 +1,14 @@
+//! Bodies of task threads: a list of steps, done by one task over a start that threads share.
+#![tactic(auto)]
+
+mod body;
+mod fault;
+mod gate;
+mod pass;
+mod run;
+mod step;
+
+pub use body::TaskBody;
+pub use fault::{BodyCause, BodyFault};
+pub use gate::Gate;
+pub use step::{Accepted, Outcome, Step, What};
