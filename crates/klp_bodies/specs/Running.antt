@@ -1,5 +1,5 @@
 -- What a body is told, step by step, and how it ends.
-use Rattle.std.specs.Prelude.{◌≡◌, ℕ, ◌+◌, ◌<◌, ◌≤◌, ◌⊎◌, Bool, true, false, List, [], ◌∷◌, length, take, sum_by, Option, Some, None, option_map, slice_get}
+use Rattle.std.specs.Prelude.{◌≡◌, ℕ, ◌+◌, ◌<◌, ◌≤◌, ◌⊎◌, Bool, true, false, List, [], ◌∷◌, length, take, sum_by, Option, Some, None, option_map, slice_get, Result, Ok, Err}
 use mathlib.Core.List.{IsPrefix}
 use Rattle.klp_types.specs.declared.version.Version.{Version}
 use Rattle.klp_types.specs.Setting.{Setting}
@@ -11,6 +11,7 @@ use Rattle.klp_bodies.specs.declared.step.Step.{Step}
 use Rattle.klp_bodies.specs.declared.step.Outcome.{Outcome}
 use Rattle.klp_bodies.specs.declared.step.What.{What}
 use Rattle.klp_bodies.specs.declared.fault.BodyCause.{BodyCause}
+use Rattle.klp_bodies.specs.declared.fault.BodyFault.{BodyFault}
 use Rattle.klp_bodies.specs.declared.fault.BodyCause.TheVariants.{Held, NoMemory}
 use Rattle.klp_bodies.specs.Steps.{CameTo, frames_after, taken_by, submits}
 
@@ -86,3 +87,8 @@ pub record IsCutShort (setting : Setting) (base : State) (answers : ℕ → ℕ 
   pub ran : HasRun setting base before after steps outcomes
   pub let_in : LetsIn answers before.task (length outcomes)
   pub why : Stops answers before.task steps outcomes cause
+
+-- how a body ends that began with this pass
+abbrev pub Ends : {S : Type 0} → Setting → State → (ℕ → ℕ → Bool → Type 0) → Passing → List Step → List Outcome → Result Passing (BodyFault S) → Type 0
+Ends setting base answers before steps outcomes (Ok after) = IsFinished setting base answers before after steps outcomes
+Ends setting base answers before steps outcomes (Err fault) = IsCutShort setting base answers before fault.pass fault.cause steps outcomes

@@ -24,9 +24,9 @@ pub struct TaskBody<S: Start + Protocol<Published, View>, G: Gate + Drop> {
 }
 
 impl<S: Start + Protocol<Published, View>, G: Gate + Drop> TaskBody<S, G> {
-    ghost use Rattle.std.specs.Prelude.{◌^◌, ◌++◌, List, length, MatchResult};
+    ghost use Rattle.std.specs.Prelude.{◌^◌, ◌++◌, List, length};
     ghost use Rattle.klp_bodies.specs.declared.step.Outcome.{Outcome as AnyOutcome};
-    ghost use Rattle.klp_bodies.specs.Running.{IsFinished, IsCutShort};
+    ghost use Rattle.klp_bodies.specs.Running.{Ends};
 
     /// The body of a task that has this pass, whose number it is told again.
     pub fn new(pass: TaskPass<S>, task: TaskId, gate: G) -> TaskBody<S, G>
@@ -36,6 +36,18 @@ impl<S: Start + Protocol<Published, View>, G: Gate + Drop> TaskBody<S, G> {
         ensures gate { result.gate ≡ gate }
     {
         TaskBody { pass, gate, task }
+    }
+
+    /// The pass of a body that doesn't run.
+    pub(crate) fn into_pass(self) -> TaskPass<S>
+        ensures { result ≡ self.pass }
+    {
+        let TaskBody {
+            pass,
+            gate: _gate,
+            task: _task,
+        } = self;
+        pass
     }
 
     /// Does the steps, one after the other, each once the gate lets the task in, and puts what each comes to behind what
@@ -50,9 +62,8 @@ impl<S: Start + Protocol<Published, View>, G: Gate + Drop> TaskBody<S, G> {
         out: &mut Vec<Outcome>,
     ) -> Result<TaskPass<S>, BodyFault<S>>
         requires { length steps.now < 2 ^ 32 }
-        ensures { (outcomes : List AnyOutcome) × (out.new.items ≡ out.old.items ++ outcomes) × MatchResult result
-            (λ pass. IsFinished S.setting S.base (G.answers self.gate) self.pass pass steps.now outcomes)
-            (λ fault. IsCutShort S.setting S.base (G.answers self.gate) self.pass fault.pass fault.cause steps.now outcomes) }
+        ensures { (outcomes : List AnyOutcome) × (out.new.items ≡ out.old.items ++ outcomes)
+            × Ends S.setting S.base (G.answers self.gate) self.pass steps.now outcomes result }
     {
         let TaskBody { pass, gate, task } = self;
         let mut pass = pass;

@@ -4,6 +4,7 @@
 mod body;
 mod fault;
 mod gate;
+mod job;
 mod pass;
 mod run;
 mod step;
@@ -11,4 +12,5 @@ mod step;
 pub use body::TaskBody;
 pub use fault::{BodyCause, BodyFault};
 pub use gate::Gate;
+pub use job::Job;
 pub use step::{Accepted, Outcome, Step, What};
