@@ -1,5 +1,5 @@
 -- What is seen of a job.
-use Rattle.std.specs.Prelude.{◌≡◌, ℕ, Bool, List, Option, Some, None, Result}
+use Rattle.std.specs.Prelude.{◌≡◌, ℕ, Bool, List, Option, None, Result, IsSomeAnd}
 use Rattle.klp_types.specs.Setting.{Setting}
 use Rattle.klp_model.specs.State.{State}
 use Rattle.klp_live.specs.Passing.{Passing}
@@ -25,3 +25,9 @@ ended_of job = job.ended
 
 abbrev pub outcomes_of : {S G : Type 0} {s : Start.Ghosts S} {g : Gate.Ghosts G} → Job S G s g → List Outcome
 outcomes_of job = job.outcomes.items
+
+-- the job had this body, which has ended with its steps
+pub record IsRun {S G : Type 0} {s : Start.Ghosts S} {g : Gate.Ghosts G} (setting : Setting) (base : State) (answers : G → ℕ → ℕ → Bool → Type 0) (body : TaskBody S G s g) (before after : Job S G s g) : Type 0 where
+  pub steps : steps_of after ≡ steps_of before
+  pub over : body_of after ≡ None
+  pub ends : IsSomeAnd (ended_of after) (λ ended. Ends setting base (answers body.gate) body.pass (steps_of before) (outcomes_of after) ended)

@@ -8,9 +8,11 @@ mod job;
 mod pass;
 mod run;
 mod step;
+mod two;
 
 pub use body::TaskBody;
 pub use fault::{BodyCause, BodyFault};
 pub use gate::Gate;
 pub use job::Job;
 pub use step::{Accepted, Outcome, Step, What};
+pub use two::run_two;
