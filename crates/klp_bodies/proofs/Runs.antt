@@ -1,5 +1,5 @@
 -- One more step of a body.
-use Rattle.std.proofs.Common.{◌≡◌, ℕ, ◌+◌, ◌<◌, ◌≤◌, zero, suc, Bool, true, List, [], ◌∷◌, ◌++◌, length, take, slice_get, Some, refl, ap, sym, subst, ◌∙◌, arith, append_assoc, length-append, below_more}
+use Rattle.std.proofs.Common.{◌≡◌, ℕ, ◌+◌, ◌<◌, Bool, true, List, [], ◌∷◌, ◌++◌, length, take, slice_get, Some, refl, ap, sym, subst, ◌∙◌, arith, append_assoc, length-append, below_more}
 use Rattle.std.proofs.lemmas.List.{append-nil}
 use Rattle.std.proofs.lemmas.List.{take_all}
 use Rattle.std.proofs.lemmas.List.Sums.{sum_by-append}
@@ -13,7 +13,7 @@ use Rattle.klp_bodies.specs.declared.step.Step.{Step}
 use Rattle.klp_bodies.specs.declared.step.Outcome.{Outcome}
 use Rattle.klp_bodies.specs.declared.fault.BodyCause.{BodyCause}
 use Rattle.klp_bodies.specs.Steps.{CameTo, frames_after, taken_by}
-use Rattle.klp_bodies.specs.Running.{IsDone, AreDone, IsStepped, HasRun, LetsIn, Stops, IsCutShort, known_after, frames_left, receipts}
+use Rattle.klp_bodies.specs.Running.{IsDone, AreDone, IsStepped, HasRun, LetsIn, Stops, IsCutShort, known_after, frames_left}
 use Rattle.klp_bodies.proofs.Beginnings.{begins_itself, begins_on, begins_shorter, take_of_beginning}
 
 -- an outcome stays one where the list grows
@@ -78,9 +78,9 @@ more_run setting base first before after frames left steps outcomes step outcome
     let now = new.known in
     let came : CameTo setting base first.task (known_after (length first.knows.list) outcomes) (frames_left [] outcomes) (take outcome.known after.knows.list) step outcome.what =
     subst (λ (seen : History). CameTo setting base first.task (known_after (length first.knows.list) outcomes) (frames_left [] outcomes) seen step outcome.what) (sym whole)
-        (subst (λ (fs : List Version). CameTo setting base first.task (known_after (length first.knows.list) outcomes) fs after.knows.list step outcome.what) inside
-            (subst (λ (k : ℕ). CameTo setting base first.task k frames after.knows.list step outcome.what) (sym ran.known)
-                (subst (λ (t : ℕ). CameTo setting base t (length before.knows.list) frames after.knows.list step outcome.what) ran.task new.came))) in
+    (subst (λ (fs : List Version). CameTo setting base first.task (known_after (length first.knows.list) outcomes) fs after.knows.list step outcome.what) inside
+    (subst (λ (k : ℕ). CameTo setting base first.task k frames after.knows.list step outcome.what) (sym ran.known)
+    (subst (λ (t : ℕ). CameTo setting base t (length before.knows.list) frames after.knows.list step outcome.what) ran.task new.came))) in
     record {
       task = new.learns.task ∙ ran.task;
       legal = new.legal;

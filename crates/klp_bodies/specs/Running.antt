@@ -1,11 +1,10 @@
 -- What a body is told, step by step, and how it ends.
-use Rattle.std.specs.Prelude.{◌≡◌, ℕ, ◌+◌, ◌<◌, ◌≤◌, ◌⊎◌, Bool, true, false, List, [], ◌∷◌, length, take, sum_by, Option, Some, None, option_map, slice_get, Result, Ok, Err}
+use Rattle.std.specs.Prelude.{◌≡◌, ℕ, ◌+◌, ◌<◌, ◌≤◌, ◌⊎◌, Bool, true, false, List, [], ◌∷◌, length, take, sum_by, Some, option_map, slice_get, Result, Ok, Err}
 use mathlib.Core.List.{IsPrefix}
 use Rattle.klp_types.specs.declared.version.Version.{Version}
 use Rattle.klp_types.specs.Setting.{Setting}
 use Rattle.klp_model.specs.State.{State}
 use Rattle.klp_model.specs.Legal.{History, IsLegal}
-use Rattle.klp_live.specs.Seats.{Knows}
 use Rattle.klp_live.specs.Passing.{Passing}
 use Rattle.klp_bodies.specs.declared.step.Step.{Step}
 use Rattle.klp_bodies.specs.declared.step.Outcome.{Outcome}

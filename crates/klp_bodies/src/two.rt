@@ -44,13 +44,7 @@ pub fn run_two<
     M: Machine + Drop + Send,
     R: Wait + Drop + Send,
     W: Threads + Wait + Sync,
->(
-    rt: &W,
-    alloc: Global,
-    live: &Live<S, M, R>,
-    a: &mut Job<S, G>,
-    b: &mut Job<S, G>,
-)
+>(rt: &W, alloc: Global, live: &Live<S, M, R>, a: &mut Job<S, G>, b: &mut Job<S, G>)
     requires first { IsSome (body_of a.old) }
     requires second { IsSome (body_of b.old) }
     ensures first { IfSome (body_of a.old) (λ body. IsRun S.setting S.base G.answers body a.old a.new) }

@@ -15,9 +15,9 @@ refused (Err e) P t h = h
 pub returns-then-is_err : goal.returns-then-is_err
 returns-then-is_err g c =
     stops_so_far _ _ _ _ _ _ _ _ _ _ _ NoMemory
-        (starts_so_far g.S.Start.setting g.S.Start.base (g.G.Gate.answers c.args.gate.now) c.args.pass.now c.known_by-legal.new.pass [] c.args.steps.now c.args.out.now.items c.reserve.new.self.items
-            c.known_by-legal.ensures.pass refl c.reserve.ensures.items c.known_by-legal.ensures.legal)
-        refl (omega (arith, refused c.reserve.result _ (sym (c.if-is_err.true) ∙ c.is_err.ensures.value) c.reserve.ensures.full, c.args.out.now.ok)) (inl refl)
+    (starts_so_far g.S.Start.setting g.S.Start.base (g.G.Gate.answers c.args.gate.now) c.args.pass.now c.known_by-legal.new.pass [] c.args.steps.now c.args.out.now.items c.reserve.new.self.items
+    c.known_by-legal.ensures.pass refl c.reserve.ensures.items c.known_by-legal.ensures.legal)
+    refl (omega (arith, refused c.reserve.result _ (sym (c.if-is_err.true) ∙ c.is_err.ensures.value) c.reserve.ensures.full, c.args.out.now.ok)) (inl refl)
 
 pub loop-number-init : goal.loop-number-init
 loop-number-init g c = (

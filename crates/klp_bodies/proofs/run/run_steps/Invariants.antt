@@ -7,5 +7,5 @@ abbrev pub invariant-loop-number : goal.invariant-loop-number
 invariant-loop-number g l =
     (outcomes : List Outcome)
     × (SoFar g.S.Start.setting g.S.Start.base (g.G.Gate.answers l.gate) l.fn.pass l.pass l.frames l.steps l.fn.out.items l.out.items outcomes
-        × (length outcomes ≡ l.number)
-        × (vec_len l.out + length l.steps ≤ vec_capacity l.out + l.number))
+    × (length outcomes ≡ l.number)
+    × (vec_len l.out + length l.steps ≤ vec_capacity l.out + l.number))
