@@ -5,6 +5,7 @@ mod body;
 mod fault;
 mod gate;
 mod job;
+pub mod laws;
 mod pass;
 mod run;
 mod step;
