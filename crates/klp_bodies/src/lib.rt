@@ -1,10 +1,14 @@
-//! Bodies of task threads: a list of steps, done by one task over a start that threads share.
+//! Bodies of task threads: lists of steps, each done by one task over a start that threads share.
+//!
+//! A [`TaskBody`] does its steps one after the other, each once its [`Gate`] lets the task in, and tells what each came to
+//! (`specs/Steps`, `specs/Running`). [`run_two`] runs two [`Job`]s at once. docs/THREADS.md has it in words.
 #![tactic(auto)]
 
 mod body;
 mod fault;
 mod gate;
 mod job;
+pub mod laws;
 mod pass;
 mod run;
 mod step;

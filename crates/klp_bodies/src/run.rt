@@ -1,7 +1,7 @@
 //! How the steps of a body are done.
-ghost use Rattle.std.specs.Prelude.{◌≡◌, ◌+◌, ◌<◌, ◌≤◌, ◌^◌, ◌++◌, ◌∷◌, [], true, false, List, length, IfSome, IfNone, MatchResult, slice_get, Some, Ok, Err, vec_len, vec_capacity};
+ghost use Rattle.std.specs.Prelude.{◌≡◌, ◌+◌, ◌<◌, ◌≤◌, ◌^◌, ◌++◌, ◌∷◌, [], true, false, List, length, IfSome, IfNone, MatchBool, MatchResult, slice_get, Some, Ok, Err, vec_len, vec_capacity};
 ghost use mathlib.Core.List.{IsPrefix};
-ghost use Rattle.klp_types.specs.declared.limits.TheConstants.{MAX_TASKS};
+ghost use Rattle.klp_types.specs.declared.limits.TheConstants.{MAX_FRAMES, MAX_TASKS};
 ghost use Rattle.klp_model.specs.Legal.{IsLegal};
 ghost use Rattle.klp_bodies.specs.declared.step.Outcome.{Outcome as AnyOutcome};
 ghost use Rattle.klp_bodies.specs.Steps.{CameTo, IsSubmission, IsCall, frames_after, taken_by, submits};
@@ -57,6 +57,13 @@ fn submitted<S: Start + Protocol<Published, View>, M: Machine + Drop, R: Wait + 
     }
 }
 
+/// Whether the task is inside of as many versions as are kept.
+fn is_full(frames: &Frames) -> bool
+    ensures { MatchBool result (length frames.now ≡ MAX_FRAMES) (length frames.now < MAX_FRAMES) }
+{
+    frames.count() >= MAX_FRAMES
+}
+
 /// Enters a function, unless as many versions are entered as are kept.
 fn called<S: Start + Protocol<Published, View>>(
     pass: &mut TaskPass<S>,
@@ -67,7 +74,7 @@ fn called<S: Start + Protocol<Published, View>>(
     ensures frames { frames.new ≡ frames_after frames.old result }
     ensures came { IsCall S.setting S.base pass.old.task (length pass.old.knows.list) frames.old pass.new.knows.list site result }
 {
-    if frames.count() >= MAX_FRAMES {
+    if is_full(frames) {
         return What::Deep;
     }
     match pass.enter(site) {

@@ -1,0 +1,67 @@
+//! The gates of the tests.
+use klp_bodies::Gate;
+use klp_types::TaskId;
+use std::sync::atomic::{AtomicBool, AtomicU64, Ordering};
+use std::thread;
+
+/// How often a task looks whether the other one is there.
+const LOOKS: u32 = 1_000_000;
+
+/// The step before which two tasks meet.
+const MEETING: u32 = 1;
+
+/// Where two tasks meet: before one step each raises its own flag, and then looks for the other's. It lets the task in
+/// if that was seen, and says the same from then on. So two bodies pass it only where both are before that step at one
+/// time.
+#[derive(Drop)]
+pub(crate) struct Meeting<'a> {
+    pub(crate) own: &'a AtomicBool,
+    pub(crate) other: &'a AtomicBool,
+    pub(crate) met: AtomicBool,
+}
+
+impl<'a> Meeting<'a> {
+    pub(crate) fn new(own: &'a AtomicBool, other: &'a AtomicBool) -> Meeting<'a> {
+        Meeting {
+            own,
+            other,
+            met: AtomicBool::new(false),
+        }
+    }
+
+    fn looks_for_other(&self) -> bool {
+        for _look in 0..LOOKS {
+            thread::yield_now();
+            if self.other.load(Ordering::SeqCst) {
+                return true;
+            }
+        }
+        false
+    }
+}
+
+impl Gate for Meeting<'_> {
+    fn before(&self, _task: TaskId, step: u32) -> bool {
+        if step != MEETING {
+            return true;
+        }
+        if !self.own.swap(true, Ordering::SeqCst) {
+            let met = self.looks_for_other();
+            self.met.store(met, Ordering::SeqCst);
+        }
+        self.met.load(Ordering::SeqCst)
+    }
+}
+
+/// Lets a task in once it was asked more than so often, and counts how often it was asked.
+#[derive(Drop)]
+pub(crate) struct Slow<'a> {
+    pub(crate) asked: &'a AtomicU64,
+    pub(crate) refuses: u64,
+}
+
+impl Gate for Slow<'_> {
+    fn before(&self, _task: TaskId, _step: u32) -> bool {
+        self.asked.fetch_add(1, Ordering::SeqCst) >= self.refuses
+    }
+}

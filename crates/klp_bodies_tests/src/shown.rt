@@ -1,0 +1,61 @@
+//! What is printed of outcomes.
+use klp_bodies::{Accepted, Outcome, What};
+use klp_model::Reply;
+use klp_types::Target;
+use std::io;
+
+/// What an accepted event was answered, of frames that were woken in only their versions.
+fn show_receipt<R: Print>(rt: &R, known: u64, accepted: &Accepted) -> io::Result<()> {
+    let Accepted {
+        number,
+        event: _,
+        reply,
+    } = accepted;
+    match reply {
+        Reply::Woken(frames) => println!(rt; "{known}: {number} Woken {:?}", frames.as_slice()),
+        other => println!(rt; "{known}: {number} {other:?}"),
+    }
+}
+
+/// How many events were known after a step, and what it came to.
+pub(crate) fn show_outcome<R: Print>(rt: &R, outcome: &Outcome) -> io::Result<()> {
+    let known = outcome.known;
+    match &outcome.what {
+        What::Receipt(accepted) => show_receipt(rt, known, accepted),
+        What::Refused(refusal) => println!(rt; "{known}: {refusal:?}"),
+        What::Entered(Target { version, address }) => {
+            println!(rt; "{known}: {version:?} {address:x}")
+        }
+        What::NoEntry(fault) => println!(rt; "{known}: {fault:?}"),
+        What::Returned => println!(rt; "{known}: returned"),
+        What::Deep => println!(rt; "{known}: deep"),
+    }
+}
+
+/// The kind of an outcome.
+fn kind(what: &What) -> &'static str {
+    match what {
+        What::Receipt(_) => "receipt",
+        What::Refused(_) => "refused",
+        What::Entered(_) => "entered",
+        What::NoEntry(_) => "no entry",
+        What::Returned => "returned",
+        What::Deep => "deep",
+    }
+}
+
+/// How many outcomes of one kind follow each other, for one kind after the other.
+pub(crate) fn show_kinds<R: Print>(rt: &R, outcomes: &[Outcome]) -> io::Result<()> {
+    let mut count: u64 = 0;
+    let mut last = "outcomes";
+    for outcome in outcomes {
+        let name = kind(&outcome.what);
+        if name != last && count > 0 {
+            println!(rt; "{count} {last}")?;
+            count = 0;
+        }
+        last = name;
+        count = count.saturating_add(1);
+    }
+    println!(rt; "{count} {last}")
+}
