@@ -1,0 +1,3 @@
+pub mod HoldingLemmas
+pub mod RecordLemmas
+pub mod TextLemmas
