@@ -1,8 +1,9 @@
 -- What a page comes to over a catalog's text and a script.
-use Rattle.std.specs.Prelude.{◌≡◌, ℕ, ◌<◌, List, [], ◌∷◌, ◌++◌, length, Result, Ok, Err}
+use Rattle.std.specs.Prelude.{◌≡◌, ℕ, ◌<◌, List, [], ◌∷◌, ◌++◌, length, ◌⊎◌, Ok}
 use Rattle.klp_types.specs.declared.limits.TheConstants.{MAX_CONSOLE_LINE}
 use Rattle.klp_catalog_text.specs.Plan.{Plan}
-use Rattle.klp_catalog_text.specs.Text.{plan_of, IsFaultOf}
+use Rattle.klp_catalog_text.specs.Text.{plan_of}
+use Rattle.klp_catalog_text.specs.Text as catalog
 use Rattle.klp_core.specs.Journaled.{Journaled}
 use Rattle.klp_console.specs.declared.served.ServeFault.TheVariants.{LineTooLong}
 use Rattle.klp_console_io.specs.Lines.{lines_and_rest}
@@ -43,3 +44,24 @@ abbrev pub IsScriptFault : List ℕ → Fault → Type 0
 IsScriptFault script NoMemory = Unit {0}
 IsScriptFault script (Serve LineTooLong) = HasLongLine script
 IsScriptFault script other = ⊥
+
+-- a manager was booted over a plan, and shows the script
+pub record IsPageOver (plan : Plan) (script page : List ℕ) : Type 0 where
+  pub booted : Journaled
+  pub is_booted : IsBootedOver plan booted
+  pub is_page : IsPage booted script page
+
+-- none was booted, or the script isn't shown
+abbrev pub IsFaultOver : Plan → List ℕ → Fault → Type 0
+IsFaultOver plan script fault = IsBootFault plan fault ⊎ IsScriptFault script fault
+
+-- the same over a catalog's text
+pub record IsPageOf (text script page : List ℕ) : Type 0 where
+  pub plan : Plan
+  pub planned : plan_of text ≡ Ok plan
+  pub over : IsPageOver plan script page
+
+abbrev pub IsFaultOf : List ℕ → List ℕ → Fault → Type 0
+IsFaultOf text script NoMemory = Unit {0}
+IsFaultOf text script (Text fault) = catalog.IsFaultOf text fault.line fault.kind
+IsFaultOf text script other = (plan : Plan) × (plan_of text ≡ Ok plan) × IsFaultOver plan script other

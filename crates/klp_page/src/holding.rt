@@ -153,7 +153,7 @@ fn add_blocked(
 }
 
 /// The versions that no task may be inside of when it switches.
-fn blocked(alloc: Global, manager: &Manager, moving: &Transition) -> Result<Vec<Version>, AllocError>
+pub(crate) fn blocked(alloc: Global, manager: &Manager, moving: &Transition) -> Result<Vec<Version>, AllocError>
     ensures { IfOk result (λ versions. versions.items ≡ blocked
         (setting_of manager.now.managed) manager.now.managed.state moving.now) }
 {
