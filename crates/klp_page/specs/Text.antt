@@ -29,19 +29,24 @@ abbrev pub parts_text : List Part → List ℕ
 parts_text [] = []
 parts_text (part ∷ parts) = part_text part ++ parts_text parts
 
--- the mark of a task that holds the transition up
-unfoldable pub holder_text : ℕ → List ℕ
-holder_text task = codes "<b class=held>task " ++ decimal task ++ codes " holds it up</b>"
+-- the number of a task that holds the transition up
+abbrev pub holder_text : ℕ → List ℕ
+holder_text task = codes " " ++ decimal task
 
 abbrev pub holders_text : List ℕ → List ℕ
 holders_text [] = []
 holders_text (task ∷ tasks) = holder_text task ++ holders_text tasks
 
--- the line, its answer and the marks, between what else the row shows
+-- the mark of a line after which these tasks hold the transition up; where there are none it has no mark
+abbrev pub mark_text : List ℕ → List ℕ
+mark_text [] = []
+mark_text (task ∷ tasks) = codes "<b class=held>held up by task" ++ holders_text (task ∷ tasks) ++ codes "</b>"
+
+-- the line, its answer and its mark, between what else the row shows
 unfoldable pub row_text : Row → List ℕ
 row_text row =
     parts_text row.before.items ++ codes "<code class=line>" ++ escaped row.line.items ++ codes "</code><samp>" ++ escaped row.answer.items
-    ++ codes "</samp>" ++ holders_text row.holders.tasks.items ++ parts_text row.rest.items
+    ++ codes "</samp>" ++ mark_text row.holders.tasks.items ++ parts_text row.rest.items
 
 abbrev pub rows_text : List Row → List ℕ
 rows_text [] = []

@@ -2,8 +2,8 @@
 
 use crate::holding::is_blocked;
 use crate::names::{add_entry, add_patch, add_site, add_version};
-use crate::shot::{PatchShot, TaskShot};
 use crate::sheet::Sheet;
+use crate::shot::{PatchShot, TaskShot};
 use klp_core::Manager;
 use klp_types::{Entry, Mode, ObjId, PatchId, Site, Transition, Version};
 

@@ -1,11 +1,10 @@
 //! What a page tells of a run beside its lines: sentences, bars, and at each line what changed.
 
 use crate::bars::{Bars, Sign};
-use crate::cards::{
-    add_ended_card, add_gone_card, add_patch_card, add_site_card, add_task_card,
-};
+use crate::cards::{add_ended_card, add_gone_card, add_patch_card, add_site_card, add_task_card};
 use crate::drawing::add_drawing;
 use crate::holding::{Sleepers, blocked, is_blocked, moving};
+use crate::names::add_object;
 use crate::part::Part;
 use crate::room::add_tasks;
 use crate::row::Holders;
@@ -85,7 +84,11 @@ fn sign_of(
     let patch = patch_of(before, after)?;
     let is_forced = matches!(*event, Some(Event::Force(_)));
     if *before == *after {
-        return if is_forced { Some((Sign::Forced, patch)) } else { None };
+        return if is_forced {
+            Some((Sign::Forced, patch))
+        } else {
+            None
+        };
     }
     if event.is_none() {
         return Some((Sign::Back, patch));
@@ -98,7 +101,11 @@ fn sign_of(
 }
 
 /// The sentence of what becomes of a transition.
-fn sentence_of(sign: Sign, before: &Option<Transition>, after: &Option<Transition>) -> &'static str {
+fn sentence_of(
+    sign: Sign,
+    before: &Option<Transition>,
+    after: &Option<Transition>,
+) -> &'static str {
     let into = match (*before, *after) {
         (_, Some(moving)) => moving.target,
         (Some(moving), None) => moving.target,
@@ -110,7 +117,7 @@ fn sentence_of(sign: Sign, before: &Option<Transition>, after: &Option<Transitio
         (Sign::Turns, true) => " is turned round: it moves in.",
         (Sign::Turns, false) => " is turned round: it moves out.",
         (Sign::Forced, _) => " is forced: from here on nothing is promised of consistency.",
-        (Sign::Back, _) => ": events are taken back.",
+        (Sign::Back, _) => " is as it was before.",
         (Sign::Ends, true) => " is enabled: each task runs its functions.",
         (Sign::Ends, false) => " has left: its functions are as before.",
     }
@@ -134,6 +141,21 @@ fn blocked_frame(shot: &TaskShot, blocked: &[Version]) -> Option<Version> {
         }
     }
     found
+}
+
+/// The module that came or went, if one did.
+fn add_module(sheet: &mut Sheet, manager: &Manager, change: &Change) -> bool {
+    let (Some(Event::Coming(object)) | Some(Event::Going(object))) = change.event else {
+        return false;
+    };
+    sheet.markup("<div class=card><b>");
+    add_object(sheet, manager, object);
+    if manager.modules().is_loaded(object) {
+        sheet.markup("</b> is loaded</div>");
+    } else {
+        sheet.markup("</b> isn't loaded</div>");
+    }
+    true
 }
 
 fn add_opening(sheet: &mut Sheet, opening: &'static str, line: u64, number: &'static str) {
@@ -204,7 +226,11 @@ impl Chronicle {
         line: &[u8],
     ) -> Result<Change, AllocError> {
         let mark = manager.mark();
-        let event = if mark > self.mark { event_of(line, manager) } else { None };
+        let event = if mark > self.mark {
+            event_of(line, manager)
+        } else {
+            None
+        };
         self.mark = mark;
         let moving = moving(manager);
         let blocked = match moving {
@@ -232,17 +258,19 @@ impl Chronicle {
     ) -> Result<Extent, AllocError> {
         self.tell_event(manager, change);
         self.tell_room(holders);
+        let modules = add_module(cards, manager, change);
         let patches = self.tell_patches(alloc, manager, cards)?;
         let tasks = self.tell_tasks(manager, cards, change, holders, sleepers);
         let sites = self.tell_sites(manager, cards);
-        self.bars.see(self.line, change.sign, self.tasks.as_slice())?;
+        self.bars
+            .see(self.line, change.sign, self.tasks.as_slice())?;
         self.moving = change.moving;
-        if change.event.is_none() && change.sign.is_none() && (patches || tasks || sites) {
+        if change.event.is_none() && (patches || tasks || sites) {
             self.story.tell_line(self.line, "events are taken back.");
         }
         if patches {
             Ok(Extent::Patches)
-        } else if tasks || sites {
+        } else if tasks || sites || modules {
             Ok(Extent::Tasks)
         } else {
             Ok(Extent::Nothing)
@@ -253,7 +281,9 @@ impl Chronicle {
     fn quiet_row(&mut self, alloc: Global, answer: &[u8]) -> Result<Told, AllocError> {
         let mut before = Sheet::new(alloc);
         if self.quiet == PLAIN_ROWS {
-            before.markup("<details class=more><summary>more lines that change nothing</summary>");
+            before.markup(
+                "<details class=more><summary>more lines: no patch, task, site or module changes</summary>",
+            );
         }
         self.quiet = self.quiet.saturating_add(1);
         let opening = if answer.starts_with(b"error ") {
@@ -334,7 +364,8 @@ impl Chronicle {
                 self.story.tell_object(manager, line, object, what);
             }
             Some(Event::Going(object)) => {
-                self.story.tell_object(manager, line, object, " is unloaded.");
+                self.story
+                    .tell_object(manager, line, object, " is unloaded.");
             }
             Some(Event::Enable(patch)) if manager.enabled(patch).is_none() => {
                 let what = " isn't installed: a pre-patch callback refused.";
@@ -346,8 +377,10 @@ impl Chronicle {
             if sign == Sign::Starts {
                 self.transitions = self.transitions.saturating_add(1);
             }
-            let what = sentence_of(sign, &self.moving, &change.moving);
-            self.story.tell(manager, line, patch, what);
+            if sign != Sign::Back {
+                let what = sentence_of(sign, &self.moving, &change.moving);
+                self.story.tell(manager, line, patch, what);
+            }
         }
     }
 
@@ -400,7 +433,14 @@ impl Chronicle {
                 if before == Some(*shot) && !shot.is_holding {
                     return false;
                 }
-                add_task_card(cards, manager, u64::from(task.0), shot, blocked, &change.moving);
+                add_task_card(
+                    cards,
+                    manager,
+                    u64::from(task.0),
+                    shot,
+                    blocked,
+                    &change.moving,
+                );
             }
         }
         self.tell_hold(manager, change, task, shot);
@@ -449,10 +489,10 @@ impl Chronicle {
         self.bars.close()?;
         let mut head = Sheet::new(alloc);
         head.markup(HEAD);
-        add_title(&mut head, self.line, self.transitions);
+        add_title(&mut head, self);
         head.markup(STYLE);
         head.markup("<h1>");
-        add_title(&mut head, self.line, self.transitions);
+        add_title(&mut head, self);
         head.markup("</h1><ul class=story>");
         head.append(self.story.end(manager, self.line));
         head.markup("</ul><h2>The run</h2>");
@@ -470,9 +510,16 @@ impl Chronicle {
     }
 }
 
-fn add_title(sheet: &mut Sheet, lines: u64, transitions: u64) {
-    sheet.number(lines);
-    sheet.markup(" lines, ");
-    sheet.number(transitions);
-    sheet.markup(" transitions");
+fn add_count(sheet: &mut Sheet, count: u64, one: &'static str, many: &'static str) {
+    sheet.number(count);
+    sheet.markup(if count == 1 { one } else { many });
+}
+
+/// How much happened, and whether a transition still goes on.
+fn add_title(sheet: &mut Sheet, chronicle: &Chronicle) {
+    add_count(sheet, chronicle.line, " line, ", " lines, ");
+    add_count(sheet, chronicle.transitions, " transition", " transitions");
+    if chronicle.moving.is_some() {
+        sheet.markup(", one still under way");
+    }
 }

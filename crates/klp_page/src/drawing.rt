@@ -10,14 +10,17 @@ const MAX_COLUMNS: u64 = 600;
 
 /// How wide all columns are together, as far as none is wider than `MAX_WIDTH`.
 const WIDTH: u64 = 780;
+
 const MAX_WIDTH: u64 = 60;
 
 /// Where the first column begins, and the first task.
 const LEFT: u64 = 70;
+
 const TOP: u64 = 44;
 
 /// How high a task's row is, and its bar.
 const ROW: u64 = 30;
+
 const BAR: u64 = 22;
 
 /// How wide a letter is.
@@ -180,25 +183,37 @@ fn add_line(sheet: &mut Sheet, x: u64, bottom: u64) {
     sheet.markup("\"/>");
 }
 
-/// What stands above a mark, with its room up to the next one.
+fn sign_of(mark: &Mark) -> (&'static str, &'static str) {
+    match mark.sign {
+        Sign::Starts => ("\u{25b6}", " moves"),
+        Sign::Turns => ("\u{21ba}", " turned"),
+        Sign::Forced => ("!", " forced"),
+        Sign::Ends => ("\u{25a0}", " ends"),
+        Sign::Back => ("\u{21b6}", " back"),
+    }
+}
+
+/// What stands above a mark, as far as there is room up to the next one.
 fn add_sign(sheet: &mut Sheet, manager: &Manager, mark: &Mark, x: u64, room: u64) {
-    let name = manager.catalog().patch_name(mark.patch).unwrap_or("");
-    let (before, after, letters) = match mark.sign {
-        Sign::Starts => ("\u{25b6} ", " moves", name.len() as u64 + 8),
-        Sign::Turns => ("\u{21ba} turned", "", 8),
-        Sign::Forced => ("! forced", "", 8),
-        Sign::Ends => ("\u{25a0} ends", "", 6),
-        Sign::Back => ("\u{21b6} back", "", 6),
+    let (sign, word) = sign_of(mark);
+    let name = match mark.sign {
+        Sign::Starts => manager.catalog().patch_name(mark.patch).unwrap_or(""),
+        _ => "",
     };
-    if room < letters.saturating_mul(LETTER) {
+    if room < LETTER * 2 {
         return;
     }
     add_label(sheet, "<text class=sign", x.saturating_add(3), 22);
-    sheet.markup(before);
-    if mark.sign == Sign::Starts {
+    sheet.markup(sign);
+    if room
+        >= LETTER
+            .saturating_mul(name.len() as u64)
+            .saturating_add(LETTER * 9)
+    {
+        sheet.markup(" ");
         sheet.text(name.as_bytes());
+        sheet.markup(word);
     }
-    sheet.markup(after);
     sheet.markup("</text>");
 }
 
@@ -242,7 +257,9 @@ fn add_note(sheet: &mut Sheet, bars: &Bars, scale: Scale) {
         sheet.number(scale.step);
         sheet.markup(" of the ");
         sheet.number(bars.columns.len() as u64);
-        sheet.markup(" lines in which a bar changes; bars that are shorter than a step aren't drawn.</p>");
+        sheet.markup(
+            " lines in which a bar changes; bars that are shorter than a step aren't drawn.</p>",
+        );
     } else {
         sheet.markup("The drawing has a column for each line in which a bar changes: ");
         sheet.number(bars.columns.len() as u64);

@@ -153,7 +153,11 @@ fn add_blocked(
 }
 
 /// The versions that no task may be inside of when it switches.
-pub(crate) fn blocked(alloc: Global, manager: &Manager, moving: &Transition) -> Result<Vec<Version>, AllocError>
+pub(crate) fn blocked(
+    alloc: Global,
+    manager: &Manager,
+    moving: &Transition,
+) -> Result<Vec<Version>, AllocError>
     ensures { IfOk result (λ versions. versions.items ≡ blocked
         (setting_of manager.now.managed) manager.now.managed.state moving.now) }
 {
@@ -261,7 +265,11 @@ fn holders_among(
 }
 
 /// The same of the patch in transition, if there is one.
-fn holders_of(alloc: Global, manager: &Manager, sleepers: &Sleepers) -> Result<Vec<TaskId>, AllocError>
+fn holders_of(
+    alloc: Global,
+    manager: &Manager,
+    sleepers: &Sleepers,
+) -> Result<Vec<TaskId>, AllocError>
     requires { AreAsleep sleepers.now.rows manager.now.managed.state.tasks }
     ensures { IfOk result (λ tasks. tasks.items ≡ holders
         (setting_of manager.now.managed) manager.now.managed.state) }

@@ -51,7 +51,11 @@ fn page_by(alloc: Global, mut manager: Manager, script: &[u8]) -> Result<Vec<u8>
 }
 
 /// A callback for the script of this number, in the order of the text, if there is one.
-fn callback_of(alloc: Global, plan: &Plan, number: usize) -> Result<Option<Box<Scripted>>, AllocError>
+fn callback_of(
+    alloc: Global,
+    plan: &Plan,
+    number: usize,
+) -> Result<Option<Box<Scripted>>, AllocError>
     ensures { IfOk result (λ callback. option_map (λ made. made.value) callback ≡ option_map never_ran
         (slice_get (scripts_of plan.now.patches) number)) }
 {

@@ -124,7 +124,9 @@ pub(crate) fn record(
 {
     let mut line = LineBuffer::new();
     let mut rows = Vec::new(alloc);
-    record_lines(alloc, manager, script, &mut line, sleepers, chronicle, &mut rows)?;
+    record_lines(
+        alloc, manager, script, &mut line, sleepers, chronicle, &mut rows,
+    )?;
     let last = line.bytes();
     if last.is_empty() {
         return Ok(rows);

@@ -1,6 +1,6 @@
 //! The rows of a page, and the page of rows.
 ghost use Rattle.std.specs.Prelude.{◌≡◌, ◌++◌, OnOk, IfOk};
-ghost use Rattle.klp_page.specs.Text.{holder_text, holders_text, row_text, rows_text, page_text};
+ghost use Rattle.klp_page.specs.Text.{holder_text, holders_text, mark_text, row_text, rows_text, page_text};
 
 use crate::part::{Part, add_parts, add_text};
 use itoa::Buffer;
@@ -23,7 +23,7 @@ pub(crate) struct Row {
     pub line: Vec<u8>,
     pub answer: Vec<u8>,
     pub holders: Holders,
-    /// What stands behind the marks.
+    /// What stands behind the mark.
     pub rest: Vec<Part>,
 }
 
@@ -31,9 +31,8 @@ fn add_holder(page: &mut Vec<u8>, task: TaskId) -> Result<(), AllocError>
     ensures { OnOk result (page.new.items ≡ page.old.items ++ holder_text task) }
 {
     let mut buffer = Buffer::new();
-    page.extend_from_slice(b"<b class=held>task ")?;
+    page.extend_from_slice(b" ")?;
     page.extend_from_slice(buffer.format(task.0).as_bytes())?;
-    page.extend_from_slice(b" holds it up</b>")?;
     Ok(())
 }
 
@@ -46,6 +45,18 @@ fn add_holders(page: &mut Vec<u8>, tasks: &[TaskId]) -> Result<(), AllocError>
     Ok(())
 }
 
+fn add_mark(page: &mut Vec<u8>, tasks: &[TaskId]) -> Result<(), AllocError>
+    ensures { OnOk result (page.new.items ≡ page.old.items ++ mark_text tasks.now) }
+{
+    if tasks.is_empty() {
+        return Ok(());
+    }
+    page.extend_from_slice(b"<b class=held>held up by task")?;
+    add_holders(page, tasks)?;
+    page.extend_from_slice(b"</b>")?;
+    Ok(())
+}
+
 fn add_row(page: &mut Vec<u8>, row: &Row) -> Result<(), AllocError>
     ensures { OnOk result (page.new.items ≡ page.old.items ++ row_text row.now) }
 {
@@ -55,7 +66,7 @@ fn add_row(page: &mut Vec<u8>, row: &Row) -> Result<(), AllocError>
     page.extend_from_slice(b"</code><samp>")?;
     add_text(page, &row.answer)?;
     page.extend_from_slice(b"</samp>")?;
-    add_holders(page, &row.holders.tasks)?;
+    add_mark(page, &row.holders.tasks)?;
     add_parts(page, &row.rest)?;
     Ok(())
 }

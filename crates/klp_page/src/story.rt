@@ -163,7 +163,8 @@ impl Story {
         if unsaid > 0 {
             self.sheet.markup("<li>and ");
             self.sheet.number(unsaid);
-            self.sheet.markup(" sentences more, which the lines below tell.");
+            self.sheet
+                .markup(" sentences more, which the lines below tell.");
         }
         &mut self.sheet
     }

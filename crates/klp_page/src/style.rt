@@ -48,10 +48,11 @@ background:var(--card);font-size:.92rem}
 </style>
 ";
 
-pub(crate) const LEGEND: &str = "<ul class=legend><li><span class=\"key old\"></span>old: doesn't run the patch \
+pub(crate) const LEGEND: &str =
+    "<ul class=legend><li><span class=\"key old\"></span>old: doesn't run the patch \
 that moves<li><span class=\"key new\"></span>new: runs it<li><span class=\"key rest\"></span>no patch \
-moves<li><span class=\"key hold\"></span>holds the transition up<li>dashed: a transition starts, turns, \
-ends</ul>";
+moves<li><span class=\"key hold\"></span>holds the transition up<li>\u{25b6} a transition starts<li>\u{21ba} turns \
+round<li>! is forced<li>\u{25a0} ends<li>\u{21b6} events are taken back</ul>";
 
 pub(crate) const FOOT: &str =
     "<p class=soft>A click on a line with \u{25b8} shows what it changed.</p></html>\n";

@@ -18,5 +18,5 @@ loop-rest-preserved g c =
       one_more _ so_far.0 _ (lines_and_rest after) line so_far.1 (finished ∙ ap (λ l. l ∷ lines_and_rest after) (sym c.bytes.ensures.bytes))
           ∙ ap (λ l. (so_far.0 ++ line ∷ []) ++ lines_and_rest (l ++ after)) (sym c.clear.ensures),
       subst (λ (rows : List Row). AreRows c.args.manager.now c.record_line.new.manager (so_far.0 ++ line ∷ []) rows) (sym c.in_ok-push-in-Ok-Some.ensures.items)
-      (rows_on c.args.manager.now c.loop-rest.manager c.record_line.new.manager so_far.0 c.loop-rest.rows.items line row so_far.2 c.in_ok-record_line-in-Ok-Some.ensures),
+          (rows_on c.args.manager.now c.loop-rest.manager c.record_line.new.manager so_far.0 c.loop-rest.rows.items line row so_far.2 c.in_ok-record_line-in-Ok-Some.ensures),
     )
