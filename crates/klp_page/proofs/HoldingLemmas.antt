@@ -5,7 +5,6 @@ use Rattle.std.proofs.lemmas.Bool.{false≢true}
 use Rattle.std.proofs.lemmas.List.{take-append-le, drop_more, length-append}
 use Rattle.std.specs.Prelude.{◌||◌, ◌==◌, map, Result, Ok, Err, IfOk, IfErr, if◌then◌else◌}
 use Rattle.klp_types.specs.Image.{Image, Symbol}
-use Rattle.klp_types.specs.Callbacks.{Call}
 use Rattle.klp_types.specs.Setting.{Setting}
 use Rattle.klp_types.specs.World.{Installed}
 use Rattle.klp_types.specs.declared.task.Task.{Task}
@@ -26,7 +25,7 @@ use Rattle.klp_model.specs.Rows.{moving_patch}
 use Rattle.klp_model.specs.Run.{answer, run}
 use Rattle.klp_model.specs.State.{State, is_among}
 use Rattle.klp_model.specs.Step.{calls_unless, callbacks_of}
-use Rattle.klp_model.specs.Task.{task_at, is_in, is_mode}
+use Rattle.klp_model.specs.Task.{task_at, is_in}
 use Rattle.klp_catalog.specs.Catalog.{Catalog}
 use Rattle.klp_catalog.specs.Runs.{after_runs}
 use Rattle.klp_journal.specs.Journal.{has_room}
@@ -34,7 +33,7 @@ use Rattle.klp_manager_state.specs.Managed.{setting_of}
 use Rattle.klp_core.specs.Journaled.{Journaled, Stands, history_in}
 use Rattle.klp_core.specs.Rewinding.{IsRewound}
 use Rattle.klp_core.specs.Taking.{IsTaken, Appends, unless_full}
-use Rattle.klp_page.specs.Holding.{asleep_in, woken_frames}
+use Rattle.klp_page.specs.Holding.{asleep_in}
 
 among : (patch : ℕ) (installed : List Installed) → is_one_of patch (map (λ (i : Installed). i.patch) installed) ≡ is_among patch installed
 among patch [] = refl

@@ -5,7 +5,6 @@ use Rattle.std.proofs.lemmas.List.{nil_from_length}
 use Rattle.klp_core.specs.Journaled.{Journaled, Stands}
 use Rattle.klp_console.specs.Answered.{nothing}
 use Rattle.klp_console.specs.Lines.{whole, lines_of}
-use Rattle.klp_console_io.specs.Lines.{lines_and_rest}
 use Rattle.klp_page.specs.declared.row.Row.{Row}
 use Rattle.klp_page.specs.Rows.{IsAnsweredBy, IsRowOf, AreRows}
 use Rattle.klp_page.specs.Pages.{HasRows}

@@ -100,26 +100,34 @@ fn sign_of(
     }
 }
 
-/// The sentence of what becomes of a transition.
+/// The sentence of what becomes of a transition, if there is one.
 fn sentence_of(
     sign: Sign,
     before: &Option<Transition>,
     after: &Option<Transition>,
-) -> &'static str {
+) -> Option<&'static str> {
     let into = match (*before, *after) {
         (_, Some(moving)) => moving.target,
         (Some(moving), None) => moving.target,
         (None, None) => true,
     };
     match (sign, into) {
-        (Sign::Starts, true) => " begins to move in.",
-        (Sign::Starts, false) => " begins to move out.",
-        (Sign::Turns, true) => " is turned round: it moves in.",
-        (Sign::Turns, false) => " is turned round: it moves out.",
-        (Sign::Forced, _) => " is forced: from here on nothing is promised of consistency.",
-        (Sign::Back, _) => " is as it was before.",
-        (Sign::Ends, true) => " is enabled: each task runs its functions.",
-        (Sign::Ends, false) => " has left: its functions are as before.",
+        (Sign::Starts, true) => Some(" begins to move in."),
+        (Sign::Starts, false) => Some(" begins to move out."),
+        (Sign::Turns, true) => Some(" is turned round: it moves in."),
+        (Sign::Turns, false) => Some(" is turned round: it moves out."),
+        (Sign::Forced, _) => Some(" is forced: from here on nothing is promised of consistency."),
+        (Sign::Ends, true) => Some(" is enabled: each task runs its functions."),
+        (Sign::Ends, false) => Some(" has left: its functions are as before."),
+        (Sign::Back, _) => None,
+    }
+}
+
+/// Whether a patch that is gone was replaced: it left by an event, and another patch moved.
+fn is_replaced(change: &Change, patch: PatchId) -> bool {
+    match change.sign {
+        Some((Sign::Ends, moved)) => moved != patch,
+        _ => false,
     }
 }
 
@@ -259,7 +267,7 @@ impl Chronicle {
         self.tell_event(manager, change);
         self.tell_room(holders);
         let modules = add_module(cards, manager, change);
-        let patches = self.tell_patches(alloc, manager, cards)?;
+        let patches = self.tell_patches(alloc, manager, cards, change)?;
         let tasks = self.tell_tasks(manager, cards, change, holders, sleepers);
         let sites = self.tell_sites(manager, cards);
         self.bars
@@ -334,6 +342,7 @@ impl Chronicle {
         alloc: Global,
         manager: &Manager,
         cards: &mut Sheet,
+        change: &Change,
     ) -> Result<bool, AllocError> {
         let shots = patch_shots(alloc, manager)?;
         if shots.as_slice() == self.patches.as_slice() {
@@ -345,6 +354,10 @@ impl Chronicle {
         for shot in &self.patches {
             if !has_patch(shots.as_slice(), shot.patch) {
                 add_gone_card(cards, manager, shot.patch);
+                if is_replaced(change, shot.patch) {
+                    let what = " is replaced, and has left.";
+                    self.story.tell(manager, self.line, shot.patch, what);
+                }
             }
         }
         self.patches = shots;
@@ -377,8 +390,7 @@ impl Chronicle {
             if sign == Sign::Starts {
                 self.transitions = self.transitions.saturating_add(1);
             }
-            if sign != Sign::Back {
-                let what = sentence_of(sign, &self.moving, &change.moving);
+            if let Some(what) = sentence_of(sign, &self.moving, &change.moving) {
                 self.story.tell(manager, line, patch, what);
             }
         }

@@ -1,4 +1,4 @@
-use Rattle.std.proofs.Common.{◌++◌, ap, ◌∙◌, subst, ◌<◌, length}
+use Rattle.std.proofs.Common.{◌++◌, ap, ◌∙◌, subst, ◌<◌}
 use Rattle.klp_types.specs.Image.{symbols_of}
 use Rattle.klp_model.specs.Blocked.{blocked_among}
 use Rattle.klp_manager_state.specs.Managed.{setting_of}

@@ -1,7 +1,4 @@
-use Rattle.std.proofs.Common.{sym, ap, subst, ◌∙◌}
-use Rattle.klp_model.specs.Allowed.{Allowed}
-use Rattle.klp_model.specs.State.{State}
-use Rattle.klp_manager_state.specs.Managed.{setting_of}
+use Rattle.std.proofs.Common.{sym, ◌∙◌}
 use Rattle.klp_page.proofs.HoldingLemmas.{moving_is_known, state_is_allowed}
 use Rattle.klp_page.proofs.holding.moving.Goals as goal
 

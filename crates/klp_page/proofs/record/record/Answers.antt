@@ -1,4 +1,4 @@
-use Rattle.std.proofs.Common.{◌≡◌, ℕ, List, ◌∷◌, [], ◌++◌, sym, subst, ◌∙◌}
+use Rattle.std.proofs.Common.{ℕ, List, sym, subst, ◌∙◌}
 use Rattle.klp_console.specs.Lines.{lines_of}
 use Rattle.klp_page.specs.declared.row.Row.{Row}
 use Rattle.klp_page.specs.Rows.{AreRows}

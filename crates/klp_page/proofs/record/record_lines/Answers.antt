@@ -2,7 +2,7 @@ use Rattle.std.proofs.Common.{◌≡◌, List, [], ◌∷◌, ◌++◌, ap, sym,
 use Rattle.std.specs.Prelude.{IfSome}
 use Rattle.klp_console_io.specs.Lines.{lines_and_rest}
 use Rattle.klp_page.specs.declared.row.Row.{Row}
-use Rattle.klp_page.specs.Rows.{IsRowOf, AreRows}
+use Rattle.klp_page.specs.Rows.{AreRows}
 use Rattle.klp_page.proofs.RecordLemmas.{rows_on, one_more}
 use Rattle.klp_page.proofs.record.record_lines.Goals as goal
 
