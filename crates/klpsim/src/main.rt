@@ -4,9 +4,11 @@
 
 use klp_live_program::live;
 use klp_program::{Fault, Words, bytes_in, catalog_in, console, refused, told, words};
-use std::io::{ErrorKind, Input};
+use std::io::{ErrorKind, Input, Write};
 use std::process::ExitCode;
-use std::rt::Env;
+use std::rt::{Env, Files};
+use std::sync::Wait;
+use std::thread::Threads;
 use std::{env, io};
 
 // The words behind the program's name.
@@ -34,44 +36,47 @@ fn serve(rt: &HostRuntime, path: Option<String>) -> u8 {
 }
 
 // Both files, whole.
-fn files(rt: &HostRuntime, catalog: &str, steps: &str) -> Result<(Vec<u8>, Vec<u8>), Fault> {
+fn files<R: Files + AllocGlobal>(
+    rt: &R,
+    catalog: &str,
+    steps: &str,
+) -> Result<(Vec<u8>, Vec<u8>), Fault> {
     let catalog = bytes_in(rt, catalog)?;
     Ok((catalog, bytes_in(rt, steps)?))
 }
 
-// Two tasks run.
-fn race(rt: &HostRuntime, catalog: &str, steps: &str) -> u8 {
-    let mut err = rt.stderr();
+// Two tasks run. It takes a handle of its own, since the runtime has threads in `main` alone.
+fn race<R: Threads + Wait + Sync + Files + Print + AllocGlobal, E: Write>(
+    rt: &R,
+    catalog: &str,
+    steps: &str,
+    err: &mut E,
+) -> u8 {
     match files(rt, catalog, steps) {
-        Ok((catalog, steps)) => live(
-            rt,
-            rt.alloc(),
-            &catalog,
-            &steps,
-            &mut io::writer(rt),
-            &mut err,
-        ),
-        Err(fault) => told(fault, &mut err),
+        Ok((catalog, steps)) => live(rt, rt.alloc(), &catalog, &steps, &mut io::writer(rt), err),
+        Err(fault) => told(fault, err),
     }
 }
 
-// The exit status. Words that aren't text are refused.
-fn run(rt: &HostRuntime) -> u8 {
+// What the words ask for, or the exit status. Words that aren't text are refused.
+fn asked(rt: &HostRuntime) -> Result<Words, u8> {
     let mut err = rt.stderr();
-    let given = match given(rt) {
-        Ok(given) => given,
+    match given(rt) {
+        Ok(given) => words(rt.alloc(), &given, &mut err),
         Err(error) if error.kind() == ErrorKind::OutOfMemory => {
-            return told(Fault::NoMemory, &mut err);
+            Err(told(Fault::NoMemory, &mut err))
         }
-        Err(_) => return refused(&mut err),
-    };
-    match words(rt.alloc(), &given, &mut err) {
-        Ok(Words::Console(path)) => serve(rt, path),
-        Ok(Words::Live(catalog, steps)) => race(rt, catalog.as_str(), steps.as_str()),
-        Err(status) => status,
+        Err(_) => Err(refused(&mut err)),
     }
 }
 
 fn main(rt: HostRuntime) -> ExitCode {
-    ExitCode::from(run(&rt))
+    let status = match asked(&rt) {
+        Ok(Words::Console(path)) => serve(&rt, path),
+        Ok(Words::Live(catalog, steps)) => {
+            race(&rt, catalog.as_str(), steps.as_str(), &mut rt.stderr())
+        }
+        Err(status) => status,
+    };
+    ExitCode::from(status)
 }

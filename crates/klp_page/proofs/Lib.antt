@@ -1,0 +1,4 @@
+pub mod HoldingLemmas
+pub mod PageLemmas
+pub mod RecordLemmas
+pub mod TextLemmas

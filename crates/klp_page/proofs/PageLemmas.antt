@@ -1,0 +1,50 @@
+-- A callback for each script of a plan, made one after the other.
+use Rattle.std.proofs.Common.{◌≡◌, ℕ, List, [], ◌∷◌, ◌++◌, Some, None, length, map, take, option_map, refl, sym, ap}
+use Rattle.std.specs.List.{slice_get}
+use Rattle.klp_types.specs.Script.{Script}
+use Rattle.klp_callback.specs.Told.{Told}
+use Rattle.std.specs.Prelude.{Result, Ok, Err, IfOk}
+use Rattle.klp_catalog_text.specs.Plan.{Plan}
+use Rattle.klp_core.specs.Journaled.{Journaled}
+use Rattle.klp_program.specs.Booted.{never_ran, IsBootedOver}
+use Rattle.klp_page.specs.Pages.{IsPage, IsPageOver}
+
+-- as many of the scripts as there are callbacks, and no other, have theirs
+abbrev pub first_made : List Told → List Script → List Told
+first_made made scripts = map never_ran (take (length made) scripts)
+
+-- the callback of the next script
+pub next_made : (made : List Told) (scripts : List Script) (told : Told)
+    → option_map never_ran (slice_get scripts (length made)) ≡ Some told → made ≡ first_made made scripts
+    → made ++ told ∷ [] ≡ first_made (made ++ told ∷ []) scripts
+next_made [] [] told next so_far = let no : ⊥ = cc in absurd no
+next_made [] (first ∷ scripts) told next so_far = let same : never_ran first ≡ told = cc in ap (λ (t : Told). t ∷ []) (sym same)
+next_made (one ∷ made) [] told next so_far = let no : ⊥ = cc in absurd no
+next_made (one ∷ made) (first ∷ scripts) told next so_far =
+    let head : one ≡ never_ran first = cc in
+    let tail : made ≡ first_made made scripts = cc in
+    let more = next_made made scripts told next tail in
+    cc
+
+-- where no script is next, each has its callback
+pub all_made : (made : List Told) (scripts : List Script)
+    → option_map never_ran (slice_get scripts (length made)) ≡ None → made ≡ first_made made scripts → made ≡ map never_ran scripts
+all_made [] [] past so_far = refl
+all_made [] (first ∷ scripts) past so_far = let no : ⊥ = cc in absurd no
+all_made (one ∷ made) [] past so_far = let no : ⊥ = cc in absurd no
+all_made (one ∷ made) (first ∷ scripts) past so_far =
+    let head : one ≡ never_ran first = cc in
+    let tail : made ≡ first_made made scripts = cc in
+    let more = all_made made scripts past tail in
+    cc
+
+-- what a box tells, by its parts
+pub told_of : (told : Told) (given script : Script) (count runs : ℕ)
+    → told ≡ record { script = given; runs = count } → given ≡ script → count ≡ runs → told ≡ record { script = script; runs = runs }
+told_of told given script count runs made same counted = rw (made, same, counted) refl
+
+-- what a booted manager shows is shown over its plan
+pub page_over : {A E : Type 0} (plan : Plan) (booted : Journaled) (script : List ℕ) (result : Result A E) (text : A → List ℕ)
+    → IsBootedOver plan booted → IfOk result (λ page. IsPage booted script (text page)) → IfOk result (λ page. IsPageOver plan script (text page))
+page_over plan booted script (Ok page) text is shown = record { booted = booted; is_booted = is; is_page = shown }
+page_over plan booted script (Err fault) text is shown = tt

@@ -1,0 +1,7 @@
+use Rattle.std.proofs.Common.{◌≡◌, ◌++◌, drop}
+use Rattle.klp_page.specs.Text.{holders_text}
+use Rattle.klp_page.proofs.row.add_holders.Given as goal
+
+-- what is written, and what is left to be
+abbrev pub invariant-loop-task : goal.invariant-loop-task
+invariant-loop-task l = l.page.items ++ holders_text (drop l.task-index l.tasks) ≡ l.initial.page.items ++ holders_text l.tasks

@@ -1,0 +1,4 @@
+pub mod Holding
+pub mod Pages
+pub mod Rows
+pub mod Text

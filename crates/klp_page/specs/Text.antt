@@ -1,0 +1,57 @@
+-- The text of a page.
+use Rattle.std.specs.Prelude.{ℕ, ◌==◌, List, [], ◌∷◌, ◌++◌, codes, if◌then◌else◌}
+use Rattle.std.specs.Fmt.{decimal}
+use Rattle.klp_page.specs.declared.part.Part.{Part}
+use Rattle.klp_page.specs.declared.part.Part.TheVariants.{Markup, Text, Number}
+use Rattle.klp_page.specs.declared.row.Row.{Row}
+
+-- a byte that a browser could take for markup is spelled by its name
+abbrev pub escaped_byte : ℕ → List ℕ
+escaped_byte b =
+    if b == 38 then codes "&amp;"
+    else if b == 60 then codes "&lt;"
+    else if b == 62 then codes "&gt;"
+    else if b == 34 then codes "&quot;"
+    else if b == 39 then codes "&#39;"
+    else b ∷ []
+
+abbrev pub escaped : List ℕ → List ℕ
+escaped [] = []
+escaped (b ∷ bytes) = escaped_byte b ++ escaped bytes
+
+-- markup of the program's own, or a text or a number of the run
+abbrev pub part_text : Part → List ℕ
+part_text (Markup markup) = markup.now
+part_text (Text text) = escaped text.items
+part_text (Number n) = decimal n
+
+abbrev pub parts_text : List Part → List ℕ
+parts_text [] = []
+parts_text (part ∷ parts) = part_text part ++ parts_text parts
+
+-- the number of a task that holds the transition up
+abbrev pub holder_text : ℕ → List ℕ
+holder_text task = codes " " ++ decimal task
+
+abbrev pub holders_text : List ℕ → List ℕ
+holders_text [] = []
+holders_text (task ∷ tasks) = holder_text task ++ holders_text tasks
+
+-- the mark of a line after which these tasks hold the transition up; where there are none it has no mark
+abbrev pub mark_text : List ℕ → List ℕ
+mark_text [] = []
+mark_text (task ∷ tasks) = codes "<b class=held>held up by task" ++ holders_text (task ∷ tasks) ++ codes "</b>"
+
+-- the line, its answer and its mark, between what else the row shows
+unfoldable pub row_text : Row → List ℕ
+row_text row =
+    parts_text row.before.items ++ codes "<code class=line>" ++ escaped row.line.items ++ codes "</code><samp>" ++ escaped row.answer.items
+    ++ codes "</samp>" ++ mark_text row.holders.tasks.items ++ parts_text row.rest.items
+
+abbrev pub rows_text : List Row → List ℕ
+rows_text [] = []
+rows_text (row ∷ rows) = row_text row ++ rows_text rows
+
+-- the rows in order, between what stands above and below them
+abbrev pub page_text : List Part → List Row → List Part → List ℕ
+page_text head rows foot = parts_text head ++ rows_text rows ++ parts_text foot

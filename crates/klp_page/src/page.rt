@@ -1,0 +1,125 @@
+//! A manager is booted over a catalog's text, and a script is shown by it.
+ghost use Rattle.std.specs.Prelude.{◌≡◌, ◌⊎◌, length, option_map, slice_get, IfOk, IfErr};
+ghost use Rattle.klp_catalog_text.specs.Scripts.{scripts_of};
+ghost use Rattle.klp_catalog_text.specs.Within.{AreTargetsWithin};
+ghost use Rattle.klp_program.specs.Booted.{never_ran};
+ghost use Rattle.klp_page.specs.Pages.{IsPage, IsScriptFault, IsPageOver, IsFaultOver, IsPageOf, IsFaultOf};
+
+use crate::chronicle::Chronicle;
+use crate::holding::Sleepers;
+use crate::record::record;
+use crate::row::page_of;
+use klp_callback::{Boxed, Scripted};
+use klp_catalog::Catalog;
+use klp_catalog_text::Plan;
+use klp_console::ServeFault;
+use klp_core::Manager;
+use klp_program::{Fault, boot, close, refused_by, told_by};
+use std::alloc::{AllocError, Global};
+use std::io::Write;
+
+/// The name that the program gives itself.
+const NAME: &str = "klppage";
+
+/// The page of a script.
+fn paged(
+    alloc: Global,
+    manager: &mut Manager,
+    script: &[u8],
+    chronicle: &mut Chronicle,
+) -> Result<Vec<u8>, Fault>
+    ensures page { IfOk result (λ page. IsPage manager.old script.now page.items) }
+    ensures fault { IfErr result (λ fault. IsScriptFault script.now fault) }
+{
+    chronicle.open(manager)?;
+    let mut sleepers = Sleepers::new();
+    let rows = record(alloc, manager, script, &mut sleepers, chronicle)?;
+    let head = chronicle.head(alloc, manager)?;
+    let foot = chronicle.foot(alloc)?;
+    Ok(page_of(alloc, &head, &rows, &foot)?)
+}
+
+// The manager goes then.
+fn page_by(alloc: Global, mut manager: Manager, script: &[u8]) -> Result<Vec<u8>, Fault>
+    ensures page { IfOk result (λ page. IsPage manager script.now page.items) }
+    ensures fault { IfErr result (λ fault. IsScriptFault script.now fault) }
+{
+    let mut chronicle = Chronicle::new(alloc);
+    let page = paged(alloc, &mut manager, script, &mut chronicle);
+    close(manager);
+    page
+}
+
+/// A callback for the script of this number, in the order of the text, if there is one.
+fn callback_of(
+    alloc: Global,
+    plan: &Plan,
+    number: usize,
+) -> Result<Option<Box<Scripted>>, AllocError>
+    ensures { IfOk result (λ callback. option_map (λ made. made.value) callback ≡ option_map never_ran
+        (slice_get (scripts_of plan.now.patches) number)) }
+{
+    match plan.script(number) {
+        Some(script) => Ok(Some(Box::new(alloc, Scripted::new(script.copy()))?)),
+        None => Ok(None),
+    }
+}
+
+// Boots a manager over a plan, and shows the script by it. The callbacks are made here, as where the console is
+// served.
+fn page_plan(alloc: Global, plan: Plan, script: &[u8]) -> Result<Vec<u8>, Fault>
+    requires { AreTargetsWithin (length plan.objects) plan.patches }
+    ensures page { IfOk result (λ page. IsPageOver plan script.now page.items) }
+    ensures fault { IfErr result (λ fault. IsFaultOver plan script.now fault) }
+{
+    let mut callbacks = Vec::new(alloc);
+    while let Some(callback) = callback_of(alloc, &plan, callbacks.len())? {
+        callbacks.push(Boxed::new(callback))?;
+    }
+    let manager = boot(alloc, plan, callbacks)?;
+    page_by(alloc, manager, script)
+}
+
+/// Boots a manager over the catalog's text, and shows the script by it: a page with a row for each line. Memory is
+/// taken by the script's length.
+pub fn page_over(alloc: Global, catalog: &[u8], script: &[u8]) -> Result<Vec<u8>, Fault>
+    ensures page { IfOk result (λ page. IsPageOf catalog.now script.now page.items) }
+    ensures fault { IfErr result (λ fault. IsFaultOf catalog.now script.now fault) }
+{
+    let plan = Catalog::read(alloc, catalog)?;
+    page_plan(alloc, plan, script)
+}
+
+/// Writes the page of a script to `out`. The answer is the exit status: 0, or 1 where a line on `err` tells the
+/// fault. Nothing is written to `out` before all lines are served.
+pub fn write_page<W: Write, E: Write>(
+    alloc: Global,
+    catalog: &[u8],
+    script: &[u8],
+    out: &mut W,
+    err: &mut E,
+) -> u8
+    ensures { (result ≡ 0) ⊎ (result ≡ 1) }
+{
+    let page = match page_over(alloc, catalog, script) {
+        Ok(page) => page,
+        Err(fault) => return told_by(NAME, fault, err),
+    };
+    match out.write_all(&page) {
+        Ok(()) => 0,
+        Err(_) => told_by(NAME, Fault::Serve(ServeFault::Write), err),
+    }
+}
+
+/// The two words behind the program's name: the files of a catalog and of a script. Others are refused on `err`,
+/// with their exit status.
+pub fn page_words<'a, W: Write>(given: &'a [String], err: &mut W) -> Result<(&'a str, &'a str), u8>
+    ensures { IfErr result (λ status. status ≡ 2) }
+{
+    match given {
+        [catalog, script] if !catalog.starts_with("-") && !script.starts_with("-") => {
+            Ok((catalog.as_str(), script.as_str()))
+        }
+        _ => Err(refused_by(NAME, err)),
+    }
+}
