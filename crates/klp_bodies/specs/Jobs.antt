@@ -13,7 +13,7 @@ use Rattle.klp_bodies.specs.declared.job.Job.{Job}
 use Rattle.klp_bodies.specs.Running.{Ends}
 
 -- the body, until the job has run
-abbrev pub body_of : {S G : Type 0} {s : Start.Ghosts S} {g : Gate.Ghosts G} → Job S G s g → Option (TaskBody S G s g)
+abbrev pub body_of : {S G : Type 0} {s : Start.Ghosts S} {g : Gate.Ghosts G} → Job S G s g → Option (TaskBody S G)
 body_of job = job.body
 
 abbrev pub steps_of : {S G : Type 0} {s : Start.Ghosts S} {g : Gate.Ghosts G} → Job S G s g → List Step
@@ -27,7 +27,7 @@ abbrev pub outcomes_of : {S G : Type 0} {s : Start.Ghosts S} {g : Gate.Ghosts G}
 outcomes_of job = job.outcomes.items
 
 -- the job had this body, which has ended with its steps
-pub record IsRun {S G : Type 0} {s : Start.Ghosts S} {g : Gate.Ghosts G} (setting : Setting) (base : State) (answers : G → ℕ → ℕ → Bool → Type 0) (body : TaskBody S G s g) (before after : Job S G s g) : Type 0 where
+pub record IsRun {S G : Type 0} {s : Start.Ghosts S} {g : Gate.Ghosts G} (setting : Setting) (base : State) (answers : G → ℕ → ℕ → Bool → Type 0) (body : TaskBody S G) (before after : Job S G s g) : Type 0 where
   pub steps : steps_of after ≡ steps_of before
   pub over : body_of after ≡ None
   pub ends : IsSomeAnd (ended_of after) (λ ended. Ends setting base (answers body.gate) body.pass (steps_of before) (outcomes_of after) ended)

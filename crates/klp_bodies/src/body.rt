@@ -1,6 +1,5 @@
 //! A body: what one task does, step by step.
-ghost use Rattle.std.specs.Prelude.{◌≡◌, ◌<◌};
-ghost use Rattle.klp_types.specs.declared.limits.TheConstants.{MAX_TASKS};
+ghost use Rattle.std.specs.Prelude.{◌≡◌};
 
 use crate::fault::BodyFault;
 use crate::gate::Gate;
@@ -9,7 +8,6 @@ use crate::step::{Outcome, Step};
 use crossbeam_utils::rule::Protocol;
 use klp_core::Machine;
 use klp_live::{Live, Published, Start, TaskPass, View};
-use klp_types::{MAX_TASKS, TaskId};
 use std::alloc::Global;
 use std::sync::Wait;
 
@@ -18,35 +16,26 @@ use std::sync::Wait;
 pub struct TaskBody<S: Start + Protocol<Published, View>, G: Gate + Drop> {
     pub pass: TaskPass<S>,
     pub gate: G,
-    task: TaskId,
-    ghost same: { pass.task ≡ task },
-    ghost there: { task < MAX_TASKS },
 }
 
 impl<S: Start + Protocol<Published, View>, G: Gate + Drop> TaskBody<S, G> {
-    ghost use Rattle.std.specs.Prelude.{◌^◌, ◌++◌, List, length};
+    ghost use Rattle.std.specs.Prelude.{◌<◌, ◌^◌, ◌++◌, List, length};
     ghost use Rattle.klp_bodies.specs.declared.step.Outcome.{Outcome as AnyOutcome};
     ghost use Rattle.klp_bodies.specs.Running.{Ends};
 
-    /// The body of a task that has this pass, whose number it is told again.
-    pub fn new(pass: TaskPass<S>, task: TaskId, gate: G) -> TaskBody<S, G>
-        requires same { pass.task ≡ task }
-        requires there { task < MAX_TASKS }
+    /// The body of the task that has this pass.
+    pub fn new(pass: TaskPass<S>, gate: G) -> TaskBody<S, G>
         ensures pass { result.pass ≡ pass }
         ensures gate { result.gate ≡ gate }
     {
-        TaskBody { pass, gate, task }
+        TaskBody { pass, gate }
     }
 
     /// The pass of a body that doesn't run.
     pub(crate) fn into_pass(self) -> TaskPass<S>
         ensures { result ≡ self.pass }
     {
-        let TaskBody {
-            pass,
-            gate: _gate,
-            task: _task,
-        } = self;
+        let TaskBody { pass, gate: _gate } = self;
         pass
     }
 
@@ -65,9 +54,9 @@ impl<S: Start + Protocol<Published, View>, G: Gate + Drop> TaskBody<S, G> {
         ensures { (outcomes : List AnyOutcome) × (out.new.items ≡ out.old.items ++ outcomes)
             × Ends S.setting S.base (G.answers self.gate) self.pass steps.now outcomes result }
     {
-        let TaskBody { pass, gate, task } = self;
+        let TaskBody { pass, gate } = self;
         let mut pass = pass;
-        match run_steps(rt, alloc, live, task, &gate, &mut pass, steps, out) {
+        match run_steps(rt, alloc, live, &gate, &mut pass, steps, out) {
             Ok(()) => Ok(pass),
             Err(cause) => Err(BodyFault { pass, cause }),
         }

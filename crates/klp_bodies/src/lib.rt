@@ -9,7 +9,6 @@ mod fault;
 mod gate;
 mod job;
 pub mod laws;
-mod pass;
 mod run;
 mod step;
 mod two;

@@ -1,7 +1,7 @@
 //! How the steps of a body are done.
 ghost use Rattle.std.specs.Prelude.{◌≡◌, ◌+◌, ◌<◌, ◌≤◌, ◌^◌, ◌++◌, ◌∷◌, [], true, false, List, length, IfSome, IfNone, MatchBool, MatchResult, slice_get, Some, Ok, Err, vec_len, vec_capacity};
 ghost use mathlib.Core.List.{IsPrefix};
-ghost use Rattle.klp_types.specs.declared.limits.TheConstants.{MAX_FRAMES, MAX_TASKS};
+ghost use Rattle.klp_types.specs.declared.limits.TheConstants.{MAX_FRAMES};
 ghost use Rattle.klp_model.specs.Legal.{IsLegal};
 ghost use Rattle.klp_bodies.specs.declared.step.Outcome.{Outcome as AnyOutcome};
 ghost use Rattle.klp_bodies.specs.Steps.{CameTo, IsSubmission, IsCall, frames_after, taken_by, submits};
@@ -9,7 +9,6 @@ ghost use Rattle.klp_bodies.specs.Running.{Learns, IsStepped, IsFinished, IsCutS
 
 use crate::fault::BodyCause;
 use crate::gate::Gate;
-use crate::pass::known_by;
 use crate::step::{Accepted, Outcome, Step, What};
 use crossbeam_utils::rule::Protocol;
 use klp_core::Machine;
@@ -91,12 +90,10 @@ fn came_to<S: Start + Protocol<Published, View>, M: Machine + Drop, R: Wait + Dr
     rt: &W,
     alloc: Global,
     live: &Live<S, M, R>,
-    task: TaskId,
     pass: &mut TaskPass<S>,
     frames: &mut Frames,
     step: &Step,
 ) -> Option<What>
-    requires same { pass.old.task ≡ task }
     ensures learns { IfSome result (λ what. Learns pass.old pass.new what) }
     ensures frames { IfSome result (λ what. frames.new ≡ frames_after frames.old what) }
     ensures came { IfSome result (λ what. CameTo S.setting S.base pass.old.task (length pass.old.knows.list) frames.old pass.new.knows.list step.now what) }
@@ -105,7 +102,7 @@ fn came_to<S: Start + Protocol<Published, View>, M: Machine + Drop, R: Wait + Dr
 {
     match step {
         Step::Submit(event) => submitted(rt, alloc, live, pass, *event),
-        Step::Nap => submitted(rt, alloc, live, pass, Event::Sleep(task, *frames)),
+        Step::Nap => submitted(rt, alloc, live, pass, Event::Sleep(pass.task(), *frames)),
         Step::Call(site) => Some(called(pass, frames, *site)),
         Step::Return => {
             frames.pop();
@@ -119,20 +116,17 @@ fn done<S: Start + Protocol<Published, View>, M: Machine + Drop, R: Wait + Drop,
     rt: &W,
     alloc: Global,
     live: &Live<S, M, R>,
-    task: TaskId,
     pass: &mut TaskPass<S>,
     frames: &mut Frames,
     step: &Step,
 ) -> Option<Outcome>
-    requires same { pass.old.task ≡ task }
-    requires there { task < MAX_TASKS }
     ensures done { IfSome result (λ outcome. IsStepped S.setting S.base pass.old pass.new frames.old frames.new step.now outcome) }
     ensures none { IfNone result (pass.new ≡ pass.old) }
     ensures why { IfNone result (submits step.now ≡ true) }
 {
-    let what = came_to(rt, alloc, live, task, pass, frames, step)?;
+    let what = came_to(rt, alloc, live, pass, frames, step)?;
     Some(Outcome {
-        known: known_by(live, pass, task),
+        known: pass.rows(),
         what,
     })
 }
@@ -148,20 +142,18 @@ pub(crate) fn run_steps<
     rt: &W,
     alloc: Global,
     live: &Live<S, M, R>,
-    task: TaskId,
     gate: &G,
     pass: &mut TaskPass<S>,
     steps: &[Step],
     out: &mut Vec<Outcome>,
 ) -> Result<(), BodyCause>
-    requires same { pass.old.task ≡ task }
-    requires there { task < MAX_TASKS }
     requires few { length steps.now < 2 ^ 32 }
     ensures { (outcomes : List AnyOutcome) × (out.new.items ≡ out.old.items ++ outcomes) × MatchResult result
         (λ _. IsFinished S.setting S.base (G.answers gate.now) pass.old pass.new steps.now outcomes)
         (λ cause. IsCutShort S.setting S.base (G.answers gate.now) pass.old pass.new cause steps.now outcomes) }
 {
-    let _legal = known_by(live, pass, task);
+    let task = pass.task();
+    let _legal = pass.rows();
     if out.reserve(steps.len()).is_err() {
         return Err(BodyCause::NoMemory);
     }
@@ -170,7 +162,7 @@ pub(crate) fn run_steps<
         if !is_let_in(gate, task, number as u32) {
             return Err(BodyCause::Held);
         }
-        let Some(outcome) = done(rt, alloc, live, task, pass, &mut frames, step) else {
+        let Some(outcome) = done(rt, alloc, live, pass, &mut frames, step) else {
             return Err(BodyCause::NoMemory);
         };
         out.push_reserved(outcome);

@@ -80,7 +80,7 @@ pub(crate) fn show_body<
         Err((seat, _)) => return Ok(seat),
     };
     let mut outcomes = Vec::new(alloc);
-    let ended = TaskBody::new(pass, task, gate).run(rt, alloc, live, steps, &mut outcomes);
+    let ended = TaskBody::new(pass, gate).run(rt, alloc, live, steps, &mut outcomes);
     show_all(rt, outcomes.as_slice(), detail)?;
     seat_of(rt, ended)
 }
@@ -254,7 +254,7 @@ pub(crate) fn show_unrun<S: Start + Protocol<Published, View>, M: Machine + Drop
     let Some(steps) = few(steps) else {
         return Ok(pass.detach());
     };
-    let job = Job::new(alloc, TaskBody::new(pass, FIRST, open(&asked)), steps);
+    let job = Job::new(alloc, TaskBody::new(pass, open(&asked)), steps);
     let (ended, outcomes) = job.end();
     show_kinds(rt, outcomes.as_slice())?;
     seat_of(rt, ended)

@@ -53,7 +53,7 @@ fn job_of<'a, S: Start + Protocol<Published, View>, M: Machine + Drop, R: Wait +
 {
     let steps = turn_of(alloc, task)?;
     match live.attach(seat, task) {
-        Ok(pass) => Ok(Some(Job::new(alloc, TaskBody::new(pass, task, gate), steps))),
+        Ok(pass) => Ok(Some(Job::new(alloc, TaskBody::new(pass, gate), steps))),
         Err(_) => Ok(None),
     }
 }

@@ -1,5 +1,5 @@
 //! What a thread that runs a task does.
-ghost use Rattle.std.specs.Prelude.{◌≡◌, ◌⊎◌, Err, IfSome};
+ghost use Rattle.std.specs.Prelude.{◌≡◌, length, ◌⊎◌, Err, IfSome};
 ghost use mathlib.Core.List.{IsPrefix};
 ghost use Rattle.klp_model.specs.Legal.{IsLegal};
 ghost use Rattle.left_right.specs.Sides.{view as seen_by};
@@ -127,6 +127,21 @@ impl<S: Start + Protocol<Published, View>> TaskPass<S> {
         ensures { result ≡ record { task = task; knows = seat } }
     {
         TaskPass { task, seat }
+    }
+
+    /// The task that has the pass.
+    pub fn task(&self) -> TaskId
+        ensures { result ≡ self.now.task }
+    {
+        self.task
+    }
+
+    /// How many rows of the book it knows of, as its seat does.
+    pub fn rows(&self) -> u64
+        ensures rows { result ≡ length self.now.knows.list }
+        ensures legal { IsLegal S.setting S.base self.now.knows.list }
+    {
+        self.seat.rows()
     }
 
     /// Gives the seat back: it still knows what the pass knew, and another task may take it.

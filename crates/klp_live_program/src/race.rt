@@ -61,7 +61,7 @@ fn job_of<S: Start + Protocol<Published, View>, M: Machine + Drop, R: Wait + Dro
     ensures steps { steps_of result ≡ steps.items }
 {
     match live.attach(seat, task) {
-        Ok(pass) => Job::new(alloc, TaskBody::new(pass, task, Open), steps),
+        Ok(pass) => Job::new(alloc, TaskBody::new(pass, Open), steps),
         Err(_) => unreachable!(),
     }
 }

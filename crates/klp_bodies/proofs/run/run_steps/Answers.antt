@@ -15,16 +15,16 @@ refused (Err e) P t h = h
 pub returns-then-is_err : goal.returns-then-is_err
 returns-then-is_err g c =
     stops_so_far _ _ _ _ _ _ _ _ _ _ _ NoMemory
-    (starts_so_far g.S.Start.setting g.S.Start.base (g.G.Gate.answers c.args.gate.now) c.args.pass.now c.known_by-legal.new.pass [] c.args.steps.now c.args.out.now.items c.reserve.new.self.items
-    c.known_by-legal.ensures.pass refl c.reserve.ensures.items c.known_by-legal.ensures.legal)
+    (starts_so_far g.S.Start.setting g.S.Start.base (g.G.Gate.answers c.args.gate.now) c.args.pass.now c.args.pass.now [] c.args.steps.now c.args.out.now.items c.reserve.new.self.items
+    refl refl c.reserve.ensures.items c.rows-legal.ensures.legal)
     refl (omega (arith, refused c.reserve.result _ (sym (c.if-is_err.true) ∙ c.is_err.ensures.value) c.reserve.ensures.full, c.args.out.now.ok)) (inl refl)
 
 pub loop-number-init : goal.loop-number-init
 loop-number-init g c = (
   [],
   (
-    starts_so_far g.S.Start.setting g.S.Start.base (g.G.Gate.answers c.args.gate.now) c.args.pass.now c.known_by-legal.new.pass c.new-frames.result c.args.steps.now c.args.out.now.items c.reserve.new.self.items
-        c.known_by-legal.ensures.pass c.new-frames.ensures c.reserve.ensures.items c.known_by-legal.ensures.legal,
+    starts_so_far g.S.Start.setting g.S.Start.base (g.G.Gate.answers c.args.gate.now) c.args.pass.now c.args.pass.now c.new-frames.result c.args.steps.now c.args.out.now.items c.reserve.new.self.items
+        refl c.new-frames.ensures c.reserve.ensures.items c.rows-legal.ensures.legal,
     refl,
     search rules,
   ),
@@ -44,7 +44,7 @@ loop-number-preserved g c =
     let step : slice_get c.args.steps.now (length far.0) ≡ Some c.index-steps-number.result =
     subst (λ k. slice_get c.args.steps.now k ≡ Some c.index-steps-number.result) (sym far.1.1) (slice_get_read c.args.steps.now (length c.args.steps.now) c.loop-number.number c.index-steps-number.result refl c.loop-number-test.true c.index-steps-number.is) in
     let lets : g.G.Gate.answers c.args.gate.now c.args.pass.now.task (length far.0) true =
-    subst (λ t. g.G.Gate.answers c.args.gate.now t (length far.0) true) (sym c.requires.same) (subst (λ k. g.G.Gate.answers c.args.gate.now c.args.task k true) (sym far.1.1) c.if-not-is_let_in.ensures) in (
+    subst (λ t. g.G.Gate.answers c.args.gate.now t (length far.0) true) c.task-task.ensures (subst (λ k. g.G.Gate.answers c.args.gate.now c.task-task.result k true) (sym far.1.1) c.if-not-is_let_in.ensures) in (
       far.0 ++ c.in-Some.outcome ∷ [],
       (
         rw c.push_reserved.ensures.items (more_so_far _ _ _ _ c.loop-number.pass _ _ _ _ _ _ _ c.index-steps-number.result c.in-Some.outcome far.1.0 step lets c.in-Some.ensures.done),
