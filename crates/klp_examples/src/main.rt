@@ -1,4 +1,4 @@
-//! Runs the examples, scripts and traces, also without memory, and measures what an event costs and what the
+//! Runs the examples, scripts, traces and steps of two tasks, also without memory, and measures what an event costs and what the
 //! program costs as a whole. It is run in the folder of its data; its word is the number of rounds that are measured. The gate
 //! runs one round, for which no time is told.
 #![tactic(auto)]
@@ -8,6 +8,7 @@ mod events;
 mod examples;
 mod few;
 mod hoard;
+mod lives;
 mod measured;
 mod refused;
 mod scarce;
@@ -42,10 +43,11 @@ fn main(rt: HostRuntime) -> Result<ExitCode, Fault> {
     };
     let print = examples::run(&rt)?;
     let watch = traces::run(&rt)?;
+    let live = lives::run(&rt)?;
     let refuse = refused::run(&rt)?;
     let scarce = scarce::run(&rt)?;
     bench::run(&rt, rt.alloc(), rounds)?;
-    Ok(if print && watch && refuse && scarce {
+    Ok(if print && watch && live && refuse && scarce {
         ExitCode::SUCCESS
     } else {
         ExitCode::FAILURE
