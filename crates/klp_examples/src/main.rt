@@ -43,10 +43,11 @@ fn main(rt: HostRuntime) -> Result<ExitCode, Fault> {
     };
     let print = examples::run(&rt)?;
     let watch = traces::run(&rt)?;
-    let live = lives::run(&rt)?;
     let refuse = refused::run(&rt)?;
     let scarce = scarce::run(&rt)?;
     bench::run(&rt, rt.alloc(), rounds)?;
+    // Last, since where memory is taken from is another matter once there were threads, which `scarce` would see.
+    let live = lives::run(&rt)?;
     Ok(if print && watch && live && refuse && scarce {
         ExitCode::SUCCESS
     } else {
