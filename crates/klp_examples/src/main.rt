@@ -1,4 +1,4 @@
-//! Runs the examples, scripts, traces and steps of two tasks, also without memory, and measures what an event costs and what the
+//! Runs the examples, scripts and traces, also without memory, and measures what an event costs and what the
 //! program costs as a whole. It is run in the folder of its data; its word is the number of rounds that are measured. The gate
 //! runs one round, for which no time is told.
 #![tactic(auto)]
@@ -8,7 +8,6 @@ mod events;
 mod examples;
 mod few;
 mod hoard;
-mod lives;
 mod measured;
 mod refused;
 mod scarce;
@@ -46,9 +45,7 @@ fn main(rt: HostRuntime) -> Result<ExitCode, Fault> {
     let refuse = refused::run(&rt)?;
     let scarce = scarce::run(&rt)?;
     bench::run(&rt, rt.alloc(), rounds)?;
-    // Last, since where memory is taken from is another matter once there were threads, which `scarce` would see.
-    let live = lives::run(&rt)?;
-    Ok(if print && watch && live && refuse && scarce {
+    Ok(if print && watch && refuse && scarce {
         ExitCode::SUCCESS
     } else {
         ExitCode::FAILURE
