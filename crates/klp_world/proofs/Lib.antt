@@ -10,3 +10,4 @@ pub mod TableLemmas
 pub mod FreedLemmas
 pub mod ScriptLemmas
 pub mod KindLemmas
+pub mod ToldLemmas

@@ -137,7 +137,7 @@ change_same patch change (first ∷ newer) e =
     ] e
 
 -- two changes, one after the other
-change_twice : (patch : ℕ) (f g : List (ℕ × ℕ) → List (ℕ × ℕ)) (patches : List Installed) → change_states patch g (change_states patch f patches) ≡ change_states patch (λ s. g (f s)) patches
+pub change_twice : (patch : ℕ) (f g : List (ℕ × ℕ) → List (ℕ × ℕ)) (patches : List Installed) → change_states patch g (change_states patch f patches) ≡ change_states patch (λ s. g (f s)) patches
 change_twice patch f g [] = refl
 change_twice patch f g (first ∷ newer) =
     elim (first.patch == patch) as (λ b. (first.patch == patch) ≡ b → change_states patch g (changed patch f first newer b) ≡ changed patch (λ s. g (f s)) first newer b) [
@@ -158,7 +158,7 @@ undone_set world patch id value =
     ] refl
 
 -- variables that are put back, the last first
-abbrev restored : Shadow → List (ShadowKey × ShadowValue) → Shadow
+abbrev pub restored : Shadow → List (ShadowKey × ShadowValue) → Shadow
 restored m [] = m
 restored m (v ∷ vs) = cond (ltb (finite.len (restored m vs)) MAX_VARIABLES) (finite.insert (restored m vs) v.0 v.1) (restored m vs)
 
@@ -166,13 +166,13 @@ chosen : {A B : Type 0} (f : A → B) (b : Bool) (x y : A) → cond b (f x) (f y
 chosen f true x y = refl
 chosen f false x y = refl
 
-undone_variables : (world : World) (vs : List (ShadowKey × ShadowValue)) → undone world (map variable_row vs) ≡ record world { shadow = restored world.shadow vs }
+pub undone_variables : (world : World) (vs : List (ShadowKey × ShadowValue)) → undone world (map variable_row vs) ≡ record world { shadow = restored world.shadow vs }
 undone_variables world [] = refl
 undone_variables world (v ∷ vs) =
     ap (λ w. put_variable w v.0 (Some v.1)) (undone_variables world vs)
     ∙ chosen (λ (s : Shadow). record world { shadow = s }) (ltb (finite.len (restored world.shadow vs)) MAX_VARIABLES) _ _
 
-few_restored : (m : Shadow) (vs : List (ShadowKey × ShadowValue)) → finite.len (restored m vs) ≤ finite.len m + length vs
+pub few_restored : (m : Shadow) (vs : List (ShadowKey × ShadowValue)) → finite.len (restored m vs) ≤ finite.len m + length vs
 few_restored m [] = omega arith
 few_restored m (v ∷ vs) =
     let before = few_restored m vs in
@@ -207,7 +207,7 @@ one_of_two false o = refl
 alike : (keep : ShadowKey → Bool) (q x : ShadowKey) → key_cmp q x ≡ Equal → keep x ≡ keep q
 alike keep q x e = ap keep (sym (key_antisymmetric q x e))
 
-abbrev of_id : ℕ → ShadowKey → Bool
+abbrev pub of_id : ℕ → ShadowKey → Bool
 of_id id key = key.id == id
 
 -- the variables of an id and the others are all
@@ -239,10 +239,10 @@ undone_free_all world id few =
     ∙ ap (or_else (cond (q.id == id) (finite.get m q) None)) (finite.get-retain_keys m keep q (alike keep q))
     ∙ one_of_two (q.id == id) (finite.get m q)))
 
-abbrev lone : ℕ → List (ℕ × ℕ) → List Installed
+abbrev pub lone : ℕ → List (ℕ × ℕ) → List Installed
 lone patch values = record { patch = patch; values = values } ∷ []
 
-change_last : (patch : ℕ) (change : List (ℕ × ℕ) → List (ℕ × ℕ)) (patches : List Installed) (values : List (ℕ × ℕ)) → list_any (λ (i : Installed). i.patch == patch) patches ≡ false
+pub change_last : (patch : ℕ) (change : List (ℕ × ℕ) → List (ℕ × ℕ)) (patches : List Installed) (values : List (ℕ × ℕ)) → list_any (λ (i : Installed). i.patch == patch) patches ≡ false
     → change_states patch change (patches ++ lone patch values) ≡ patches ++ lone patch (change values)
 change_last patch change [] values fresh = ap (changed patch change (record { patch = patch; values = values }) []) (eq-eqb patch patch refl)
 change_last patch change (first ∷ newer) values fresh =
@@ -256,11 +256,11 @@ out_last patch (first ∷ newer) values fresh =
     ap (λ b. cond b (newer ++ lone patch values) (first ∷ taken_out patch (newer ++ lone patch values))) parts.0 ∙ ap (first ∷◌) (out_last patch newer values parts.1)
 
 -- the states that are left once these are taken out, the last first
-abbrev left_of : List ℕ → List (ℕ × ℕ) → List (ℕ × ℕ)
+abbrev pub left_of : List ℕ → List (ℕ × ℕ) → List (ℕ × ℕ)
 left_of [] values = values
 left_of (id ∷ ids) values = state_taken id (left_of ids values)
 
-undone_new_states : (world : World) (patch : ℕ) (patches : List Installed) (values : List (ℕ × ℕ)) (ids : List ℕ) → list_any (λ (i : Installed). i.patch == patch) patches ≡ false
+pub undone_new_states : (world : World) (patch : ℕ) (patches : List Installed) (values : List (ℕ × ℕ)) (ids : List ℕ) → list_any (λ (i : Installed). i.patch == patch) patches ≡ false
     → undone (record world { installed = patches ++ lone patch values }) (map (λ id. StateRow patch id None) ids) ≡ record world { installed = patches ++ lone patch (left_of ids values) }
 undone_new_states world patch patches values [] fresh = refl
 undone_new_states world patch patches values (id ∷ ids) fresh =
@@ -272,14 +272,14 @@ undone_add world patch ids fresh =
     ap (λ w. put_back w (InstalledPatch patch None)) (undone_new_states world patch world.installed (map (λ id. (id, 0)) ids) ids fresh)
     ∙ ap (λ p. record world { installed = p }) (out_last patch world.installed (left_of ids (map (λ id. (id, 0)) ids)) fresh)
 
-one_shorter : (patch : ℕ) (patches : List Installed) (i : ℕ) → FirstAt (is_patch patch) patches i → suc (length (taken_out patch patches)) ≡ length patches
+pub one_shorter : (patch : ℕ) (patches : List Installed) (i : ℕ) → FirstAt (is_patch patch) patches i → suc (length (taken_out patch patches)) ≡ length patches
 one_shorter patch [] i h = absurd h
 one_shorter patch (first ∷ newer) zero h = ap (λ b. suc (length (cond b newer (first ∷ taken_out patch newer)))) h
 one_shorter patch (first ∷ newer) (suc i) h =
     ap (λ b. suc (length (cond b newer (first ∷ taken_out patch newer)))) h.0 ∙ ap suc (one_shorter patch newer i h.1)
 
 -- a patch that was taken out is put in its place again, without states
-put_again : (patch : ℕ) (patches : List Installed) (i : ℕ) → FirstAt (is_patch patch) patches i
+pub put_again : (patch : ℕ) (patches : List Installed) (i : ℕ) → FirstAt (is_patch patch) patches i
     → insert (taken_out patch patches) i (record { patch = patch; values = [] }) ≡ change_states patch (λ _. []) patches
 put_again patch [] i h = absurd h
 put_again patch (first ∷ newer) zero h =
@@ -291,7 +291,7 @@ put_again patch (first ∷ newer) (suc i) h =
     ∙ ap (first ∷◌) (put_again patch newer i h.1)
     ∙ sym (ap (changed patch (λ _. []) first newer) h.0)
 
-undone_states : (world : World) (patch : ℕ) (patches : List Installed) (states values : List (ℕ × ℕ)) → length values + length states ≤ MAX_STATES
+pub undone_states : (world : World) (patch : ℕ) (patches : List Installed) (states values : List (ℕ × ℕ)) → length values + length states ≤ MAX_STATES
     → undone (record world { installed = change_states patch (λ _. values) patches }) (map (state_row patch) (reverse states)) ≡ record world { installed = change_states patch (λ _. values ++ states) patches }
 undone_states world patch patches [] values few = ap (λ v. record world { installed = change_states patch (λ _. v) patches }) (sym (append-nil values))
 undone_states world patch patches (state ∷ states) values few =

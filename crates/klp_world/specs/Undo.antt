@@ -1,5 +1,5 @@
 -- Records put back: each gives one row of the world what it was.
-use Rattle.std.specs.Prelude.{ℕ, Bool, true, false, ◌++◌, ◌==◌, nat_lt, List, [], ◌∷◌, length, insert, Option, Some, None, if◌then◌else◌}
+use Rattle.std.specs.Prelude.{◌≢◌, ℕ, Bool, true, false, ◌++◌, ◌==◌, nat_lt, List, [], ◌∷◌, length, insert, Option, Some, None, if◌then◌else◌}
 use Rattle.std.specs.FinMap as finite
 use Rattle.klp_types.specs.declared.shadow.ShadowKey.{ShadowKey}
 use Rattle.klp_types.specs.declared.record.Record.{Record}
@@ -51,3 +51,8 @@ put_back world other = world
 abbrev pub undone : World → List Record → World
 undone world [] = world
 undone world (row ∷ newer) = put_back (undone world newer) row
+
+-- each of these records tells a row that is another one now: put back in its turn, at the world that the newer ones give, it changes the world
+abbrev pub TellChanges : World → List Record → Type 0
+TellChanges world [] = Unit {0}
+TellChanges world (row ∷ newer) = (put_back (undone world newer) row ≢ undone world newer) × TellChanges world newer

@@ -7,7 +7,7 @@ ghost use Rattle.std.specs.FinMap as finite;
 ghost use Rattle.klp_types.specs.World.{World, without_id};
 ghost use Rattle.klp_types.specs.Script.{Script, alloc_count, effect};
 ghost use Rattle.klp_world.specs.Noted.{rows_of_alloc, rows_of_free, rows_of_free_all, rows_of_add, rows_of_drop, rows_of_script};
-ghost use Rattle.klp_world.specs.Undo.{undone, is_of_world};
+ghost use Rattle.klp_world.specs.Undo.{undone, is_of_world, TellChanges};
 
 use klp_types::MAX_VARIABLES;
 
@@ -33,6 +33,15 @@ pub fn scripts_are_undone()
     ensures { (patch : ℕ) (world : World) (script : Script)
         → finite.len world.shadow + alloc_count script.edits ≤ MAX_VARIABLES
         → undone (effect patch world script) (rows_of_script patch world script) ≡ world }
+{}
+
+/// Each record of a script tells a row that is another one afterwards, in its turn, where the world before it
+/// has that room: an edit that leaves a row as it was logs nothing.
+#[tactic(auto, using(crate::proofs::ToldLemmas::told_script))]
+pub fn scripts_tell_what_they_change()
+    ensures { (patch : ℕ) (world : World) (script : Script)
+        → finite.len world.shadow + alloc_count script.edits ≤ MAX_VARIABLES
+        → TellChanges (effect patch world script) (rows_of_script patch world script) }
 {}
 
 /// What changes of the world log is rows of the world and of nothing else, so the other parts of a manager

@@ -1,14 +1,15 @@
 use Rattle.std.proofs.Common.{ap, subst, ◌∙◌, ◌≤◌, List, [], ◌∷◌, ◌++◌, Some, length, length-append, append-nil, append_assoc, map, reverse, sym, arith}
-use Rattle.klp_types.specs.World.{World}
+use Rattle.klp_types.specs.World.{World, states_of}
 use Rattle.klp_types.specs.declared.record.Record.{Record}
 use Rattle.klp_types.specs.declared.record.Record.TheVariants.{InstalledPatch}
 use Rattle.klp_types.specs.Records.{RecordList}
-use Rattle.klp_types.specs.declared.limits.TheConstants.{MAX_PATCHES}
+use Rattle.klp_types.specs.declared.limits.TheConstants.{MAX_PATCHES, MAX_STATES}
 use Rattle.klp_world.proofs.NotedLemmas.{length-states, length-dropped}
-use Rattle.klp_world.specs.Undo.{undone}
+use Rattle.klp_world.specs.Undo.{undone, TellChanges}
 use Rattle.klp_world.specs.Noted.{noting, state_row, rows_of_drop}
 use Rattle.klp_world.proofs.PatchLemmas.{not_in, nothing_dropped, rows_dropped, taken_from, first_in, states_in}
 use Rattle.klp_world.proofs.UndoLemmas.{undone_drop}
+use Rattle.klp_world.proofs.ToldLemmas.{told_drop}
 use Rattle.klp_world.proofs.world.World.drop_states.Goals as goal
 
 pub returns-in_default : goal.returns-in_default
@@ -19,6 +20,7 @@ returns-in_default c =
         world = not_in c.args.patch c.deref.result.now c.self.inside.patches.items c.self.inside.shadow c.args.self.now c.deref.ensures.value c.self.view_is c.in_default.ensures;
         records = ap (λ noted. record c.args.log.now { noted = noted }) (sym (append-nil c.args.log.now.noted)) ∙ ap (noting c.args.log.now) (sym nothing);
         undo = ap (undone c.args.self.now) nothing;
+        told = subst (TellChanges c.args.self.now) (sym nothing) tt;
       };
     }
 
@@ -45,6 +47,8 @@ returns c =
     let few_patches = subst (λ (w : World). length w.installed ≤ MAX_PATCHES) c.self.view_is (omega (arith, c.deref.ensures.len, c.self.invariant.0)) in
     let states = ap length (states_in c.args.patch c.deref.result.now c.self.inside.patches.items c.self.inside.shadow c.args.self.now c.deref.ensures.value c.self.view_is c.in-Some.place c.in-Some.ensures c.take_out-installed.result c.take_out-installed.ensures.patch) in
     let seen = ap length c.states.ensures.value in
+    let first = first_in c.args.patch c.deref.result.now c.self.inside.patches.items c.self.inside.shadow c.args.self.now c.deref.ensures.value c.self.view_is c.in-Some.place c.in-Some.ensures in
+    let few_states : length (states_of c.args.patch c.args.self.now.installed) ≤ MAX_STATES = omega (arith, c.states.ensures.limit) in
     let taken = c.take_out-installed.ensures.world ∙ taken_from c.args.patch c.deref.result.now c.self.inside.patches.items c.self.inside.shadow c.args.self.now c.deref.ensures.value c.self.view_is c.in-Some.place c.in-Some.ensures in
     record {
       changes = record {
@@ -53,6 +57,8 @@ returns c =
             ∙ ap (λ (noted : List Record). record c.args.log.now { noted = noted })
             (append_assoc c.args.log.now.noted _ last ∙ ap (c.args.log.now.noted ++◌) (ap (λ states. map (state_row c.args.patch) (reverse states) ++ last) c.states.ensures.value ∙ sym rows));
         undo = ap (λ (w : World). undone w (rows_of_drop c.args.self.now c.args.patch)) taken
-            ∙ undone_drop c.args.self.now c.args.patch c.in-Some.place (first_in c.args.patch c.deref.result.now c.self.inside.patches.items c.self.inside.shadow c.args.self.now c.deref.ensures.value c.self.view_is c.in-Some.place c.in-Some.ensures) few_patches (omega (arith, c.states.ensures.limit));
+            ∙ undone_drop c.args.self.now c.args.patch c.in-Some.place first few_patches few_states;
+        told = subst (λ (w : World). TellChanges w (rows_of_drop c.args.self.now c.args.patch)) (sym taken)
+            (told_drop c.args.self.now c.args.patch c.in-Some.place first few_patches few_states);
       };
     }

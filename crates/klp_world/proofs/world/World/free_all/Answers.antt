@@ -1,10 +1,11 @@
-use Rattle.std.proofs.Common.{ap, subst, ◌∙◌, ◌≤◌, length, arith, rules}
+use Rattle.std.proofs.Common.{ap, sym, subst, ◌∙◌, ◌≤◌, length, arith, rules}
 use Rattle.std.specs.FinMap as finite
 use Rattle.klp_types.specs.World.{World, Shadow, without_id}
-use Rattle.klp_world.specs.Undo.{undone}
+use Rattle.klp_world.specs.Undo.{undone, TellChanges}
 use Rattle.klp_world.specs.Noted.{rows_of_free_all}
 use Rattle.klp_types.specs.declared.limits.TheConstants.{MAX_VARIABLES}
 use Rattle.klp_world.proofs.UndoLemmas.{count_parted, undone_free_all}
+use Rattle.klp_world.proofs.ToldLemmas.{told_free_all}
 use Rattle.klp_world.proofs.world.World.free_all.Goals as goal
 
 pub overflow_sub-result : goal.overflow_sub-result
@@ -28,10 +29,12 @@ returns-clause-count c =
     omega (arith, c.len.ensures.value, c.len-before.ensures.value)
 
 pub returns-clause-changes : goal.returns-clause-changes
-returns-clause-changes c = record {
-  world = search rules;
-  records = search rules;
-  undo = ap (λ (w : World). undone w (rows_of_free_all c.args.self.now c.args.id))
-      (ap (λ (s : Shadow). record { installed = c.self.inside.patches.items; shadow = s }) c.remove_id.ensures.map ∙ ap (λ (w : World). without_id w c.args.id) c.self.view_is)
-      ∙ undone_free_all c.args.self.now c.args.id (subst (λ (w : World). finite.len w.shadow ≤ MAX_VARIABLES) c.self.view_is c.remove_id.ensures.bound);
-}
+returns-clause-changes c =
+    let made = ap (λ (s : Shadow). record { installed = c.self.inside.patches.items; shadow = s }) c.remove_id.ensures.map ∙ ap (λ (w : World). without_id w c.args.id) c.self.view_is in
+    let few = subst (λ (w : World). finite.len w.shadow ≤ MAX_VARIABLES) c.self.view_is c.remove_id.ensures.bound in
+    record {
+      world = search rules;
+      records = search rules;
+      undo = ap (λ (w : World). undone w (rows_of_free_all c.args.self.now c.args.id)) made ∙ undone_free_all c.args.self.now c.args.id few;
+      told = subst (λ (w : World). TellChanges w (rows_of_free_all c.args.self.now c.args.id)) (sym made) (told_free_all c.args.self.now c.args.id few);
+    }
