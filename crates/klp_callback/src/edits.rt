@@ -65,6 +65,7 @@ pub fn run_script(script: &Script, patch: PatchId, world: &mut World, log: &mut 
         (rows_of_script patch world.old script.now) }
 {
     klp_world::laws::scripts_are_undone();
+    klp_world::laws::scripts_tell_what_they_change();
     if script.status == 0 {
         make_edits(&script.edits, patch, world, log);
     }

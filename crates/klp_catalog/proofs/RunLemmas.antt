@@ -213,7 +213,7 @@ pub idle_changes : (patch place : ℕ) (which : Which) (world : World) (log : Re
     → Changes world world log log (after_calls world (call_of patch place which script)) (rows_if patch world script)
 idle_changes patch place which world log script none =
     subst (λ s. Changes world world log log (after_calls world (call_of patch place which s)) (rows_if patch world s)) (sym none)
-    (record { world = refl; records = ap (λ (rows : List Record). record log { noted = rows }) (sym (append-nil log.noted)); undo = refl })
+    (record { world = refl; records = ap (λ (rows : List Record). record log { noted = rows }) (sym (append-nil log.noted)); undo = refl; told = tt })
 
 pub run_changes : (patch place : ℕ) (which : Which) (world after : World) (log logged : RecordList) (script : Option Script) (own : Script) → script ≡ Some own
     → Changes world after log logged (effect patch world own) (rows_of_script patch world own)

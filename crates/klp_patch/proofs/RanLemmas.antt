@@ -16,7 +16,8 @@ use Rattle.klp_types.specs.Script.{Script, alloc_count, effect, is_success}
 use Rattle.klp_types.specs.Callbacks.{Call, script_for, call_of, calls_of, refuses, allocs_of, after_calls}
 use Rattle.klp_world.specs.Noted.{noting, rows_of_script}
 use Rattle.klp_world.specs.Changes.{HasRoom}
-use Rattle.klp_world.specs.Undo.{undone}
+use Rattle.klp_world.specs.Undo.{undone, TellChanges}
+use Rattle.klp_world.proofs.ToldLemmas.{told_both}
 use Rattle.klp_catalog.specs.Catalog.{Catalog}
 use Rattle.klp_catalog.specs.Runs.{after_runs, objects_at, rows_if, RunsAddUp}
 use Rattle.klp_modules.specs.Names.{ModuleTable}
@@ -41,6 +42,7 @@ none_ran catalog world log = record {
   noted = sym (ap (λ (rows : List Record). record log { noted = rows }) (append-nil log.noted));
   of_world = All-nil OfWorld;
   undo = refl;
+  told = tt;
   records = omega arith;
   room = refl;
 }
@@ -60,6 +62,7 @@ then_ran adds first next last w0 w1 w2 l0 l1 l2 xs ys old new =
       noted = new.noted ∙ ap (λ (l : RecordList). noting l new.rows) old.noted ∙ ap (λ (rows : List Record). record l0 { noted = rows }) (append_assoc l0.noted old.rows new.rows);
       of_world = All-append OfWorld old.rows new.rows old.of_world new.of_world;
       undo = undone-append w2 old.rows new.rows ∙ ap (λ (w : World). undone w old.rows) new.undo ∙ old.undo;
+      told = told_both w2 old.rows new.rows (subst (λ (w : World). TellChanges w old.rows) (sym new.undo) old.told) new.told;
       records = omega (arith, records, old.records, new.records);
       room = new.room ∙ old.room;
     }
@@ -135,9 +138,9 @@ pub one_ran : VariablesAreFew → RecordsAreFew → PatchesStay → (before afte
     (script : Option Script)
     → after ≡ after_runs before (call_of patch place which script)
     → changed ≡ after_calls world (call_of patch place which script)
-    → noted ≡ noting log (rows_if patch world script) → undone changed (rows_if patch world script) ≡ world
+    → noted ≡ noting log (rows_if patch world script) → undone changed (rows_if patch world script) ≡ world → TellChanges changed (rows_if patch world script)
     → HaveRun before after world changed log noted (call_of patch place which script)
-one_ran few_variables few_records stay before after patch place which world changed log noted None counted did notes back =
+one_ran few_variables few_records stay before after patch place which world changed log noted None counted did notes back told =
     let same = ap (λ (w : World). finite.len w.shadow) did in
     let count = ap (λ (l : RecordList). length l.noted) notes ∙ ap length (append-nil log.noted) in
     record {
@@ -149,10 +152,11 @@ one_ran few_variables few_records stay before after patch place which world chan
       noted = notes;
       of_world = of_script patch world None;
       undo = back;
+      told = told;
       records = omega (arith, same, count);
       room = ap (λ (l : RecordList). l.room) notes;
     }
-one_ran few_variables few_records stay before after patch place which world changed log noted (Some script) counted did notes back =
+one_ran few_variables few_records stay before after patch place which world changed log noted (Some script) counted did notes back told =
     let same = ap (λ (w : World). finite.len w.shadow) did in
     let count = ap (λ (l : RecordList). length l.noted) notes ∙ length-append log.noted (rows_of_script patch world script) in
     let variables = few_variables patch world script in
@@ -166,6 +170,7 @@ one_ran few_variables few_records stay before after patch place which world chan
       noted = notes;
       of_world = of_script patch world (Some script);
       undo = back;
+      told = told;
       records = omega (arith, same, count, records);
       room = ap (λ (l : RecordList). l.room) notes;
     }

@@ -9,7 +9,7 @@ use Rattle.klp_types.specs.Script.{alloc_count}
 use Rattle.klp_types.specs.World.{World}
 use Rattle.klp_types.specs.Callbacks.{Call, allocs_of, after_calls}
 use Rattle.klp_world.specs.Noted.{noting}
-use Rattle.klp_world.specs.Undo.{undone, is_of_world}
+use Rattle.klp_world.specs.Undo.{undone, is_of_world, TellChanges}
 use Rattle.klp_catalog.specs.Catalog.{Catalog}
 use Rattle.klp_catalog.specs.Runs.{after_runs}
 use Rattle.klp_patch.specs.Loaded.{patches_in}
@@ -35,6 +35,8 @@ pub record HaveRun (before after : Catalog) (world_before world_after : World) (
   pub of_world : All (λ row. is_of_world row ≡ true) rows
   -- put back newest first, they give the world before
   pub undo : undone world_after rows ≡ world_before
+  -- and each of them, in its turn, changes the world
+  pub told : TellChanges world_after rows
   -- no more records are noted than those of the callbacks, and one for each shadow variable that is gone
   pub records : length log_after.noted + finite.len world_after.shadow ≤ length log_before.noted + finite.len world_before.shadow + records_of calls
   pub room : log_after.room ≡ log_before.room
