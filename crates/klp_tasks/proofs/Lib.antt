@@ -1,3 +1,4 @@
 pub mod MemberLemmas
 pub mod TaskLemmas
 pub mod ListedLemmas
+pub mod ToldLemmas

@@ -1,5 +1,5 @@
 -- Changes of tasks, the records that they note, and what undoes them.
-use Rattle.std.specs.Prelude.{◌≡◌, ℕ, suc, List, [], ◌∷◌, ◌++◌, Option, Some, None, option_to_list, if◌then◌else◌}
+use Rattle.std.specs.Prelude.{◌≡◌, ◌≢◌, ℕ, suc, List, [], ◌∷◌, ◌++◌, Option, Some, None, option_to_list, if◌then◌else◌}
 use Rattle.std.specs.Ordering.{int_eq}
 use Rattle.klp_types.specs.declared.record.Record.{Record}
 use Rattle.klp_types.specs.declared.record.Record.TheVariants.{TaskRow, NoTaskRow}
@@ -40,6 +40,11 @@ put_back tasks other = tasks
 abbrev pub undone : Tasks → List Record → Tasks
 undone tasks [] = tasks
 undone tasks (row ∷ newer) = put_back (undone tasks newer) row
+
+-- each of these records tells a row that is another one now: put back in its turn, at the tasks that the newer ones give, it changes them
+abbrev pub TellChanges : Tasks → List Record → Type 0
+TellChanges tasks [] = Unit {0}
+TellChanges tasks (row ∷ newer) = (put_back (undone tasks newer) row ≢ undone tasks newer) × TellChanges tasks newer
 
 -- a change of the row of one number makes these tasks of those before, and tells what the row was
 pub record Changes (before after : Tasks) (number : ℕ) (row : Record) (to : Tasks) : Type 0 where
