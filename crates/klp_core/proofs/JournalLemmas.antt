@@ -20,16 +20,16 @@ use Rattle.klp_model.specs.Legal.{IsLegal, state_after_history}
 use Rattle.klp_model.specs.Run.{answer, answer_of}
 use Rattle.klp_model.specs.State.{State}
 use Rattle.klp_modules.specs.Names.{ModuleTable, names_of}
-use Rattle.klp_text.specs.TextImage.{IsWithinLimits}
+use Rattle.klp_text.specs.TextImage.{IsWithinLimits, site_count}
 use Rattle.klp_catalog.specs.Catalog.{Catalog}
 use Rattle.klp_journal.specs.Journal.{Group, has_room}
 use Rattle.klp_manager_state.specs.declared.state.ManagerState.{ManagerState}
 use Rattle.klp_manager_state.specs.Events.{TakesEvent, after_event}
 use Rattle.klp_manager_state.specs.Invariant.{Invariant}
 use Rattle.klp_manager_state.specs.Managed.{Managed, setting_of, managed_of, setting_in}
-use Rattle.klp_manager_state.specs.Rows.{Rows, rows_in, rows_before, undone, are_due}
-use Rattle.klp_sites.specs.Undo.{tell_changes}
+use Rattle.klp_manager_state.specs.Rows.{Rows, rows_in, rows_before, undone, are_due, tell_changes}
 use Rattle.klp_manager_state.proofs.RowLemmas.{given_back, told_back}
+use Rattle.klp_core.proofs.ToldLemmas.{noted_told}
 use Rattle.klp_core.specs.Journaled.{Journaled, state_told, rows_before_all, journaled_of, AreKept, is_of_a_task, IsSmall, IsStepOf, AreSteps, IsSound, history_in, Stands}
 use Rattle.klp_types.specs.Callbacks.{Call}
 use Rattle.klp_core.specs.Events.{AreCounted}
@@ -62,7 +62,7 @@ step_taken_back setting after (first ∷ newer) group steps = (
   step_taken_back setting after newer group steps.1,
 )
 
-newest_told : (setting : Setting) (after : Rows) (groups : List Group) (group : Group) → AreSteps setting after (groups ++ group ∷ []) → tell_changes after.sites group.rows ≡ true
+newest_told : (setting : Setting) (after : Rows) (groups : List Group) (group : Group) → AreSteps setting after (groups ++ group ∷ []) → tell_changes after group.rows ≡ true
 newest_told setting after [] group steps = steps.0.told
 newest_told setting after (first ∷ newer) group steps = newest_told setting after newer group steps.1
 
@@ -111,7 +111,7 @@ same_setting : (before after : Managed) (event : Event) → after ≡ after_even
 same_setting before after event left = ap setting_of left
 
 is_step : (before after : ManagerState) (catalog now : Catalog) (event : Event) (reply : Reply) (rows : List Record) → Invariant before catalog → TakesEvent before after catalog now event (Ok reply)
-    → tell_changes after.sites rows ≡ true → length rows ≤ MAX_RECORDS → (is_of_a_task event ≡ true → length rows ≡ 1)
+    → tell_changes (rows_in after) rows ≡ true → length rows ≤ MAX_RECORDS → (is_of_a_task event ≡ true → length rows ≡ 1)
     → IsStepOf (setting_in before catalog) (rows_in before) (rows_in after) (record { event = event; reply = reply; rows = rows })
 is_step before after catalog now event reply rows holds taken told few one = record {
   kept = kept_in before catalog holds;
@@ -137,12 +137,18 @@ appended_sound before after catalog now groups event reply sound taken noted few
     }
 
 pub appended : (before after : ManagerState) (catalog now : Catalog) (groups : List Group) (event : Event) (reply : Reply)
+    → Invariant before catalog → length after.sites.stacks ≡ site_count after.sites.image
     → TakesEvent before after catalog now event (Ok reply) → rows_before after ≡ Some (rows_in before) → length after.log.noted ≤ MAX_RECORDS
     → (is_of_a_task event ≡ true → length after.log.noted ≡ 1)
     → Appends (journaled_of before catalog groups) (journaled_of after now (groups ++ record { event = event; reply = reply; rows = after.log.noted } ∷ [])) event reply
-appended before after catalog now groups event reply taken noted few one = record {
+appended before after catalog now groups event reply holds count taken noted few one = record {
   group = record { event = event; reply = reply; rows = after.log.noted };
-  noted = record { event_is = refl; reply_is = refl; small = record { few = few; one = one } };
+  noted = record {
+    event_is = refl;
+    reply_is = refl;
+    small = record { few = few; one = one };
+    told = noted_told before after catalog now event reply holds count taken noted;
+  };
   groups = refl;
   left = taken.takes.left;
   base = ap state_told (before_more (rows_in before) (rows_in after) groups (record { event = event; reply = reply; rows = after.log.noted }) (given_back (rows_in after) (rows_in before) after.log.noted noted).0);

@@ -2,6 +2,7 @@ pub mod BootLemmas
 pub mod EventLemmas
 pub mod PlacedLemmas
 pub mod ViewLemmas
+pub mod ToldLemmas
 pub mod JournalLemmas
 pub mod RunLemmas
 pub mod WithdrawalLemmas

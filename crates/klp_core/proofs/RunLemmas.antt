@@ -99,7 +99,10 @@ one_accepted adds first now after events event reply accepted refused so_far sam
     ∙ ap (λ gs. answer_in setting now.managed.state gs event) (sym so_far.groups)
     ∙ ap (λ (s : Setting). answer_in s now.managed.state now.groups event) (sym same)
     ∙ sym taken.answered ∙ ap Ok (sym appends.noted.reply_is) in
-    let noted = subst (IsNotedAs group event) (sym appends.noted.reply_is) appends.noted in
+    let noted =
+    subst (λ s. IsNotedAs setting s group event group.reply) state
+    (subst (λ (s : Setting). IsNotedAs s now.managed.state group event group.reply) same
+    (subst (IsNotedAs (setting_of now.managed) now.managed.state group event) (sym appends.noted.reply_is) appends.noted)) in
     let left = left_more so_far.outcomes outcome in
     record {
       outcomes = so_far.outcomes ++ outcome ∷ [];

@@ -1,7 +1,9 @@
 -- What contracts see of a manager, and the accepted events that stand since its base.
-use Rattle.std.specs.Prelude.{◌≡◌, ℕ, ◌≤◌, Bool, true, false, List, [], ◌∷◌, length, map, Ok}
+use Rattle.std.specs.Prelude.{◌≡◌, ℕ, suc, ◌≤◌, Bool, true, false, List, [], ◌∷◌, length, map, Ok}
 use Rattle.std.specs.List.{All}
 use Rattle.klp_types.specs.declared.limits.TheConstants.{MAX_RECORDS}
+use Rattle.klp_types.specs.declared.version.Entry.{Entry}
+use Rattle.klp_types.specs.Image.{Symbol, symbols_of}
 use Rattle.klp_types.specs.Setting.{Setting}
 use Rattle.klp_model.specs.declared.event.Event.{Event}
 use Rattle.klp_model.specs.Allowed.{Allowed}
@@ -14,11 +16,10 @@ use Rattle.klp_model.specs.Stated.{IsStated}
 use Rattle.klp_catalog.specs.Catalog.{Catalog}
 use Rattle.klp_journal.specs.Journal.{Group}
 use Rattle.klp_stack.specs.Stack.{entries_at}
-use Rattle.klp_sites.specs.Undo.{tell_changes}
 use Rattle.klp_manager_state.specs.declared.state.ManagerState.{ManagerState}
 use Rattle.klp_manager_state.specs.Managed.{Managed, setting_of, managed_of, setting_in}
 use Rattle.klp_manager_state.specs.Invariant.{Invariant}
-use Rattle.klp_manager_state.specs.Rows.{Rows, rows_in, undone}
+use Rattle.klp_manager_state.specs.Rows.{Rows, rows_in, undone, tell_changes}
 
 -- image, catalog and state of a manager; the state that it was booted or sealed in; and what was accepted since, oldest first
 pub record Journaled : Type 0 where
@@ -29,6 +30,21 @@ pub record Journaled : Type 0 where
 -- the state that rows tell
 abbrev pub state_told : Rows → State
 state_told rows = record { loaded = rows.sites.loaded; world = rows.world; moving = rows.moving; pinned = rows.pinned; tasks = rows.tasks }
+
+-- the entries of these symbols' sites, the first of which has this number
+abbrev pub stacks_from : Setting → State → ℕ → List Symbol → List (List Entry)
+stacks_from setting state site [] = []
+stacks_from setting state site (symbol ∷ symbols) = entries_of setting state site ∷ stacks_from setting state (suc site) symbols
+
+-- the rows that a manager has whose state this is
+unfoldable pub rows_of : Setting → State → Rows
+rows_of setting state = record {
+  world = state.world;
+  sites = record { image = setting.image; loaded = state.loaded; stacks = stacks_from setting state 0 (symbols_of setting.image.objects) };
+  tasks = state.tasks;
+  moving = state.moving;
+  pinned = state.pinned;
+}
 
 -- the rows before all these groups: the newest, which stands last, is put back first
 abbrev pub rows_before_all : Rows → List Group → Rows
@@ -62,13 +78,12 @@ pub record IsSmall (group : Group) : Type 0 where
   pub few : length group.rows ≤ MAX_RECORDS
   pub one : is_of_a_task group.event ≡ true → length group.rows ≡ 1
 
--- a group stands for a step: the event was accepted with this reply, and led from the one rows to the other. Of entries, hooks and loaded
--- flags, its records tell what changed alone
+-- a group stands for a step: the event was accepted with this reply, and led from the one rows to the other. Its records tell what changed alone
 pub record IsStepOf (setting : Setting) (before after : Rows) (group : Group) : Type 0 where
   pub kept : AreKept setting before
   pub answered : answer setting (state_told before) group.event ≡ Ok group.reply
   pub left : next setting (state_told before) group.event ≡ state_told after
-  pub told : tell_changes after.sites group.rows ≡ true
+  pub told : tell_changes after group.rows ≡ true
   pub small : IsSmall group
 
 -- each group stands for a step from the rows that putting it and all newer ones back gives

@@ -2,6 +2,7 @@
 //! journal and the state in step.
 ghost use Rattle.std.specs.Prelude.{◌≡◌, ◌-◌, ◌<◌, ◌≤◌, ◌++◌, ◌∷◌, [], true, length, take};
 ghost use Rattle.klp_types.specs.declared.limits.TheConstants.{MAX_RECORDS};
+ghost use Rattle.klp_text.specs.TextImage.{site_count};
 ghost use Rattle.klp_journal.specs.Journal.{has_room};
 ghost use Rattle.klp_manager_state.specs.Rows.{rows_in};
 ghost use Rattle.klp_core.specs.Journaled.{rows_before_all, journaled_of, IsSound};
@@ -13,16 +14,18 @@ use klp_journal::Journal;
 use klp_manager_state::ManagerState;
 use klp_model::{Event, Refusal, Reply};
 
-/// Appends an accepted event with its reply and all that it logged. Which records these are no clause says
-/// whole, beyond what they undo and how many there are (docs/DECISIONS.md, "Which records an event leaves").
+/// Appends an accepted event with its reply and all that it logged (docs/DECISIONS.md, "Which records an
+/// event leaves").
 fn append(journal: &mut Journal, event: &Event, reply: &Reply, state: &ManagerState)
     requires room { has_room journal.old ≡ true }
     requires few { state.now.log.room ≡ MAX_RECORDS }
     ensures appended { journal.new
         ≡ journal.old ++ record { event = event.now; reply = reply.now; rows = state.now.log.noted } ∷ [] }
     ensures few { length state.now.log.noted ≤ MAX_RECORDS }
+    ensures sites { length state.now.sites.stacks ≡ site_count state.now.sites.image }
 {
     let _free = journal.records_free();
+    let _sites = state.sites.sites();
     journal.append(*event, *reply, state.log.noted());
 }
 

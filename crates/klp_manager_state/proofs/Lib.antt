@@ -1,4 +1,5 @@
 pub mod StepLemmas
+pub mod ToldLemmas
 pub mod RowLemmas
 pub mod InstalledLemmas
 pub mod OpeningLemmas

@@ -1,5 +1,5 @@
 -- Records put back give each row what it was, whatever other rows they are among.
-use Rattle.std.proofs.Common.{◌≡◌, ℕ, ◌+◌, ◌-◌, ◌<◌, ◌≤◌, length, take, get_or, arith, Bool, suc, cond, true, false, ◌&&◌, List, [], ◌∷◌, ◌++◌, Option, Some, None, refl, sym, ap, ◌∙◌}
+use Rattle.std.proofs.Common.{◌≡◌, ℕ, ◌+◌, ◌-◌, ◌<◌, ◌≤◌, length, take, get_or, arith, Bool, suc, cond, true, false, ◌&&◌, List, [], ◌∷◌, ◌++◌, Option, Some, None, refl, sym, ap, subst, ◌∙◌}
 use Rattle.std.specs.Prelude.{slice_set, slice_index_or, is_none}
 use Rattle.std.proofs.lemmas.Bool.{and_parts, and_from}
 use Rattle.std.proofs.lemmas.List.{set-set, set-get_or, length-set, take_more}
@@ -21,12 +21,10 @@ use Rattle.klp_sites.specs.Changes.{noting}
 use Rattle.klp_sites.specs.Undo as of_sites
 use Rattle.klp_sites.specs.Undo.{is_of_sites}
 use Rattle.klp_world.specs.Undo.{is_of_world}
-use Rattle.klp_sites.proofs.ExactLemmas.{telling, told_both, told_due as sites_told}
-use Rattle.klp_manager_state.specs.Rows.{Rows, is_of_tasks, row_of_moving, put_back, undone, is_due, are_due, undone_if_told, WorldGoesBack, SitesGoBack, TasksGoBack, MovingGoesBack, PinsGoBack}
-
-undone-append : (rows : Rows) (older newer : List Record) → undone rows (older ++ newer) ≡ undone (undone rows newer) older
-undone-append rows [] newer = refl
-undone-append rows (row ∷ older) newer = ap (λ r. put_back r row) (undone-append rows older newer)
+use Rattle.klp_sites.proofs.ExactLemmas.{telling, told_due as sites_due}
+use Rattle.klp_manager_state.specs.Rows.{Rows, is_of_tasks, row_of_moving, put_back, undone, is_due, are_due, tell_changes, undone_if_told, each_tells, WorldGoesBack, SitesGoBack, TasksGoBack, MovingGoesBack, PinsGoBack}
+use Rattle.klp_tasks.proofs.ToldLemmas.{switched_told}
+use Rattle.klp_manager_state.proofs.ToldLemmas.{undone-append, sites_of, telling as rows_telling, told_both, told_by, world_told, tasks_told, sites_told, loaded_told, moving_told, pinned_told}
 
 -- where all records are due, the newest is, and once it is put back, the older ones are
 due-parts : (rows : Rows) (older : List Record) (row : Record) → are_due rows (older ++ row ∷ []) ≡ true → (is_due rows row ≡ true) × (are_due (put_back rows row) older ≡ true)
@@ -35,11 +33,6 @@ due-parts rows (first ∷ older) row due =
     let parts = and_parts (is_due (undone rows (older ++ row ∷ [])) first) (are_due rows (older ++ row ∷ [])) due in
     let rest = due-parts rows older row parts.1 in
     (rest.0, and_from (is_due (undone (put_back rows row) older) first) (are_due (put_back rows row) older) (ap (λ r. is_due r first) (sym (undone-append rows older (row ∷ []))) ∙ parts.0) rest.1)
-
--- the sites that records give are those that they give by themselves
-sites_of : (rows : Rows) (records : List Record) → (undone rows records).sites ≡ of_sites.undone rows.sites records
-sites_of rows [] = refl
-sites_of rows (row ∷ newer) = ap (λ t. of_sites.put_back t row) (sites_of rows newer)
 
 -- the sites alone tell what can be put back
 due_at_sites : (rows : Rows) (records : List Record) → of_sites.are_due rows.sites records ≡ true → are_due rows records ≡ true
@@ -142,19 +135,19 @@ switched_of_tasks number [] after = All-nil (λ row. is_of_tasks row ≡ true)
 switched_of_tasks number (was ∷ before) [] = All-nil (λ row. is_of_tasks row ≡ true)
 
 -- the newest are put back first
-noted_behind : (rows : Rows) (l0 l1 : RecordList) (records : List Record) → l1 ≡ noting l0 records → of_sites.tell_changes rows.sites records ≡ true
+noted_behind : (rows : Rows) (l0 l1 : RecordList) (records : List Record) → l1 ≡ noting l0 records → tell_changes rows records ≡ true
     → undone_if_told rows l1.noted ≡ undone_if_told (undone rows records) l0.noted
 noted_behind rows l0 l1 records noted told =
     ap (λ (l : RecordList). undone_if_told rows l.noted) noted
-    ∙ ap (λ b. cond b (Some (undone rows (l0.noted ++ records))) None) (told_both rows.sites l0.noted records told ∙ ap (λ t. of_sites.tell_changes t l0.noted) (sym (sites_of rows records)))
-    ∙ ap (λ r. cond (of_sites.tell_changes (undone rows records).sites l0.noted) (Some r) None) (undone-append rows l0.noted records)
+    ∙ ap (λ b. cond b (Some (undone rows (l0.noted ++ records))) None) (told_both rows l0.noted records told)
+    ∙ ap (λ r. cond (tell_changes (undone rows records) l0.noted) (Some r) None) (undone-append rows l0.noted records)
 
 -- rows of the world give the world back
 pub world_back : (before after : World) (l0 l1 : RecordList) (records : List Record) → All (λ row. is_of_world row ≡ true) records → l1 ≡ noting l0 records
-    → of_world.undone after records ≡ before → WorldGoesBack before after l0 l1
-world_back before after l0 l1 records all noted undo rows =
+    → of_world.undone after records ≡ before → of_world.TellChanges after records → WorldGoesBack before after l0 l1
+world_back before after l0 l1 records all noted undo told rows =
     let now : Rows = record rows { world = after } in
-    noted_behind now l0 l1 records noted (others_tell now.sites is_of_world world_of_others records all)
+    noted_behind now l0 l1 records noted (told_by now records (others_tell now.sites is_of_world world_of_others records all) (world_told now records told))
     ∙ ap (λ r. undone_if_told r l0.noted) (undone_world now records all ∙ ap (λ (w : World). record rows { world = w }) undo)
 
 -- rows of sites give the sites back
@@ -162,15 +155,15 @@ pub sites_back : (before after : SiteTable) (l0 l1 : RecordList) (records : List
     → of_sites.undone after records ≡ before → of_sites.tell_changes after records ≡ true → SitesGoBack before after l0 l1
 sites_back before after l0 l1 records all noted undo told rows =
     let now : Rows = record rows { sites = after } in
-    noted_behind now l0 l1 records noted told
+    noted_behind now l0 l1 records noted (sites_told now records all told)
     ∙ ap (λ r. undone_if_told r l0.noted) (undone_sites now records all ∙ ap (λ (t : SiteTable). record rows { sites = t }) undo)
 
 -- rows of tasks give the tasks back
 pub tasks_back : (before after : Tasks) (l0 l1 : RecordList) (records : List Record) → All (λ row. is_of_tasks row ≡ true) records → l1 ≡ noting l0 records
-    → of_tasks.undone after records ≡ before → TasksGoBack before after l0 l1
-tasks_back before after l0 l1 records all noted undo rows =
+    → of_tasks.undone after records ≡ before → of_tasks.TellChanges after records → TasksGoBack before after l0 l1
+tasks_back before after l0 l1 records all noted undo told rows =
     let now : Rows = record rows { tasks = after } in
-    noted_behind now l0 l1 records noted (others_tell now.sites is_of_tasks task_of_others records all)
+    noted_behind now l0 l1 records noted (told_by now records (others_tell now.sites is_of_tasks task_of_others records all) (tasks_told now records told))
     ∙ ap (λ r. undone_if_told r l0.noted) (undone_tasks now records all ∙ ap (λ (t : Tasks). record rows { tasks = t }) undo)
 
 -- tasks that are brought to another state
@@ -178,41 +171,34 @@ pub switched_back : (before after to : Tasks) (l0 l1 : RecordList) → after ≡
     → of_tasks.undone after (of_tasks.records_switched 0 before to) ≡ before → TasksGoBack before after l0 l1
 switched_back before after to l0 l1 is noted undo =
     tasks_back before after l0 l1 (of_tasks.records_switched 0 before to) (switched_of_tasks 0 before to) noted undo
+    (subst (λ t. of_tasks.TellChanges t (of_tasks.records_switched 0 before to)) (sym is) (switched_told before to))
 
 -- what moved is noted
-pub moving_back : (before after : Option Transition) (l0 l1 : RecordList) → l1 ≡ noting l0 (row_of_moving before ∷ []) → MovingGoesBack before after l0 l1
-moving_back before after l0 l1 noted rows =
+pub moving_back : (before after : Option Transition) (l0 l1 : RecordList) → l1 ≡ noting l0 (row_of_moving before ∷ []) → (before ≡ after → ⊥) → MovingGoesBack before after l0 l1
+moving_back before after l0 l1 noted differ rows =
     let now : Rows = record rows { moving = after } in
-    noted_behind now l0 l1 (row_of_moving before ∷ []) noted (told before) ∙ ap (λ r. undone_if_told r l0.noted) (back before)
+    noted_behind now l0 l1 (row_of_moving before ∷ []) noted (moving_told now before differ) ∙ ap (λ r. undone_if_told r l0.noted) (back before)
   where
     back : (was : Option Transition) → put_back (record rows { moving = after }) (row_of_moving was) ≡ record rows { moving = was }
     back None = refl
     back (Some was) = refl
 
-    told : (was : Option Transition) → of_sites.tell_changes rows.sites (row_of_moving was ∷ []) ≡ true
-    told None = telling rows.sites (NothingMoving ∷ [])
-    told (Some was) = telling rows.sites (Moving was ∷ [])
-
 -- whether an object was loaded is noted
 pub loaded_back : (before after : SiteTable) (object : ℕ) (was : Bool) (l0 l1 : RecordList) → l1 ≡ noting l0 (LoadedFlag object was ∷ [])
-    → of_sites.put_back after (LoadedFlag object was) ≡ before → of_sites.tell_changes after (LoadedFlag object was ∷ []) ≡ true → SitesGoBack before after l0 l1
-loaded_back before after object was l0 l1 noted undo told rows =
+    → of_sites.put_back after (LoadedFlag object was) ≡ before → was ≡ slice_index_or before.loaded object false → of_sites.tell_changes after (LoadedFlag object was ∷ []) ≡ true
+    → SitesGoBack before after l0 l1
+loaded_back before after object was l0 l1 noted undo is told rows =
     let now : Rows = record rows { sites = after } in
-    noted_behind now l0 l1 (LoadedFlag object was ∷ []) noted told ∙ ap (λ (t : SiteTable). undone_if_told (record rows { sites = t }) l0.noted) undo
-
--- whether a patch was pinned is noted
-pub pinned_back : (before after : List Bool) (patch : ℕ) (was : Bool) (l0 l1 : RecordList) → l1 ≡ noting l0 (PinnedFlag patch was ∷ [])
-    → slice_set after patch was ≡ before → PinsGoBack before after l0 l1
-pinned_back before after patch was l0 l1 noted undo rows =
-    let now : Rows = record rows { pinned = after } in
-    noted_behind now l0 l1 (PinnedFlag patch was ∷ []) noted (telling rows.sites (PinnedFlag patch was ∷ [])) ∙ ap (λ (p : List Bool). undone_if_told (record rows { pinned = p }) l0.noted) undo
+    noted_behind now l0 l1 (LoadedFlag object was ∷ []) noted (loaded_told now before object was undo is told) ∙ ap (λ (t : SiteTable). undone_if_told (record rows { sites = t }) l0.noted) undo
 
 -- a patch that wasn't pinned is pinned
-pub pinned_now : (flags after : List Bool) (patch : ℕ) (l0 l1 : RecordList) → after ≡ slice_set flags patch true → l1 ≡ noting l0 (PinnedFlag patch false ∷ [])
+pub pinned_now : (flags after : List Bool) (patch : ℕ) (l0 l1 : RecordList) → patch < length flags → after ≡ slice_set flags patch true → l1 ≡ noting l0 (PinnedFlag patch false ∷ [])
     → slice_index_or flags patch false ≡ false → PinsGoBack flags after l0 l1
-pinned_now flags after patch l0 l1 is noted free =
-    pinned_back flags after patch false l0 l1 noted
-    (ap (λ fs. slice_set fs patch false) is ∙ set-set flags patch true false ∙ ap (slice_set flags patch) (sym free) ∙ set-get_or flags patch false)
+pinned_now flags after patch l0 l1 there is noted free rows =
+    let now : Rows = record rows { pinned = after } in
+    let back : slice_set after patch false ≡ flags =
+    ap (λ fs. slice_set fs patch false) is ∙ set-set flags patch true false ∙ ap (slice_set flags patch) (sym free) ∙ set-get_or flags patch false in
+    noted_behind now l0 l1 (PinnedFlag patch false ∷ []) noted (pinned_told now flags patch there is) ∙ ap (λ (p : List Bool). undone_if_told (record rows { pinned = p }) l0.noted) back
 
 -- those that are left are the older ones and the newest
 older_and_newest : (records : List Record) (place : ℕ) (row : Record) → 0 < place → place ≤ length records → row ≡ get_or records (place - 1) row
@@ -237,17 +223,18 @@ one_due rows records place row some within is due =
     due-parts rows (take (place - 1) records) row (ap (are_due rows) (sym (older_and_newest records place row some within is)) ∙ due)
 
 -- rows that all records give are those that they give put back, and the records tell what changed
-pub given_back : (rows before : Rows) (records : List Record) → undone_if_told rows records ≡ Some before → (undone rows records ≡ before) × (of_sites.tell_changes rows.sites records ≡ true)
+pub given_back : (rows before : Rows) (records : List Record) → undone_if_told rows records ≡ Some before → (undone rows records ≡ before) × (tell_changes rows records ≡ true)
 given_back rows before records given =
-    elim (of_sites.tell_changes rows.sites records) as (λ b. of_sites.tell_changes rows.sites records ≡ b → cond b (Some (undone rows records)) None ≡ Some before
-    → (undone rows records ≡ before) × (of_sites.tell_changes rows.sites records ≡ true)) [
+    elim (tell_changes rows records) as (λ b. tell_changes rows records ≡ b → cond b (Some (undone rows records)) None ≡ Some before
+    → (undone rows records ≡ before) × (tell_changes rows records ≡ true)) [
       | true ↦ λ told given. (cc, told)
       | false ↦ λ other given. let no : ⊥ = cc in absurd no
     ] refl given
 
 -- records that tell what changed can be put back
-pub told_back : (rows : Rows) (records : List Record) → of_sites.tell_changes rows.sites records ≡ true → are_due rows records ≡ true
-told_back rows records told = due_at_sites rows records (sites_told rows.sites records told)
+pub told_back : (rows : Rows) (records : List Record) → tell_changes rows records ≡ true → are_due rows records ≡ true
+told_back rows records told =
+    due_at_sites rows records (sites_due rows.sites records (and_parts (of_sites.tell_changes rows.sites records) (each_tells rows records) (sym (rows_telling rows records) ∙ told)).0)
 
 flag_put : (table : SiteTable) (object : ℕ) (was : Bool) (within : Bool) → length table.loaded ≡ length table.image.objects
     → length (cond within (record table { loaded = slice_set table.loaded object was }) table).loaded ≡ length (cond within (record table { loaded = slice_set table.loaded object was }) table).image.objects

@@ -1,5 +1,5 @@
 -- The rows that events change, and what gives each of them back.
-use Rattle.std.specs.Prelude.{◌≡◌, Bool, true, false, ◌&&◌, List, [], ◌∷◌, Option, Some, None, slice_set, Result, IfOk, OnErr, if◌then◌else◌}
+use Rattle.std.specs.Prelude.{◌≡◌, Bool, true, false, not, ◌&&◌, ◌||◌, List, [], ◌∷◌, Option, Some, None, is_some, slice_set, Result, IfOk, OnErr, if◌then◌else◌}
 use Rattle.klp_types.specs.declared.record.Record.{Record}
 use Rattle.klp_types.specs.declared.record.Record.TheVariants.{TaskRow, NoTaskRow, Moving, NothingMoving, PinnedFlag}
 use Rattle.klp_types.specs.declared.version.Transition.{Transition}
@@ -8,11 +8,13 @@ use Rattle.klp_types.specs.World.{World}
 use Rattle.klp_model.specs.Task.{Tasks}
 use Rattle.klp_model.specs.declared.event.Reply.{Reply}
 use Rattle.klp_model.specs.declared.event.Refusal.{Refusal}
+use Rattle.klp_world.specs.Coded.{world_code}
 use Rattle.klp_world.specs.Undo as of_world
 use Rattle.klp_tasks.specs.Changes as of_tasks
 use Rattle.klp_sites.specs.Table.{SiteTable}
 use Rattle.klp_sites.specs.Undo as of_sites
 use Rattle.klp_manager_state.specs.declared.state.ManagerState.{ManagerState}
+use Rattle.klp_manager_state.specs.Codes.{is_same, flags_code, stacks_code, tasks_code, moving_code}
 
 -- what events change, row by row: the world, the loaded flags with the function stacks, the tasks, what moves and what is pinned
 pub record Rows : Type 0 where
@@ -71,9 +73,35 @@ abbrev pub are_due : Rows → List Record → Bool
 are_due rows [] = true
 are_due rows (row ∷ newer) = is_due (undone rows newer) row && are_due rows newer
 
--- the rows once all records are put back; none where one of them tells an entry, a hook or a loaded flag that didn't change
+-- whether these are the same rows, over one image
+unfoldable pub are_same : Rows → Rows → Bool
+are_same rows other =
+    is_same world_code rows.world other.world
+    && (is_same flags_code rows.sites.loaded other.sites.loaded && (is_same stacks_code rows.sites.stacks other.sites.stacks
+    && (is_same tasks_code rows.tasks other.tasks && (is_same moving_code rows.moving other.moving && is_same flags_code rows.pinned other.pinned))))
+
+-- whether a record tells a row that is another one now: put back, it changes the rows. That is asked of the rows and not of each kind of record, so
+-- no kind has a rule of its own, and a record for which there is no row or no room tells nothing either. A hook's changes nothing itself
+abbrev pub tells : Rows → Record → Bool
+tells rows row = is_some (of_sites.hook_of row) || not (are_same (put_back rows row) rows)
+
+-- whether each of these records does, in its turn: at the rows that the newer ones, put back before it, give
+abbrev pub each_tells : Rows → List Record → Bool
+each_tells rows [] = true
+each_tells rows (row ∷ newer) = tells (undone rows newer) row && each_tells rows newer
+
+-- whether records tell what changed and nothing else: so does each, and those of hooks have the places that the sites give them
+unfoldable pub tell_rows : Rows → Record → List Record → Bool
+tell_rows rows oldest newer = of_sites.tell_changes rows.sites (oldest ∷ newer) && each_tells rows (oldest ∷ newer)
+
+-- the same of any list; none tell nothing wrong
+abbrev pub tell_changes : Rows → List Record → Bool
+tell_changes rows [] = true
+tell_changes rows (oldest ∷ newer) = tell_rows rows oldest newer
+
+-- the rows once all records are put back; none where one of them tells a row that didn't change
 abbrev pub undone_if_told : Rows → List Record → Option Rows
-undone_if_told rows records = if of_sites.tell_changes rows.sites records then Some (undone rows records) else None
+undone_if_told rows records = if tell_changes rows records then Some (undone rows records) else None
 
 -- the rows before all that is noted
 abbrev pub rows_before : ManagerState → Option Rows

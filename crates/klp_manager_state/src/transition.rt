@@ -1,5 +1,5 @@
 //! The patch in transition, as a row of the state, so that undo gives it back like any other.
-ghost use Rattle.std.specs.Prelude.{◌≡◌, ◌<◌, ◌∷◌, [], length, not};
+ghost use Rattle.std.specs.Prelude.{◌≡◌, ◌≢◌, ◌<◌, ◌∷◌, [], length, not};
 ghost use Rattle.klp_types.specs.Records.{spare_of};
 ghost use Rattle.klp_model.specs.Refusals.{moves_out};
 ghost use Rattle.klp_sites.specs.Changes.{noting};
@@ -32,11 +32,12 @@ impl ManagerState {
         }
     }
 
-    /// Something else moves, or nothing. What moved before is logged, so a transition that ended goes on
-    /// after undo.
+    /// Something else moves, or nothing, where something did: no record is kept of an unchanged row. What
+    /// moved before is logged, so a transition that ended goes on after undo.
     #[tactic(auto, using(crate::proofs::RowLemmas::moving_back))]
     pub fn set_moving(&mut self, moving: Option<Transition>)
-        requires { 0 < spare_of self.old.log }
+        requires room { 0 < spare_of self.old.log }
+        requires other { self.old.moving ≢ moving }
         ensures parts { self.new
             ≡ record self.old { moving = moving; log = noting self.old.log (row_of_moving self.old.moving ∷ []) } }
         ensures noted { rows_before self.new ≡ rows_before self.old }

@@ -1,6 +1,6 @@
 -- A patch that nothing refuses is put last.
 use Rattle.std.proofs.Common.{◌++◌, ◌≡◌, ℕ, Bool, true, false, List, [], ◌∷◌, Option, Some, None, refl, sym, ap, ◌∙◌}
-use Rattle.std.specs.Prelude.{is_none}
+use Rattle.std.specs.Prelude.{is_none, is_some}
 use Rattle.std.specs.Prelude.{ℤ, find, option_map}
 use Rattle.std.proofs.lemmas.Bool.{not-false}
 use Rattle.klp_types.specs.FirstOf.{first_of}
@@ -12,6 +12,7 @@ use Rattle.klp_model.specs.EventCalls.{lacks_room}
 use Rattle.klp_model.specs.Refusals.{has_patch, refusal, refusals, NoneHolds}
 use Rattle.klp_types.specs.declared.callback.Which.TheVariants.{Pre}
 use Rattle.klp_types.specs.declared.limits.TheConstants.{MAX_RECORDS}
+use Rattle.klp_types.specs.declared.version.Transition.{Transition}
 use Rattle.klp_types.specs.Image.{object_of}
 use Rattle.klp_types.specs.Setting.{PatchObject, state_ids}
 use Rattle.klp_types.specs.World.{World, with_patch, without_patch}
@@ -52,6 +53,10 @@ pub enablable : (setting : Setting) (state : State) (patch : ℕ) → NoCase →
 enablable setting state patch law free =
     let none = law (refusals setting state (Enable patch)) (ap is_none free) in
     record { there = not-false (has_patch setting patch) none.0; apart = none.1.0; still = none.1.1.0; room = none.1.1.1.1.1.1.0 }
+
+pub nothing_moves : (moving : Option Transition) → is_some moving ≡ false → moving ≡ None
+nothing_moves None still = refl
+nothing_moves (Some move) still = let no : ⊥ = cc in absurd no
 
 -- the steps that enabling may take
 

@@ -1,7 +1,7 @@
 //! A transition is tried and completed (livepatch, Consistency model; cumulative-patches). Entries leave
 //! before the callbacks run, as in the kernel, and the list changes after them, so that they find the
 //! patches that leave.
-ghost use Rattle.std.specs.Prelude.{◌≡◌, ℕ, ◌+◌, ◌*◌, ◌≤◌, true, [], None, Some, ◌==◌, length};
+ghost use Rattle.std.specs.Prelude.{◌≡◌, ◌≢◌, ℕ, ◌+◌, ◌*◌, ◌≤◌, true, [], None, Some, ◌==◌, length};
 ghost use Rattle.std.specs.FinMap as finite;
 ghost use Rattle.klp_types.specs.declared.limits.TheConstants.{MAX_KIND_RECORDS, MAX_RECORDS, MAX_SITES, MAX_TASKS, MAX_VARIABLES, RECORDS_AFTER_CALLBACKS, RECORDS_AFTER_LIST, RECORDS_AFTER_SITES};
 ghost use Rattle.klp_types.specs.Callbacks.{end_of, allocs_of};
@@ -185,6 +185,7 @@ fn complete(manager: &mut ManagerState, catalog: &mut Catalog, moving: &Transiti
 
 /// Nothing moves any more: each task has the state -1, as `/proc/<pid>/patch_state` shows it at rest.
 fn rest(manager: &mut ManagerState)
+    requires moves { manager.old.moving ≢ None }
     requires tasks { length manager.old.tasks ≡ MAX_TASKS }
     requires records { length manager.old.log.noted ≤ RECORDS_AFTER_LIST }
     requires log { manager.old.log.room ≡ MAX_RECORDS }

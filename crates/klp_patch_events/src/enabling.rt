@@ -197,6 +197,7 @@ fn take_out(manager: &mut ManagerState, patch: PatchId)
 /// 1: a task of state 0 passes over them, so nothing changes for it yet.
 fn start(manager: &mut ManagerState, catalog: &Catalog, patch: PatchId)
     requires number { patch < MAX_PATCHES }
+    requires rests { manager.old.moving ≡ None }
     requires sites { site_count manager.old.sites.image ≤ MAX_SITES }
     requires names { catalog.now.names ≡ names_of manager.old.sites.image.objects }
     requires fresh { (site : ℕ) → has_entry patch (entries_at manager.old.sites.stacks site) ≡ false }

@@ -8,6 +8,7 @@ ghost use Rattle.std.specs.List.{list_any};
 ghost use Rattle.klp_types.specs.declared.limits.TheConstants.{MAX_RECORDS, MAX_TASKS};
 ghost use Rattle.klp_types.specs.declared.task.Task.{Task as AnyTask};
 ghost use Rattle.klp_types.specs.FirstOf.{first_of};
+ghost use Rattle.klp_types.specs.declared.task.Mode.TheVariants.{User, Kernel, Asleep};
 ghost use Rattle.klp_model.specs.declared.event.Event.TheVariants.{NewTask, Fork, EndTask, EnterKernel, ExitToUser, Sleep, Wake};
 ghost use Rattle.klp_model.specs.declared.event.Refusal.TheVariants.{NoTask, WrongMode};
 ghost use Rattle.klp_model.specs.Task.{task_at, is_in};
@@ -48,6 +49,7 @@ pub fn new_task(manager: &mut ManagerState, task: TaskId) -> Result<Reply, Refus
 pub fn new_task_refusal(manager: &ManagerState, task: TaskId) -> Option<Refusal>
     ensures refusal { (catalog : AnyCatalog) → result ≡ refused_in manager.now catalog (NewTask task) }
     ensures number { IfNone result (task < MAX_TASKS) }
+    ensures within { IfNone result (task < length manager.now.tasks) }
     ensures free { IfNone result (is_some (task_at manager.now.tasks task) ≡ false) }
 {
     if usize::from(task.0) >= MAX_TASKS {
@@ -84,6 +86,7 @@ pub fn fork_refusal(manager: &ManagerState, parent: TaskId, child: TaskId) -> Op
     ensures refusal { (catalog : AnyCatalog) → result ≡ refused_in manager.now catalog (Fork parent child) }
     ensures there { IfNone result (is_some (task_at manager.now.tasks parent) ≡ true) }
     ensures number { IfNone result (child < MAX_TASKS) }
+    ensures within { IfNone result (child < length manager.now.tasks) }
     ensures free { IfNone result (is_some (task_at manager.now.tasks child) ≡ false) }
 {
     if !is_there(manager, parent) || usize::from(child.0) >= MAX_TASKS {
@@ -152,6 +155,7 @@ pub fn enter_kernel(manager: &mut ManagerState, task: TaskId) -> Result<Reply, R
 pub fn enter_kernel_refusal(manager: &ManagerState, task: TaskId) -> Option<Refusal>
     ensures refusal { (catalog : AnyCatalog) → result ≡ refused_in manager.now catalog (EnterKernel task) }
     ensures there { IfNone result (is_some (task_at manager.now.tasks task) ≡ true) }
+    ensures mode { IfNone result (is_in User (task_at manager.now.tasks task) ≡ true) }
 {
     refusal_unless_in(manager, task, Mode::User)
 }
@@ -180,6 +184,7 @@ pub fn exit_to_user(manager: &mut ManagerState, task: TaskId) -> Result<Reply, R
 pub fn exit_to_user_refusal(manager: &ManagerState, task: TaskId) -> Option<Refusal>
     ensures refusal { (catalog : AnyCatalog) → result ≡ refused_in manager.now catalog (ExitToUser task) }
     ensures there { IfNone result (is_some (task_at manager.now.tasks task) ≡ true) }
+    ensures mode { IfNone result (is_in Kernel (task_at manager.now.tasks task) ≡ true) }
 {
     refusal_unless_in(manager, task, Mode::Kernel)
 }
@@ -220,6 +225,7 @@ pub fn sleep_refusal(
     requires { Invariant manager.now catalog.now }
     ensures refusal { result ≡ refused_in manager.now catalog.now (Sleep task frames.now) }
     ensures there { IfNone result (is_some (task_at manager.now.tasks task) ≡ true) }
+    ensures mode { IfNone result (is_in Kernel (task_at manager.now.tasks task) ≡ true) }
 {
     if !is_there(manager, task) {
         Some(Refusal::NoTask)
@@ -256,6 +262,7 @@ pub fn wake(manager: &mut ManagerState, task: TaskId) -> Result<Reply, Refusal>
 pub fn wake_refusal(manager: &ManagerState, task: TaskId) -> Option<Refusal>
     ensures refusal { (catalog : AnyCatalog) → result ≡ refused_in manager.now catalog (Wake task) }
     ensures there { IfNone result (is_some (task_at manager.now.tasks task) ≡ true) }
+    ensures mode { IfNone result (is_in Asleep (task_at manager.now.tasks task) ≡ true) }
 {
     refusal_unless_in(manager, task, Mode::Asleep)
 }
@@ -266,6 +273,7 @@ fn refusal_unless_in(manager: &ManagerState, task: TaskId, mode: Mode) -> Option
         ≡ first_of ((not (is_some (task_at manager.now.tasks task)), NoTask)
         ∷ (not (is_in mode (task_at manager.now.tasks task)), WrongMode) ∷ []) }
     ensures there { IfNone result (is_some (task_at manager.now.tasks task) ≡ true) }
+    ensures mode { IfNone result (is_in mode (task_at manager.now.tasks task) ≡ true) }
 {
     if !is_there(manager, task) {
         Some(Refusal::NoTask)
@@ -297,7 +305,8 @@ fn state_wanted(moving: Option<Transition>) -> PatchState
 
 /// Whether there is a task of this number, of which there are 64 at most.
 fn is_there(manager: &ManagerState, task: TaskId) -> bool
-    ensures { result ≡ is_some (task_at manager.now.tasks task) }
+    ensures value { result ≡ is_some (task_at manager.now.tasks task) }
+    ensures limit { length manager.now.tasks ≡ MAX_TASKS }
 {
     manager.tasks.get(task).is_some()
 }

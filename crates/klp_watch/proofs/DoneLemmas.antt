@@ -72,7 +72,7 @@ module _ (before after : Journaled) (stacks : Stacks) (event : Event) (table : L
       let accepts_it = accepted_by (has_room before.groups) (refusal setting state event) (accepted setting state event) reply (sym taken.answered) in
       record {
         outcome = Some (Ok appends.group);
-        taken = (sym taken.answered ∙ ap Ok (sym appends.noted.reply_is), subst (IsNotedAs appends.group event) (sym appends.noted.reply_is) appends.noted);
+        taken = (sym taken.answered ∙ ap Ok (sym appends.noted.reply_is), subst (IsNotedAs setting state appends.group event) (sym appends.noted.reply_is) appends.noted);
         honest = ((λ _. subst (λ (s : Setting). IsHonestEvent s stacks event) same honest), tt);
         groups = appends.groups;
         left = appends.left ∙ one_event before.managed event;

@@ -22,7 +22,8 @@ returns-clause-taken g c =
     record {
       answered = with_room (setting_of before.managed) before.managed.state c.args.journal.now c.args.event.now c.in_ok-reply.reply (search rules) taken.takes.answered;
       accepted = subst (λ gs. Appends before (journaled_of c.take.new.state c.take.new.catalog gs) c.args.event.now c.in_ok-reply.reply) (sym c.append.ensures.appended)
-          (appended c.args.state.now c.take.new.state c.args.catalog.now c.take.new.catalog c.args.journal.now c.args.event.now c.in_ok-reply.reply taken noted c.append.ensures.few one);
+          (appended c.args.state.now c.take.new.state c.args.catalog.now c.take.new.catalog c.args.journal.now c.args.event.now c.in_ok-reply.reply c.requires.holds c.append.ensures.sites
+          taken noted c.append.ensures.few one);
       refused = tt;
     }
 

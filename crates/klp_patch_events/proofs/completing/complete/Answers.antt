@@ -47,6 +47,13 @@ run_callbacks-requires g c =
       });
     }
 
+pub rest-requires-clause-moves : goal.rest-requires-clause-moves
+rest-requires-clause-moves g c = λ none.
+    let still : c.settle_list.new.manager.moving ≡ Some c.args.moving.now =
+    ap (λ (p : ManagerState). p.moving) c.settle_list.ensures.parts ∙ ap (λ (p : ManagerState). p.moving) c.settle_sites.ensures.parts ∙ c.requires.moving in
+    let no : ⊥ = cc (sym none ∙ still) in
+    no
+
 pub settle_list-requires-clause-records : goal.settle_list-requires-clause-records
 settle_list-requires-clause-records g c =
     let before = c.args.manager.now in

@@ -1,5 +1,7 @@
 use Rattle.std.proofs.Common.{◌≡◌, ◌≤◌, refl, sym, ap, ◌∙◌, false, [], length, map, arith, w8, to_z, of_z}
-use Rattle.std.specs.Prelude.{if◌then◌else◌}
+use Rattle.std.specs.Prelude.{◌==◌, if◌then◌else◌}
+use Rattle.std.proofs.lemmas.Bool.{eq-eqb}
+use Rattle.klp_types.specs.Pick.{moves}
 use Rattle.klp_types.specs.declared.callback.Which.TheVariants.{PreUn}
 use Rattle.klp_types.specs.Callbacks.{calls_of}
 use Rattle.klp_model.specs.declared.event.Event.TheVariants.{SetEnabled}
@@ -35,6 +37,12 @@ set_all-requires g c =
     let room = c.run_callbacks.ensures.room ∙ ap (λ (l : RecordList). l.room) c.clear.ensures ∙ c.requires.kept.room in
     let rows = c.records_are_few.ensures 0 before.tasks (all_in (to_z w8 (of_z w8 c.target_state.result)) before.tasks) in
     omega (arith, rows, few, empty, room, c.run_callbacks.ensures.records, c.requires.kept.allowed.room, c.requires.kept.allowed.rows)
+
+pub set_moving-requires-clause-other : goal.set_moving-requires-clause-other
+set_moving-requires-clause-other g c = λ same.
+    let own : (c.args.patch == c.args.patch) ≡ false = ap (λ moving. moves moving c.args.patch) (sym same) ∙ c.requires.rests in
+    let no : ⊥ = cc (sym (eq-eqb c.args.patch c.args.patch refl) ∙ own) in
+    no
 
 pub returns-clause-accepted : goal.returns-clause-accepted
 returns-clause-accepted g c =

@@ -1,5 +1,6 @@
-use Rattle.std.proofs.Common.{sym, ap, ◌∙◌, [], map}
+use Rattle.std.proofs.Common.{◌≡◌, ℕ, Bool, true, false, not, ◌&&◌, List, ◌∷◌, Some, None, refl, sym, ap, ◌∙◌, [], map}
 use Rattle.std.specs.Prelude.{if◌then◌else◌}
+use Rattle.std.proofs.lemmas.Bool.{eq-eqb}
 use Rattle.klp_types.specs.declared.callback.Which.TheVariants.{PreUn}
 use Rattle.klp_types.specs.Callbacks.{calls_of}
 use Rattle.klp_model.specs.declared.event.Event.TheVariants.{SetEnabled}
@@ -13,7 +14,37 @@ use Rattle.klp_manager_state.specs.declared.state.ManagerState.{ManagerState}
 use Rattle.klp_manager_state.specs.Rows.{rows_in, undone_if_told}
 use Rattle.klp_manager_state.specs.Managed.{setting_in, state_in}
 use Rattle.klp_manager_state.proofs.StepLemmas.{accepted_at_sites}
+use Rattle.klp_types.specs.Pick.{moves}
+use Rattle.klp_types.specs.Setting.{Setting}
+use Rattle.klp_model.specs.EventCalls.{lacks_room}
+use Rattle.klp_model.specs.State.{State, is_installed, is_moving}
+use Rattle.klp_model.specs.declared.event.Refusal.{Refusal}
+use Rattle.klp_model.specs.declared.event.Refusal.TheVariants.{NoPatch, NotFound, SameValue, Busy, Full}
+use Rattle.klp_model.specs.Refusals.{has_patch, enabled_value, moves_out, same_bool, refusal}
+use Rattle.klp_patch_events.proofs.ModuleSteps.{passed}
 use Rattle.klp_patch_events.proofs.disabling.turn.Goals as goal
+
+-- a value is set that isn't the file's
+other_value : (setting : Setting) (state : State) (patch : ℕ) (value : Bool) → refusal setting state (SetEnabled patch value) ≡ None → same_bool value (enabled_value state patch) ≡ false
+other_value setting state patch value free =
+    let last : List (Bool × Refusal) = (not value && is_moving state && not (moves state.moving patch), Busy) ∷ (lacks_room setting state (SetEnabled patch value), Full) ∷ [] in
+    let same : Bool × Refusal = (same_bool value (enabled_value state patch), SameValue) in
+    let found : Bool × Refusal = (not (is_installed state patch), NotFound) in
+    let there : Bool × Refusal = (not (has_patch setting patch), NoPatch) in
+    (passed same last (passed found (same ∷ last) (passed there (found ∷ same ∷ last) free).1).1).0
+
+-- a patch that moves to a target has that in its file
+same_value : (patch : ℕ) (value : Bool) → same_bool value (not (moves_out (Some (record { patch = patch; target = value })) patch)) ≡ true
+same_value patch true = rw (eq-eqb patch patch refl) refl
+same_value patch false = rw (eq-eqb patch patch refl) refl
+
+pub set_moving-requires-clause-other : goal.set_moving-requires-clause-other
+set_moving-requires-clause-other g c = λ same.
+    let setting = setting_in c.args.manager.now c.args.catalog.now in
+    let state = state_in c.args.manager.now c.args.catalog.now in
+    let another = other_value setting state c.args.patch c.args.value c.requires.free in
+    let no : ⊥ = cc (sym (same_value c.args.patch c.args.value) ∙ ap (λ moving. same_bool c.args.value (not (moves_out moving c.args.patch))) (sym same) ∙ another) in
+    no
 
 pub returns-then-is_in_transition-clause-accepted : goal.returns-then-is_in_transition-clause-accepted
 returns-then-is_in_transition-clause-accepted g c =

@@ -29,7 +29,7 @@ use Rattle.klp_patch_events.proofs.BackLemmas.{callbacks_back}
 use Rattle.klp_manager_state.specs.Managed.{setting_in, state_in}
 use Rattle.klp_patch_events.proofs.RoomLemmas.{same_objects, room_with}
 use Rattle.klp_manager_state.proofs.InstalledLemmas.{fewer, numbers_of, any-numbers}
-use Rattle.klp_patch_events.proofs.EnableLemmas.{enablable, started, failed, none_refused, one_refused, same_reply, world_then}
+use Rattle.klp_patch_events.proofs.EnableLemmas.{enablable, nothing_moves, started, failed, none_refused, one_refused, same_reply, world_then}
 use Rattle.klp_patch_events.proofs.EntryLemmas.{no_entry_at}
 use Rattle.klp_manager_state.proofs.InstalledLemmas.{numbers-with}
 use Rattle.klp_patch_events.proofs.FitLemmas.{enable_fits}
@@ -74,6 +74,12 @@ start-requires-clause-fresh g c = λ site.
     ∙ ap (has_entry c.args.patch) (c.requires.kept.entries site)
     ∙ no_entry_at c.entries_are_of_their_patches.ensures.installed (setting_in parts catalog) (state_in parts catalog) c.args.patch
     (any-numbers c.args.patch parts.world.installed ∙ facts.apart) site
+
+pub start-requires-clause-rests : goal.start-requires-clause-rests
+start-requires-clause-rests g c =
+    let parts = c.args.manager.now in
+    let facts = enablable (setting_in parts c.args.catalog.now) (state_in parts c.args.catalog.now) c.args.patch c.events_are_accepted_where_no_case_holds.ensures.none c.requires.free in
+    ap (λ (p : ManagerState). p.moving) c.put_last.ensures.parts ∙ nothing_moves parts.moving facts.still
 
 pub start-requires-clause-fit : goal.start-requires-clause-fit
 start-requires-clause-fit g c =

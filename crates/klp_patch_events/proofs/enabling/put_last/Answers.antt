@@ -8,5 +8,5 @@ pub returns-clause-noted : goal.returns-clause-noted
 returns-clause-noted g c =
     let rows = rows_in c.args.manager.now in
     world_back c.args.manager.now.world c.add_states.new.self c.clear.new.self c.add_states.new.log _ (c.what_is_noted_is_of_the_world.ensures.add _ _) c.add_states.ensures.changes.records
-    c.add_states.ensures.changes.undo rows
+    c.add_states.ensures.changes.undo c.add_states.ensures.changes.told rows
     ∙ ap (λ (l : RecordList). undone_if_told rows l.noted) c.clear.ensures

@@ -1,4 +1,4 @@
-use Rattle.std.proofs.Common.{◌≤◌, false, length, ap, ◌∙◌, arith}
+use Rattle.std.proofs.Common.{◌≤◌, false, length, sym, ap, ◌∙◌, arith}
 use Rattle.std.proofs.lemmas.List.{length-map}
 use Rattle.klp_types.specs.declared.limits.TheConstants.{MAX_SITES, MAX_FUNCTIONS}
 use Rattle.klp_types.specs.Records.{RecordList}
@@ -32,6 +32,9 @@ set_all-requires g c =
     let room = ap (λ (l : RecordList). l.room) c.patch_sites.ensures.notes.noted ∙ c.requires.log in
     let rows = c.records_are_few.ensures 0 tasks (all_in (at_target false) tasks) in
     omega (arith, rows, noted, most, room, c.requires.records, c.requires.tasks)
+
+pub set_moving-requires-clause-other : goal.set_moving-requires-clause-other
+set_moving-requires-clause-other g c = λ same. let no : ⊥ = cc (sym c.requires.rests ∙ same) in no
 
 pub returns-clause-noted : goal.returns-clause-noted
 returns-clause-noted g c =

@@ -156,7 +156,7 @@ returns-in-None-clause-noted g c =
     c.patch_object.ensures.noted ran
     ∙ loaded_back c.args.manager.now.sites c.load.new.self c.args.object _ c.run_coming.new.log c.note.new.self
     (c.note.ensures ∙ ap (λ (row : Record). noting c.run_coming.new.log (row ∷ [])) c.load.ensures.row)
-    (ap (of_sites.put_back c.load.new.self) (sym c.load.ensures.row) ∙ c.load.ensures.undo)
+    (ap (of_sites.put_back c.load.new.self) (sym c.load.ensures.row) ∙ c.load.ensures.undo) refl
     (loaded_told c.args.manager.now.sites c.load.new.self c.args.object true _ within c.load.ensures.table may.absent) ran
     ∙ callbacks_back c.args.catalog.now c.run_coming.new.catalog c.args.manager.now.world c.run_coming.new.world c.clear.new.self c.run_coming.new.log _ c.run_coming.ensures.ran rows
     ∙ ap (λ (l : RecordList). undone_if_told rows l.noted) c.clear.ensures

@@ -83,7 +83,7 @@ returns-clause-noted g c =
     let ran : Rows = record rows { world = c.run_going.new.world } in
     loaded_back c.unpatch_object.new.sites c.unload.new.self c.args.object _ c.unpatch_object.new.log c.note.new.self
     (c.note.ensures ∙ ap (λ (row : Record). noting c.unpatch_object.new.log (row ∷ [])) c.unload.ensures.row)
-    (ap (of_sites.put_back c.unload.new.self) (sym c.unload.ensures.row) ∙ c.unload.ensures.undo)
+    (ap (of_sites.put_back c.unload.new.self) (sym c.unload.ensures.row) ∙ c.unload.ensures.undo) refl
     (loaded_told c.unpatch_object.new.sites c.unload.new.self c.args.object false _ within c.unload.ensures.table (ap (λ l. slice_index_or l c.args.object false) c.unpatch_object.ensures.loaded ∙ may.there)) ran
     ∙ c.unpatch_object.ensures.noted ran
     ∙ callbacks_back c.args.catalog.now c.run_going.new.catalog c.args.manager.now.world c.run_going.new.world c.clear.new.self c.run_going.new.log _ c.run_going.ensures rows

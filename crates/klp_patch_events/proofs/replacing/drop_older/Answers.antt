@@ -38,7 +38,7 @@ loop-dropped-preserved c =
       records = omega (arith, noted, both, few, value, so_far);
       back = λ rows.
           world_back c.loop-dropped.world c.drop_states.new.self c.loop-dropped.log c.drop_states.new.log _
-          (c.what_is_noted_is_of_the_world.ensures.drop c.loop-dropped.world c.in-Some.oldest) c.drop_states.ensures.changes.records c.drop_states.ensures.changes.undo rows
+          (c.what_is_noted_is_of_the_world.ensures.drop c.loop-dropped.world c.in-Some.oldest) c.drop_states.ensures.changes.records c.drop_states.ensures.changes.undo c.drop_states.ensures.changes.told rows
           ∙ c.loop-dropped.invariant.back rows;
       room = ap (λ (l : RecordList). l.room) c.drop_states.ensures.changes.records ∙ c.loop-dropped.invariant.room;
     }

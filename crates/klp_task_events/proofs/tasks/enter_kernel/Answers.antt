@@ -1,12 +1,12 @@
 use Rattle.std.proofs.Common.{sym, ◌∙◌, refl}
 use Rattle.klp_types.specs.declared.task.Task.{Task}
-use Rattle.klp_types.specs.declared.task.Mode.TheVariants.{Kernel}
+use Rattle.klp_types.specs.declared.task.Mode.TheVariants.{User, Kernel}
 use Rattle.klp_model.specs.declared.event.Event.TheVariants.{EnterKernel}
 use Rattle.klp_model.specs.declared.event.Reply.TheVariants.{Done}
 use Rattle.klp_manager_state.specs.Managed.{state_in}
 use Rattle.klp_task_events.proofs.TakenLemmas.{refused_taken}
 use Rattle.klp_task_events.proofs.TaskLemmas.{task_taken, changed_as_said}
-use Rattle.klp_task_events.proofs.NotedLemmas.{task_noted}
+use Rattle.klp_task_events.proofs.NotedLemmas.{task_noted, turned}
 use Rattle.klp_task_events.proofs.tasks.enter_kernel.Goals as goal
 
 pub returns-in-Some-clause-taken : goal.returns-in-Some-clause-taken
@@ -22,3 +22,4 @@ returns-clause-taken c = λ catalog holds.
 
 pub returns-clause-noted : goal.returns-clause-noted
 returns-clause-noted c = task_noted c.what_is_noted_gives_the_rows_back.ensures.tasks c.args.manager.now c.note_alone.new.manager c.enter-row.new.self _ _ c.enter-row.result Done c.enter-row.ensures c.note_alone.ensures
+    (turned User (λ (t : Task). record t { mode = Kernel }) (λ t. refl) c.args.manager.now.tasks c.enter-row.new.self _ c.args.task c.enter-row.result c.enter-row.ensures refl c.in_default.ensures.mode)

@@ -2,10 +2,11 @@ use Rattle.std.proofs.Common.{sym, ◌∙◌, refl}
 use Rattle.klp_model.specs.declared.event.Event.TheVariants.{ExitToUser}
 use Rattle.klp_model.specs.declared.event.Reply.TheVariants.{Done}
 use Rattle.klp_model.specs.TaskStep.{exited}
+use Rattle.klp_types.specs.declared.task.Mode.TheVariants.{Kernel}
 use Rattle.klp_manager_state.specs.Managed.{state_in}
 use Rattle.klp_task_events.proofs.TakenLemmas.{refused_taken}
 use Rattle.klp_task_events.proofs.TaskLemmas.{task_taken, changed_as_said}
-use Rattle.klp_task_events.proofs.NotedLemmas.{task_noted}
+use Rattle.klp_task_events.proofs.NotedLemmas.{task_noted, turned, left_kernel}
 use Rattle.klp_task_events.proofs.tasks.exit_to_user.Goals as goal
 
 pub returns-in-Some-clause-taken : goal.returns-in-Some-clause-taken
@@ -21,3 +22,4 @@ returns-clause-taken c = λ catalog holds.
 
 pub returns-clause-noted : goal.returns-clause-noted
 returns-clause-noted c = task_noted c.what_is_noted_gives_the_rows_back.ensures.tasks c.args.manager.now c.note_alone.new.manager c.leave-row.new.self _ _ c.leave-row.result Done c.leave-row.ensures c.note_alone.ensures
+    (turned Kernel (exited c.args.manager.now.moving) (left_kernel c.args.manager.now.moving) c.args.manager.now.tasks c.leave-row.new.self _ c.args.task c.leave-row.result c.leave-row.ensures refl c.in_default.ensures.mode)

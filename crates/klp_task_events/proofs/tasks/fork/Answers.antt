@@ -3,7 +3,7 @@ use Rattle.klp_model.specs.declared.event.Event.TheVariants.{Fork}
 use Rattle.klp_model.specs.declared.event.Reply.TheVariants.{Done}
 use Rattle.klp_task_events.proofs.TakenLemmas.{refused_taken}
 use Rattle.klp_task_events.proofs.TaskLemmas.{task_taken}
-use Rattle.klp_task_events.proofs.NotedLemmas.{task_noted}
+use Rattle.klp_task_events.proofs.NotedLemmas.{task_noted, came}
 use Rattle.klp_task_events.proofs.tasks.fork.Goals as goal
 
 pub returns-in-Some-clause-taken : goal.returns-in-Some-clause-taken
@@ -19,3 +19,4 @@ returns-clause-taken c = λ catalog holds.
 
 pub returns-clause-noted : goal.returns-clause-noted
 returns-clause-noted c = task_noted c.what_is_noted_gives_the_rows_back.ensures.tasks c.args.manager.now c.note_alone.new.manager c.fork-row.new.self _ _ c.fork-row.result Done c.fork-row.ensures c.note_alone.ensures
+    (came c.args.manager.now.tasks c.fork-row.new.self _ c.args.child c.fork-row.result _ c.fork-row.ensures refl c.in_default.ensures.within c.in_default.ensures.free)

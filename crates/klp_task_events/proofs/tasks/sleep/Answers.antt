@@ -1,12 +1,12 @@
 use Rattle.std.proofs.Common.{sym, ◌∙◌, refl}
 use Rattle.klp_types.specs.declared.task.Task.{Task}
-use Rattle.klp_types.specs.declared.task.Mode.TheVariants.{Asleep}
+use Rattle.klp_types.specs.declared.task.Mode.TheVariants.{Kernel, Asleep}
 use Rattle.klp_model.specs.declared.event.Event.TheVariants.{Sleep}
 use Rattle.klp_model.specs.declared.event.Reply.TheVariants.{Done}
 use Rattle.klp_manager_state.specs.Managed.{state_in}
 use Rattle.klp_task_events.proofs.TakenLemmas.{refused_taken}
 use Rattle.klp_task_events.proofs.TaskLemmas.{task_taken, changed_as_said}
-use Rattle.klp_task_events.proofs.NotedLemmas.{task_noted}
+use Rattle.klp_task_events.proofs.NotedLemmas.{task_noted, turned}
 use Rattle.klp_task_events.proofs.tasks.sleep.Goals as goal
 
 pub returns-in-Some-clause-taken : goal.returns-in-Some-clause-taken
@@ -22,3 +22,4 @@ returns-clause-taken g c =
 
 pub returns-clause-noted : goal.returns-clause-noted
 returns-clause-noted g c = task_noted c.what_is_noted_gives_the_rows_back.ensures.tasks c.args.manager.now c.note_alone.new.manager c.sleep-row.new.self _ _ c.sleep-row.result Done c.sleep-row.ensures c.note_alone.ensures
+    (turned Kernel (λ (t : Task). record t { mode = Asleep; frames = c.args.frames }) (λ t. refl) c.args.manager.now.tasks c.sleep-row.new.self _ c.args.task c.sleep-row.result c.sleep-row.ensures refl c.in_default.ensures.mode)

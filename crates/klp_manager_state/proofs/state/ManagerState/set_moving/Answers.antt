@@ -15,4 +15,4 @@ returns-clause-noted c =
     ]
     in
     moving_back c.args.self.now.moving c.args.moving c.args.self.now.log c.note.new.self
-    (c.note.ensures ∙ ap (λ (row : Record). noting c.args.self.now.log (row ∷ [])) row) (rows_in c.args.self.now)
+    (c.note.ensures ∙ ap (λ (row : Record). noting c.args.self.now.log (row ∷ [])) row) c.requires.other (rows_in c.args.self.now)
