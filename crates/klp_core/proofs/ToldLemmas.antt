@@ -1,5 +1,5 @@
 -- What the records of an event tell, as states show it.
-use Rattle.std.proofs.Common.{◌≡◌, ℕ, zero, suc, ◌+◌, Bool, true, false, cond, ltb, List, [], ◌∷◌, length, get_or, set, Option, Some, None, refl, sym, ap, ◌∙◌, arith, add-zero, zero-add}
+use Rattle.std.proofs.Common.{◌≡◌, ℕ, suc, ◌+◌, true, false, cond, ltb, List, [], ◌∷◌, length, set, Some, refl, sym, ap, ◌∙◌, arith, add-zero, zero-add}
 use Rattle.std.specs.Prelude.{Ok}
 use Rattle.std.proofs.lemmas.List.{length-set}
 use Rattle.klp_types.specs.declared.record.Record.{Record}
@@ -21,7 +21,7 @@ use Rattle.klp_catalog.specs.Catalog.{Catalog}
 use Rattle.klp_manager_state.specs.declared.state.ManagerState.{ManagerState}
 use Rattle.klp_manager_state.specs.Events.{TakesEvent}
 use Rattle.klp_manager_state.specs.Invariant.{Invariant}
-use Rattle.klp_manager_state.specs.Managed.{Managed, setting_of, managed_of, setting_in, state_in}
+use Rattle.klp_manager_state.specs.Managed.{Managed, setting_of, setting_in, state_in}
 use Rattle.klp_manager_state.specs.Rows.{Rows, rows_in, rows_before, undone, undone_if_told}
 use Rattle.klp_manager_state.proofs.RowLemmas.{given_back}
 use Rattle.klp_core.specs.Journaled.{stacks_from, rows_of}

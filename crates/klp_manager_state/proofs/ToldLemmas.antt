@@ -1,5 +1,5 @@
 -- Records that tell what changed, whatever other rows they are among.
-use Rattle.std.proofs.Common.{◌≡◌, ℕ, ◌+◌, ◌<◌, Bool, true, false, not, ◌&&◌, ◌||◌, cond, eqb, get_or, set, List, [], ◌∷◌, ◌++◌, length, Option, Some, None, refl, sym, ap, ◌∙◌}
+use Rattle.std.proofs.Common.{◌≡◌, ℕ, ◌<◌, Bool, true, false, not, ◌&&◌, ◌||◌, get_or, List, [], ◌∷◌, ◌++◌, length, Option, Some, None, refl, sym, ap, ◌∙◌}
 use Rattle.std.specs.Bool.{beq}
 use Rattle.std.specs.List.{All}
 use Rattle.std.specs.Prelude.{is_some, is_none, slice_set, slice_index_or}
@@ -12,8 +12,6 @@ use Rattle.klp_types.specs.declared.record.Record.{Record}
 use Rattle.klp_types.specs.declared.record.Record.TheVariants.{StackEntry, HookFlag, LoadedFlag, Moving, NothingMoving, PinnedFlag}
 use Rattle.klp_types.specs.declared.version.Entry.{Entry}
 use Rattle.klp_types.specs.declared.version.Transition.{Transition}
-use Rattle.klp_types.specs.World.{World}
-use Rattle.klp_model.specs.Task.{Tasks}
 use Rattle.klp_world.specs.Coded.{world_code}
 use Rattle.klp_world.specs.Undo as of_world
 use Rattle.klp_tasks.specs.Changes as of_tasks

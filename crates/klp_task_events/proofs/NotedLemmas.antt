@@ -5,7 +5,7 @@ use Rattle.std.specs.List.{All}
 use Rattle.std.proofs.lemmas.List.{get_or-set_same}
 use Rattle.std.proofs.lemmas.List.Elements.{All-cons, All-nil}
 use Rattle.klp_types.specs.declared.task.Mode.{Mode}
-use Rattle.klp_types.specs.declared.task.Mode.TheVariants.{User, Kernel, Asleep}
+use Rattle.klp_types.specs.declared.task.Mode.TheVariants.{Kernel}
 use Rattle.klp_types.specs.declared.task.Task.{Task}
 use Rattle.klp_types.specs.declared.version.Transition.{Transition}
 use Rattle.klp_types.specs.declared.record.Record.{Record}

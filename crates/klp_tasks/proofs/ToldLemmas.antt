@@ -1,13 +1,12 @@
 -- Each record of a switch tells a task that has another state now.
-use Rattle.std.proofs.Common.{◌≡◌, ℕ, zero, suc, ◌+◌, ◌<◌, Bool, true, false, cond, List, [], ◌∷◌, ◌++◌, length, refl, sym, ap, ◌∙◌, arith, add-zero, zero-add, Option, Some, None}
+use Rattle.std.proofs.Common.{◌≡◌, ℕ, zero, suc, ◌<◌, true, false, cond, [], ◌∷◌, ◌++◌, refl, sym, ap, ◌∙◌, arith, Option, Some, None}
 use Rattle.std.specs.Option.{option_to_list}
 use Rattle.std.specs.Ordering.{int_eq}
 use Rattle.std.proofs.lemmas.Bool.Decides.{Decides-int_eq}
-use Rattle.klp_types.specs.declared.record.Record.{Record}
 use Rattle.klp_types.specs.declared.record.Record.TheVariants.{TaskRow}
 use Rattle.klp_types.specs.declared.task.Task.{Task}
 use Rattle.klp_model.specs.Task.{Tasks, task_at, with_task}
-use Rattle.klp_tasks.specs.Changes.{undone, record_if_switched, records_switched, TellChanges}
+use Rattle.klp_tasks.specs.Changes.{undone, records_switched, TellChanges}
 
 -- a task that is there gets another row
 own_row : (tasks : Tasks) (number : ℕ) (task : Task) (row : Option Task) → task_at tasks number ≡ Some task → task_at (with_task tasks number row) number ≡ row
@@ -51,12 +50,14 @@ told_from tasks start (Some was ∷ before) (Some task ∷ after) stand =
     let there : task_at newer start ≡ Some task = lower_kept tasks start (suc start) before after (omega arith) ∙ stand.0 in
     elim (int_eq was.state task.state) as (λ same. int_eq was.state task.state ≡ same → TellChanges tasks (option_to_list (cond same None (Some (TaskRow start was))) ++ records_switched (suc start) before after)) [
       | true ↦ λ is. rest
-      | false ↦ λ is.
-          (λ same.
-          let own : Some was ≡ Some task = sym (own_row newer start task (Some was) there) ∙ ap (λ t. task_at t start) same ∙ there in
-          let states : was.state ≡ task.state = cc in
-          let yes = (Decides-int_eq was.state task.state).1 states in
-          cc, rest)
+      | false ↦ λ is. (
+        λ same.
+            let own : Some was ≡ Some task = sym (own_row newer start task (Some was) there) ∙ ap (λ t. task_at t start) same ∙ there in
+            let states : was.state ≡ task.state = cc in
+            let yes = (Decides-int_eq was.state task.state).1 states in
+            cc,
+        rest,
+      )
     ] refl
 
 stand_next : (first : Option Task) (tasks : Tasks) (start : ℕ) (after : Tasks) → StandFrom tasks start after → StandFrom (first ∷ tasks) (suc start) after

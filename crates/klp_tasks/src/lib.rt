@@ -8,8 +8,8 @@
 //! rows that change.
 //!
 //! A [`VersionSet`] has exactly what was put in (`specs/Members`), and a look-up takes the same time
-//! whatever it has. `laws`: a change of a row is that of the step, few rows are logged, and every set is
-//! that of a list.
+//! whatever it has. `laws`: a change of a row is that of the step, few rows are logged, a switch logs
+//! those alone that it changes, and every set is that of a list.
 #![tactic(auto)]
 
 pub mod laws;
