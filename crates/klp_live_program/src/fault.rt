@@ -61,9 +61,6 @@ pub enum LiveFault {
     /// There was no place for a task at the table.
     #[error("NoPlace")]
     NoPlace,
-    /// A gate didn't let a task in.
-    #[error("Held")]
-    Held,
 }
 
 impl LiveFault {
