@@ -72,27 +72,6 @@ has_ended {S} setting base task first pass knows steps outcomes ended new ends i
     subst (λ (p : Passing). IsFinished setting base lets_in p (by_knows knows) steps outcomes) new
     (subst (λ (p : Passing). IsFinished setting base lets_in first p steps outcomes) whole done)
 
--- a body that every gate lets in isn't held
-is_not_held : {S : Type 0} (setting : Setting) (base : State) (first : Passing) (steps : List Step) (outcomes : List Outcome) (ended : Option (Result Passing (BodyFault S)))
-    → IsSomeAnd ended (λ e. Ends setting base lets_in first steps outcomes e) → IsSomeAnd ended (λ e. IfErr e (λ (fault : BodyFault S). fault.cause ≡ NoMemory))
-is_not_held setting base first steps outcomes None ends = absurd ends
-is_not_held setting base first steps outcomes (Some (Ok pass)) ends = tt
-is_not_held setting base first steps outcomes (Some (Err fault)) ends = stopped fault.cause ends.why
-  where
-    stopped : (cause : BodyCause) → Stops lets_in first.task steps outcomes cause → cause ≡ NoMemory
-    stopped NoMemory why = refl
-    stopped Held why = absurd cc
-
-pub job_is_not_held : {S G : Type 0} {s : Start.Ghosts S} {g : Gate.Ghosts G} (setting : Setting) (base : State) (before after : Job S G s g)
-    → IsSome (body_of before) → IfSome (body_of before) (λ (body : TaskBody S G). IsRun setting base (λ gate. lets_in) body before after)
-    → IsSomeAnd (ended_of after) (λ e. IfErr e (λ (fault : BodyFault S). fault.cause ≡ NoMemory))
-job_is_not_held {S} {G} setting base before after there run = by_body (body_of before) there run
-  where
-    by_body : (body : Option (TaskBody S G)) → IsSome body → IfSome body (λ (body : TaskBody S G). IsRun setting base (λ gate. lets_in) body before after)
-        → IsSomeAnd (ended_of after) (λ e. IfErr e (λ (fault : BodyFault S). fault.cause ≡ NoMemory))
-    by_body None there run = absurd cc
-    by_body (Some body) there run = is_not_held setting base body.pass (steps_of before) (outcomes_of after) (ended_of after) run.ends
-
 -- a job that has run
 pub job_has_ended : {S G : Type 0} {s : Start.Ghosts S} {g : Gate.Ghosts G} (setting : Setting) (base : State) (task : ℕ) (before after : Job S G s g) (seat : Knows) (pass : Passing) (knows : Knows) (steps : List Step) (outcomes : List Outcome)
     → IsSomeAnd (body_of before) (λ (body : TaskBody S G). body.pass ≡ record { task = task; knows = seat })

@@ -7,6 +7,8 @@ use Rattle.klp_core.specs.Journaled.{Journaled}
 use Rattle.klp_program.specs.declared.fault.Fault.{Fault}
 use Rattle.klp_program.specs.declared.fault.Fault.TheVariants.{Text, Serve}
 use Rattle.klp_program.specs.Booted.{IsBootedOver, IsBootFault}
+use Rattle.klp_live.specs.declared.opening.StartCause.{StartCause}
+use Rattle.klp_live.specs.declared.opening.StartCause.TheVariants.{NoMemory as NoneForStart, NoPlace as NoneAtTable}
 use Rattle.klp_bodies.specs.declared.step.Step.{Step}
 use Rattle.klp_live_program.specs.declared.race.Done.{Done}
 use Rattle.klp_live_program.specs.declared.fault.ReadFault.{ReadFault}
@@ -34,6 +36,11 @@ IsRunFault (Program fault) = ⊥
 IsRunFault (Steps fault) = ⊥
 IsRunFault NoMemory = Unit {0}
 IsRunFault NoPlace = Unit {0}
+
+-- why nothing was started
+abbrev pub start_fault : StartCause → LiveFault
+start_fault NoneForStart = NoMemory
+start_fault NoneAtTable = NoPlace
 
 -- why steps aren't read
 abbrev pub read_fault : ReadFault → LiveFault

@@ -3,7 +3,7 @@
 ghost use Rattle.std.specs.Prelude.{◌≡◌};
 ghost use Rattle.klp_live_program.specs.declared.fault.ReadFault.TheVariants.{NoMemory};
 ghost use Rattle.klp_live_program.specs.declared.fault.LiveFault.TheVariants.{Program, NoMemory as OutOfMemory};
-ghost use Rattle.klp_live_program.specs.Living.{IsRunFault, read_fault};
+ghost use Rattle.klp_live_program.specs.Living.{IsRunFault, start_fault, read_fault};
 
 use klp_live::StartCause;
 use klp_program::Fault;
@@ -66,7 +66,8 @@ pub enum LiveFault {
 impl LiveFault {
     /// Why nothing was started.
     pub(crate) fn of_start(cause: StartCause) -> LiveFault
-        ensures { IsRunFault result }
+        ensures told { result ≡ start_fault cause }
+        ensures fault { IsRunFault result }
     {
         match cause {
             StartCause::NoMemory => LiveFault::NoMemory,

@@ -93,12 +93,7 @@ impl Runs for Manager {
         self.seal();
     }
 
-    fn show<W: Write>(
-        &mut self,
-        alloc: Global,
-        done: &Done,
-        out: &mut W,
-    ) -> Result<(), LiveFault> {
+    fn show<W: Write>(&mut self, alloc: Global, done: &Done, out: &mut W) -> Result<(), LiveFault> {
         let Ok(lines) = texts(alloc, self) else {
             return Err(LiveFault::NoMemory);
         };
