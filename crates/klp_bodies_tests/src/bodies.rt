@@ -184,10 +184,10 @@ fn deep(alloc: Global) -> Result<Vec<Step>, AllocError> {
 }
 
 /// Few enough steps for a body.
-fn few(steps: Vec<Step>) -> Option<Vec<Step>>
+pub(crate) fn few(steps: Vec<Step>) -> Option<Vec<Step>>
     ensures { IfSome result (λ steps. vec_len steps < 2 ^ 32) }
 {
-    if steps.len() < 1_000 {
+    if steps.len() < 100_000 {
         Some(steps)
     } else {
         None

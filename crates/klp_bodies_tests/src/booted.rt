@@ -83,3 +83,11 @@ pub(crate) fn prepare<M: Settles>(machine: &mut M)
     let _standing = machine.mark();
     machine.close_journal();
 }
+
+/// Takes back all that was accepted.
+pub(crate) fn empty<M: Machine>(machine: &mut M)
+    ensures { (M.journaled machine.new).groups ≡ [] }
+{
+    let _standing = machine.mark();
+    let _ = machine.rewind(0);
+}

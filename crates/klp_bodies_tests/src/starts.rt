@@ -3,8 +3,9 @@ ghost use Rattle.std.specs.Prelude.{◌≡◌, []};
 ghost use Rattle.klp_live.specs.Opening.{IsFresh};
 ghost use Rattle.klp_live.specs.Shown.{RuleIs};
 
+use crate::bench::{self, Best};
 use crate::bodies::{show_deep, show_held, show_nap, show_unrun, show_worked};
-use crate::booted::{Fault, Settles, booted, prepare};
+use crate::booted::{Fault, Settles, booted, empty, prepare};
 use crate::meeting::{show_apart, show_meetings, show_turns};
 use crossbeam_utils::rule::Protocol;
 use klp_core::{Machine, Manager};
@@ -12,6 +13,7 @@ use klp_live::{Live, Opened, Published, Seat, Start, StartFault, View};
 use std::alloc::Global;
 use std::io;
 use std::marker::Brand;
+use std::rt::Clock;
 use std::sync::Wait;
 use std::sync::ledger::Blank;
 use std::thread::Threads;
@@ -31,18 +33,50 @@ fn one_by_one<S: Start + Protocol<Published, View>, M: Machine + Drop, R: Wait +
     show_apart(rt, alloc, live, (first, second))
 }
 
+/// What two seats do: all tests, or a round that is measured.
+#[derive(Drop)]
+enum Runs<'a> {
+    Tests,
+    Round(&'a mut Best),
+}
+
 /// All that the two seats do, which are handed back.
+fn both_run<
+    S: Start + Protocol<Published, View> + Send + Sync,
+    M: Machine + Drop + Send,
+    R: Threads + Wait + Print + Clock + Sync,
+>(
+    rt: &R,
+    alloc: Global,
+    live: &Live<S, M, &R>,
+    seats: (Seat<S>, Seat<S>),
+    runs: Runs<'_>,
+) -> io::Result<Option<(Seat<S>, Seat<S>)>> {
+    match runs {
+        Runs::Tests => {
+            let both = one_by_one(rt, alloc, live, seats)?;
+            show_meetings(rt, alloc, live, both)
+        }
+        Runs::Round(best) => bench::round(rt, alloc, live, seats, best),
+    }
+}
+
 fn all_run<
     S: Start + Protocol<Published, View> + Send + Sync,
     M: Machine + Drop + Send,
-    R: Threads + Wait + Print + Sync,
->(rt: &R, alloc: Global, live: &Live<S, M, &R>, seats: Vec<Seat<S>>) -> io::Result<Vec<Seat<S>>> {
+    R: Threads + Wait + Print + Clock + Sync,
+>(
+    rt: &R,
+    alloc: Global,
+    live: &Live<S, M, &R>,
+    seats: Vec<Seat<S>>,
+    runs: Runs<'_>,
+) -> io::Result<Vec<Seat<S>>> {
     let mut seats = seats;
     let (Some(second), Some(first)) = (seats.pop(), seats.pop()) else {
         return Ok(seats);
     };
-    let both = one_by_one(rt, alloc, live, (first, second))?;
-    if let Some((first, second)) = show_meetings(rt, alloc, live, both)? {
+    if let Some((first, second)) = both_run(rt, alloc, live, (first, second), runs)? {
         seats.push(first)?;
         seats.push(second)?;
     }
@@ -53,13 +87,14 @@ fn all_run<
 fn opened<
     S: Start + Protocol<Published, View> + Send + Sync,
     M: Machine + Drop + Send,
-    R: Threads + Wait + Print + Sync,
+    R: Threads + Wait + Print + Clock + Sync,
 >(
     rt: &R,
     alloc: Global,
     blank: Blank,
     opened: Opened,
     machine: M,
+    runs: Runs<'_>,
 ) -> Result<io::Result<Option<M>>, StartFault<M>>
     requires name { blank.name ≡ S.name }
     requires parts { (blank.parts ≡ S.parts) × (blank.parts ≡ 2) × (S.places ≡ 2) }
@@ -68,32 +103,33 @@ fn opened<
     requires fresh { IsFresh S.setting S.base (M.journaled machine) }
 {
     let (live, seats) = Live::<S, M, &R>::start(rt, alloc, blank, opened, machine, 2)?;
-    match all_run(rt, alloc, &live, seats) {
+    match all_run(rt, alloc, &live, seats, runs) {
         Ok(seats) => Ok(Ok(live.close(rt, seats).ok())),
         Err(error) => Ok(Err(error)),
     }
 }
 
 /// The owner of a machine picks the start.
-fn started<M: Machine + Drop + Send, R: Threads + Wait + Print + Sync>(
+fn started<M: Machine + Drop + Send, R: Threads + Wait + Print + Clock + Sync>(
     rt: &R,
     alloc: Global,
     machine: M,
+    runs: Runs<'_>,
 ) -> Result<io::Result<Option<M>>, StartFault<M>>
     requires { (M.journaled machine).groups ≡ [] }
 {
-    opened::<Brand, M, R>(rt, alloc, Blank::new(2), Opened::new(), machine)
+    opened::<Brand, M, R>(rt, alloc, Blank::new(2), Opened::new(), machine, runs)
 }
 
 /// A start over a machine with two tasks. In the end all is taken back.
-fn once<M: Settles + Drop + Send, R: Threads + Wait + Print + Sync>(
+fn once<M: Settles + Drop + Send, R: Threads + Wait + Print + Clock + Sync>(
     rt: &R,
     alloc: Global,
     machine: M,
 ) -> io::Result<()> {
     let mut machine = machine;
     prepare(&mut machine);
-    let Ok(ended) = started(rt, alloc, machine) else {
+    let Ok(ended) = started(rt, alloc, machine, Runs::Tests) else {
         return println!(rt; "no start");
     };
     let Some(mut machine) = ended? else {
@@ -104,20 +140,77 @@ fn once<M: Settles + Drop + Send, R: Threads + Wait + Print + Sync>(
     println!(rt; "{standing} standing, taken back: {is_back}")
 }
 
+/// One round over a machine from which all is taken back first.
+fn round<M: Settles + Drop + Send, R: Threads + Wait + Print + Clock + Sync>(
+    rt: &R,
+    alloc: Global,
+    machine: M,
+    best: &mut Best,
+) -> io::Result<Option<M>> {
+    let mut machine = machine;
+    empty(&mut machine);
+    match started(rt, alloc, machine, Runs::Round(best)) {
+        Ok(ended) => ended,
+        Err(_) => Ok(None),
+    }
+}
+
+/// So many rounds over a machine with two tasks.
+fn rounds_of<M: Settles + Drop + Send, R: Threads + Wait + Print + Clock + Sync>(
+    rt: &R,
+    alloc: Global,
+    machine: M,
+    rounds: u64,
+) -> io::Result<Best> {
+    let mut machine = machine;
+    let mut best = Best::NONE;
+    prepare(&mut machine);
+    for _round in 0..rounds {
+        match round(rt, alloc, machine, &mut best)? {
+            Some(same) => machine = same,
+            None => return Ok(best),
+        }
+    }
+    Ok(best)
+}
+
+/// All tests, or so many rounds and what they come to.
+fn all_by<M: Settles + Drop + Send, R: Threads + Wait + Print + Clock + Sync>(
+    rt: &R,
+    alloc: Global,
+    machine: M,
+    rounds: Option<u64>,
+) -> io::Result<()> {
+    match rounds {
+        None => once(rt, alloc, machine),
+        Some(rounds) => bench::tell(rt, rounds_of(rt, alloc, machine, rounds)?),
+    }
+}
+
 /// The same with a manager, which may cross threads.
-fn managed<R: Threads + Wait + Print + Sync>(
+fn managed<R: Threads + Wait + Print + Clock + Sync>(
     rt: &R,
     alloc: Global,
     manager: Manager,
+    rounds: Option<u64>,
 ) -> io::Result<()> {
-    once::<Manager, R>(rt, alloc, manager)
+    all_by::<Manager, R>(rt, alloc, manager, rounds)
 }
 
-pub(crate) fn run_all<R: Threads + Wait + Print + Sync>(
+pub(crate) fn run_all<R: Threads + Wait + Print + Clock + Sync>(
     rt: &R,
     alloc: Global,
 ) -> Result<(), Fault> {
     show_turns(rt)?;
-    managed(rt, alloc, booted(alloc)?)?;
+    managed(rt, alloc, booted(alloc)?, None)?;
+    Ok(())
+}
+
+pub(crate) fn measure<R: Threads + Wait + Print + Clock + Sync>(
+    rt: &R,
+    alloc: Global,
+    rounds: u64,
+) -> Result<(), Fault> {
+    managed(rt, alloc, booted(alloc)?, Some(rounds))?;
     Ok(())
 }

@@ -1,2 +1,3 @@
+pub mod RaceLemmas
 pub mod RunLemmas
 pub mod StepLemmas

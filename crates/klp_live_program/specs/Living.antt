@@ -1,5 +1,5 @@
 -- What the steps of two tasks come to over a catalog's text.
-use Rattle.std.specs.Prelude.{◌≡◌, ℕ, List, length, Result, Ok, Err}
+use Rattle.std.specs.Prelude.{◌≡◌, ℕ, List, Result, Ok, Err}
 use Rattle.std.specs.Str.Lines.{lines}
 use Rattle.klp_catalog_text.specs.Plan.{Plan}
 use Rattle.klp_catalog_text.specs.Text.{plan_of, IsFaultOf}
@@ -7,21 +7,27 @@ use Rattle.klp_core.specs.Journaled.{Journaled}
 use Rattle.klp_program.specs.declared.fault.Fault.{Fault}
 use Rattle.klp_program.specs.declared.fault.Fault.TheVariants.{Text, Serve}
 use Rattle.klp_program.specs.Booted.{IsBootedOver, IsBootFault}
+use Rattle.klp_live.specs.declared.opening.StartCause.{StartCause}
+use Rattle.klp_live.specs.declared.opening.StartCause.TheVariants.{NoMemory as NoneForStart, NoPlace as NoneAtTable}
 use Rattle.klp_bodies.specs.declared.step.Step.{Step}
 use Rattle.klp_live_program.specs.declared.race.Done.{Done}
 use Rattle.klp_live_program.specs.declared.fault.ReadFault.{ReadFault}
 use Rattle.klp_live_program.specs.declared.fault.ReadFault.TheVariants.{NoMemory as NoneForSteps, Steps as OfLine}
 use Rattle.klp_live_program.specs.declared.fault.LiveFault.{LiveFault}
-use Rattle.klp_live_program.specs.declared.fault.LiveFault.TheVariants.{Program, Steps, NoMemory, NoPlace, Held}
+use Rattle.klp_live_program.specs.declared.fault.LiveFault.TheVariants.{Program, Steps, NoMemory, NoPlace}
 use Rattle.klp_live_program.specs.Steps.{AreSteps, IsFirstFault}
+use Rattle.klp_live_program.specs.Racing.{IsPrepared, HaveRaced}
 
--- all steps of the text are done, each by its task
+-- tasks 1 and 2 came to the booted machine; each did all steps of the text that are its own, with these outcomes; and all that was accepted
+-- was taken back
 pub record HasDone (booted : Journaled) (text : List ℕ) (done : Done) : Type 0 where
   pub first : List Step
   pub second : List Step
   pub steps : AreSteps booted (lines text) first second
-  pub first_done : done.first ≡ length first
-  pub second_done : done.second ≡ length second
+  pub prepared : Journaled
+  pub came : IsPrepared booted prepared
+  pub left : Journaled
+  pub raced : HaveRaced prepared left first second done
 
 -- why steps that were read aren't all done and shown: want of memory or of a place, or a failed write
 abbrev pub IsRunFault : LiveFault → Type 0
@@ -30,7 +36,11 @@ IsRunFault (Program fault) = ⊥
 IsRunFault (Steps fault) = ⊥
 IsRunFault NoMemory = Unit {0}
 IsRunFault NoPlace = Unit {0}
-IsRunFault Held = Unit {0}
+
+-- why nothing was started
+abbrev pub start_fault : StartCause → LiveFault
+start_fault NoneForStart = NoMemory
+start_fault NoneAtTable = NoPlace
 
 -- why steps aren't read
 abbrev pub read_fault : ReadFault → LiveFault
@@ -56,3 +66,13 @@ abbrev pub Lives : List ℕ → List ℕ → Result Done LiveFault → Type 0
 Lives catalog text (Err (Program (Text fault))) = IsFaultOf catalog fault.line fault.kind
 Lives catalog text (Err NoMemory) = Unit {0}
 Lives catalog text result = (plan : Plan) × (plan_of catalog ≡ Ok plan) × LivesPlan plan text result
+
+-- the exit status: 0 is told only where all steps are done and all is taken back
+abbrev pub status_of : Result Done LiveFault → ℕ
+status_of (Ok done) = 0
+status_of (Err fault) = 1
+
+pub record Exits (catalog text : List ℕ) (status : ℕ) : Type 0 where
+  pub result : Result Done LiveFault
+  pub lives : Lives catalog text result
+  pub status_is : status ≡ status_of result

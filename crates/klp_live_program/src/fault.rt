@@ -3,7 +3,7 @@
 ghost use Rattle.std.specs.Prelude.{◌≡◌};
 ghost use Rattle.klp_live_program.specs.declared.fault.ReadFault.TheVariants.{NoMemory};
 ghost use Rattle.klp_live_program.specs.declared.fault.LiveFault.TheVariants.{Program, NoMemory as OutOfMemory};
-ghost use Rattle.klp_live_program.specs.Living.{IsRunFault, read_fault};
+ghost use Rattle.klp_live_program.specs.Living.{IsRunFault, start_fault, read_fault};
 
 use klp_live::StartCause;
 use klp_program::Fault;
@@ -61,15 +61,13 @@ pub enum LiveFault {
     /// There was no place for a task at the table.
     #[error("NoPlace")]
     NoPlace,
-    /// A gate didn't let a task in.
-    #[error("Held")]
-    Held,
 }
 
 impl LiveFault {
     /// Why nothing was started.
     pub(crate) fn of_start(cause: StartCause) -> LiveFault
-        ensures { IsRunFault result }
+        ensures told { result ≡ start_fault cause }
+        ensures fault { IsRunFault result }
     {
         match cause {
             StartCause::NoMemory => LiveFault::NoMemory,

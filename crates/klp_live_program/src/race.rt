@@ -1,17 +1,20 @@
 //! Two task threads run their steps over one machine, and all that was accepted is taken back.
-ghost use Rattle.std.specs.Prelude.{◌≡◌, ◌<◌, ◌≤◌, [], length, vec_len, IsSome, IsSomeAnd, IfOk, IfErr};
+ghost use Rattle.std.specs.Prelude.{◌≡◌, ◌<◌, ◌≤◌, [], ◌∷◌, vec_len, Some, Ok, IsSomeAnd, IfOk, IfErr};
 ghost use Rattle.klp_types.specs.declared.limits.TheConstants.{MAX_TASKS};
 ghost use Rattle.klp_live.specs.Opening.{IsFresh};
+ghost use Rattle.klp_live.specs.Passing.{Passing};
 ghost use Rattle.klp_live.specs.Shown.{RuleIs};
 ghost use Rattle.klp_manager_state.specs.Managed.{setting_of};
+ghost use Rattle.klp_core.specs.Rewinding.{IsRewound};
+ghost use Rattle.klp_bodies.specs.declared.fault.BodyCause.TheVariants.{NoMemory};
 ghost use Rattle.klp_bodies.specs.Jobs.{body_of, steps_of, ended_of, outcomes_of};
-ghost use Rattle.klp_live_program.specs.Racing.{IsBack};
+ghost use Rattle.klp_live_program.specs.Racing.{knows_nothing, HaveEnded, HaveRun, HaveRaced};
 ghost use Rattle.klp_live_program.specs.Living.{IsRunFault};
 
 use crate::fault::LiveFault;
 use crate::step_lines::{MAX_STEPS, Steps};
 use crossbeam_utils::rule::Protocol;
-use klp_bodies::{BodyCause, Gate, Job, Step, TaskBody, run_two};
+use klp_bodies::{BodyCause, Gate, Job, Outcome, Step, TaskBody, run_two};
 use klp_core::Machine;
 use klp_live::{Live, Opened, Published, Seat, Start, View};
 use klp_types::TaskId;
@@ -40,11 +43,11 @@ impl Gate for Open {
     }
 }
 
-/// How many steps of each task are done.
-#[derive(Clone, Copy)]
+/// What the steps of each task came to, all of which are done.
+#[derive(Drop)]
 pub(crate) struct Done {
-    pub(crate) first: usize,
-    pub(crate) second: usize,
+    pub(crate) first: Vec<Outcome>,
+    pub(crate) second: Vec<Outcome>,
 }
 
 /// The job of a task that takes a seat.
@@ -57,7 +60,7 @@ fn job_of<S: Start + Protocol<Published, View>, M: Machine + Drop, R: Wait + Dro
 ) -> Job<S, Open>
     requires there { task < MAX_TASKS }
     requires few { vec_len steps ≤ MAX_STEPS }
-    ensures body { IsSome (body_of result) }
+    ensures body { IsSomeAnd (body_of result) (λ body. body.pass ≡ record { task = task; knows = seat }) }
     ensures steps { steps_of result ≡ steps.items }
 {
     match live.attach(seat, task) {
@@ -66,25 +69,26 @@ fn job_of<S: Start + Protocol<Published, View>, M: Machine + Drop, R: Wait + Dro
     }
 }
 
-/// The seat of a job that has run, and how many of its steps are done: all of them.
+/// The seat of a job that has run, and what its steps came to. Its gate has let the task in.
 fn ended<S: Start + Protocol<Published, View>>(
     job: Job<S, Open>,
-) -> Result<(Seat<S>, usize), LiveFault>
-    requires { IsSomeAnd (ended_of job) (λ ended. IfOk ended (λ _. length (outcomes_of job) ≡ length (steps_of job))) }
-    ensures done { IfOk result (λ pair. pair.1 ≡ length (steps_of job)) }
+) -> Result<(Seat<S>, Vec<Outcome>), LiveFault>
+    requires { IsSomeAnd (ended_of job) (λ ended. IfErr ended (λ fault. fault.cause ≡ NoMemory)) }
+    ensures done { IfOk result (λ pair. (pass : Passing) × (ended_of job ≡ Some (Ok pass)) × (pair.0 ≡ pass.knows)
+        × (pair.1.items ≡ outcomes_of job)) }
     ensures fault { IfErr result IsRunFault }
 {
     let (ended, outcomes) = job.end();
     match ended {
-        Ok(pass) => Ok((pass.detach(), outcomes.len())),
-        Err(fault) => Err(match fault.cause {
-            BodyCause::Held => LiveFault::Held,
-            BodyCause::NoMemory => LiveFault::NoMemory,
-        }),
+        Ok(pass) => Ok((pass.detach(), outcomes)),
+        Err(fault) => match fault.cause {
+            BodyCause::NoMemory => Err(LiveFault::NoMemory),
+            BodyCause::Held => unreachable!(),
+        },
     }
 }
 
-/// Both tasks run their steps, and give their seats back.
+/// Both tasks run their steps, and give back the seats, which they took before anybody knew of an event.
 fn run_both<
     S: Start + Protocol<Published, View> + Send + Sync,
     M: Machine + Drop + Send,
@@ -96,11 +100,10 @@ fn run_both<
     seats: Vec<Seat<S>>,
     steps: Steps,
 ) -> Result<(Vec<Seat<S>>, Done), LiveFault>
-    requires two { vec_len seats ≡ 2 }
+    requires two { seats.items ≡ knows_nothing ∷ knows_nothing ∷ [] }
     requires first { vec_len steps.first ≤ MAX_STEPS }
     requires second { vec_len steps.second ≤ MAX_STEPS }
-    ensures done { IfOk result (λ both. (vec_len both.0 ≡ 2)
-        × (both.1.first ≡ vec_len steps.first) × (both.1.second ≡ vec_len steps.second)) }
+    ensures done { IfOk result (λ both. HaveEnded S.setting S.base steps.first.items steps.second.items both.1 both.0.items) }
     ensures fault { IfErr result IsRunFault }
 {
     let mut seats = seats;
@@ -141,8 +144,7 @@ fn started<
     requires fresh { IsFresh S.setting S.base (M.journaled machine) }
     requires first { vec_len steps.first ≤ MAX_STEPS }
     requires second { vec_len steps.second ≤ MAX_STEPS }
-    ensures done { IfOk result (λ ran. (setting_of (M.journaled ran.0).managed ≡ S.setting) × ((M.journaled ran.0).base ≡ S.base)
-        × (ran.1.first ≡ vec_len steps.first) × (ran.1.second ≡ vec_len steps.second)) }
+    ensures done { IfOk result (λ ran. HaveRun S.setting S.base (M.journaled ran.0) steps.first.items steps.second.items ran.1) }
     ensures fault { IfErr result IsRunFault }
 {
     let (live, seats) = match Live::<S, M, &R>::start(rt, alloc, blank, opened, machine, 2) {
@@ -167,8 +169,7 @@ pub(crate) fn raced<M: Machine + Drop + Send, R: Threads + Wait + Sync>(
     requires empty { (M.journaled machine).groups ≡ [] }
     requires first { vec_len steps.first ≤ MAX_STEPS }
     requires second { vec_len steps.second ≤ MAX_STEPS }
-    ensures done { IfOk result (λ ran. IsBack (M.journaled machine) (M.journaled ran.0)
-        × (ran.1.first ≡ vec_len steps.first) × (ran.1.second ≡ vec_len steps.second)) }
+    ensures done { IfOk result (λ ran. HaveRaced (M.journaled machine) (M.journaled ran.0) steps.first.items steps.second.items ran.1) }
     ensures fault { IfErr result IsRunFault }
 {
     let (machine, done) = started::<Brand, M, R>(
@@ -185,7 +186,7 @@ pub(crate) fn raced<M: Machine + Drop + Send, R: Threads + Wait + Sync>(
 /// The machine without what was accepted.
 fn taken_back<M: Machine>(machine: M) -> M
     ensures setting { setting_of (M.journaled result).managed ≡ setting_of (M.journaled machine).managed }
-    ensures state { (M.journaled result).managed.state ≡ (M.journaled machine).base }
+    ensures rewound { IsRewound (M.journaled machine) (M.journaled result) 0 }
 {
     let mut machine = machine;
     let _standing = machine.mark();

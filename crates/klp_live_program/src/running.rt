@@ -3,10 +3,11 @@ ghost use Rattle.std.specs.Prelude.{◌≡◌, ◌≤◌, ◌⊎◌, [], length,
 ghost use Rattle.std.specs.Str.Lines.{lines};
 ghost use Rattle.klp_types.specs.declared.limits.TheConstants.{MAX_GROUPS};
 ghost use Rattle.klp_catalog_text.specs.Within.{AreTargetsWithin};
+ghost use Rattle.klp_core.specs.Journaled.{Journaled};
 ghost use Rattle.klp_live_program.specs.declared.step_lines.TheConstants.{MAX_STEPS};
-ghost use Rattle.klp_live_program.specs.Racing.{IsPrepared};
+ghost use Rattle.klp_live_program.specs.Racing.{IsPrepared, HaveRaced};
 ghost use Rattle.klp_live_program.specs.Steps.{AreSteps, IsReadFault};
-ghost use Rattle.klp_live_program.specs.Living.{IsRunFault, LivesBy, LivesPlan, Lives};
+ghost use Rattle.klp_live_program.specs.Living.{IsRunFault, LivesBy, LivesPlan, Lives, Exits};
 
 use crate::fault::{LiveFault, ReadFault};
 use crate::race::{Done, FIRST, SECOND, raced};
@@ -77,10 +78,9 @@ trait Runs: Machine {
         ensures prepared { IsPrepared (Self.journaled self.old) (Self.journaled self.new) };
 
     /// Writes how many steps of each task are done, and the text of each object that is loaded.
-    fn show<W: Write>(&mut self, alloc: Global, done: Done, out: &mut W) -> Result<Done, LiveFault>
+    fn show<W: Write>(&mut self, alloc: Global, done: &Done, out: &mut W) -> Result<(), LiveFault>
         requires room { length (Self.journaled self.old).groups ≤ MAX_GROUPS }
-        ensures same { IfOk result (λ shown. shown ≡ done) }
-        ensures fault { IfErr result IsRunFault };
+        ensures { IfErr result IsRunFault };
 }
 
 impl Runs for Manager {
@@ -93,20 +93,16 @@ impl Runs for Manager {
         self.seal();
     }
 
-    fn show<W: Write>(
-        &mut self,
-        alloc: Global,
-        done: Done,
-        out: &mut W,
-    ) -> Result<Done, LiveFault> {
+    fn show<W: Write>(&mut self, alloc: Global, done: &Done, out: &mut W) -> Result<(), LiveFault> {
         let Ok(lines) = texts(alloc, self) else {
             return Err(LiveFault::NoMemory);
         };
-        if writeln!(out, "task 1 {}\ntask 2 {}", done.first, done.second).is_err() {
+        let (first, second) = (done.first.len(), done.second.len());
+        if writeln!(out, "task 1 {first}\ntask 2 {second}").is_err() {
             return Err(LiveFault::Program(Fault::Serve(ServeFault::Write)));
         }
         match answer::<W, Brand, Brand>(self, &lines, out, Blank::new(3), Blank::new(2)) {
-            Ok(()) => Ok(done),
+            Ok(()) => Ok(()),
             Err(fault) => Err(LiveFault::Program(Fault::Serve(fault))),
         }
     }
@@ -123,14 +119,15 @@ fn race<M: Runs + Drop + Send, W: Write, R: Threads + Wait + Sync>(
     requires empty { (M.journaled machine).groups ≡ [] }
     requires first { vec_len steps.first ≤ MAX_STEPS }
     requires second { vec_len steps.second ≤ MAX_STEPS }
-    ensures done { IfOk result (λ done. (done.first ≡ vec_len steps.first) × (done.second ≡ vec_len steps.second)) }
+    ensures done { IfOk result (λ done. (left : Journaled) × HaveRaced (M.journaled machine) left steps.first.items steps.second.items done) }
     ensures fault { IfErr result IsRunFault }
 {
     match raced::<M, R>(rt, alloc, machine, steps) {
         Ok((machine, done)) => {
             let mut machine = machine;
             let _standing = machine.mark();
-            machine.show(alloc, done, out)
+            machine.show(alloc, &done, out)?;
+            Ok(done)
         }
         Err(fault) => Err(fault),
     }
@@ -205,7 +202,7 @@ pub fn live<W: Write, E: Write, R: Threads + Wait + Sync>(
     out: &mut W,
     err: &mut E,
 ) -> u8
-    ensures { (result ≡ 0) ⊎ (result ≡ 1) }
+    ensures { Exits catalog.now text.now result }
 {
     match lived(rt, alloc, catalog, text, out) {
         Ok(_) => 0,

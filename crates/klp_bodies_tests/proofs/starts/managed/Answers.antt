@@ -4,5 +4,5 @@ use Rattle.klp_bodies_tests.specs.contracts.starts.managed.dyn-1 as table
 use Rattle.klp_bodies_tests.proofs.starts.managed.Goals as goal
 
 -- a manager may cross threads
-pub once-requires-send-M : goal.once-requires-send-M
-once-requires-send-M g c κs within = let t = g.dyn-1 in manager_given (table.slots g.row.R) t.0 t.1 t.2 _ _ yes
+pub all_by-requires-send-M : goal.all_by-requires-send-M
+all_by-requires-send-M g c κs within = let t = g.dyn-1 in manager_given (table.slots g.row.R) t.0 t.1 t.2 _ _ yes

@@ -28,3 +28,6 @@ loop-line-preserved g c =
     let so_far = subst (λ (left : List (List ℕ)). IsReadTo c.args.manager.now all left c.loop-line.number c.loop-line.steps.first.items c.loop-line.steps.second.items) c.in-Some.ensures c.loop-line.invariant in
     one_read c.args.manager.now all c.next.new.self c.loop-line.number c.in-Some.line.now c.in-Some-task_step.half c.in-Some-task_step.step
     c.loop-line.steps.first.items c.loop-line.steps.second.items c.add.new.self.first.items c.add.new.self.second.items so_far (search rules) (search rules)
+
+pub returns-in_default-task_step : goal.returns-in_default-task_step
+returns-in_default-task_step g c = search rules
