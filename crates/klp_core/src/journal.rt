@@ -26,7 +26,7 @@ fn append(journal: &mut Journal, event: &Event, reply: &Reply, state: &ManagerSt
 {
     let _free = journal.records_free();
     let _sites = state.sites.sites();
-    journal.append(*event, *reply, state.log.noted());
+    journal.append(event, reply, state.log.noted());
 }
 
 /// Takes an event, and appends it where it is accepted. A journal without room refuses what nothing else

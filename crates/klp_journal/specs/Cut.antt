@@ -6,7 +6,7 @@ use Rattle.klp_journal.specs.Journal.{Group}
 
 -- a group with these records
 abbrev pub group_of : Noted → List Record → Group
-group_of noted rows = record { event = noted.event; reply = noted.reply; rows = rows }
+group_of noted rows = record { event = noted.event.value; reply = noted.reply.value; rows = rows }
 
 -- the records cut into groups, each of which takes as many as it has
 abbrev pub cut : List Noted → List Record → List Group

@@ -5,12 +5,15 @@ use klp_model::{Event, Reply};
 use klp_types::{MAX_GROUPS, MAX_JOURNAL_RECORDS, MAX_RECORDS, Record};
 use std::alloc::{AllocError, Global};
 use std::marker::Model;
+use std::snapshot::Snapshot;
 
-/// An accepted event, with how many records are its own: these are the last ones when it is the newest.
-#[derive(Clone, Copy, Debug)]
+/// An accepted event, with how many records are its own: these are the last ones when it is the newest. Nothing
+/// that runs asks which event it was and what was answered, so both are known to contracts alone: a snapshot
+/// takes no memory (docs/DECISIONS.md, "Events in the journal").
+#[derive(Drop)]
 struct Noted {
-    event: Event,
-    reply: Reply,
+    event: Snapshot<Event>,
+    reply: Snapshot<Reply>,
     rows: usize,
 }
 
@@ -20,7 +23,7 @@ struct Noted {
 /// All room is taken by [`Journal::new`]: for [`MAX_GROUPS`] groups, and for [`MAX_JOURNAL_RECORDS`]
 /// records that they have together. To put the records of the newest group back, newest first, and to take
 /// the group out, undoes the newest event.
-#[derive(Debug, Drop)]
+#[derive(Drop)]
 pub struct Journal {
     groups: Vec<Noted>,
     /// The records of all groups, one group after another, in one list, since groups differ much in length.
@@ -81,15 +84,15 @@ impl Journal {
     /// Appends an accepted event as the newest, with the records of the rows that it changed in the order
     /// in which they were logged. They are copied, so the cost is that of these records, however long the
     /// journal is.
-    pub fn append(&mut self, event: Event, reply: Reply, rows: &[Record])
+    pub fn append(&mut self, event: &Event, reply: &Reply, rows: &[Record])
         requires groups { length self.old < MAX_GROUPS }
         requires records { length rows.now ≤ records_free self.old }
-        ensures { self.new ≡ self.old ++ record { event = event; reply = reply; rows = rows.now } ∷ [] }
+        ensures { self.new ≡ self.old ++ record { event = event.now; reply = reply.now; rows = rows.now } ∷ [] }
     {
         let _ = self.rows.extend_from_slice(rows);
         let _ = self.groups.push(Noted {
-            event,
-            reply,
+            event: Snapshot::of(event),
+            reply: Snapshot::of(reply),
             rows: rows.len(),
         });
     }
