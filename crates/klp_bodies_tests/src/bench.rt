@@ -3,7 +3,8 @@
 ghost use Rattle.std.specs.Prelude.{IfOk, IfSome, IsSome};
 ghost use Rattle.klp_bodies.specs.Jobs.{body_of};
 
-use crate::bodies::{few, seat_of};
+use crate::bodies::few;
+use crate::meeting::ends_of;
 use crossbeam_utils::rule::Protocol;
 use klp_bodies::{Gate, Job, Step, TaskBody, run_two};
 use klp_core::Machine;
@@ -99,6 +100,25 @@ fn job_of<S: Start + Protocol<Published, View>, M: Machine + Drop, R: Wait + Dro
     }
 }
 
+/// The jobs of both tasks.
+fn jobs_of<S: Start + Protocol<Published, View>, M: Machine + Drop, R: Wait + Drop>(
+    alloc: Global,
+    live: &Live<S, M, R>,
+    seats: (Seat<S>, Seat<S>),
+    works: (Work, Work),
+) -> Result<Option<(Job<S, Open>, Job<S, Open>)>, AllocError>
+    ensures { IfOk result (λ made. IfSome made (λ pair. IsSome (body_of pair.0) × IsSome (body_of pair.1))) }
+{
+    let (first, second) = seats;
+    let Some(one) = job_of(alloc, live, first, TaskId(1), works.0)? else {
+        return Ok(None);
+    };
+    let Some(two) = job_of(alloc, live, second, TaskId(2), works.1)? else {
+        return Ok(None);
+    };
+    Ok(Some((one, two)))
+}
+
 /// The nanoseconds until both jobs have ended.
 fn run_timed<
     S: Start + Protocol<Published, View> + Send + Sync,
@@ -135,15 +155,12 @@ fn timed<
     seats: (Seat<S>, Seat<S>),
     works: (Work, Work),
 ) -> io::Result<Option<((Seat<S>, Seat<S>), u128)>> {
-    let one = job_of(alloc, live, seats.0, TaskId(1), works.0)?;
-    let two = job_of(alloc, live, seats.1, TaskId(2), works.1)?;
-    let (Some(mut one), Some(mut two)) = (one, two) else {
+    let Some((mut one, mut two)) = jobs_of(alloc, live, seats, works)? else {
         return Ok(None);
     };
     let took = run_timed(rt, alloc, live, &mut one, &mut two).unwrap_or(u128::MAX);
-    let (first, _told) = one.end();
-    let (second, _told) = two.end();
-    Ok(Some(((seat_of(rt, first)?, seat_of(rt, second)?), took)))
+    let (first, second, _ended) = ends_of(rt, one, two)?;
+    Ok(Some(((first, second), took)))
 }
 
 /// One round of each that both do.

@@ -58,6 +58,39 @@ fn job_of<'a, S: Start + Protocol<Published, View>, M: Machine + Drop, R: Wait +
     }
 }
 
+/// The jobs of both tasks, whose gates look for each other.
+fn jobs_of<'a, S: Start + Protocol<Published, View>, M: Machine + Drop, R: Wait + Drop>(
+    alloc: Global,
+    live: &Live<S, M, R>,
+    seats: (Seat<S>, Seat<S>),
+    raised: &'a (AtomicBool, AtomicBool),
+) -> Result<Option<(Job<S, Meeting<'a>>, Job<S, Meeting<'a>>)>, AllocError>
+    ensures { IfOk result (λ made. IfSome made (λ pair. IsSome (body_of pair.0) × IsSome (body_of pair.1))) }
+{
+    let (first, second) = seats;
+    let gate = Meeting::new(&raised.0, &raised.1);
+    let Some(one) = job_of(alloc, live, first, FIRST, gate)? else {
+        return Ok(None);
+    };
+    let gate = Meeting::new(&raised.1, &raised.0);
+    let Some(two) = job_of(alloc, live, second, SECOND, gate)? else {
+        return Ok(None);
+    };
+    Ok(Some((one, two)))
+}
+
+/// The seats of two jobs that have run, and whether both ended.
+pub(crate) fn ends_of<S: Start + Protocol<Published, View>, G: Gate + Drop, R: Print>(
+    rt: &R,
+    one: Job<S, G>,
+    two: Job<S, G>,
+) -> io::Result<(Seat<S>, Seat<S>, bool)> {
+    let (first, _told) = one.end();
+    let (second, _told) = two.end();
+    let met = first.is_ok() && second.is_ok();
+    Ok((seat_of(rt, first)?, seat_of(rt, second)?, met))
+}
+
 /// Both tasks in threads of their own; whether both ended.
 fn meets<
     S: Start + Protocol<Published, View> + Send + Sync,
@@ -70,28 +103,11 @@ fn meets<
     seats: (Seat<S>, Seat<S>),
 ) -> io::Result<Option<(Seat<S>, Seat<S>, bool)>> {
     let raised = (AtomicBool::new(false), AtomicBool::new(false));
-    let one = job_of(
-        alloc,
-        live,
-        seats.0,
-        FIRST,
-        Meeting::new(&raised.0, &raised.1),
-    )?;
-    let two = job_of(
-        alloc,
-        live,
-        seats.1,
-        SECOND,
-        Meeting::new(&raised.1, &raised.0),
-    )?;
-    let (Some(mut one), Some(mut two)) = (one, two) else {
+    let Some((mut one, mut two)) = jobs_of(alloc, live, seats, &raised)? else {
         return Ok(None);
     };
     run_two(rt, alloc, live, &mut one, &mut two);
-    let (first, _told) = one.end();
-    let (second, _told) = two.end();
-    let met = first.is_ok() && second.is_ok();
-    Ok(Some((seat_of(rt, first)?, seat_of(rt, second)?, met)))
+    Ok(Some(ends_of(rt, one, two)?))
 }
 
 /// The two meet again and again.
