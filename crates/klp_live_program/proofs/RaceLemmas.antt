@@ -1,5 +1,5 @@
 -- What two tasks come to over one list, and what is left of it.
-use Rattle.std.proofs.Common.{◌≡◌, ℕ, ◌+◌, Bool, true, List, [], ◌∷◌, ◌++◌, length, Option, Some, None, IsSome, IsSomeAnd, IfSome, IfErr, Result, Ok, Err, refl, sym, ap, subst, ◌∙◌, arith}
+use Rattle.std.proofs.Common.{◌≡◌, ℕ, List, [], ◌∷◌, ◌++◌, length, Option, Some, None, IsSomeAnd, IfSome, Result, Ok, refl, sym, ap, subst, ◌∙◌, arith}
 use Rattle.std.specs.List.{All, sum_by}
 use Rattle.std.proofs.lemmas.List.{length-append}
 use Rattle.std.proofs.lemmas.List.Elements.{All-head, All-tail}
@@ -20,13 +20,11 @@ use Rattle.klp_bodies.specs.declared.step.Step.{Step}
 use Rattle.klp_bodies.specs.declared.step.Outcome.{Outcome}
 use Rattle.klp_bodies.specs.declared.body.TaskBody.{TaskBody}
 use Rattle.klp_bodies.specs.declared.fault.BodyFault.{BodyFault}
-use Rattle.klp_bodies.specs.declared.fault.BodyCause.{BodyCause}
-use Rattle.klp_bodies.specs.declared.fault.BodyCause.TheVariants.{Held, NoMemory}
 use Rattle.klp_bodies.specs.declared.job.Job.{Job}
 use Rattle.klp_bodies.specs.Jobs.{body_of, steps_of, ended_of, outcomes_of, IsRun}
-use Rattle.klp_bodies.specs.Running.{Ends, IsFinished, Stops, receipts}
+use Rattle.klp_bodies.specs.Running.{Ends, IsFinished}
 use Rattle.klp_live_program.specs.declared.race.Done.{Done}
-use Rattle.klp_live_program.specs.Racing.{knows_nothing, lets_in, HasEnded, HaveEnded, HasDoneAll, HaveRun, IsBack, HaveRaced}
+use Rattle.klp_live_program.specs.Racing.{knows_nothing, lets_in, HasEnded, HaveEnded, HaveRun, HaveRaced}
 
 -- two seats, each of which knows nothing
 pub two_new : (known : List Knows) → length known ≡ 2 → All (λ (k : Knows). k ≡ knows_nothing) known → known ≡ knows_nothing ∷ knows_nothing ∷ []

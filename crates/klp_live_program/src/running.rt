@@ -1,5 +1,5 @@
 //! A manager is booted over a catalog's text, and two task threads run the steps of another text over it.
-ghost use Rattle.std.specs.Prelude.{◌≡◌, ◌≤◌, ◌⊎◌, [], length, vec_len, IfOk, IfErr, MatchResult};
+ghost use Rattle.std.specs.Prelude.{◌≡◌, ◌≤◌, [], length, vec_len, IfOk, IfErr, MatchResult};
 ghost use Rattle.std.specs.Str.Lines.{lines};
 ghost use Rattle.klp_types.specs.declared.limits.TheConstants.{MAX_GROUPS};
 ghost use Rattle.klp_catalog_text.specs.Within.{AreTargetsWithin};
