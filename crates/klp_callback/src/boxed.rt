@@ -6,7 +6,8 @@ ghost use Rattle.klp_callback.specs.Told.{after_run};
 
 use crate::callback::Callback;
 use crate::counted_box::CountedBox;
-use klp_types::{PatchId, Records};
+use klp_record_words::Records;
+use klp_types::PatchId;
 use klp_world::{MAX_EDITS, World};
 use std::marker::Model;
 

@@ -4,7 +4,8 @@ ghost use Rattle.klp_types.specs.Script.{alloc_count, is_alloc, edited, edited_b
 ghost use Rattle.klp_world.specs.Noted.{noting, rows_of_edit, rows_of_edits, rows_of_script};
 ghost use Rattle.klp_world.specs.Changes.{Changes, HasRoom};
 
-use klp_types::{Edit, PatchId, Records};
+use klp_record_words::Records;
+use klp_types::{Edit, PatchId};
 use klp_world::{MAX_EDITS, Script, World};
 
 /// Makes one edit for the patch. What an edit finds (a variable that is there, a state that isn't) is no

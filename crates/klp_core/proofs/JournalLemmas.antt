@@ -1,6 +1,7 @@
 -- Groups that are appended and taken back.
-use Rattle.std.proofs.Common.{◌≡◌, ℕ, ◌≤◌, true, false, List, [], ◌∷◌, ◌++◌, length, take, Option, Some, None, refl, sym, ap, subst, ◌∙◌}
+use Rattle.std.proofs.Common.{◌≡◌, ℕ, ◌-◌, ◌<◌, ◌≤◌, true, false, List, [], ◌∷◌, ◌++◌, length, take, Option, Some, None, refl, sym, ap, subst, ◌∙◌, arith}
 use Rattle.std.specs.Prelude.{unwrap_or, Result, Ok, Err, IfOk}
+use Rattle.std.proofs.lemmas.List.{length_push, take_at}
 use Rattle.std.proofs.lemmas.List.Elements.{All-cons, All-nil}
 use Rattle.std.specs.List.{All}
 use Rattle.klp_types.specs.declared.limits.TheConstants.{MAX_RECORDS}
@@ -22,15 +23,16 @@ use Rattle.klp_model.specs.State.{State}
 use Rattle.klp_modules.specs.Names.{ModuleTable, names_of}
 use Rattle.klp_text.specs.TextImage.{IsWithinLimits, site_count}
 use Rattle.klp_catalog.specs.Catalog.{Catalog}
-use Rattle.klp_journal.specs.Journal.{Group, has_room}
+use Rattle.klp_journal.specs.Journal.{Accepted, Group, groups_of, has_room, Keeps}
+use Rattle.klp_journal.specs.Journal as records
 use Rattle.klp_manager_state.specs.declared.state.ManagerState.{ManagerState}
 use Rattle.klp_manager_state.specs.Events.{TakesEvent, after_event}
 use Rattle.klp_manager_state.specs.Invariant.{Invariant}
 use Rattle.klp_manager_state.specs.Managed.{Managed, setting_of, managed_of, setting_in}
-use Rattle.klp_manager_state.specs.Rows.{Rows, rows_in, rows_before, undone, are_due, tell_changes}
+use Rattle.klp_manager_state.specs.Rows.{Rows, Before, rows_in, rows_before, rows_now, undone, are_due, tell_changes}
 use Rattle.klp_manager_state.proofs.RowLemmas.{given_back, told_back}
 use Rattle.klp_core.proofs.ToldLemmas.{noted_told}
-use Rattle.klp_core.specs.Journaled.{Journaled, state_told, rows_before_all, journaled_of, AreKept, is_of_a_task, IsSmall, IsStepOf, AreSteps, IsSound, history_in, Stands}
+use Rattle.klp_core.specs.Journaled.{Journaled, state_told, rows_before_all, journaled_of, groups_in, AreInStep, AreKept, is_of_a_task, IsSmall, IsStepOf, AreSteps, IsSound, history_in, Stands}
 use Rattle.klp_types.specs.Callbacks.{Call}
 use Rattle.klp_core.specs.Events.{AreCounted}
 use Rattle.klp_core.specs.Rewinding.{IsRewound}
@@ -66,12 +68,29 @@ newest_told : (setting : Setting) (after : Rows) (groups : List Group) (group : 
 newest_told setting after [] group steps = steps.0.told
 newest_told setting after (first ∷ newer) group steps = newest_told setting after newer group steps.1
 
+newest_small : (setting : Setting) (after : Rows) (groups : List Group) (group : Group) → AreSteps setting after (groups ++ group ∷ []) → IsSmall group
+newest_small setting after [] group steps = steps.0.small
+newest_small setting after (first ∷ newer) group steps = newest_small setting after newer group steps.1
+
+-- the newest group has few records
+pub sound_few : (state : ManagerState) (catalog : Catalog) (groups older : List Group) (newest : Group) → IsSound state catalog groups
+    → groups ≡ older ++ newest ∷ [] → length newest.rows ≤ state.log.room
+sound_few state catalog groups older newest sound parted =
+    let small = newest_small (setting_in state catalog) (rows_in state) older newest (subst (AreSteps (setting_in state catalog) (rows_in state)) parted sound.steps) in
+    subst (λ n. length newest.rows ≤ n) (sym sound.holds.room) small.few
+
 -- the records of the newest group can be put back
 pub sound_due : (state : ManagerState) (catalog : Catalog) (groups older : List Group) (newest : Group) (rows : List Record) → IsSound state catalog groups
     → groups ≡ older ++ newest ∷ [] → rows ≡ newest.rows → are_due (rows_in state) rows ≡ true
 sound_due state catalog groups older newest rows sound parted is =
     ap (are_due (rows_in state)) is
     ∙ told_back (rows_in state) newest.rows (newest_told (setting_in state catalog) (rows_in state) older newest (subst (AreSteps (setting_in state catalog) (rows_in state)) parted sound.steps))
+
+-- the others are all but the last
+pub others_are : (groups older : List Group) (newest : Group) → groups ≡ older ++ newest ∷ [] → older ≡ take (length groups - 1) groups
+others_are groups older newest is =
+    let long = ap length is ∙ length_push older newest in
+    sym (take_at older (newest ∷ []) (length groups - 1) (omega (arith, long))) ∙ ap (take (length groups - 1)) (sym is)
 
 -- the groups are what happened since the base
 
@@ -122,11 +141,11 @@ is_step before after catalog now event reply rows holds taken told few one = rec
 }
 
 pub appended_sound : (before after : ManagerState) (catalog now : Catalog) (groups : List Group) (event : Event) (reply : Reply) → IsSound before catalog groups
-    → TakesEvent before after catalog now event (Ok reply) → rows_before after ≡ Some (rows_in before) → length after.log.noted ≤ MAX_RECORDS
+    → TakesEvent before after catalog now event (Ok reply) → rows_before after ≡ rows_now before → length after.log.noted ≤ MAX_RECORDS
     → (is_of_a_task event ≡ true → length after.log.noted ≡ 1)
     → IsSound after now (groups ++ record { event = event; reply = reply; rows = after.log.noted } ∷ [])
 appended_sound before after catalog now groups event reply sound taken noted few one =
-    let back = given_back (rows_in after) (rows_in before) after.log.noted noted in
+    let back = given_back (rows_in after) (rows_in before) after.log.noted (ap (λ (b : Before). b.rows) noted) in
     let same = same_setting (managed_of before catalog) (managed_of after now) event taken.takes.left in
     record {
       holds = taken.kept;
@@ -138,7 +157,7 @@ appended_sound before after catalog now groups event reply sound taken noted few
 
 pub appended : (before after : ManagerState) (catalog now : Catalog) (groups : List Group) (event : Event) (reply : Reply)
     → Invariant before catalog → length after.sites.stacks ≡ site_count after.sites.image
-    → TakesEvent before after catalog now event (Ok reply) → rows_before after ≡ Some (rows_in before) → length after.log.noted ≤ MAX_RECORDS
+    → TakesEvent before after catalog now event (Ok reply) → rows_before after ≡ rows_now before → length after.log.noted ≤ MAX_RECORDS
     → (is_of_a_task event ≡ true → length after.log.noted ≡ 1)
     → Appends (journaled_of before catalog groups) (journaled_of after now (groups ++ record { event = event; reply = reply; rows = after.log.noted } ∷ [])) event reply
 appended before after catalog now groups event reply holds count taken noted few one = record {
@@ -147,11 +166,11 @@ appended before after catalog now groups event reply holds count taken noted few
     event_is = refl;
     reply_is = refl;
     small = record { few = few; one = one };
-    told = noted_told before after catalog now event reply holds count taken noted;
+    told = noted_told before after catalog now event reply holds count taken (ap (λ (b : Before). b.rows) noted);
   };
   groups = refl;
   left = taken.takes.left;
-  base = ap state_told (before_more (rows_in before) (rows_in after) groups (record { event = event; reply = reply; rows = after.log.noted }) (given_back (rows_in after) (rows_in before) after.log.noted noted).0);
+  base = ap state_told (before_more (rows_in before) (rows_in after) groups (record { event = event; reply = reply; rows = after.log.noted }) (given_back (rows_in after) (rows_in before) after.log.noted (ap (λ (b : Before). b.rows) noted)).0);
 }
 
 -- a full journal refuses what nothing else does
@@ -170,7 +189,7 @@ kept_now setting rows [] steps = steps
 kept_now setting rows (first ∷ newer) steps = kept_now setting rows newer steps.1
 
 invariant_again : (before after : ManagerState) (catalog : Catalog) → Invariant before catalog → AreKept (setting_in before catalog) (rows_in after)
-    → after.modules ≡ record before.modules { loaded = after.sites.loaded } → after.log ≡ before.log → Invariant after catalog
+    → after.modules ≡ record before.modules { loaded = after.sites.loaded } → after.log.room ≡ before.log.room → Invariant after catalog
 invariant_again before after catalog holds kept modules log =
     let same : setting_in after catalog ≡ setting_in before catalog = ap (λ (i : Image). setting_of (record (managed_of before catalog) { image = i })) kept.image in
     record {
@@ -181,7 +200,7 @@ invariant_again before after catalog holds kept modules log =
           ∙ ap (λ (i : Image). record { names = names_of i.objects; loaded = after.sites.loaded }) (sym kept.image);
       catalog_names = holds.catalog_names ∙ ap (λ (i : Image). names_of i.objects) (sym kept.image);
       entries = λ site. kept.entries site ∙ ap (λ s. entries_of s (state_told (rows_in after)) site) (sym same);
-      room = ap (λ (l : RecordList). l.room) log ∙ holds.room;
+      room = log ∙ holds.room;
     }
 
 -- what is known of the state once the newest group is taken back
@@ -190,7 +209,7 @@ pub record IsTakenBack (before after : ManagerState) (catalog : Catalog) (older 
   pub image : after.sites.image ≡ before.sites.image
 
 pub taken_back : (before after : ManagerState) (catalog : Catalog) (older : List Group) (newest : Group) → IsSound before catalog (older ++ newest ∷ [])
-    → rows_in after ≡ undone (rows_in before) newest.rows → after.modules ≡ record before.modules { loaded = after.sites.loaded } → after.log ≡ before.log
+    → rows_in after ≡ undone (rows_in before) newest.rows → after.modules ≡ record before.modules { loaded = after.sites.loaded } → after.log.room ≡ before.log.room
     → IsTakenBack before after catalog older
 taken_back before after catalog older newest sound rows modules log =
     let setting = setting_in before catalog in
@@ -234,3 +253,61 @@ counted before after event (Err refusal) calls taken counts = tt
 pub same_setting_taken : (before after : Journaled) (event : Event) (result : Result Reply Refusal) → IsTaken before after event result → setting_of after.managed ≡ setting_of before.managed
 same_setting_taken before after event (Ok reply) taken = same_setting before.managed after.managed event taken.accepted.left
 same_setting_taken before after event (Err refusal) taken = ap (λ (m : Journaled). setting_of m.managed) taken.refused
+
+-- events in the journal
+
+pub over : (state : ManagerState) (catalog : Catalog) (events : List Accepted) → AreInStep state catalog events → IsSound state catalog (groups_in state events)
+over state catalog events step = record { holds = step.holds; steps = step.steps }
+
+-- groups of which there are some have a newest one
+pub some_newest : (groups : List Group) → 0 < length groups → (older : List Group) × (newest : Group) × (groups ≡ older ++ newest ∷ [])
+some_newest [] some = absurd (omega (arith, some))
+some_newest (group ∷ groups) some = newest_of group groups
+  where
+    newest_of : (first : Group) (later : List Group) → (older : List Group) × (newest : Group) × (first ∷ later ≡ older ++ newest ∷ [])
+    newest_of first [] = ([], first, refl)
+    newest_of first (second ∷ later) =
+        let rest = newest_of second later in
+        (first ∷ rest.0, rest.1, ap (λ gs. first ∷ gs) rest.2)
+
+-- the state once what it noted is kept, which makes no other difference
+abbrev pub with_kept : ManagerState → ManagerState
+with_kept state = record state { log = record state.log { noted = []; older = state.log.older ++ state.log.noted } }
+
+invariant_kept : (state : ManagerState) (catalog : Catalog) → Invariant state catalog → Invariant (with_kept state) catalog
+invariant_kept state catalog holds = record {
+  allowed = holds.allowed;
+  stated = holds.stated;
+  limits = holds.limits;
+  modules_are = holds.modules_are;
+  catalog_names = holds.catalog_names;
+  entries = holds.entries;
+  room = holds.room;
+}
+
+pub kept_in_step : (after last : ManagerState) (now : Catalog) (events : List Accepted) (groups : List Group) → IsSound after now groups → last ≡ with_kept after
+    → groups_in last events ≡ groups → Keeps last.log events → AreInStep last now events
+kept_in_step after last now events groups sound is =
+    subst (λ (m : ManagerState). groups_in m events ≡ groups → Keeps m.log events → AreInStep m now events) (sym is)
+    (λ same keeps. record {
+      holds = invariant_kept after now sound.holds;
+      steps = subst (AreSteps (setting_in after now) (rows_in after)) (sym same) sound.steps;
+      kept = keeps;
+    })
+
+pub kept_journaled : (after last : ManagerState) (now : Catalog) (events : List Accepted) (groups : List Group) → last ≡ with_kept after → groups_in last events ≡ groups
+    → journaled_of after now groups ≡ journaled_of last now (groups_in last events)
+kept_journaled after last now events groups is same =
+    ap (λ (m : ManagerState). journaled_of m now groups) (sym is) ∙ ap (journaled_of last now) (sym same)
+
+-- the newest event is taken back: its records were taken out of the list, and nothing is noted
+pub taken_back_in_step : (before after : ManagerState) (catalog : Catalog) (log : RecordList) (older : List Group) (newest : Group) (left : List Accepted)
+    → IsTakenBack before after catalog older → after.log ≡ record log { noted = [] } → groups_of left log.older ≡ older → records.counted left ≡ length log.older
+    → AreInStep after catalog left
+taken_back_in_step before after catalog log older newest left back is groups all =
+    let same = ap (λ (l : RecordList). groups_of left l.older) is ∙ groups in
+    record {
+      holds = back.sound.holds;
+      steps = subst (AreSteps (setting_in after catalog) (rows_in after)) (sym same) back.sound.steps;
+      kept = record { all = all ∙ ap (λ (l : RecordList). length l.older) (sym is); rests = ap (λ (l : RecordList). l.noted) is };
+    }

@@ -63,7 +63,7 @@ rows_keep rows (row ∷ newer) = row_keeps (undone rows newer).sites row ∙ row
 
 -- what an accepted event noted leads from the rows of the state after it to those of the state before
 pub noted_told : (before after : ManagerState) (catalog now : Catalog) (event : Event) (reply : Reply) → Invariant before catalog
-    → length after.sites.stacks ≡ site_count after.sites.image → TakesEvent before after catalog now event (Ok reply) → rows_before after ≡ Some (rows_in before)
+    → length after.sites.stacks ≡ site_count after.sites.image → TakesEvent before after catalog now event (Ok reply) → undone_if_told (rows_in after) after.log.noted ≡ Some (rows_in before)
     → undone_if_told (rows_of (setting_in before catalog) (next (setting_in before catalog) (state_in before catalog) event)) after.log.noted
     ≡ Some (rows_of (setting_in before catalog) (state_in before catalog))
 noted_told before after catalog now event reply holds count taken noted =

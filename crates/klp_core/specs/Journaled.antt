@@ -14,7 +14,7 @@ use Rattle.klp_model.specs.Run.{answer, next}
 use Rattle.klp_model.specs.State.{State}
 use Rattle.klp_model.specs.Stated.{IsStated}
 use Rattle.klp_catalog.specs.Catalog.{Catalog}
-use Rattle.klp_journal.specs.Journal.{Group}
+use Rattle.klp_journal.specs.Journal.{Accepted, Group, groups_of, Keeps}
 use Rattle.klp_stack.specs.Stack.{entries_at}
 use Rattle.klp_manager_state.specs.declared.state.ManagerState.{ManagerState}
 use Rattle.klp_manager_state.specs.Managed.{Managed, setting_of, managed_of, setting_in}
@@ -92,10 +92,20 @@ AreSteps setting rows [] = AreKept setting rows
 AreSteps setting rows (group ∷ newer) =
     IsStepOf setting (rows_before_all rows (group ∷ newer)) (rows_before_all rows newer) group × AreSteps setting rows newer
 
--- what a manager keeps
+-- the state is what the groups lead to
 pub record IsSound (state : ManagerState) (catalog : Catalog) (groups : List Group) : Type 0 where
   pub holds : Invariant state catalog
   pub steps : AreSteps (setting_in state catalog) (rows_in state) groups
+
+-- the accepted events with their records, which are kept where they were noted
+abbrev pub groups_in : ManagerState → List Accepted → List Group
+groups_in state events = groups_of events state.log.older
+
+-- what a manager keeps: the state is what the accepted events lead to, and their records, and no others, are kept
+pub record AreInStep (state : ManagerState) (catalog : Catalog) (events : List Accepted) : Type 0 where
+  pub holds : Invariant state catalog
+  pub steps : AreSteps (setting_in state catalog) (rows_in state) (groups_in state events)
+  pub kept : Keeps state.log events
 
 -- the events with their replies
 abbrev pub history_in : List Group → History

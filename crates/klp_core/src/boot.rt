@@ -1,4 +1,5 @@
-ghost use Rattle.std.specs.Prelude.{◌≡◌, IsTrue, IfOk, IfErr, false, true, length, slice_set, replicate};
+ghost use Rattle.std.specs.Prelude.{◌≡◌, IsTrue, IfOk, IfErr, false, true, [], length, slice_set, replicate};
+ghost use Rattle.klp_types.specs.declared.limits.TheConstants.{MAX_RECORDS};
 ghost use Rattle.klp_text.specs.TextImage.{IsWithinLimits, opening};
 ghost use Rattle.klp_model.specs.Opening.{opening_state};
 ghost use Rattle.klp_manager_state.specs.Managed.{managed_of, setting_in};
@@ -52,6 +53,7 @@ pub(crate) fn state_over(
       catalog = catalog.now;
       state = opening_state (setting_in state catalog.now);
     }) }
+    ensures log { IfOk result (λ state. state.log ≡ record { noted = []; room = MAX_RECORDS; older = [] }) }
     ensures fault { IfErr result (λ fault. IsFaultOf image.image modules catalog.now fault) }
 {
     if !is_match(&image, &modules, catalog) {

@@ -47,11 +47,11 @@ impl Model for Manager {
 
     ghost coded = { Prim.hlevel (codes, world_code) };
 
-    ghost use Rattle.klp_core.specs.Journaled.{journaled_of, IsSound};
+    ghost use Rattle.klp_core.specs.Journaled.{journaled_of, groups_in, AreInStep};
 
-    ghost view = { λ m. journaled_of m.state m.catalog m.journal };
+    ghost view = { λ m. journaled_of m.state m.catalog (groups_in m.state m.journal) };
 
-    ghost invariant = { λ m. IsSound m.state m.catalog m.journal };
+    ghost invariant = { λ m. AreInStep m.state m.catalog m.journal };
 }
 
 impl Manager {
@@ -176,7 +176,7 @@ impl Manager {
         ensures sealed { self.new ≡ record { managed = self.old.managed; base = self.old.managed.state; groups = [] } }
         ensures stands { Stands self.new }
     {
-        self.journal.clear();
+        self.journal.clear(&mut self.state.log);
     }
 
     /// How many more records the journal has room for, at a constant cost. An event needs as many as one
@@ -185,6 +185,6 @@ impl Manager {
         ensures value { result ≡ records_free self.now.groups }
         ensures limit { records_in self.now.groups ≤ MAX_JOURNAL_RECORDS }
     {
-        self.journal.records_free()
+        self.journal.records_free(&self.state.log)
     }
 }

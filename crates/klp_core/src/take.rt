@@ -14,18 +14,18 @@ use klp_patch_events::{
 };
 use klp_task_events::{shadow, tasks};
 
-/// Each event goes to its own step.
+/// Each event goes to its own step. It is lent, since one has room for the frames of a sleeper.
 pub(crate) fn take(
     state: &mut ManagerState,
     catalog: &mut Catalog,
-    event: Event,
+    event: &Event,
 ) -> Result<Reply, Refusal>
     requires { Invariant state.old catalog.old }
-    ensures taken { TakesEvent state.old state.new catalog.old catalog.new event result }
+    ensures taken { TakesEvent state.old state.new catalog.old catalog.new event.now result }
     ensures noted { IsNoted state.old state.new result }
-    ensures one { is_of_a_task event ≡ true → IfOk result (λ reply. length state.new.log.noted ≡ 1) }
+    ensures one { is_of_a_task event.now ≡ true → IfOk result (λ reply. length state.new.log.noted ≡ 1) }
 {
-    match event {
+    match *event {
         Event::Enable(patch) => enable(state, catalog, patch),
         Event::SetEnabled(patch, value) => set_enabled(state, catalog, patch, value),
         Event::Force(patch) => force(state, catalog, patch),
@@ -50,11 +50,11 @@ pub(crate) fn take(
 
 /// Why each event is refused, the journal aside, without taking it. To remove shadow variables is never
 /// refused.
-pub(crate) fn refused(state: &ManagerState, catalog: &Catalog, event: Event) -> Option<Refusal>
+pub(crate) fn refused(state: &ManagerState, catalog: &Catalog, event: &Event) -> Option<Refusal>
     requires { Invariant state.now catalog.now }
-    ensures { result ≡ refused_in state.now catalog.now event }
+    ensures { result ≡ refused_in state.now catalog.now event.now }
 {
-    match event {
+    match *event {
         Event::Enable(patch) => enable_refusal(state, catalog, patch),
         Event::SetEnabled(patch, value) => set_refusal(state, catalog, patch, value),
         Event::Force(patch) => force_refusal(state, catalog, patch),

@@ -11,7 +11,7 @@ use std::fs;
 use std::rt::Files;
 
 /// How much memory is left at most, which is more than is taken over the largest catalog.
-const SPAN: usize = 1 << 23;
+const SPAN: usize = 10_752 * 1024;
 
 /// Over a catalog that is refused so much is left, and so often.
 const FAULTY_STEP: usize = 256;
@@ -33,7 +33,7 @@ struct Scarcity {
 
 /// The least that memory grows by is 16 bytes. Over the small catalog that is tried for all that is read of its text
 /// and all tables of names, and then by 4,096 bytes, less than any table of a manager has. Over the largest it is
-/// tried by 128 bytes for its first lines, and then by 16 kilobytes, as long as trying each time would take minutes.
+/// tried by 128 bytes for its first lines, and then by 20 kilobytes, as long as trying each time would take minutes.
 const SCARCITIES: [Scarcity; 2] = [
     Scarcity {
         catalog: "k1.catalog",
@@ -41,7 +41,7 @@ const SCARCITIES: [Scarcity; 2] = [
     },
     Scarcity {
         catalog: "largest.catalog",
-        steps: [(256, 128), (510, 16384)],
+        steps: [(256, 128), (510, 20480)],
     },
 ];
 
@@ -54,33 +54,36 @@ struct Siege {
     // Small blocks, which an allocator keeps apart once they are let go. They are let go before all others, so that
     // it keeps these, and puts the others together again.
     few: Hoard,
+    // One piece that is in nobody's hands but while the console runs. It is taken again before the small blocks are,
+    // while all else is free, so that nothing comes to lie in its midst.
+    span: Option<Vec<u8>>,
     out: Vec<u8>,
     err: Vec<u8>,
 }
 
 impl Siege {
     fn new(alloc: Global) -> Result<Siege, AllocError> {
+        let span = Vec::with_capacity(alloc, SPAN)?;
         let mut few = Hoard::small(alloc)?;
         few.take_few(alloc);
         Ok(Siege {
             alloc,
             hoard: Hoard::small(alloc)?,
             few,
+            span: Some(span),
             out: Vec::with_capacity(alloc, ROOM)?,
             err: Vec::with_capacity(alloc, ROOM)?,
         })
     }
 
     // Runs the console over a catalog where so many bytes of memory are left, in one piece. The answer is the exit
-    // status and how much of the input isn't read. All memory that was taken is there again afterwards, since else
-    // there would soon be no piece as large as this one.
+    // status and how much of the input isn't read. All memory that was taken is there again afterwards.
     fn run(&mut self, catalog: &[u8], left: usize) -> Result<(u8, usize), AllocError> {
         self.out.clear();
         self.err.clear();
         let mut input = INPUT;
-        let span: Vec<u8> = Vec::with_capacity(self.alloc, SPAN)?;
         self.hoard.take_all(self.alloc);
-        drop(span);
+        self.span = None;
         let rest: Vec<u8> = Vec::with_capacity(self.alloc, SPAN.saturating_sub(left))?;
         let status = console(
             self.alloc,
@@ -93,6 +96,7 @@ impl Siege {
         self.hoard.take_all(self.alloc);
         self.few.clear();
         self.hoard.clear();
+        self.span = Some(Vec::with_capacity(self.alloc, SPAN)?);
         self.few.take_few(self.alloc);
         Ok((status, input.len()))
     }

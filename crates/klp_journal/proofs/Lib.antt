@@ -1,1 +1,1 @@
-pub mod CutLemmas
+pub mod GroupLemmas

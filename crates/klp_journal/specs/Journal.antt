@@ -1,15 +1,40 @@
 -- The journal: the accepted events, oldest first, and how much room there is for more.
-use Rattle.std.specs.Prelude.{ℕ, ◌-◌, Bool, ◌&&◌, nat_lt, nat_le, List, length, sum_by}
+use Rattle.std.specs.Prelude.{◌≡◌, ℕ, ◌-◌, Bool, ◌&&◌, nat_lt, nat_le, List, [], ◌∷◌, length, take, drop, sum_by}
 use Rattle.klp_types.specs.declared.limits.TheConstants.{MAX_GROUPS, MAX_JOURNAL_RECORDS, MAX_RECORDS}
 use Rattle.klp_types.specs.declared.record.Record.{Record}
+use Rattle.klp_types.specs.Records.{RecordList}
 use Rattle.klp_model.specs.declared.event.Event.{Event}
 use Rattle.klp_model.specs.declared.event.Reply.{Reply}
+
+-- an accepted event, with its reply and how many records it left
+pub record Accepted : Type 0 where
+  pub event : Event
+  pub reply : Reply
+  pub count : ℕ
 
 -- an accepted event: its reply, and the rows that it changed as they were, in the order in which they were noted
 pub record Group : Type 0 where
   pub event : Event
   pub reply : Reply
   pub rows : List Record
+
+-- an accepted event with its records
+abbrev pub group_of : Accepted → List Record → Group
+group_of accepted rows = record { event = accepted.event; reply = accepted.reply; rows = rows }
+
+-- events with their records, which stand one event's behind another's: each takes as many as it left
+abbrev pub groups_of : List Accepted → List Record → List Group
+groups_of [] rows = []
+groups_of (accepted ∷ later) rows = group_of accepted (take accepted.count rows) ∷ groups_of later (drop accepted.count rows)
+
+-- how many records events left together
+abbrev pub counted : List Accepted → ℕ
+counted events = sum_by (λ (a : Accepted). a.count) events
+
+-- a list keeps the records of these events and no others, and no event is under way
+pub record Keeps (log : RecordList) (events : List Accepted) : Type 0 where
+  pub all : counted events ≡ length log.older
+  pub rests : log.noted ≡ []
 
 -- how many records they have together
 abbrev pub records_in : List Group → ℕ

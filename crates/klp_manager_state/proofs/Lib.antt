@@ -1,6 +1,7 @@
 pub mod StepLemmas
 pub mod ToldLemmas
 pub mod RowLemmas
+pub mod UndoLemmas
 pub mod InstalledLemmas
 pub mod OpeningLemmas
 pub mod PreviousLemmas

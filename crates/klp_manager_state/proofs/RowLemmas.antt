@@ -1,8 +1,8 @@
 -- Records put back give each row what it was, whatever other rows they are among.
-use Rattle.std.proofs.Common.{◌≡◌, ℕ, ◌+◌, ◌-◌, ◌<◌, ◌≤◌, length, take, get_or, arith, Bool, suc, cond, true, false, List, [], ◌∷◌, ◌++◌, Option, Some, None, refl, sym, ap, subst, ◌∙◌}
+use Rattle.std.proofs.Common.{◌≡◌, ℕ, ◌<◌, length, Bool, suc, cond, true, false, List, [], ◌∷◌, ◌++◌, Option, Some, None, refl, sym, ap, subst, ◌∙◌}
 use Rattle.std.specs.Prelude.{slice_set, slice_index_or, is_none}
 use Rattle.std.proofs.lemmas.Bool.{and_parts, and_from}
-use Rattle.std.proofs.lemmas.List.{set-set, set-get_or, length-set, take_more}
+use Rattle.std.proofs.lemmas.List.{set-set, set-get_or, length-set}
 use Rattle.std.specs.List.{All}
 use Rattle.std.specs.Option.{option_to_list}
 use Rattle.std.specs.Ordering.{int_eq}
@@ -22,12 +22,12 @@ use Rattle.klp_sites.specs.Undo as of_sites
 use Rattle.klp_sites.specs.Undo.{is_of_sites}
 use Rattle.klp_world.specs.Undo.{is_of_world}
 use Rattle.klp_sites.proofs.ExactLemmas.{telling, told_due as sites_due}
-use Rattle.klp_manager_state.specs.Rows.{Rows, is_of_tasks, row_of_moving, put_back, undone, is_due, are_due, tell_changes, undone_if_told, each_tells, WorldGoesBack, SitesGoBack, TasksGoBack, MovingGoesBack, PinsGoBack}
+use Rattle.klp_manager_state.specs.Rows.{Rows, Before, before_noted, is_of_tasks, row_of_moving, put_back, undone, is_due, are_due, tell_changes, undone_if_told, each_tells, WorldGoesBack, SitesGoBack, TasksGoBack, MovingGoesBack, PinsGoBack}
 use Rattle.klp_tasks.proofs.ToldLemmas.{switched_told}
 use Rattle.klp_manager_state.proofs.ToldLemmas.{undone-append, sites_of, telling as rows_telling, told_both, told_by, world_told, tasks_told, sites_told, loaded_told, moving_told, pinned_told}
 
 -- where all records are due, the newest is, and once it is put back, the older ones are
-due-parts : (rows : Rows) (older : List Record) (row : Record) → are_due rows (older ++ row ∷ []) ≡ true → (is_due rows row ≡ true) × (are_due (put_back rows row) older ≡ true)
+pub due-parts : (rows : Rows) (older : List Record) (row : Record) → are_due rows (older ++ row ∷ []) ≡ true → (is_due rows row ≡ true) × (are_due (put_back rows row) older ≡ true)
 due-parts rows [] row due = ((and_parts (is_due rows row) true due).0, refl)
 due-parts rows (first ∷ older) row due =
     let parts = and_parts (is_due (undone rows (older ++ row ∷ [])) first) (are_due rows (older ++ row ∷ [])) due in
@@ -134,13 +134,17 @@ switched_of_tasks number (was ∷ before) (task ∷ after) =
 switched_of_tasks number [] after = All-nil (λ row. is_of_tasks row ≡ true)
 switched_of_tasks number (was ∷ before) [] = All-nil (λ row. is_of_tasks row ≡ true)
 
+-- what there was, behind the records of earlier events
+abbrev behind : List Record → Option Rows → Before
+behind older found = record { rows = found; older = older }
+
 -- the newest are put back first
 noted_behind : (rows : Rows) (l0 l1 : RecordList) (records : List Record) → l1 ≡ noting l0 records → tell_changes rows records ≡ true
-    → undone_if_told rows l1.noted ≡ undone_if_told (undone rows records) l0.noted
+    → before_noted rows l1 ≡ before_noted (undone rows records) l0
 noted_behind rows l0 l1 records noted told =
-    ap (λ (l : RecordList). undone_if_told rows l.noted) noted
-    ∙ ap (λ b. cond b (Some (undone rows (l0.noted ++ records))) None) (told_both rows l0.noted records told)
-    ∙ ap (λ r. cond (tell_changes (undone rows records) l0.noted) (Some r) None) (undone-append rows l0.noted records)
+    ap (before_noted rows) noted
+    ∙ ap (λ b. behind l0.older (cond b (Some (undone rows (l0.noted ++ records))) None)) (told_both rows l0.noted records told)
+    ∙ ap (λ r. behind l0.older (cond (tell_changes (undone rows records) l0.noted) (Some r) None)) (undone-append rows l0.noted records)
 
 -- rows of the world give the world back
 pub world_back : (before after : World) (l0 l1 : RecordList) (records : List Record) → All (λ row. is_of_world row ≡ true) records → l1 ≡ noting l0 records
@@ -148,7 +152,7 @@ pub world_back : (before after : World) (l0 l1 : RecordList) (records : List Rec
 world_back before after l0 l1 records all noted undo told rows =
     let now : Rows = record rows { world = after } in
     noted_behind now l0 l1 records noted (told_by now records (others_tell now.sites is_of_world world_of_others records all) (world_told now records told))
-    ∙ ap (λ r. undone_if_told r l0.noted) (undone_world now records all ∙ ap (λ (w : World). record rows { world = w }) undo)
+    ∙ ap (λ r. before_noted r l0) (undone_world now records all ∙ ap (λ (w : World). record rows { world = w }) undo)
 
 -- rows of sites give the sites back
 pub sites_back : (before after : SiteTable) (l0 l1 : RecordList) (records : List Record) → All (λ row. is_of_sites row ≡ true) records → l1 ≡ noting l0 records
@@ -156,7 +160,7 @@ pub sites_back : (before after : SiteTable) (l0 l1 : RecordList) (records : List
 sites_back before after l0 l1 records all noted undo told rows =
     let now : Rows = record rows { sites = after } in
     noted_behind now l0 l1 records noted (sites_told now records all told)
-    ∙ ap (λ r. undone_if_told r l0.noted) (undone_sites now records all ∙ ap (λ (t : SiteTable). record rows { sites = t }) undo)
+    ∙ ap (λ r. before_noted r l0) (undone_sites now records all ∙ ap (λ (t : SiteTable). record rows { sites = t }) undo)
 
 -- rows of tasks give the tasks back
 pub tasks_back : (before after : Tasks) (l0 l1 : RecordList) (records : List Record) → All (λ row. is_of_tasks row ≡ true) records → l1 ≡ noting l0 records
@@ -164,7 +168,7 @@ pub tasks_back : (before after : Tasks) (l0 l1 : RecordList) (records : List Rec
 tasks_back before after l0 l1 records all noted undo told rows =
     let now : Rows = record rows { tasks = after } in
     noted_behind now l0 l1 records noted (told_by now records (others_tell now.sites is_of_tasks task_of_others records all) (tasks_told now records told))
-    ∙ ap (λ r. undone_if_told r l0.noted) (undone_tasks now records all ∙ ap (λ (t : Tasks). record rows { tasks = t }) undo)
+    ∙ ap (λ r. before_noted r l0) (undone_tasks now records all ∙ ap (λ (t : Tasks). record rows { tasks = t }) undo)
 
 -- tasks that are brought to another state
 pub switched_back : (before after to : Tasks) (l0 l1 : RecordList) → after ≡ to → l1 ≡ noting l0 (of_tasks.records_switched 0 before to)
@@ -177,7 +181,7 @@ switched_back before after to l0 l1 is noted undo =
 pub moving_back : (before after : Option Transition) (l0 l1 : RecordList) → l1 ≡ noting l0 (row_of_moving before ∷ []) → (before ≡ after → ⊥) → MovingGoesBack before after l0 l1
 moving_back before after l0 l1 noted differ rows =
     let now : Rows = record rows { moving = after } in
-    noted_behind now l0 l1 (row_of_moving before ∷ []) noted (moving_told now before differ) ∙ ap (λ r. undone_if_told r l0.noted) (back before)
+    noted_behind now l0 l1 (row_of_moving before ∷ []) noted (moving_told now before differ) ∙ ap (λ r. before_noted r l0) (back before)
   where
     back : (was : Option Transition) → put_back (record rows { moving = after }) (row_of_moving was) ≡ record rows { moving = was }
     back None = refl
@@ -189,7 +193,7 @@ pub loaded_back : (before after : SiteTable) (object : ℕ) (was : Bool) (l0 l1 
     → SitesGoBack before after l0 l1
 loaded_back before after object was l0 l1 noted undo is told rows =
     let now : Rows = record rows { sites = after } in
-    noted_behind now l0 l1 (LoadedFlag object was ∷ []) noted (loaded_told now before object was undo is told) ∙ ap (λ (t : SiteTable). undone_if_told (record rows { sites = t }) l0.noted) undo
+    noted_behind now l0 l1 (LoadedFlag object was ∷ []) noted (loaded_told now before object was undo is told) ∙ ap (λ (t : SiteTable). before_noted (record rows { sites = t }) l0) undo
 
 -- a patch that wasn't pinned is pinned
 pub pinned_now : (flags after : List Bool) (patch : ℕ) (l0 l1 : RecordList) → patch < length flags → after ≡ slice_set flags patch true → l1 ≡ noting l0 (PinnedFlag patch false ∷ [])
@@ -198,29 +202,7 @@ pinned_now flags after patch l0 l1 there is noted free rows =
     let now : Rows = record rows { pinned = after } in
     let back : slice_set after patch false ≡ flags =
     ap (λ fs. slice_set fs patch false) is ∙ set-set flags patch true false ∙ ap (slice_set flags patch) (sym free) ∙ set-get_or flags patch false in
-    noted_behind now l0 l1 (PinnedFlag patch false ∷ []) noted (pinned_told now flags patch there is) ∙ ap (λ (p : List Bool). undone_if_told (record rows { pinned = p }) l0.noted) back
-
--- those that are left are the older ones and the newest
-older_and_newest : (records : List Record) (place : ℕ) (row : Record) → 0 < place → place ≤ length records → row ≡ get_or records (place - 1) row
-    → take place records ≡ take (place - 1) records ++ row ∷ []
-older_and_newest records place row some within is =
-    let below : place - 1 < length records = omega arith in
-    let next : place ≡ (place - 1) + 1 = omega arith in
-    ap (λ n. take n records) next
-    ∙ take_more records (place - 1) row below
-    ∙ ap (λ r. take (place - 1) records ++ r ∷ []) (sym is)
-
--- the newest that is left is put back, and the older ones are left
-pub one_back : (rows : Rows) (records : List Record) (place : ℕ) (row : Record) → 0 < place → place ≤ length records → row ≡ get_or records (place - 1) row
-    → undone (put_back rows row) (take (place - 1) records) ≡ undone rows (take place records)
-one_back rows records place row some within is =
-    sym (undone-append rows (take (place - 1) records) (row ∷ [])) ∙ ap (undone rows) (sym (older_and_newest records place row some within is))
-
--- where all that are left are due, the newest is, and once it is put back, the older ones are
-pub one_due : (rows : Rows) (records : List Record) (place : ℕ) (row : Record) → 0 < place → place ≤ length records → row ≡ get_or records (place - 1) row
-    → are_due rows (take place records) ≡ true → (is_due rows row ≡ true) × (are_due (put_back rows row) (take (place - 1) records) ≡ true)
-one_due rows records place row some within is due =
-    due-parts rows (take (place - 1) records) row (ap (are_due rows) (sym (older_and_newest records place row some within is)) ∙ due)
+    noted_behind now l0 l1 (PinnedFlag patch false ∷ []) noted (pinned_told now flags patch there is) ∙ ap (λ (p : List Bool). before_noted (record rows { pinned = p }) l0) back
 
 -- rows that all records give are those that they give put back, and the records tell what changed
 pub given_back : (rows before : Rows) (records : List Record) → undone_if_told rows records ≡ Some before → (undone rows records ≡ before) × (tell_changes rows records ≡ true)

@@ -5,3 +5,4 @@ pub mod StepLaws
 pub mod Codes
 pub mod Rows
 pub mod Alone
+pub mod Undoing

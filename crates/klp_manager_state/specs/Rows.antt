@@ -103,34 +103,47 @@ tell_changes rows (oldest ∷ newer) = tell_rows rows oldest newer
 abbrev pub undone_if_told : Rows → List Record → Option Rows
 undone_if_told rows records = if tell_changes rows records then Some (undone rows records) else None
 
--- the rows before all that is noted
-abbrev pub rows_before : ManagerState → Option Rows
-rows_before manager = undone_if_told (rows_in manager) manager.log.noted
+-- what there was before all that an event has noted: the rows, and the records of earlier events
+pub record Before : Type 0 where
+  pub rows : Option Rows
+  pub older : List Record
 
--- The rows before all that is noted stay those that they were, whatever the other rows are: of a change of the world, of the sites, of
+-- it is what putting back all that is noted gives
+abbrev pub before_noted : Rows → RecordList → Before
+before_noted rows log = record { rows = undone_if_told rows log.noted; older = log.older }
+
+abbrev pub rows_before : ManagerState → Before
+rows_before manager = before_noted (rows_in manager) manager.log
+
+-- the same where an event begins
+abbrev pub rows_now : ManagerState → Before
+rows_now manager = record { rows = Some (rows_in manager); older = manager.log.older }
+
+-- What there was before all that is noted stays what it was, whatever the other rows are: of a change of the world, of the sites, of
 -- the tasks, of what moves and of what is pinned.
 
 abbrev pub WorldGoesBack : World → World → RecordList → RecordList → Type 0
 WorldGoesBack before after log_before log_after =
-    (rows : Rows) → undone_if_told (record rows { world = after }) log_after.noted ≡ undone_if_told (record rows { world = before }) log_before.noted
+    (rows : Rows) → before_noted (record rows { world = after }) log_after ≡ before_noted (record rows { world = before }) log_before
 
 abbrev pub SitesGoBack : SiteTable → SiteTable → RecordList → RecordList → Type 0
 SitesGoBack before after log_before log_after =
-    (rows : Rows) → undone_if_told (record rows { sites = after }) log_after.noted ≡ undone_if_told (record rows { sites = before }) log_before.noted
+    (rows : Rows) → before_noted (record rows { sites = after }) log_after ≡ before_noted (record rows { sites = before }) log_before
 
 abbrev pub TasksGoBack : Tasks → Tasks → RecordList → RecordList → Type 0
 TasksGoBack before after log_before log_after =
-    (rows : Rows) → undone_if_told (record rows { tasks = after }) log_after.noted ≡ undone_if_told (record rows { tasks = before }) log_before.noted
+    (rows : Rows) → before_noted (record rows { tasks = after }) log_after ≡ before_noted (record rows { tasks = before }) log_before
 
 abbrev pub MovingGoesBack : Option Transition → Option Transition → RecordList → RecordList → Type 0
 MovingGoesBack before after log_before log_after =
-    (rows : Rows) → undone_if_told (record rows { moving = after }) log_after.noted ≡ undone_if_told (record rows { moving = before }) log_before.noted
+    (rows : Rows) → before_noted (record rows { moving = after }) log_after ≡ before_noted (record rows { moving = before }) log_before
 
 abbrev pub PinsGoBack : List Bool → List Bool → RecordList → RecordList → Type 0
 PinsGoBack before after log_before log_after =
-    (rows : Rows) → undone_if_told (record rows { pinned = after }) log_after.noted ≡ undone_if_told (record rows { pinned = before }) log_before.noted
+    (rows : Rows) → before_noted (record rows { pinned = after }) log_after ≡ before_noted (record rows { pinned = before }) log_before
 
--- an event was taken: where it was accepted, what is noted gives the rows before it, and where it was refused, nothing has changed
+-- an event was taken: where it was accepted, what is noted gives the rows before it, behind the records of earlier events, and where it was refused,
+-- nothing has changed
 pub record IsNoted (before after : ManagerState) (result : Result Reply Refusal) : Type 0 where
-  pub accepted : IfOk result (λ reply. rows_before after ≡ Some (rows_in before))
+  pub accepted : IfOk result (λ reply. rows_before after ≡ rows_now before)
   pub refused : OnErr result (after ≡ before)

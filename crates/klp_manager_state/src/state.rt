@@ -11,10 +11,11 @@ use crate::opening::opening_keeps;
 use crate::pins::Pins;
 use klp_catalog::Catalog;
 use klp_modules::Modules;
+use klp_record_words::Records;
 use klp_sites::Sites;
 use klp_tasks::{Tasks, VersionSet};
 use klp_text::Image;
-use klp_types::{MAX_RECORDS, Records, Transition};
+use klp_types::{MAX_RECORDS, Transition};
 use klp_world::World;
 use std::alloc::{AllocError, Global};
 
@@ -34,8 +35,8 @@ pub struct ManagerState {
     pub pinned: Pins,
     /// Where a transition puts the versions that hold sleepers back, while it is tried.
     pub blocked: VersionSet,
-    /// The rows that an accepted event changed, as they were, in the order in which they were noted. An
-    /// event empties it before it changes anything.
+    /// The rows that an event changed, as they were, in the order in which they were noted, behind those of earlier
+    /// events. An event empties it of its own before it changes anything.
     pub log: Records,
 }
 
@@ -53,7 +54,7 @@ fn make_room(alloc: Global, catalog: &Catalog) -> Result<Room, AllocError>
     ensures world { IfOk result (λ made. made.world ≡ record { installed = []; shadow = finite.empty }) }
     ensures tasks { IfOk result (λ made. made.tasks ≡ replicate MAX_TASKS None) }
     ensures pinned { IfOk result (λ made. made.pinned ≡ replicate (length catalog.now.patches) false) }
-    ensures log { IfOk result (λ made. made.log.room ≡ MAX_RECORDS) }
+    ensures log { IfOk result (λ made. made.log ≡ record { noted = []; room = MAX_RECORDS; older = [] }) }
 {
     let world = World::new(alloc)?;
     let tasks = Tasks::new(alloc)?;
@@ -91,6 +92,7 @@ impl ManagerState {
           catalog = catalog.now;
           state = opening_state (setting_in manager catalog.now);
         }) }
+        ensures log { IfOk result (λ manager. manager.log ≡ record { noted = []; room = MAX_RECORDS; older = [] }) }
     {
         opening_keeps();
         let made = make_room(alloc, catalog)?;

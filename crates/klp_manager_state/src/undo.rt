@@ -1,30 +1,73 @@
 //! What an event logged is put back. No step is turned round, since the rows have all that there was.
-ghost use Rattle.std.specs.Prelude.{◌≡◌, true, length};
+ghost use Rattle.std.specs.Prelude.{◌≡◌, true, false, [], length};
+ghost use Rattle.klp_record_words.specs.Small.{row_of};
 ghost use Rattle.klp_manager_state.specs.Rows.{rows_in, put_back, undone, is_due, are_due};
+ghost use Rattle.klp_manager_state.specs.Undoing.{IsOneBack};
 
 use crate::state::ManagerState;
 use crate::transition::moving_before;
+use klp_record_words::SmallRecord;
 use klp_types::Record;
 
 impl ManagerState {
-    /// Gives each row what its record has, the newest record, which is last, first. It costs as much as
-    /// there are records. No callback runs. Stacks are rows like all others, so nothing is computed anew
-    /// (docs/DECISIONS.md, "Undo by rows"). That each record is due, so that its entry finds room, the
-    /// journal knows of its groups.
-    pub fn undo(&mut self, rows: &[Record])
+    /// Gives each row what its record has that an event logged, the newest record, which is last, first, and takes
+    /// these records out. It costs as much as there are records. No callback runs. Stacks are rows like all others, so
+    /// nothing is computed anew (docs/DECISIONS.md, "Undo by rows"). That each record is due, so that its entry finds
+    /// room, the journal knows of its groups.
+    pub fn undo(&mut self)
         requires modules { self.old.modules.loaded ≡ self.old.sites.loaded }
         requires objects { length self.old.sites.loaded ≡ length self.old.sites.image.objects }
-        requires due { are_due (rows_in self.old) rows.now ≡ true }
-        ensures rows { rows_in self.new ≡ undone (rows_in self.old) rows.now }
+        requires due { are_due (rows_in self.old) self.old.log.noted ≡ true }
+        ensures rows { rows_in self.new ≡ undone (rows_in self.old) self.old.log.noted }
+        ensures modules { self.new.modules ≡ record self.old.modules { loaded = self.new.sites.loaded } }
+        ensures log { self.new.log ≡ record self.old.log { noted = [] } }
+    {
+        while self.put_newest_back() {}
+    }
+
+    /// Puts the newest record back that is left, and answers whether there was one.
+    #[inline(always)]
+    fn put_newest_back(&mut self) -> bool
+        requires modules { self.old.modules.loaded ≡ self.old.sites.loaded }
+        requires objects { length self.old.sites.loaded ≡ length self.old.sites.image.objects }
+        requires due { are_due (rows_in self.old) self.old.log.noted ≡ true }
+        ensures one { result ≡ true → IsOneBack self.old self.new }
+        ensures none { result ≡ false → (self.old.log.noted ≡ []) × (self.new ≡ self.old) }
+    {
+        if let Some(newest) = self.log.take_small() {
+            self.put_small_back(newest);
+            return true;
+        }
+        if let Some(was) = self.log.take_switched(self.tasks.rows()) {
+            self.tasks.put_switched(was.task, was.state, was.mode);
+            return true;
+        }
+        let Some(newest) = self.log.take_newest() else {
+            return false;
+        };
+        self.put_back(&newest);
+        true
+    }
+
+    /// Gives one row what its record has, which is a small one. A hook's own changes nothing, since the hook went back
+    /// with the entry's.
+    #[inline(always)]
+    fn put_small_back(&mut self, row: SmallRecord)
+        requires modules { self.old.modules.loaded ≡ self.old.sites.loaded }
+        requires objects { length self.old.sites.loaded ≡ length self.old.sites.image.objects }
+        requires due { is_due (rows_in self.old) (row_of row) ≡ true }
+        ensures rows { rows_in self.new ≡ put_back (rows_in self.old) (row_of row) }
         ensures modules { self.new.modules ≡ record self.old.modules { loaded = self.new.sites.loaded } }
         ensures log { self.new.log ≡ self.old.log }
     {
-        for place in (0..rows.len()).rev() {
-            self.put_back(&rows[place]);
+        match row {
+            SmallRecord::Entry { site, patch, was } => self.sites.put_entry(site, patch, was),
+            SmallRecord::Hook { site: _, was: _ } => {}
+            SmallRecord::Resting { task, state, mode } => self.tasks.put_resting(task, state, mode),
         }
     }
 
-    /// Gives one row what its record has. Each kind goes to the part that has the row, since to hand every
+    /// The same of any record. Each kind goes to the part that has the row, since to hand every
     /// record to every part costs more than most of them do.
     fn put_back(&mut self, row: &Record)
         requires modules { self.old.modules.loaded ≡ self.old.sites.loaded }

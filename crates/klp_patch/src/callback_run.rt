@@ -7,7 +7,8 @@ ghost use Rattle.klp_patch.specs.Calls.{HaveRun, HasRoomFor};
 ghost use Rattle.klp_patch.specs.Places.{call_at};
 
 use klp_catalog::Catalog;
-use klp_types::{PatchId, Records, Which};
+use klp_record_words::Records;
+use klp_types::{PatchId, Which};
 use klp_world::World;
 
 /// Runs the callback of a patch for its object at this place, and answers its status: 0 where there is no

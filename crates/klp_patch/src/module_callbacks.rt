@@ -14,7 +14,8 @@ ghost use Rattle.klp_patch.specs.Calls.{HaveRun, HasRoomFor, records_of};
 
 use crate::module_share::{allocs_to_bring, allocs_to_let_go, bring, let_go};
 use klp_catalog::Catalog;
-use klp_types::{ObjId, PatchId, Records, Transition};
+use klp_record_words::Records;
+use klp_types::{ObjId, PatchId, Transition};
 use klp_world::World;
 
 /// How many shadow variables the callbacks that may run when a module comes add at most, the cleaning up

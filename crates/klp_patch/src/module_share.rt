@@ -19,7 +19,8 @@ ghost use Rattle.klp_patch.specs.Calls.{HaveRun, HasRoomFor, records_of};
 
 use crate::callback_run::run_at;
 use klp_catalog::Catalog;
-use klp_types::{ObjId, PatchId, Records, Transition, Which, is_in_transition};
+use klp_record_words::Records;
+use klp_types::{ObjId, PatchId, Transition, Which, is_in_transition};
 use klp_world::World;
 
 /// How many shadow variables a callback adds at most; none where there is no such callback.

@@ -15,8 +15,9 @@ ghost use Rattle.klp_patch.specs.Changes.{AreMade, Notes, with_entry, with_nop, 
 use crate::covered::{covered_sites, site_in_scope};
 use crate::site::{put, put_nop, take, take_nop};
 use klp_catalog::{Catalog, CatalogFunction};
+use klp_record_words::Records;
 use klp_sites::Sites;
-use klp_types::{Entry, MAX_FUNCTIONS, MAX_PATCHES, MAX_SITES, ObjId, PatchId, Records, Site};
+use klp_types::{Entry, MAX_FUNCTIONS, MAX_PATCHES, MAX_SITES, ObjId, PatchId, Site};
 
 /// Puts the functions of a patch on top of the stacks of their sites. No two are for one site, so each
 /// stack gets one entry at most.

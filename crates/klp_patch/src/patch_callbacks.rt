@@ -13,7 +13,8 @@ ghost use Rattle.klp_patch.specs.Calls.{HaveRun, HasRoomFor, records_of};
 use crate::callback_run::run_at;
 use klp_catalog::Catalog;
 use klp_modules::Modules;
-use klp_types::{ObjId, PatchId, Records, Which};
+use klp_record_words::Records;
+use klp_types::{ObjId, PatchId, Which};
 use klp_world::World;
 
 /// How many shadow variables the callback of one object adds at most, where the object is loaded. An object

@@ -6,8 +6,9 @@ ghost use Rattle.klp_stack.specs.Spare.{spare_in};
 ghost use Rattle.klp_stack.specs.Stack.{entries_at, has_entry, entries_of_others};
 ghost use Rattle.klp_patch.specs.Changes.{AreMade, Notes, with_nop, without_nop, hooked_count};
 
+use klp_record_words::Records;
 use klp_sites::Sites;
-use klp_types::{Entry, MAX_PATCHES, MAX_SITES, PatchId, Records, Site};
+use klp_types::{Entry, MAX_PATCHES, MAX_SITES, PatchId, Site};
 
 /// Puts an entry on top of a site's stack. Its clauses count records as those of all sites are added up.
 pub(crate) fn put(sites: &mut Sites, site: Site, entry: Entry, log: &mut Records)

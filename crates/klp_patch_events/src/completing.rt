@@ -24,7 +24,7 @@ ghost use Rattle.klp_manager_state.specs.Managed.{setting_in, state_in, refused_
 ghost use Rattle.klp_manager_state.specs.Invariant.{Invariant};
 ghost use Rattle.klp_manager_state.specs.Events.{TakesEvent, AcceptsEvent};
 ghost use Rattle.klp_patch_events.specs.Complete.{IsCompleted};
-ghost use Rattle.klp_manager_state.specs.Rows.{rows_in, rows_before, IsNoted};
+ghost use Rattle.klp_manager_state.specs.Rows.{rows_before, rows_now, IsNoted};
 
 use crate::replacing::{drop_older, older_than, unpatch_each};
 use klp_catalog::Catalog;
@@ -88,7 +88,7 @@ fn try_once_more(manager: &mut ManagerState, catalog: &mut Catalog) -> Reply
     requires free { refused_in manager.old catalog.old Poll ≡ None }
     requires records { records_of (may_run_in manager.old catalog.old Poll) ≤ MAX_KIND_RECORDS }
     ensures accepted { AcceptsEvent manager.old manager.new catalog.old catalog.new Poll result }
-    ensures noted { rows_before manager.new ≡ Some (rows_in manager.old) }
+    ensures noted { rows_before manager.new ≡ rows_now manager.old }
 {
     klp_manager_state::laws::steps_keep();
     let Some(moving) = manager.moving else {
@@ -115,7 +115,7 @@ fn try_tasks(manager: &mut ManagerState, catalog: &Catalog, moving: &Transition)
     } }
     ensures left { result ≡ pending (setting_in manager.old catalog.now) (state_in manager.old catalog.now) moving.now }
     ensures kept { Invariant manager.new catalog.now }
-    ensures noted { rows_before manager.new ≡ Some (rows_in manager.old) }
+    ensures noted { rows_before manager.new ≡ rows_now manager.old }
     ensures records { length manager.new.log.noted ≤ MAX_TASKS }
 {
     klp_model::laws::where_none_lags_none_is_switched();
@@ -134,13 +134,13 @@ fn switch_sleepers(manager: &mut ManagerState, catalog: &Catalog, moving: &Trans
     requires limits { IsWithinLimits manager.old.sites.image.objects }
     requires names { catalog.now.names ≡ names_of manager.old.sites.image.objects }
     requires entries { (site : ℕ) → entries_at manager.old.sites.stacks site ≡ entries_in manager.old catalog.now site }
-    requires log { manager.old.log ≡ record { noted = []; room = MAX_RECORDS } }
+    requires log { manager.old.log ≡ record manager.old.log { noted = []; room = MAX_RECORDS } }
     ensures parts { manager.new ≡ record manager.old {
       tasks = tried (setting_in manager.old catalog.now) (state_in manager.old catalog.now) moving.now;
       blocked = manager.new.blocked;
       log = manager.new.log;
     } }
-    ensures noted { rows_before manager.new ≡ Some (rows_in manager.old) }
+    ensures noted { rows_before manager.new ≡ rows_now manager.old }
     ensures records { length manager.new.log.noted ≤ MAX_TASKS }
     ensures log { manager.new.log.room ≡ MAX_RECORDS }
 {

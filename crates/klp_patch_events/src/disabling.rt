@@ -10,7 +10,7 @@ ghost use Rattle.klp_patch.specs.Calls.{records_of};
 ghost use Rattle.klp_manager_state.specs.Managed.{setting_in, state_in, refused_in, lacks_room_in};
 ghost use Rattle.klp_manager_state.specs.Invariant.{Invariant};
 ghost use Rattle.klp_manager_state.specs.Events.{TakesEvent, AcceptsEvent};
-ghost use Rattle.klp_manager_state.specs.Rows.{rows_in, rows_before, IsNoted};
+ghost use Rattle.klp_manager_state.specs.Rows.{rows_before, rows_now, IsNoted};
 
 use klp_catalog::Catalog;
 use klp_manager_state::ManagerState;
@@ -91,7 +91,7 @@ fn turn(manager: &mut ManagerState, catalog: &mut Catalog, patch: PatchId, value
     requires records { records_of
         (disable_calls (setting_in manager.old catalog.old) (state_in manager.old catalog.old) patch) ≤ MAX_KIND_RECORDS }
     ensures accepted { AcceptsEvent manager.old manager.new catalog.old catalog.new (SetEnabled patch value) result }
-    ensures noted { rows_before manager.new ≡ Some (rows_in manager.old) }
+    ensures noted { rows_before manager.new ≡ rows_now manager.old }
 {
     klp_manager_state::laws::steps_keep();
     if is_in_transition(&manager.moving, patch) {
@@ -114,7 +114,7 @@ fn disable(manager: &mut ManagerState, catalog: &mut Catalog, patch: PatchId, va
         (disable_calls (setting_in manager.old catalog.old) (state_in manager.old catalog.old) patch) ≤ MAX_KIND_RECORDS }
     requires rests { moves manager.old.moving patch ≡ false }
     ensures accepted { AcceptsEvent manager.old manager.new catalog.old catalog.new (SetEnabled patch value) result }
-    ensures noted { rows_before manager.new ≡ Some (rows_in manager.old) }
+    ensures noted { rows_before manager.new ≡ rows_now manager.old }
 {
     klp_manager_state::laws::steps_keep();
     klp_tasks::laws::records_are_few();

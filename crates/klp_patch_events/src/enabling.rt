@@ -22,7 +22,7 @@ ghost use Rattle.klp_patch.specs.Calls.{records_of};
 ghost use Rattle.klp_manager_state.specs.Managed.{setting_in, state_in, refused_in, may_run_in, lacks_room_in};
 ghost use Rattle.klp_manager_state.specs.Invariant.{Invariant};
 ghost use Rattle.klp_manager_state.specs.Events.{TakesEvent, AcceptsEvent};
-ghost use Rattle.klp_manager_state.specs.Rows.{rows_in, rows_before, IsNoted};
+ghost use Rattle.klp_manager_state.specs.Rows.{rows_before, rows_now, IsNoted};
 
 use klp_catalog::{Catalog, CatalogPatch};
 use klp_manager_state::ManagerState;
@@ -128,7 +128,7 @@ fn install(manager: &mut ManagerState, catalog: &mut Catalog, patch: PatchId) ->
     requires free { refused_in manager.old catalog.old (Enable patch) ≡ None }
     requires records { records_of (may_run_in manager.old catalog.old (Enable patch)) ≤ MAX_ENABLING_RECORDS }
     ensures accepted { AcceptsEvent manager.old manager.new catalog.old catalog.new (Enable patch) result }
-    ensures noted { rows_before manager.new ≡ Some (rows_in manager.old) }
+    ensures noted { rows_before manager.new ≡ rows_now manager.old }
 {
     klp_manager_state::laws::steps_keep();
     klp_model::laws::events_are_accepted_where_no_case_holds();
@@ -170,7 +170,7 @@ fn put_last(manager: &mut ManagerState, catalog: &Catalog, patch: PatchId)
               (state_ids catalog.now patch);
           log = manager.new.log;
         } }
-    ensures noted { rows_before manager.new ≡ Some (rows_in manager.old) }
+    ensures noted { rows_before manager.new ≡ rows_now manager.old }
     ensures records { length manager.new.log.noted ≤ MAX_LIST_RECORDS }
     ensures log { manager.new.log.room ≡ MAX_RECORDS }
 {

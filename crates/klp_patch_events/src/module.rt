@@ -15,7 +15,7 @@ ghost use Rattle.klp_patch.specs.Room.{FindRoom};
 ghost use Rattle.klp_manager_state.specs.Managed.{setting_in, state_in, refused_in, may_run_in, lacks_room_in};
 ghost use Rattle.klp_manager_state.specs.Invariant.{Invariant};
 ghost use Rattle.klp_manager_state.specs.Events.{TakesEvent, AcceptsEvent};
-ghost use Rattle.klp_manager_state.specs.Rows.{rows_in, rows_before, IsNoted};
+ghost use Rattle.klp_manager_state.specs.Rows.{rows_before, rows_now, IsNoted};
 
 use crate::module_sites::{patch_object, unpatch_object};
 use arrayvec::ArrayVec;
@@ -201,7 +201,7 @@ fn come(manager: &mut ManagerState, catalog: &mut Catalog, object: ObjId) -> Rep
     requires records { records_of (may_run_in manager.old catalog.old (Coming object))
         ≤ MAX_COMING_EDITS + allocs_of (may_run_in manager.old catalog.old (Coming object)) }
     ensures accepted { AcceptsEvent manager.old manager.new catalog.old catalog.new (Coming object) result }
-    ensures noted { rows_before manager.new ≡ Some (rows_in manager.old) }
+    ensures noted { rows_before manager.new ≡ rows_now manager.old }
 {
     klp_manager_state::laws::steps_keep();
     let installed = installed_patches(manager, catalog);
@@ -239,7 +239,7 @@ fn go(manager: &mut ManagerState, catalog: &mut Catalog, object: ObjId) -> Reply
     requires records { records_of (may_run_in manager.old catalog.old (Going object))
         ≤ MAX_GOING_EDITS + allocs_of (may_run_in manager.old catalog.old (Going object)) }
     ensures accepted { AcceptsEvent manager.old manager.new catalog.old catalog.new (Going object) result }
-    ensures noted { rows_before manager.new ≡ Some (rows_in manager.old) }
+    ensures noted { rows_before manager.new ≡ rows_now manager.old }
 {
     klp_manager_state::laws::steps_keep();
     let installed = installed_patches(manager, catalog);

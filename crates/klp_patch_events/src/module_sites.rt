@@ -17,8 +17,9 @@ ghost use Rattle.klp_manager_state.specs.Rows.{SitesGoBack};
 
 use klp_catalog::Catalog;
 use klp_patch::{patch_sites, unpatch_sites};
+use klp_record_words::Records;
 use klp_sites::Sites;
-use klp_types::{MAX_PATCHES, ObjId, PatchId, Records};
+use klp_types::{MAX_PATCHES, ObjId, PatchId};
 
 /// Each site has one stack. The call is made for its contract, which bounds their number.
 fn stacks_are_few(sites: &Sites)

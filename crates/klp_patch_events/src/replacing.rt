@@ -17,8 +17,9 @@ ghost use Rattle.klp_manager_state.specs.Rows.{WorldGoesBack, SitesGoBack};
 
 use klp_catalog::Catalog;
 use klp_patch::unpatch_sites;
+use klp_record_words::Records;
 use klp_sites::Sites;
-use klp_types::{MAX_FUNCTIONS, MAX_SITES, PatchId, Records};
+use klp_types::{MAX_FUNCTIONS, MAX_SITES, PatchId};
 use klp_world::World;
 
 /// Of these patches those before this one, all of them where it isn't among them. There may be none, and

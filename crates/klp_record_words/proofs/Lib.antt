@@ -3,3 +3,8 @@ pub mod ReadLemmas
 pub mod BackLemmas
 pub mod PartLemmas
 pub mod RecordsLemmas
+pub mod PlaceLemmas
+pub mod StoredLemmas
+pub mod KindLemmas
+pub mod SplitLemmas
+pub mod LastLemmas

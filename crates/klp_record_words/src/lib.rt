@@ -1,16 +1,28 @@
 //! Undo records as words, written behind one another and read backwards.
 //!
 //! A record is what it says of its row, and behind it a tag with the record's kind and how many words are before
-//! it: so the newest record is found from the end of the list (`specs/Words`). [`write_record`] puts one behind
-//! others, [`read_back`] reads the last of them, and each takes what the other gives, and nothing else. `laws`
-//! has that no record's words are the last of another's, and how many a record has; `examples` three of them.
-//! The journal keeps records as they are; what words would cost it says docs/DECISIONS.md, "Records as words".
+//! it: so the newest record is found from the end of the list (`specs/Words`). [`Records`] is a list of them, those of
+//! earlier events and behind them those of the one that is under way (`src/stored.rt` has the words themselves). It logs a
+//! record last, and gives the newest back; its room is taken once. What events log most is given back in a form of a few
+//! bytes: [`SmallRecord`], and a [`SwitchedTask`] without its frames.
+//!
+//! [`write_record`] puts one record behind any words, [`read_back`] reads the last of them, and each takes what the other
+//! gives, and nothing else. `laws` has that no record's words are the last of another's, and how many a record has;
+//! `examples` three of them. Why words: docs/DECISIONS.md, "Records as words".
 #![tactic(auto)]
 
+mod behind;
 pub mod examples;
 pub mod laws;
 mod read;
+mod records;
+mod small;
+mod stored;
+mod switched;
 mod write;
 
+pub use behind::write_record;
 pub use read::read_back;
-pub use write::write_record;
+pub use records::Records;
+pub use small::SmallRecord;
+pub use switched::SwitchedTask;

@@ -54,7 +54,8 @@ fn read_body(kind: u64, body: &[u64]) -> Option<Record>
     }
 }
 
-fn read_state(word: u64) -> Option<PatchState>
+#[inline(always)]
+pub(crate) fn read_state(word: u64) -> Option<PatchState>
     ensures { Finds (IsStateOf word) result }
 {
     match word {
@@ -65,7 +66,8 @@ fn read_state(word: u64) -> Option<PatchState>
     }
 }
 
-fn read_mode(word: u64) -> Option<Mode>
+#[inline(always)]
+pub(crate) fn read_mode(word: u64) -> Option<Mode>
     ensures { Finds (λ mode. mode_word mode ≡ word) result }
 {
     match word {
@@ -272,6 +274,15 @@ fn read_installed(body: &[u64]) -> Option<Record>
 fn read_entry(body: &[u64]) -> Option<Record>
     ensures { Finds (IsBody 7 body.now) result }
 {
+    let (site, patch, was) = read_entry_parts(body)?;
+    Some(Record::StackEntry { site, patch, was })
+}
+
+/// The site and the patch of an entry, and where it was.
+#[inline(always)]
+pub(crate) fn read_entry_parts(body: &[u64]) -> Option<(Site, PatchId, Option<Place>)>
+    ensures { Finds (λ parts. IsBody 7 body.now (Record.StackEntry parts.0 parts.1 parts.2)) result }
+{
     if body.len() < 2 {
         return None;
     }
@@ -283,22 +294,15 @@ fn read_entry(body: &[u64]) -> Option<Record>
     let site = Site(place as u16);
     let patch = PatchId(number as u8);
     if body.len() == 2 {
-        return Some(Record::StackEntry {
-            site,
-            patch,
-            was: None,
-        });
+        return Some((site, patch, None));
     }
     match read_place(&body[2..]) {
-        Some(was) => Some(Record::StackEntry {
-            site,
-            patch,
-            was: Some(was),
-        }),
+        Some(was) => Some((site, patch, Some(was))),
         None => None,
     }
 }
 
+#[inline(always)]
 fn read_place(words: &[u64]) -> Option<Place>
     ensures { Finds (IsPlaceOf words.now) result }
 {
@@ -316,6 +320,7 @@ fn read_place(words: &[u64]) -> Option<Place>
     })
 }
 
+#[inline(always)]
 fn read_func(word: u64) -> Option<u16>
     requires { word ≤ 65536 }
     ensures value { func_word result ≡ word }
@@ -331,6 +336,15 @@ fn read_func(word: u64) -> Option<u16>
 fn read_hook(body: &[u64]) -> Option<Record>
     ensures { Finds (IsBody 8 body.now) result }
 {
+    let (site, was) = read_hook_parts(body)?;
+    Some(Record::HookFlag { site, was })
+}
+
+/// The site of a hook, and whether it was hooked.
+#[inline(always)]
+pub(crate) fn read_hook_parts(body: &[u64]) -> Option<(Site, bool)>
+    ensures { Finds (λ parts. IsBody 8 body.now (Record.HookFlag parts.0 parts.1)) result }
+{
     if body.len() != 2 {
         return None;
     }
@@ -339,10 +353,7 @@ fn read_hook(body: &[u64]) -> Option<Record>
     if site > 65535 || flag > 1 {
         return None;
     }
-    Some(Record::HookFlag {
-        site: Site(site as u16),
-        was: flag == 1,
-    })
+    Some((Site(site as u16), flag == 1))
 }
 
 fn read_moving(body: &[u64]) -> Option<Record>

@@ -1,5 +1,6 @@
-//! Records as words, each put behind those that are there.
-ghost use Rattle.std.specs.Prelude.{◌≡◌, ◌+◌, ◌*◌, ◌<◌, ◌≤◌, ◌++◌, length, map, take, vec_len, vec_capacity};
+//! Records as words, each put behind those that are there. The words lie in a list that is long enough already, and what
+//! is behind those that are written means nothing: to grow a list word by word would look for room at each.
+ghost use Rattle.std.specs.Prelude.{◌≡◌, ◌+◌, ◌*◌, ◌<◌, ◌≤◌, ◌++◌, length, map, take};
 ghost use Rattle.std.specs.Int.{w64, from_le_bytes};
 ghost use Rattle.std.specs.List.{All};
 ghost use Rattle.klp_types.specs.declared.record.Record.TheVariants.{TaskRow, ShadowVariable, NoShadowVariable, StateRow, InstalledPatch, StackEntry};
@@ -11,59 +12,70 @@ use klp_types::{
     Version,
 };
 
-/// Writes a record behind those that are there. The caller has seen to room for the longest record, so this
-/// takes no memory.
-pub fn write_record(row: &Record, words: &mut Vec<u64>)
-    requires { vec_len words.old + 36 ≤ vec_capacity words.old }
-    ensures written { words.new.items ≡ words.old.items ++ words_of row.now }
-    ensures room { vec_capacity words.old ≤ vec_capacity words.new }
+/// Writes a record from a place on, and answers the place behind it. The caller has seen to room for the longest
+/// record.
+#[inline(always)]
+pub(crate) fn put_record(row: &Record, words: &mut [u64], at: usize) -> usize
+    requires { at + 36 ≤ length words.old }
+    ensures written { take result words.new ≡ take at words.old ++ words_of row.now }
+    ensures end { result ≤ length words.old }
     ensures range { IsRecord row.now }
 {
     match row {
-        Record::TaskRow { task, was } => write_task(*task, was, words),
-        Record::NoTaskRow { task } => append(words, &[task_number(*task), 1 + 256]),
-        Record::ShadowVariable { key, was } => write_variable(*key, was, words),
-        Record::NoShadowVariable { key } => write_no_variable(*key, words),
+        Record::TaskRow { task, was } => write_task(*task, was, words, at),
+        Record::NoTaskRow { task } => append(words, at, &[task_number(*task), 1 + 256]),
+        Record::ShadowVariable { key, was } => write_variable(*key, was, words, at),
+        Record::NoShadowVariable { key } => write_no_variable(*key, words, at),
         Record::StateValue { patch, id, was } => {
-            append(words, &[patch_number(*patch), *id, *was, 3 + 256 * 3])
+            append(words, at, &[patch_number(*patch), *id, *was, 3 + 256 * 3])
         }
-        Record::StateRow { patch, id, was } => write_state_row(*patch, *id, *was, words),
+        Record::StateRow { patch, id, was } => write_state_row(*patch, *id, *was, words, at),
         Record::LoadedFlag { object, was } => {
             append(
                 words,
+                at,
                 &[object_number(*object), flag_word(*was), 5 + 256 * 2],
             )
         }
-        Record::InstalledPatch { patch, place } => write_installed(*patch, *place, words),
-        Record::StackEntry { site, patch, was } => write_entry(*site, *patch, *was, words),
+        Record::InstalledPatch { patch, place } => write_installed(*patch, *place, words, at),
+        Record::StackEntry { site, patch, was } => write_entry(*site, *patch, *was, words, at),
         Record::HookFlag { site, was } => {
-            append(words, &[site_number(*site), flag_word(*was), 8 + 256 * 2])
+            append(
+                words,
+                at,
+                &[site_number(*site), flag_word(*was), 8 + 256 * 2],
+            )
         }
         Record::Moving { was } => {
             append(
                 words,
+                at,
                 &[patch_number(was.patch), flag_word(was.target), 9 + 256 * 2],
             )
         }
-        Record::NothingMoving => append(words, &[9]),
+        Record::NothingMoving => append(words, at, &[9]),
         Record::PinnedFlag { patch, was } => {
             append(
                 words,
+                at,
                 &[patch_number(*patch), flag_word(*was), 10 + 256 * 2],
             )
         }
     }
 }
 
-/// Puts words behind those that are there, where there is room for them. It can't fail, so its answer is
-/// dropped.
-fn append(words: &mut Vec<u64>, new: &[u64])
-    requires { vec_len words.old + length new.now ≤ vec_capacity words.old }
-    ensures written { words.new.items ≡ words.old.items ++ new.now }
-    ensures len { vec_len words.new ≡ vec_len words.old + length new.now }
-    ensures room { vec_capacity words.old ≤ vec_capacity words.new }
+/// Puts words at a place, over what is there, and answers the place behind them. Word by word, since there are few:
+/// where their number is known, that is a store for each.
+#[inline(always)]
+fn append(words: &mut [u64], at: usize, new: &[u64]) -> usize
+    requires { at + length new.now ≤ length words.old }
+    ensures written { take result words.new ≡ take at words.old ++ new.now }
+    ensures end { result ≡ at + length new.now }
 {
-    let _ = words.extend_from_slice(new);
+    for (k, word) in new.iter().enumerate() {
+        words[at + k] = *word;
+    }
+    at + new.len()
 }
 
 /// Numbers as words. A reader gets the range of each with it, which only a read of the number shows.
@@ -123,7 +135,7 @@ fn mode_word(mode: Mode) -> u64
     }
 }
 
-fn frame_word(frame: Version) -> u64
+pub(crate) fn frame_word(frame: Version) -> u64
     ensures value { result ≡ frame_word frame }
     ensures range { IsFrame frame }
 {
@@ -134,65 +146,66 @@ fn frame_word(frame: Version) -> u64
 }
 
 /// The frames of a task, outermost first.
-fn write_frames(frames: &[Version], words: &mut Vec<u64>)
-    requires { vec_len words.old + length frames.now ≤ vec_capacity words.old }
-    ensures written { words.new.items ≡ words.old.items ++ map frame_word frames.now }
-    ensures len { vec_len words.new ≡ vec_len words.old + length frames.now }
-    ensures room { vec_capacity words.old ≤ vec_capacity words.new }
+fn write_frames(frames: &[Version], words: &mut [u64], at: usize) -> usize
+    requires { at + length frames.now ≤ length words.old }
+    ensures written { take result words.new ≡ take at words.old ++ map frame_word frames.now }
+    ensures end { result ≡ at + length frames.now }
     ensures range { All IsFrame frames.now }
 {
-    for frame in frames {
-        append(words, &[frame_word(*frame)]);
+    for (k, frame) in frames.iter().enumerate() {
+        words[at + k] = frame_word(*frame);
     }
+    at + frames.len()
 }
 
-fn write_task(task: TaskId, was: &Task, words: &mut Vec<u64>)
-    requires { vec_len words.old + 36 ≤ vec_capacity words.old }
-    ensures written { words.new.items ≡ words.old.items ++ words_of (TaskRow task was.now) }
-    ensures room { vec_capacity words.old ≤ vec_capacity words.new }
+#[inline(always)]
+pub(crate) fn write_task(task: TaskId, was: &Task, words: &mut [u64], at: usize) -> usize
+    requires { at + 36 ≤ length words.old }
+    ensures written { take result words.new ≡ take at words.old ++ words_of (TaskRow task was.now) }
+    ensures end { result ≤ length words.old }
     ensures range { IsRecord (TaskRow task was.now) }
 {
     let number = task_number(task);
     let word = state_word(was.state) + 4 * mode_word(was.mode);
     let count = was.frames.count();
-    append(words, &[number, word]);
-    write_frames(was.frames.as_slice(), words);
-    append(words, &[1 + 256 * (2 + count as u64)]);
+    let at = append(words, at, &[number, word]);
+    let at = write_frames(was.frames.as_slice(), words, at);
+    append(words, at, &[1 + 256 * (2 + count as u64)])
 }
 
-fn write_variable(key: ShadowKey, was: &ShadowValue, words: &mut Vec<u64>)
-    requires { vec_len words.old + 36 ≤ vec_capacity words.old }
-    ensures written { words.new.items ≡ words.old.items ++ words_of (ShadowVariable key was.now) }
-    ensures room { vec_capacity words.old ≤ vec_capacity words.new }
+fn write_variable(key: ShadowKey, was: &ShadowValue, words: &mut [u64], at: usize) -> usize
+    requires { at + 36 ≤ length words.old }
+    ensures written { take result words.new ≡ take at words.old ++ words_of (ShadowVariable key was.now) }
+    ensures end { result ≤ length words.old }
     ensures range { IsRecord (ShadowVariable key was.now) }
 {
     let count = was.count();
-    append(words, &[key.obj, key.id, count as u64]);
-    write_bytes(was.padded(), (count + 7) / 8, words);
-    append(words, &[2 + 256 * (3 + (count as u64 + 7) / 8)]);
+    let at = append(words, at, &[key.obj, key.id, count as u64]);
+    let at = write_bytes(was.padded(), (count + 7) / 8, words, at);
+    append(words, at, &[2 + 256 * (3 + (count as u64 + 7) / 8)])
 }
 
-fn write_no_variable(key: ShadowKey, words: &mut Vec<u64>)
-    requires { vec_len words.old + 36 ≤ vec_capacity words.old }
-    ensures written { words.new.items ≡ words.old.items ++ words_of (NoShadowVariable key) }
-    ensures room { vec_capacity words.old ≤ vec_capacity words.new }
+fn write_no_variable(key: ShadowKey, words: &mut [u64], at: usize) -> usize
+    requires { at + 36 ≤ length words.old }
+    ensures written { take result words.new ≡ take at words.old ++ words_of (NoShadowVariable key) }
+    ensures end { result ≤ length words.old }
     ensures range { IsRecord (NoShadowVariable key) }
 {
-    append(words, &[key.obj, key.id, 2 + 256 * 2]);
+    append(words, at, &[key.obj, key.id, 2 + 256 * 2])
 }
 
 /// So many words of bytes, eight to a word.
-fn write_bytes(bytes: &[u8], count: usize, words: &mut Vec<u64>)
+fn write_bytes(bytes: &[u8], count: usize, words: &mut [u64], at: usize) -> usize
     requires within { 8 * count ≤ length bytes.now }
-    requires spare { vec_len words.old + count ≤ vec_capacity words.old }
-    ensures written { words.new.items ≡ words.old.items ++ byte_words count bytes.now }
-    ensures len { vec_len words.new ≡ vec_len words.old + count }
-    ensures room { vec_capacity words.old ≤ vec_capacity words.new }
+    requires spare { at + count ≤ length words.old }
+    ensures written { take result words.new ≡ take at words.old ++ byte_words count bytes.now }
+    ensures end { result ≡ at + count }
     ensures range { All (λ b. b < 256) bytes.now }
 {
     for k in 0..count {
-        append(words, &[first_word(&bytes[8 * k..])]);
+        words[at + k] = first_word(&bytes[8 * k..]);
     }
+    at + count
 }
 
 /// The first eight bytes, the lowest first.
@@ -206,27 +219,31 @@ fn first_word(bytes: &[u8]) -> u64
     }
 }
 
-fn write_state_row(patch: PatchId, id: u64, was: Option<u64>, words: &mut Vec<u64>)
-    requires { vec_len words.old + 36 ≤ vec_capacity words.old }
-    ensures written { words.new.items ≡ words.old.items ++ words_of (StateRow patch id was) }
-    ensures room { vec_capacity words.old ≤ vec_capacity words.new }
+fn write_state_row(patch: PatchId, id: u64, was: Option<u64>, words: &mut [u64], at: usize) -> usize
+    requires { at + 36 ≤ length words.old }
+    ensures written { take result words.new ≡ take at words.old ++ words_of (StateRow patch id was) }
+    ensures end { result ≤ length words.old }
     ensures range { IsRecord (StateRow patch id was) }
 {
     match was {
-        Some(value) => append(words, &[patch_number(patch), id, value, 4 + 256 * 3]),
-        None => append(words, &[patch_number(patch), id, 4 + 256 * 2]),
+        Some(value) => append(words, at, &[patch_number(patch), id, value, 4 + 256 * 3]),
+        None => append(words, at, &[patch_number(patch), id, 4 + 256 * 2]),
     }
 }
 
-fn write_installed(patch: PatchId, place: Option<u8>, words: &mut Vec<u64>)
-    requires { vec_len words.old + 36 ≤ vec_capacity words.old }
-    ensures written { words.new.items ≡ words.old.items ++ words_of (InstalledPatch patch place) }
-    ensures room { vec_capacity words.old ≤ vec_capacity words.new }
+fn write_installed(patch: PatchId, place: Option<u8>, words: &mut [u64], at: usize) -> usize
+    requires { at + 36 ≤ length words.old }
+    ensures written { take result words.new ≡ take at words.old ++ words_of (InstalledPatch patch place) }
+    ensures end { result ≤ length words.old }
     ensures range { IsRecord (InstalledPatch patch place) }
 {
     match place {
-        Some(place) => append(words, &[patch_number(patch), u64::from(place), 6 + 256 * 2]),
-        None => append(words, &[patch_number(patch), 6 + 256]),
+        Some(place) => append(
+            words,
+            at,
+            &[patch_number(patch), u64::from(place), 6 + 256 * 2],
+        ),
+        None => append(words, at, &[patch_number(patch), 6 + 256]),
     }
 }
 
@@ -240,10 +257,16 @@ fn func_word(func: Option<u16>) -> u64
     }
 }
 
-fn write_entry(site: Site, patch: PatchId, was: Option<Place>, words: &mut Vec<u64>)
-    requires { vec_len words.old + 36 ≤ vec_capacity words.old }
-    ensures written { words.new.items ≡ words.old.items ++ words_of (StackEntry site patch was) }
-    ensures room { vec_capacity words.old ≤ vec_capacity words.new }
+fn write_entry(
+    site: Site,
+    patch: PatchId,
+    was: Option<Place>,
+    words: &mut [u64],
+    at: usize,
+) -> usize
+    requires { at + 36 ≤ length words.old }
+    ensures written { take result words.new ≡ take at words.old ++ words_of (StackEntry site patch was) }
+    ensures end { result ≤ length words.old }
     ensures range { IsRecord (StackEntry site patch was) }
 {
     let site = site_number(site);
@@ -253,9 +276,10 @@ fn write_entry(site: Site, patch: PatchId, was: Option<Place>, words: &mut Vec<u
             let func = func_word(place.func);
             append(
                 words,
+                at,
                 &[site, patch, u64::from(place.index), func, 7 + 256 * 4],
             )
         }
-        None => append(words, &[site, patch, 7 + 256 * 2]),
+        None => append(words, at, &[site, patch, 7 + 256 * 2]),
     }
 }

@@ -13,10 +13,11 @@ ghost use Rattle.klp_sites.specs.Changes.{Changes, pushed, taken, rows_of_push, 
 ghost use Rattle.klp_sites.specs.Undo.{put_back, put_loaded, is_due};
 
 use arrayvec::ArrayVec;
+use klp_record_words::Records;
 use klp_stack::Stacks;
 use klp_text::Image;
 use klp_types::{
-    Entry, MAX_PATCHES, ObjId, PatchId, Place, Record, Records, Site, SiteWord, Transition, Version,
+    Entry, MAX_PATCHES, ObjId, PatchId, Place, Record, Site, SiteWord, Transition, Version,
 };
 use std::alloc::{AllocError, Global};
 use std::marker::Model;
@@ -136,9 +137,9 @@ impl Sites {
         }
     }
 
-    /// Puts an entry of the site back, or takes it out. The hook is written only where it changes, which is
-    /// with the first entry and the last.
-    fn put_entry(&mut self, site: Site, patch: PatchId, was: Option<Place>)
+    /// Puts an entry of the site back, or takes it out, as `put_back` of its record does. The hook is written only
+    /// where it changes, which is with the first entry and the last. The cost is at most the stack's height.
+    pub fn put_entry(&mut self, site: Site, patch: PatchId, was: Option<Place>)
         requires { is_some was ≡ true → 0 < spare_in self.old.stacks }
         ensures { let row = Record.StackEntry site patch was in
             self.new ≡ record self.old { stacks = of_stacks.put_back self.old.stacks row } }

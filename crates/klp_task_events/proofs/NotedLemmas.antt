@@ -22,7 +22,6 @@ use Rattle.klp_world.specs.Undo.{is_of_world}
 use Rattle.klp_manager_state.specs.declared.state.ManagerState.{ManagerState}
 use Rattle.klp_manager_state.specs.Rows.{rows_in, is_of_tasks, IsNoted, WorldGoesBack, TasksGoBack}
 use Rattle.klp_manager_state.proofs.RowLemmas.{of_task}
-use Rattle.klp_task_events.proofs.TaskLemmas.{with_row}
 
 -- a list without what is noted
 abbrev pub emptied : RecordList → RecordList
@@ -83,15 +82,14 @@ turned mode f away before tasks to number row changes is inside same =
 pub task_noted : ((before after : Tasks) (log_before log_after : RecordList) (rows : List Record)
     → All (λ row. is_of_tasks row ≡ true) rows → log_after ≡ noting log_before rows → of_tasks.undone after rows ≡ before → of_tasks.TellChanges after rows
     → TasksGoBack before after log_before log_after)
-    → (before after : ManagerState) (tasks to : Tasks) (number : ℕ) (row : Record) (reply : Reply) → of_tasks.Changes before.tasks tasks number row to
-    → after ≡ with_row before tasks row → IsOther before.tasks tasks number → IsNoted before after (Ok reply)
-task_noted law before after tasks to number row reply changes is other =
-    rw is (record {
-      accepted = law before.tasks tasks (emptied before.log) (record before.log { noted = row ∷ [] }) (row ∷ [])
-          (All-cons (λ row. is_of_tasks row ≡ true) row [] (ap is_of_tasks changes.was ∙ of_task number (task_at before.tasks number)) (All-nil (λ row. is_of_tasks row ≡ true)))
-          refl changes.undo (λ same. other (ap (λ t. task_at t number) (sym changes.undo ∙ same)), tt) (rows_in before);
-      refused = tt;
-    })
+    → (before : ManagerState) (tasks to : Tasks) (log : RecordList) (number : ℕ) (row : Record) (reply : Reply) → of_tasks.Changes before.tasks tasks number row to
+    → log ≡ record before.log { noted = row ∷ [] } → IsOther before.tasks tasks number → IsNoted before (record before { tasks = tasks; log = log }) (Ok reply)
+task_noted law before tasks to log number row reply changes logged other = record {
+  accepted = law before.tasks tasks (emptied before.log) log (row ∷ [])
+      (All-cons (λ row. is_of_tasks row ≡ true) row [] (ap is_of_tasks changes.was ∙ of_task number (task_at before.tasks number)) (All-nil (λ row. is_of_tasks row ≡ true)))
+      logged changes.undo (λ same. other (ap (λ t. task_at t number) (sym changes.undo ∙ same)), tt) (rows_in before);
+  refused = tt;
+}
 
 -- one that goes back to user space isn't in the kernel
 pub left_kernel : (moving : Option Transition) (task : Task) → is_mode (exited moving task).mode Kernel ≡ false

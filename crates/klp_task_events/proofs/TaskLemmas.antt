@@ -1,6 +1,7 @@
 -- Task events, where nothing refuses them.
-use Rattle.std.proofs.Common.{◌≡◌, ℕ, [], ◌∷◌, None, Ok, refl, sym, subst}
+use Rattle.std.proofs.Common.{◌≡◌, ℕ, [], ◌∷◌, None, Ok, refl, sym, ap, ◌∙◌}
 use Rattle.klp_types.specs.declared.record.Record.{Record}
+use Rattle.klp_types.specs.Records.{RecordList}
 use Rattle.klp_types.specs.declared.task.Task.{Task}
 use Rattle.klp_model.specs.declared.event.Event.{Event}
 use Rattle.klp_model.specs.declared.event.Reply.{Reply}
@@ -18,20 +19,15 @@ use Rattle.klp_manager_state.specs.Invariant.{Invariant}
 use Rattle.klp_manager_state.specs.Managed.{setting_in, state_in, refused_in}
 use Rattle.klp_manager_state.specs.StepLaws.{StepLaws}
 
--- the state with these tasks, and with one row noted alone
-abbrev pub with_row : ManagerState → Tasks → Record → ManagerState
-with_row manager tasks row = record manager { tasks = tasks; log = record manager.log { noted = row ∷ [] } }
-
 -- an event that nothing refuses and that changes one task alone is taken
-pub task_taken : AreTasksTaken → StepLaws → (before after : ManagerState) (catalog : Catalog) (tasks : Tasks) (row : Record) (event : Event) (reply : Reply)
+pub task_taken : AreTasksTaken → StepLaws → (before : ManagerState) (catalog : Catalog) (tasks : Tasks) (log : RecordList) (row : Record) (event : Event) (reply : Reply)
     → Invariant before catalog
     → None ≡ refused_in before catalog event
     → calls (setting_in before catalog) (state_in before catalog) event ≡ []
     → accepted (setting_in before catalog) (state_in before catalog) event ≡ (reply, with_tasks (state_in before catalog) tasks)
-    → after ≡ with_row before tasks row → TakesEvent before after catalog catalog event (Ok reply)
-task_taken law steps before after catalog tasks row event reply holds free quiet is left =
-    subst (λ (p : ManagerState). TakesEvent before p catalog catalog event (Ok reply)) (sym left)
-    (law steps before catalog tasks (record before.log { noted = row ∷ [] }) event reply holds (sym free) quiet is holds.room)
+    → log ≡ record before.log { noted = row ∷ [] } → TakesEvent before (record before { tasks = tasks; log = log }) catalog catalog event (Ok reply)
+task_taken law steps before catalog tasks log row event reply holds free quiet is logged =
+    law steps before catalog tasks log event reply holds (sym free) quiet is (ap (λ (l : RecordList). l.room) logged ∙ holds.room)
 
 -- what a change of a row leaves is what the step says
 pub changed_as_said : (law : (state : State) (number : ℕ) (f : Task → Task) → change state number f ≡ with_tasks state (changed state.tasks number f))

@@ -15,6 +15,7 @@ ghost use Rattle.klp_model.specs.Task.{task_at, is_in};
 ghost use Rattle.klp_model.specs.TaskStep.{state_wanted, frames_of};
 ghost use Rattle.klp_model.specs.Frames.{is_bad};
 ghost use Rattle.klp_model.specs.Refusals.{refusal};
+ghost use Rattle.klp_tasks.specs.Changes.{record_of};
 ghost use Rattle.klp_catalog.specs.Catalog.{Catalog as AnyCatalog};
 ghost use Rattle.klp_manager_state.specs.Managed.{setting_in, refused_in};
 ghost use Rattle.klp_manager_state.specs.Invariant.{Invariant};
@@ -24,8 +25,9 @@ ghost use Rattle.klp_manager_state.specs.Rows.{IsNoted};
 use klp_catalog::Catalog;
 use klp_manager_state::ManagerState;
 use klp_model::{Refusal, Reply};
-use klp_tasks::target_state;
-use klp_types::{Frames, MAX_TASKS, Mode, PatchState, Record, TaskId, Transition, Version};
+use klp_record_words::Records;
+use klp_tasks::{Tasks, target_state};
+use klp_types::{Frames, MAX_TASKS, Mode, PatchState, TaskId, Transition, Version};
 
 /// A task begins, in user space, at the target of whatever moves, since it has run nothing yet.
 pub fn new_task(manager: &mut ManagerState, task: TaskId) -> Result<Reply, Refusal>
@@ -40,8 +42,8 @@ pub fn new_task(manager: &mut ManagerState, task: TaskId) -> Result<Reply, Refus
     if let Some(refusal) = new_task_refusal(manager, task) {
         return Err(refusal);
     }
-    let row = manager.tasks.add(task, state_wanted(manager.moving));
-    note_alone(manager, row);
+    log_alone(&manager.tasks, task, &mut manager.log);
+    manager.tasks.add(task, state_wanted(manager.moving));
     Ok(Reply::Done)
 }
 
@@ -75,8 +77,8 @@ pub fn fork(manager: &mut ManagerState, parent: TaskId, child: TaskId) -> Result
     if let Some(refusal) = fork_refusal(manager, parent, child) {
         return Err(refusal);
     }
-    let row = manager.tasks.fork(parent, child);
-    note_alone(manager, row);
+    log_alone(&manager.tasks, child, &mut manager.log);
+    manager.tasks.fork(parent, child);
     Ok(Reply::Done)
 }
 
@@ -113,8 +115,8 @@ pub fn end_task(manager: &mut ManagerState, task: TaskId) -> Result<Reply, Refus
     if let Some(refusal) = end_task_refusal(manager, task) {
         return Err(refusal);
     }
-    let row = manager.tasks.end(task);
-    note_alone(manager, row);
+    log_alone(&manager.tasks, task, &mut manager.log);
+    manager.tasks.end(task);
     Ok(Reply::Done)
 }
 
@@ -146,8 +148,8 @@ pub fn enter_kernel(manager: &mut ManagerState, task: TaskId) -> Result<Reply, R
     if let Some(refusal) = enter_kernel_refusal(manager, task) {
         return Err(refusal);
     }
-    let row = manager.tasks.enter(task);
-    note_alone(manager, row);
+    log_alone(&manager.tasks, task, &mut manager.log);
+    manager.tasks.enter(task);
     Ok(Reply::Done)
 }
 
@@ -175,8 +177,8 @@ pub fn exit_to_user(manager: &mut ManagerState, task: TaskId) -> Result<Reply, R
     if let Some(refusal) = exit_to_user_refusal(manager, task) {
         return Err(refusal);
     }
-    let row = manager.tasks.leave(task, manager.moving);
-    note_alone(manager, row);
+    log_alone(&manager.tasks, task, &mut manager.log);
+    manager.tasks.leave(task, manager.moving);
     Ok(Reply::Done)
 }
 
@@ -209,8 +211,8 @@ pub fn sleep(
     if let Some(refusal) = sleep_refusal(manager, catalog, task, &frames) {
         return Err(refusal);
     }
-    let row = manager.tasks.sleep(task, frames);
-    note_alone(manager, row);
+    log_alone(&manager.tasks, task, &mut manager.log);
+    manager.tasks.sleep(task, frames);
     Ok(Reply::Done)
 }
 
@@ -253,8 +255,8 @@ pub fn wake(manager: &mut ManagerState, task: TaskId) -> Result<Reply, Refusal>
         return Err(refusal);
     }
     let frames = frames_of(manager, task);
-    let row = manager.tasks.wake(task);
-    note_alone(manager, row);
+    log_alone(&manager.tasks, task, &mut manager.log);
+    manager.tasks.wake(task);
     Ok(Reply::Woken(frames))
 }
 
@@ -284,13 +286,13 @@ fn refusal_unless_in(manager: &ManagerState, task: TaskId, mode: Mode) -> Option
     }
 }
 
-/// The log has the row alone: an event of a task is one record.
-fn note_alone(manager: &mut ManagerState, row: Record)
-    requires { manager.old.log.room ≡ MAX_RECORDS }
-    ensures { manager.new ≡ record manager.old { log = record manager.old.log { noted = row ∷ [] } } }
+/// The log has the row of this number alone, as it is before the event: an event of a task is one record.
+fn log_alone(tasks: &Tasks, task: TaskId, log: &mut Records)
+    requires { log.old.room ≡ MAX_RECORDS }
+    ensures { log.new ≡ record log.old { noted = record_of task (task_at tasks.now task) ∷ [] } }
 {
-    manager.log.clear();
-    manager.log.note(row);
+    log.clear();
+    tasks.log_row(task, log);
 }
 
 /// The state of a task that is brought to whatever moves: -1 where nothing does.

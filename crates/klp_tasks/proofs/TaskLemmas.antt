@@ -1,4 +1,5 @@
 -- Changes of one row, and of the states of all.
+use Rattle.std.specs.Prelude.{ℤ, is_some}
 use Rattle.std.proofs.Common.{length-append, add-zero, add-one, zero-add, ◌≡◌, ℕ, zero, suc, ◌+◌, ◌<◌, ◌≤◌, Bool, true, false, not, ◌&&◌, cond, map, List, [], ◌∷◌, ◌++◌, length, get_or, set, refl, sym, ap, ◌∙◌, arith, append_assoc, append-nil, Option, Some, None}
 use Rattle.std.specs.Option.{option_map, option_to_list}
 use Rattle.std.specs.List.{list_any}
@@ -17,7 +18,7 @@ use Rattle.klp_model.specs.TaskStep.{change_task}
 use Rattle.klp_model.specs.Blocked.{is_version, is_held, switched}
 use Rattle.klp_tasks.specs.Members.{VersionFlags, has, IsSetOf}
 use Rattle.klp_tasks.proofs.MemberLemmas.{same_any}
-use Rattle.klp_tasks.specs.Changes.{record_of, put_back, undone, changed_row, changed, record_if_switched, records_switched}
+use Rattle.klp_tasks.specs.Changes.{Changes, record_of, put_back, undone, changed_row, changed, record_if_switched, records_switched, IsSwitchNoted}
 
 pub set_back : (tasks : Tasks) (number : ℕ) (row : Option Task) → set (set tasks number row) number (get_or tasks number None) ≡ tasks
 set_back [] number row = refl
@@ -30,6 +31,19 @@ put_row tasks number (Some task) = refl
 
 pub row_back : (tasks : Tasks) (number : ℕ) (row : Option Task) → put_back (with_task tasks number row) (record_of number (task_at tasks number)) ≡ tasks
 row_back tasks number row = put_row (with_task tasks number row) number (task_at tasks number) ∙ set_back tasks number row
+
+-- the row of a number is another one
+pub is_change : (before after : Tasks) (number : ℕ) (row : Option Task) → after ≡ with_task before number row
+    → Changes before after number (record_of number (task_at before number)) (with_task before number row)
+is_change before after number row is =
+    record { tasks = is; was = refl; undo = ap (λ t. put_back t (record_of number (task_at before number))) is ∙ row_back before number row }
+
+-- that of a task that is there
+pub is_changed : (before after : Tasks) (number : ℕ) (f : Task → Task) (task : Task) → task_at before number ≡ Some task → after ≡ with_task before number (Some (f task))
+    → Changes before after number (record_of number (task_at before number)) (changed before number f)
+is_changed before after number f task there is =
+    let change = is_change before after number (Some (f task)) is in
+    record { tasks = is ∙ sym (ap (changed_row before number f) there); was = refl; undo = change.undo }
 
 -- the first tasks are changed
 abbrev pub partly : (Task → Task) → ℕ → Tasks → Tasks
@@ -110,6 +124,40 @@ rows_few f start (suc count) (task ∷ tasks) =
     let behind = rows_few f (suc start) count tasks in
     grind (arith, length-append, behind)
 
+few_told : (number : ℕ) (was now : Option Task) → length (option_to_list (record_if_switched number was now)) ≤ 1
+few_told number None now = omega arith
+few_told number (Some was) None = omega arith
+few_told number (Some was) (Some task) =
+    elim (int_eq was.state task.state) as (λ (b : Bool). length (option_to_list (cond b None (Some (TaskRow number was)))) ≤ 1) [ true ↦ omega arith | false ↦ omega arith ]
+
+-- nothing is noted of a task that stays as it was
+pub not_switched : (tasks : Tasks) (number : ℕ) (log : RecordList) → IsSwitchNoted tasks tasks number log log
+not_switched tasks number log =
+    let same = row_same number (task_at tasks number) in
+    record { records = rw (same, append-nil) refl; undo = rw same refl }
+
+own_row : (tasks : Tasks) (number : ℕ) (task : Task) (row : Option Task) → task_at tasks number ≡ Some task → task_at (with_task tasks number row) number ≡ row
+own_row [] number task row there = let no : ⊥ = cc in absurd no
+own_row (first ∷ tasks) zero task row there = refl
+own_row (first ∷ tasks) (suc number) task row there = own_row tasks number task row there
+
+-- the row of one that gets another state is noted
+pub is_switched : (before after : Tasks) (number : ℕ) (was : Task) (state : ℤ) (log_before log_after : RecordList) → task_at before number ≡ Some was → int_eq was.state state ≡ false
+    → after ≡ with_task before number (Some (record was { state = state })) → log_after ≡ record log_before { noted = log_before.noted ++ TaskRow number was ∷ [] }
+    → IsSwitchNoted before after number log_before log_after
+is_switched before after number was state log_before log_after there other is noted =
+    let now : Option Task = Some (record was { state = state }) in
+    let told : record_if_switched number (task_at before number) (task_at after number) ≡ Some (TaskRow number was) =
+    ap (λ t. record_if_switched number (task_at before number) (task_at t number)) is
+    ∙ ap (record_if_switched number (task_at before number)) (own_row before number was now there)
+    ∙ ap (λ row. record_if_switched number row now) there
+    ∙ ap (λ b. cond b None (Some (TaskRow number was))) other in
+    record {
+      records = noted ∙ ap (λ row. record log_before { noted = log_before.noted ++ option_to_list row }) (sym told);
+      undo = ap (λ row. undone after (option_to_list row)) told ∙ ap (λ t. put_back t (TaskRow number was)) is
+          ∙ ap (λ row. put_back (with_task before number now) (record_of number row)) (sym there) ∙ row_back before number now;
+    }
+
 undone-append : (tasks : Tasks) (older newer : List Record) → undone tasks (older ++ newer) ≡ undone (undone tasks newer) older
 undone-append tasks [] newer = refl
 undone-append tasks (row ∷ older) newer = ap (λ t. put_back t row) (undone-append tasks older newer)
@@ -152,6 +200,29 @@ has_room f count before now after log_before log_now row so_far is is_row room =
     let few : length (records_switched 0 before after) ≤ length (records_switched 0 before (map (option_map f) before)) = rw is_now (rows_few f 0 (suc count) before) in
     rw (so_far.records, length-append log_before.noted (records_switched 0 before now)) (omega arith)
 
+-- the same, where a row may be noted
+pub room_if : (f : Task → Task) (count : ℕ) (before now : Tasks) (log_before log_now : RecordList) (row : Option Record) → ChangedSoFar f count before now log_before log_now
+    → row ≡ record_if_switched count (task_at now count) (task_at (changed now count f) count)
+    → length (records_switched 0 before (map (option_map f) before)) ≤ spare_of log_before → is_some row ≡ true → 0 < spare_of log_now
+room_if f count before now log_before log_now None so_far is_row room some = let no : ⊥ = cc in absurd no
+room_if f count before now log_before log_now (Some row) so_far is_row room some = has_room f count before now (changed now count f) log_before log_now row so_far refl is_row room
+
+-- the first so many note no more rows
+few_so_far : (f : Task → Task) (count number : ℕ) (tasks : Tasks) → length (records_switched number tasks (partly f count tasks)) ≤ count
+few_so_far f zero number tasks = rw (rows_same number tasks) (omega arith)
+few_so_far f (suc count) number [] = omega arith
+few_so_far f (suc count) number (task ∷ tasks) =
+    let first = few_told number task (option_map f task) in
+    let behind = few_so_far f count (suc number) tasks in
+    grind (arith, length-append, first, behind)
+
+-- so there is room for another, where there was for all tasks
+pub room_left : (f : Task → Task) (count : ℕ) (before now : Tasks) (log_before log_now : RecordList) → ChangedSoFar f count before now log_before log_now
+    → count < length before → length before ≤ spare_of log_before → 0 < spare_of log_now
+room_left f count before now log_before log_now so_far more room =
+    let few : length (records_switched 0 before now) ≤ count = rw so_far.tasks (few_so_far f count 0 before) in
+    rw (so_far.records, length-append log_before.noted (records_switched 0 before now)) (omega (arith, few, more, room))
+
 pub all_changed : (f : Task → Task) (count : ℕ) (before now : Tasks) (log_before log_now : RecordList) → ChangedSoFar f count before now log_before log_now
     → count ≡ length before → now ≡ map (option_map f) before
 all_changed f count before now log_before log_now so_far all = so_far.tasks ∙ rw all (partly_all f before)
@@ -166,12 +237,6 @@ pub step_changes : (state : State) (number : ℕ) (f : Task → Task) (task : Op
     → change_task state number f task ≡ with_tasks state (changed_row state.tasks number f task)
 step_changes state number f None = refl
 step_changes state number f (Some task) = refl
-
-few_told : (number : ℕ) (was now : Option Task) → length (option_to_list (record_if_switched number was now)) ≤ 1
-few_told number None now = omega arith
-few_told number (Some was) None = omega arith
-few_told number (Some was) (Some task) =
-    elim (int_eq was.state task.state) as (λ (b : Bool). length (option_to_list (cond b None (Some (TaskRow number was)))) ≤ 1) [ true ↦ omega arith | false ↦ omega arith ]
 
 pub rows_are_few : (number : ℕ) (before after : Tasks) → length (records_switched number before after) ≤ length before
 rows_are_few number [] after = omega arith

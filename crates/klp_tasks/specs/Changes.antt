@@ -4,6 +4,7 @@ use Rattle.std.specs.Ordering.{int_eq}
 use Rattle.klp_types.specs.declared.record.Record.{Record}
 use Rattle.klp_types.specs.declared.record.Record.TheVariants.{TaskRow, NoTaskRow}
 use Rattle.klp_types.specs.declared.task.Task.{Task}
+use Rattle.klp_types.specs.Records.{RecordList}
 use Rattle.klp_model.specs.Task.{Tasks, task_at, with_task}
 
 -- a change of the row of one task that is there
@@ -15,21 +16,6 @@ changed_row tasks number f (Some task) = with_task tasks number (Some (f task))
 abbrev pub changed : Tasks → ℕ → (Task → Task) → Tasks
 changed tasks number f = changed_row tasks number f (task_at tasks number)
 
--- what the row of a number was
-abbrev pub record_of : ℕ → Option Task → Record
-record_of number None = NoTaskRow number
-record_of number (Some task) = TaskRow number task
-
--- what the row of a task that is there was, where its state is another now
-abbrev pub record_if_switched : ℕ → Option Task → Option Task → Option Record
-record_if_switched number (Some was) (Some task) = if int_eq was.state task.state then None else Some (TaskRow number was)
-record_if_switched number was task = None
-
--- the same of each row in order, where the first has this number
-abbrev pub records_switched : ℕ → Tasks → Tasks → List Record
-records_switched number (was ∷ before) (task ∷ after) = option_to_list (record_if_switched number was task) ++ records_switched (suc number) before after
-records_switched number before after = []
-
 -- the tasks with one row as the record tells it; other records are of rows that aren't the tasks'
 abbrev pub put_back : Tasks → Record → Tasks
 put_back tasks (TaskRow number was) = with_task tasks number (Some was)
@@ -40,6 +26,27 @@ put_back tasks other = tasks
 abbrev pub undone : Tasks → List Record → Tasks
 undone tasks [] = tasks
 undone tasks (row ∷ newer) = put_back (undone tasks newer) row
+
+-- what the row of a number was
+abbrev pub record_of : ℕ → Option Task → Record
+record_of number None = NoTaskRow number
+record_of number (Some task) = TaskRow number task
+
+-- what the row of a task that is there was, where its state is another now
+abbrev pub record_if_switched : ℕ → Option Task → Option Task → Option Record
+record_if_switched number (Some was) (Some task) = if int_eq was.state task.state then None else Some (TaskRow number was)
+record_if_switched number was task = None
+
+-- the state of one task was set: the log has what the row was, where its state is another now, which gives the tasks before
+pub record IsSwitchNoted (before after : Tasks) (number : ℕ) (log_before log_after : RecordList) : Type 0 where
+  pub records : log_after
+      ≡ record log_before { noted = log_before.noted ++ option_to_list (record_if_switched number (task_at before number) (task_at after number)) }
+  pub undo : undone after (option_to_list (record_if_switched number (task_at before number) (task_at after number))) ≡ before
+
+-- the same of each row in order, where the first has this number
+abbrev pub records_switched : ℕ → Tasks → Tasks → List Record
+records_switched number (was ∷ before) (task ∷ after) = option_to_list (record_if_switched number was task) ++ records_switched (suc number) before after
+records_switched number before after = []
 
 -- each of these records tells a row that is another one now: put back in its turn, at the tasks that the newer ones give, it changes them
 abbrev pub TellChanges : Tasks → List Record → Type 0

@@ -1,4 +1,4 @@
-ghost use Rattle.std.specs.Prelude.{◌≡◌, ◌<◌, ◌≤◌, ◌++◌, ◌&&◌, not, Bool, true, false, List, [], Some, None, length, map, replicate, is_some, option_map, option_copied, option_to_list, IfOk};
+ghost use Rattle.std.specs.Prelude.{◌≡◌, ◌<◌, ◌≤◌, ◌++◌, ◌&&◌, not, Bool, true, false, List, [], ◌∷◌, Some, None, length, map, replicate, is_some, option_map, option_copied, option_to_list, IfOk};
 ghost use Rattle.std.specs.List.{count_by, list_any};
 ghost use Rattle.std.specs.Ordering.{int_eq};
 ghost use Rattle.klp_types.specs.Records.{spare_of};
@@ -10,18 +10,19 @@ ghost use Rattle.klp_model.specs.TaskStep.{new_task, state_of_task, exited};
 ghost use Rattle.klp_model.specs.Blocked.{switched, lags};
 ghost use Rattle.klp_tasks.specs.Members.{has, ArePassing, IsSetOf};
 ghost use Rattle.klp_tasks.specs.Sleepers.{sleeps_where};
-ghost use Rattle.klp_tasks.specs.Changes.{Changes, changed, record_of, record_if_switched, records_switched, put_back, undone};
+ghost use Rattle.klp_tasks.specs.Changes.{Changes, changed, record_of, record_if_switched, records_switched, IsSwitchNoted, put_back, undone};
 
 use crate::version_set::VersionSet;
 use arrayvec::ArrayVec;
-use klp_types::{Frames, MAX_TASKS, Mode, PatchState, Record, Records, Task, TaskId, Transition};
+use klp_record_words::Records;
+use klp_types::{Frames, MAX_TASKS, Mode, PatchState, Record, Task, TaskId, Transition};
 use std::alloc::{AllocError, Global};
 use std::marker::Model;
 
 /// The tasks by their numbers, of which there are [`MAX_TASKS`].
 ///
-/// All room is taken by [`Tasks::new`]. Each change of one task copies its row, of some 130 bytes, into
-/// the record that it answers, and takes the same time however many tasks there are.
+/// All room is taken by [`Tasks::new`]. Each change of one task takes the same time however many tasks there are; who
+/// makes it logs the row before, by [`Tasks::log_row`].
 #[derive(Debug, Drop)]
 pub struct Tasks {
     rows: Vec<Option<Task>>,
@@ -87,17 +88,6 @@ fn has_state(task: &Task, state: PatchState) -> bool
     task.state == state
 }
 
-/// What the row of a number was: with a task or without one, which are two kinds of record
-/// (docs/DECISIONS.md, "Two kinds of record for a row that may be missing").
-fn record_of(task: TaskId, was: Option<Task>) -> Record
-    ensures { result ≡ record_of task was }
-{
-    match was {
-        Some(was) => Record::TaskRow { task, was },
-        None => Record::NoTaskRow { task },
-    }
-}
-
 impl Tasks {
     /// No task, with a row for each number that there may be. An error is want of memory.
     pub fn new(alloc: Global) -> Result<Self, AllocError>
@@ -147,28 +137,44 @@ impl Tasks {
         self.holds_sleeper(versions)
     }
 
+    /// Logs the row of a number as it is, before it changes, with a task or without one. It is lent to the list, and
+    /// so not copied, but for what it says.
+    #[inline(always)]
+    pub fn log_row(&self, task: TaskId, log: &mut Records)
+        requires { 0 < spare_of log.old }
+        ensures { log.new ≡ record log.old { noted = log.old.noted ++ record_of task (task_at self.now task) ∷ [] } }
+    {
+        match self.get(task) {
+            Some(was) => log.note_task(task, was),
+            None => log.note(Record::NoTaskRow { task }),
+        }
+    }
+
     /// A new task is there. It runs in user space. Its state is its caller's to say, since the table
     /// doesn't know what moves.
-    pub fn add(&mut self, task: TaskId, state: PatchState) -> Record
+    pub fn add(&mut self, task: TaskId, state: PatchState)
         requires number { task < MAX_TASKS }
         requires free { is_some (task_at self.old task) ≡ false }
-        ensures { Changes self.old self.new task result (with_task self.old task (Some (new_task state))) }
+        ensures { Changes self.old self.new task (record_of task (task_at self.old task))
+            (with_task self.old task (Some (new_task state))) }
     {
-        let added = Task {
-            state,
-            mode: Mode::User,
-            frames: Frames::new(),
-        };
-        self.replace(task, Some(added))
+        self.replace(
+            task,
+            Some(Task {
+                state,
+                mode: Mode::User,
+                frames: Frames::new(),
+            }),
+        );
     }
 
     /// A task starts another, which takes its state over and runs in the kernel (the kernel's
     /// `klp_copy_process`): it is in the middle of what its parent runs.
-    pub fn fork(&mut self, parent: TaskId, child: TaskId) -> Record
+    pub fn fork(&mut self, parent: TaskId, child: TaskId)
         requires there { is_some (task_at self.old parent) ≡ true }
         requires number { child < MAX_TASKS }
         requires free { is_some (task_at self.old child) ≡ false }
-        ensures { Changes self.old self.new child result
+        ensures { Changes self.old self.new child (record_of child (task_at self.old child))
             (with_task self.old child (Some (record {
               state = state_of_task
                   (task_at self.old parent);
@@ -176,80 +182,80 @@ impl Tasks {
               frames = [];
             }))) }
     {
-        let forked = Task {
-            state: self.there(parent).state,
-            mode: Mode::Kernel,
-            frames: Frames::new(),
-        };
-        self.replace(child, Some(forked))
+        let state = self.there(parent).state;
+        self.replace(
+            child,
+            Some(Task {
+                state,
+                mode: Mode::Kernel,
+                frames: Frames::new(),
+            }),
+        );
     }
 
-    /// A task ends: its number is free again, and the record keeps the task for undoing.
-    pub fn end(&mut self, task: TaskId) -> Record
+    /// A task ends: its number is free again.
+    pub fn end(&mut self, task: TaskId)
         requires { is_some (task_at self.old task) ≡ true }
-        ensures { Changes self.old self.new task result (with_task self.old task None) }
+        ensures { Changes self.old self.new task (record_of task (task_at self.old task)) (with_task self.old task None) }
     {
-        self.replace(task, None)
+        self.replace(task, None);
     }
 
     /// A task enters the kernel. Its state stays, because it switches when it leaves and not when it comes.
-    pub fn enter(&mut self, task: TaskId) -> Record
+    #[inline(always)]
+    pub fn enter(&mut self, task: TaskId)
         requires { is_some (task_at self.old task) ≡ true }
-        ensures { Changes self.old self.new task result
+        ensures { Changes self.old self.new task (record_of task (task_at self.old task))
             (changed self.old task (λ (t : AnyTask). record t { mode = Kernel })) }
     {
-        let entered = Task {
-            mode: Mode::Kernel,
-            ..self.there(task)
+        let Some(entered) = &mut self.rows[usize::from(task.0)] else {
+            unreachable!();
         };
-        self.replace(task, Some(entered))
+        entered.mode = Mode::Kernel;
     }
 
     /// A task leaves the kernel, and is brought to the target of whatever moves (kernel exit switching),
     /// since outside of the kernel it is inside of no function.
-    pub fn leave(&mut self, task: TaskId, moving: Option<Transition>) -> Record
+    #[inline(always)]
+    pub fn leave(&mut self, task: TaskId, moving: Option<Transition>)
         requires { is_some (task_at self.old task) ≡ true }
-        ensures { Changes self.old self.new task result (changed self.old task (exited moving)) }
+        ensures { Changes self.old self.new task (record_of task (task_at self.old task)) (changed self.old task (exited moving)) }
     {
-        let row = self.there(task);
-        let left = Task {
-            state: match moving {
-                None => row.state,
-                Some(moving) => target_state(moving.target),
-            },
-            mode: Mode::User,
-            ..row
+        let Some(row) = &mut self.rows[usize::from(task.0)] else {
+            unreachable!();
         };
-        self.replace(task, Some(left))
+        if let Some(moving) = moving {
+            row.state = target_state(moving.target);
+        }
+        row.mode = Mode::User;
     }
 
     /// A task falls asleep inside of these frames, by which alone it can be switched while it sleeps.
-    pub fn sleep(&mut self, task: TaskId, frames: Frames) -> Record
+    #[inline(always)]
+    pub fn sleep(&mut self, task: TaskId, frames: Frames)
         requires { is_some (task_at self.old task) ≡ true }
-        ensures { Changes self.old self.new task result
+        ensures { Changes self.old self.new task (record_of task (task_at self.old task))
             (changed self.old task (λ (t : AnyTask). record t { mode = Asleep; frames = frames })) }
     {
-        let asleep = Task {
-            mode: Mode::Asleep,
-            frames,
-            ..self.there(task)
+        let Some(row) = &mut self.rows[usize::from(task.0)] else {
+            unreachable!();
         };
-        self.replace(task, Some(asleep))
+        row.mode = Mode::Asleep;
+        row.frames = frames;
     }
 
-    /// A task wakes up in the kernel, and its frames are known no more. The record has what it was inside
-    /// of.
-    pub fn wake(&mut self, task: TaskId) -> Record
+    /// A task wakes up in the kernel, and its frames are known no more.
+    #[inline(always)]
+    pub fn wake(&mut self, task: TaskId)
         requires { is_some (task_at self.old task) ≡ true }
-        ensures { Changes self.old self.new task result
+        ensures { Changes self.old self.new task (record_of task (task_at self.old task))
             (changed self.old task (λ (t : AnyTask). record t { mode = Kernel; frames = [] })) }
     {
-        let woken = Task {
-            mode: Mode::Kernel,
-            frames: Frames::new(),
-            ..self.there(task)
+        let Some(row) = &mut self.rows[usize::from(task.0)] else {
+            unreachable!();
         };
-        self.replace(task, Some(woken))
+        row.mode = Mode::Kernel;
+        row.frames = Frames::new();
     }
 
     /// A sleeping task is brought to the target where none of its frames is blocked (stack checking of
@@ -260,17 +266,20 @@ impl Tasks {
         task: TaskId,
         blocked: &VersionSet,
         target: bool,
-    ) -> Option<Record>
+        log: &mut Records,
+    )
+        requires { 0 < spare_of log.old }
         ensures tasks { (versions : List AnyVersion) → IsSetOf blocked.now versions
             → self.new ≡ changed self.old task (switched versions target) }
-        ensures row { result ≡ record_if_switched task (task_at self.old task) (task_at self.new task) }
-        ensures undo { undone self.new (option_to_list result) ≡ self.old }
+        ensures noted { IsSwitchNoted self.old self.new task log.old log.new }
     {
-        let row = self.get(task)?;
+        let Some(row) = self.get(task) else {
+            return;
+        };
         if !is_free(row, blocked) {
-            return None;
+            return;
         }
-        self.set_state(task, target_state(target))
+        self.set_state(task, target_state(target), log);
     }
 
     /// Each sleeping task that is inside of nothing blocked is brought to the target (the kernel's
@@ -284,9 +293,7 @@ impl Tasks {
         ensures undo { undone self.new (records_switched 0 self.old self.new) ≡ self.old }
     {
         for number in 0..self.rows.len() as u8 {
-            if let Some(row) = self.switch_if_clear(TaskId(number), blocked, target) {
-                log.note(row);
-            }
+            self.switch_if_clear(TaskId(number), blocked, target, log);
         }
     }
 
@@ -301,9 +308,7 @@ impl Tasks {
         ensures undo { undone self.new (records_switched 0 self.old (all_in state self.old)) ≡ self.old }
     {
         for number in 0..self.rows.len() as u8 {
-            if let Some(row) = self.set_state(TaskId(number), state) {
-                log.note(row);
-            }
+            self.set_state(TaskId(number), state, log);
         }
     }
 
@@ -317,6 +322,40 @@ impl Tasks {
             Record::NoTaskRow { task } => self.put(task, None),
             _ => {}
         }
+    }
+
+    /// Gives the row of a number a task that is inside of nothing, as `put_back` of its record does. A number that no
+    /// task can have changes nothing.
+    pub fn put_resting(&mut self, task: TaskId, state: PatchState, mode: Mode)
+        ensures { self.new ≡ with_task self.old task (Some (record { state = state; mode = mode; frames = [] })) }
+    {
+        let was = Task {
+            state,
+            mode,
+            frames: Frames::new(),
+        };
+        self.put(task, Some(was));
+    }
+
+    /// The rows by their numbers, lent.
+    pub fn rows(&self) -> &[Option<Task>]
+        ensures { result.now ≡ self.now }
+    {
+        &self.rows
+    }
+
+    /// Gives a task that is there its state and its mode back, as `put_back` of its record does where its frames didn't
+    /// change.
+    #[inline(always)]
+    pub fn put_switched(&mut self, task: TaskId, state: PatchState, mode: Mode)
+        requires { is_some (task_at self.old task) ≡ true }
+        ensures { self.new ≡ changed self.old task (λ (t : AnyTask). record t { state = state; mode = mode }) }
+    {
+        let Some(row) = &mut self.rows[usize::from(task.0)] else {
+            unreachable!();
+        };
+        row.state = state;
+        row.mode = mode;
     }
 
     /// Whether a task sleeps inside of one of the versions, by the set itself; `sleeps_in` promises it by
@@ -349,29 +388,39 @@ impl Tasks {
         }
     }
 
-    /// The row of a number is this from now on, and the record has what it was: so each change of a task is
-    /// one copy of its row.
-    fn replace(&mut self, task: TaskId, row: Option<Task>) -> Record
-        ensures { Changes self.old self.new task result (with_task self.old task row) }
+    /// The same, as a change that the record of the row as it was undoes.
+    fn replace(&mut self, task: TaskId, row: Option<Task>)
+        ensures { Changes self.old self.new task (record_of task (task_at self.old task)) (with_task self.old task row) }
     {
-        let was = self.get(task).copied();
         self.put(task, row);
-        record_of(task, was)
     }
 
-    /// A task gets the state, if it is there. A record is given only where its state was another, since no
-    /// record is kept of an unchanged row.
-    fn set_state(&mut self, task: TaskId, state: PatchState) -> Option<Record>
+    /// A task gets the state, if it is there. Its row is logged before, and only where its state was another, since no
+    /// record is kept of an unchanged row. It is lent to the list, and so not copied, but for what it says.
+    fn set_state(&mut self, task: TaskId, state: PatchState, log: &mut Records)
+        requires { is_some (record_if_switched task (task_at self.old task)
+            (task_at (changed self.old task (in_state state)) task)) ≡ true → 0 < spare_of log.old }
         ensures tasks { self.new ≡ changed self.old task (in_state state) }
-        ensures row { result ≡ record_if_switched task (task_at self.old task) (task_at self.new task) }
-        ensures undo { undone self.new (option_to_list result) ≡ self.old }
+        ensures noted { IsSwitchNoted self.old self.new task log.old log.new }
     {
-        let row = self.rows.get_mut(usize::from(task.0))?.as_mut()?;
-        if has_state(row, state) {
-            return None;
+        let Some(was) = self.get(task) else {
+            return;
+        };
+        if has_state(was, state) {
+            return;
         }
-        let was = *row;
+        log.note_task(task, was);
+        self.put_state(task, state);
+    }
+
+    /// A task that is there gets the state.
+    fn put_state(&mut self, task: TaskId, state: PatchState)
+        requires { is_some (task_at self.old task) ≡ true }
+        ensures { self.new ≡ changed self.old task (in_state state) }
+    {
+        let Some(row) = &mut self.rows[usize::from(task.0)] else {
+            unreachable!();
+        };
         row.state = state;
-        Some(Record::TaskRow { task, was })
     }
 }

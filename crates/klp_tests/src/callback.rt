@@ -3,7 +3,8 @@ ghost use Rattle.std.specs.Prelude.{◌≡◌};
 
 use arrayvec::ArrayVec;
 use klp_callback::{Callback, allocs_of, run_script};
-use klp_types::{PatchId, Records};
+use klp_record_words::Records;
+use klp_types::PatchId;
 use klp_world::{Script, World};
 use std::sync::Arc;
 use std::sync::atomic::{AtomicU64, Ordering};

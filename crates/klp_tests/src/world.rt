@@ -1,5 +1,6 @@
 //! A world that is full, or that memory was refused for, and records that are put back.
-use klp_types::{MAX_VARIABLES, ObjId, Record, Records, ShadowKey, ShadowValue};
+use klp_record_words::Records;
+use klp_types::{MAX_VARIABLES, ObjId, Record, ShadowKey, ShadowValue};
 use klp_world::World;
 use std::alloc::{AllocError, Global};
 
@@ -69,10 +70,10 @@ fn taken(alloc: Global) -> Result<([usize; 3], [Option<Record>; 2]), AllocError>
         }
     }
     let full = log.spare();
-    let last = log.take_last();
+    let last = log.take_newest();
     log.clear();
     let cleared = log.spare();
-    Ok(([empty, full, cleared], [last, log.take_last()]))
+    Ok(([empty, full, cleared], [last, log.take_newest()]))
 }
 
 #[test]

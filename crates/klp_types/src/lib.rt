@@ -15,8 +15,7 @@
 //! entry, where versions begin, which callbacks run where an object refuses, and which at the end of a
 //! transition.
 //!
-//! The code is small. [`Records`] logs a record last, gives the newest back, and is emptied; its room is
-//! taken once. [`Frames`] has at most 32 versions: `push` puts one last, or leaves a full list as it is.
+//! The code is small. [`Frames`] has at most 32 versions: `push` puts one last, or leaves a full list as it is.
 //! [`ShadowValue`] has 0 to 64 bytes, and takes no more.
 //! [`Script`] is here, below the world that it changes, so that the catalog's text doesn't wait for that.
 #![tactic(auto)]
@@ -47,7 +46,7 @@ pub use limits::{
     RECORDS_AFTER_SITES, RECORDS_BEFORE_SITES,
 };
 pub use number::{ObjId, PatchId, Site};
-pub use record::{Place, Record, Records};
+pub use record::{Place, Record};
 pub use row::{SiteRow, SiteWord};
 pub use script::Script;
 pub use shadow::{ShadowKey, ShadowValue};

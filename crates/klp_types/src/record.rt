@@ -1,12 +1,7 @@
-ghost use Rattle.std.specs.Prelude.{◌≡◌, ◌<◌, ◌≤◌, [], ◌∷◌, ◌++◌, length, IfOk, IfSome, IfNone};
-ghost use Rattle.klp_types.specs.Records.{spare_of};
-
 use crate::number::{ObjId, PatchId, Site};
 use crate::shadow::{ShadowKey, ShadowValue};
 use crate::task::{Task, TaskId};
 use crate::version::Transition;
-use std::alloc::{AllocError, Global};
-use std::marker::Model;
 
 /// What one row of the state was before a change. To put it back undoes the change of that row. A row that
 /// wasn't there has a kind of its own, or a `None`, since to undo its coming is to take it out.
@@ -91,78 +86,4 @@ pub struct Place {
     pub index: u8,
     /// The function of the patch; `None` is a nop, which is put back as one.
     pub func: Option<u16>,
-}
-
-/// Records in the order in which they were logged, in a list whose room is taken when it is made.
-///
-/// To log takes no memory, since no event may fail half done. What undoes a change takes them newest first,
-/// so that each row finds the rows around it as they were when it was logged.
-#[derive(Debug, Drop)]
-pub struct Records {
-    noted: Vec<Record>,
-    room: usize,
-}
-
-impl Model for Records {
-    ghost use Rattle.std.specs.Prelude.{◌≤◌, vec_len, vec_capacity};
-    ghost use Rattle.klp_types.specs.Records.{RecordList};
-
-    ghost Value = { RecordList };
-
-    ghost view = { λ r. record { noted = r.noted.items; room = r.room } };
-
-    ghost invariant = { λ r. (vec_len r.noted ≤ r.room) × (r.room ≤ vec_capacity r.noted) };
-}
-
-impl Records {
-    /// An empty list with room for `room` records, which never grows. An error is want of memory.
-    pub fn new(alloc: Global, room: usize) -> Result<Self, AllocError>
-        ensures { IfOk result (λ records. records ≡ record { noted = []; room = room }) }
-    {
-        Ok(Self {
-            noted: Vec::with_capacity(alloc, room)?,
-            room,
-        })
-    }
-
-    /// The records, oldest first, as the journal copies them when the event is accepted.
-    pub fn noted(&self) -> &[Record]
-        ensures records { result.now ≡ self.now.noted }
-        ensures limit { length result.now ≤ self.now.room }
-    {
-        &self.noted
-    }
-
-    /// How many more records there is room for. Every change asks for its room before it begins.
-    pub fn spare(&self) -> usize
-        ensures { result ≡ spare_of self.now }
-    {
-        self.room - self.noted.len()
-    }
-
-    /// Logs a record, as the newest. The push can't fail, since the caller has seen to its place, so its
-    /// answer is dropped.
-    pub fn note(&mut self, row: Record)
-        requires { 0 < spare_of self.old }
-        ensures { self.new ≡ record self.old { noted = self.old.noted ++ row ∷ [] } }
-    {
-        let _ = self.noted.push(row);
-    }
-
-    /// Takes the newest record out, if there is one: undoing takes the list apart from its end.
-    pub fn take_last(&mut self) -> Option<Record>
-        ensures newest { IfSome result
-            (λ newest. self.old ≡ record self.new { noted = self.new.noted ++ newest ∷ [] }) }
-        ensures empty { IfNone result (self.old.noted ≡ []) }
-        ensures unchanged { IfNone result (self.new ≡ self.old) }
-    {
-        self.noted.pop()
-    }
-
-    /// Takes all records out. The room stays, so that the next event logs without new memory.
-    pub fn clear(&mut self)
-        ensures { self.new ≡ record self.old { noted = [] } }
-    {
-        self.noted.clear();
-    }
 }

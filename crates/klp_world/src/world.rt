@@ -12,9 +12,8 @@ ghost use Rattle.klp_world.specs.Noted.{noting, rows_of_alloc, rows_of_free, row
 use crate::patch::{InstalledPatch, SystemState, place_of_patch};
 use crate::shadow::ShadowMap;
 use arrayvec::ArrayVec;
-use klp_types::{
-    MAX_PATCHES, MAX_STATES, MAX_VARIABLES, PatchId, Record, Records, ShadowKey, ShadowValue,
-};
+use klp_record_words::Records;
+use klp_types::{MAX_PATCHES, MAX_STATES, MAX_VARIABLES, PatchId, Record, ShadowKey, ShadowValue};
 use std::alloc::{AllocError, Global};
 use std::marker::Model;
 

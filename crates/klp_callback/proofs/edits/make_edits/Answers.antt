@@ -1,4 +1,5 @@
-use Rattle.std.proofs.Common.{◌∙◌}
+use Rattle.std.proofs.Common.{ap, ◌∙◌}
+use Rattle.klp_types.specs.Records.{RecordList}
 use Rattle.klp_callback.proofs.EditLemmas.{next_edit, world_step, noted_step, room_step, room_left, room_now}
 use Rattle.klp_callback.proofs.edits.make_edits.Goals as goal
 
@@ -14,5 +15,6 @@ loop-edit-preserved c =
       world = world_step _ _ _ _ _ _ _ _ split made noted ∙ c.loop-edit.invariant.world;
       noted = noted_step _ _ _ _ _ _ _ _ split made noted ∙ c.loop-edit.invariant.noted;
       same_room = room_step _ _ _ _ _ _ _ _ split made noted ∙ c.loop-edit.invariant.same_room;
+      same_older = ap (λ (l : RecordList). l.older) noted ∙ c.loop-edit.invariant.same_older;
       room = room_left _ _ _ _ _ _ _ _ split made noted c.edits_keep_to_their_room.ensures c.loop-edit.invariant.room;
     }

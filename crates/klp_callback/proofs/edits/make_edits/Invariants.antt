@@ -10,5 +10,6 @@ invariant-loop-edit l = record {
   world : edited_by l.patch l.world (drop l.edit-index l.edits) ≡ edited_by l.patch l.initial.world l.edits;
   noted : l.log.noted ++ rows_of_edits l.patch l.world (drop l.edit-index l.edits) ≡ l.initial.log.noted ++ rows_of_edits l.patch l.initial.world l.edits;
   same_room : l.log.room ≡ l.initial.log.room;
+  same_older : l.log.older ≡ l.initial.log.older;
   room : HasRoom l.world l.log (alloc_count (drop l.edit-index l.edits)) (rows_of_edits l.patch l.world (drop l.edit-index l.edits));
 }

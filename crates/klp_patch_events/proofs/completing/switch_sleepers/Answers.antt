@@ -3,7 +3,7 @@ use Rattle.klp_types.specs.declared.version.Version.{Version}
 use Rattle.klp_patch.specs.Blocked.{blocked_at}
 use Rattle.klp_model.specs.Blocked.{switched}
 use Rattle.klp_types.specs.Records.{RecordList}
-use Rattle.klp_manager_state.specs.Rows.{rows_in, undone_if_told}
+use Rattle.klp_manager_state.specs.Rows.{rows_in, before_noted}
 use Rattle.klp_manager_state.proofs.RowLemmas.{switched_back}
 use Rattle.klp_manager_state.specs.Managed.{setting_in, state_in}
 use Rattle.klp_patch_events.proofs.CompleteTaskLemmas.{own_in, functions_in_stacks}
@@ -32,4 +32,4 @@ pub returns-clause-noted : goal.returns-clause-noted
 returns-clause-noted g c =
     let rows = rows_in c.args.manager.now in
     switched_back c.args.manager.now.tasks c.try_all.new.self c.try_all.new.self c.args.manager.now.log c.try_all.new.log refl c.try_all.ensures.records c.try_all.ensures.undo rows
-    ∙ ap (λ (l : RecordList). undone_if_told rows l.noted) c.requires.log
+    ∙ ap (λ (l : RecordList). before_noted rows l) c.requires.log

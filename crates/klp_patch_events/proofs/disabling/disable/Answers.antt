@@ -12,7 +12,7 @@ use Rattle.klp_catalog.specs.Runs.{after_runs}
 use Rattle.klp_types.specs.Records.{RecordList}
 use Rattle.klp_types.specs.World.{Installed}
 use Rattle.klp_manager_state.specs.declared.state.ManagerState.{ManagerState}
-use Rattle.klp_manager_state.specs.Rows.{rows_in, undone_if_told}
+use Rattle.klp_manager_state.specs.Rows.{rows_in, before_noted}
 use Rattle.klp_manager_state.proofs.RowLemmas.{switched_back}
 use Rattle.klp_patch_events.proofs.BackLemmas.{callbacks_back}
 use Rattle.klp_manager_state.specs.Managed.{setting_in, state_in}
@@ -76,4 +76,4 @@ returns-clause-noted g c =
     ∙ switched_back c.args.manager.now.tasks c.set_all.new.self _ c.run_callbacks.new.log c.set_all.new.log c.set_all.ensures.tasks c.set_all.ensures.records c.set_all.ensures.undo
     (record rows { world = c.run_callbacks.new.world })
     ∙ callbacks_back c.args.catalog.now c.run_callbacks.new.catalog c.args.manager.now.world c.run_callbacks.new.world c.clear.new.self c.run_callbacks.new.log _ c.run_callbacks.ensures rows
-    ∙ ap (λ (l : RecordList). undone_if_told rows l.noted) c.clear.ensures
+    ∙ ap (λ (l : RecordList). before_noted rows l) c.clear.ensures

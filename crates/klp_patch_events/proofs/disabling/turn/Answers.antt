@@ -11,7 +11,7 @@ use Rattle.klp_catalog.specs.Runs.{after_runs}
 use Rattle.klp_types.specs.Records.{RecordList}
 use Rattle.klp_types.specs.World.{Installed}
 use Rattle.klp_manager_state.specs.declared.state.ManagerState.{ManagerState}
-use Rattle.klp_manager_state.specs.Rows.{rows_in, undone_if_told}
+use Rattle.klp_manager_state.specs.Rows.{rows_in, before_noted}
 use Rattle.klp_manager_state.specs.Managed.{setting_in, state_in}
 use Rattle.klp_manager_state.proofs.StepLemmas.{accepted_at_sites}
 use Rattle.klp_types.specs.Pick.{moves}
@@ -68,4 +68,4 @@ returns-then-is_in_transition-clause-accepted g c =
     })
 
 pub returns-then-is_in_transition-clause-noted : goal.returns-then-is_in_transition-clause-noted
-returns-then-is_in_transition-clause-noted g c = c.set_moving.ensures.noted ∙ ap (λ (l : RecordList). undone_if_told (rows_in c.args.manager.now) l.noted) c.clear.ensures
+returns-then-is_in_transition-clause-noted g c = c.set_moving.ensures.noted ∙ ap (λ (l : RecordList). before_noted (rows_in c.args.manager.now) l) c.clear.ensures

@@ -1,6 +1,6 @@
 use Rattle.std.proofs.Common.{ap, ◌∙◌}
 use Rattle.klp_types.specs.Records.{RecordList}
-use Rattle.klp_manager_state.specs.Rows.{rows_in, undone_if_told}
+use Rattle.klp_manager_state.specs.Rows.{rows_in, before_noted}
 use Rattle.klp_manager_state.proofs.RowLemmas.{world_back}
 use Rattle.klp_patch_events.proofs.enabling.put_last.Goals as goal
 
@@ -9,4 +9,4 @@ returns-clause-noted g c =
     let rows = rows_in c.args.manager.now in
     world_back c.args.manager.now.world c.add_states.new.self c.clear.new.self c.add_states.new.log _ (c.what_is_noted_is_of_the_world.ensures.add _ _) c.add_states.ensures.changes.records
     c.add_states.ensures.changes.undo c.add_states.ensures.changes.told rows
-    ∙ ap (λ (l : RecordList). undone_if_told rows l.noted) c.clear.ensures
+    ∙ ap (λ (l : RecordList). before_noted rows l) c.clear.ensures

@@ -1,6 +1,6 @@
 use Rattle.std.proofs.Common.{◌≡◌, refl, sym, ap, ◌∙◌, Some, rules, Option}
 use Rattle.klp_types.specs.Records.{RecordList}
-use Rattle.klp_manager_state.specs.Rows.{rows_in, undone_if_told}
+use Rattle.klp_manager_state.specs.Rows.{rows_in, before_noted}
 use Rattle.klp_manager_state.proofs.RowLemmas.{switched_back}
 use Rattle.klp_types.specs.declared.version.Transition.{Transition}
 use Rattle.klp_model.specs.Forcing.{forced}
@@ -34,6 +34,6 @@ returns-clause-noted g c =
     record {
       accepted = c.pin.ensures.noted
           ∙ switched_back c.args.manager.now.tasks c.set_all.new.self _ c.clear.new.self c.set_all.new.log c.set_all.ensures.tasks c.set_all.ensures.records c.set_all.ensures.undo rows
-          ∙ ap (λ (l : RecordList). undone_if_told rows l.noted) c.clear.ensures;
+          ∙ ap (λ (l : RecordList). before_noted rows l) c.clear.ensures;
       refused = tt;
     }

@@ -25,7 +25,7 @@ use Rattle.klp_stack.specs.Stack.{entries_at}
 use Rattle.klp_sites.specs.Table.{SiteTable}
 use Rattle.klp_patch.specs.Covered.{is_covered}
 use Rattle.klp_manager_state.specs.declared.state.ManagerState.{ManagerState}
-use Rattle.klp_manager_state.specs.Rows.{Rows, rows_in, undone_if_told}
+use Rattle.klp_manager_state.specs.Rows.{Rows, rows_in, before_noted}
 use Rattle.klp_types.specs.declared.record.Record.{Record}
 use Rattle.klp_sites.specs.Changes.{noting}
 use Rattle.klp_sites.specs.Undo as of_sites
@@ -145,7 +145,7 @@ pub returns-in-Some-clause-noted : goal.returns-in-Some-clause-noted
 returns-in-Some-clause-noted g c =
     let rows = rows_in c.args.manager.now in
     callbacks_back c.args.catalog.now c.run_coming.new.catalog c.args.manager.now.world c.run_coming.new.world c.clear.new.self c.run_coming.new.log _ c.run_coming.ensures.ran rows
-    ∙ ap (λ (l : RecordList). undone_if_told rows l.noted) c.clear.ensures
+    ∙ ap (λ (l : RecordList). before_noted rows l) c.clear.ensures
 
 pub returns-in-None-clause-noted : goal.returns-in-None-clause-noted
 returns-in-None-clause-noted g c =
@@ -159,4 +159,4 @@ returns-in-None-clause-noted g c =
     (ap (of_sites.put_back c.load.new.self) (sym c.load.ensures.row) ∙ c.load.ensures.undo) refl
     (loaded_told c.args.manager.now.sites c.load.new.self c.args.object true _ within c.load.ensures.table may.absent) ran
     ∙ callbacks_back c.args.catalog.now c.run_coming.new.catalog c.args.manager.now.world c.run_coming.new.world c.clear.new.self c.run_coming.new.log _ c.run_coming.ensures.ran rows
-    ∙ ap (λ (l : RecordList). undone_if_told rows l.noted) c.clear.ensures
+    ∙ ap (λ (l : RecordList). before_noted rows l) c.clear.ensures

@@ -17,7 +17,7 @@ use Rattle.klp_patch.specs.ModuleShares.{parts_in}
 use Rattle.klp_stack.specs.Stack.{entries_at}
 use Rattle.klp_sites.specs.Table.{SiteTable}
 use Rattle.klp_manager_state.specs.declared.state.ManagerState.{ManagerState}
-use Rattle.klp_manager_state.specs.Rows.{Rows, rows_in, undone_if_told}
+use Rattle.klp_manager_state.specs.Rows.{Rows, rows_in, before_noted}
 use Rattle.klp_types.specs.declared.record.Record.{Record}
 use Rattle.klp_sites.specs.Changes.{noting}
 use Rattle.klp_sites.specs.Undo as of_sites
@@ -87,4 +87,4 @@ returns-clause-noted g c =
     (loaded_told c.unpatch_object.new.sites c.unload.new.self c.args.object false _ within c.unload.ensures.table (ap (λ l. slice_index_or l c.args.object false) c.unpatch_object.ensures.loaded ∙ may.there)) ran
     ∙ c.unpatch_object.ensures.noted ran
     ∙ callbacks_back c.args.catalog.now c.run_going.new.catalog c.args.manager.now.world c.run_going.new.world c.clear.new.self c.run_going.new.log _ c.run_going.ensures rows
-    ∙ ap (λ (l : RecordList). undone_if_told rows l.noted) c.clear.ensures
+    ∙ ap (λ (l : RecordList). before_noted rows l) c.clear.ensures

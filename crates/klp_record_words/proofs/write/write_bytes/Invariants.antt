@@ -1,11 +1,6 @@
-use Rattle.std.proofs.Common.{◌≡◌, ◌+◌, ◌≤◌, ◌++◌, vec_len, vec_capacity}
+use Rattle.std.proofs.Common.{◌≡◌, ◌+◌, ◌++◌, take}
 use Rattle.klp_record_words.specs.Words.{byte_words}
 use Rattle.klp_record_words.proofs.write.write_bytes.Given as goal
 
 abbrev pub invariant-loop-k : goal.invariant-loop-k
-invariant-loop-k l =
-    record {
-      written : l.words.items ≡ l.initial.words.items ++ byte_words l.k l.bytes;
-      len : vec_len l.words ≡ vec_len l.initial.words + l.k;
-      room : vec_capacity l.initial.words ≤ vec_capacity l.words;
-    }
+invariant-loop-k l = take (l.at + l.k) l.words ≡ take l.at l.initial.words ++ byte_words l.k l.bytes

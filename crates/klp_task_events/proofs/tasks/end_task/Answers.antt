@@ -1,6 +1,8 @@
 use Rattle.std.proofs.Common.{sym, ◌∙◌, refl}
 use Rattle.klp_model.specs.declared.event.Event.TheVariants.{EndTask}
 use Rattle.klp_model.specs.declared.event.Reply.TheVariants.{Done}
+use Rattle.klp_model.specs.Task.{task_at}
+use Rattle.klp_tasks.specs.Changes.{record_of}
 use Rattle.klp_task_events.proofs.TakenLemmas.{refused_taken}
 use Rattle.klp_task_events.proofs.TaskLemmas.{task_taken}
 use Rattle.klp_task_events.proofs.NotedLemmas.{task_noted, went}
@@ -12,11 +14,11 @@ returns-in-Some-clause-taken c = λ catalog holds.
 
 pub returns-clause-taken : goal.returns-clause-taken
 returns-clause-taken c = λ catalog holds.
-    task_taken c.changes_of_one_kind_are_taken.ensures.tasks c.steps_keep.ensures c.args.manager.now c.note_alone.new.manager catalog c.end-row.new.self c.end-row.result (EndTask c.args.task) Done holds
+    task_taken c.changes_of_one_kind_are_taken.ensures.tasks c.steps_keep.ensures c.args.manager.now catalog c.end.new.self c.log_alone.new.log (record_of c.args.task (task_at c.args.manager.now.tasks c.args.task)) (EndTask c.args.task) Done holds
     (sym c.in_default.is ∙ c.end_task_refusal.ensures.refusal catalog) refl
-    (rw c.end-row.ensures.tasks refl)
-    c.note_alone.ensures
+    (rw c.end.ensures.tasks refl)
+    c.log_alone.ensures
 
 pub returns-clause-noted : goal.returns-clause-noted
-returns-clause-noted c = task_noted c.what_is_noted_gives_the_rows_back.ensures.tasks c.args.manager.now c.note_alone.new.manager c.end-row.new.self _ _ c.end-row.result Done c.end-row.ensures c.note_alone.ensures
-    (went c.args.manager.now.tasks c.end-row.new.self _ c.args.task c.end-row.result c.end-row.ensures refl c.in_default.ensures.there)
+returns-clause-noted c = task_noted c.what_is_noted_gives_the_rows_back.ensures.tasks c.args.manager.now c.end.new.self _ c.log_alone.new.log c.args.task (record_of c.args.task (task_at c.args.manager.now.tasks c.args.task)) Done c.end.ensures c.log_alone.ensures
+    (went c.args.manager.now.tasks c.end.new.self _ c.args.task (record_of c.args.task (task_at c.args.manager.now.tasks c.args.task)) c.end.ensures refl c.in_default.ensures.there)

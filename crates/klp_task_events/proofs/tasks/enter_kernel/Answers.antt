@@ -4,6 +4,8 @@ use Rattle.klp_types.specs.declared.task.Mode.TheVariants.{User, Kernel}
 use Rattle.klp_model.specs.declared.event.Event.TheVariants.{EnterKernel}
 use Rattle.klp_model.specs.declared.event.Reply.TheVariants.{Done}
 use Rattle.klp_manager_state.specs.Managed.{state_in}
+use Rattle.klp_model.specs.Task.{task_at}
+use Rattle.klp_tasks.specs.Changes.{record_of}
 use Rattle.klp_task_events.proofs.TakenLemmas.{refused_taken}
 use Rattle.klp_task_events.proofs.TaskLemmas.{task_taken, changed_as_said}
 use Rattle.klp_task_events.proofs.NotedLemmas.{task_noted, turned}
@@ -15,11 +17,11 @@ returns-in-Some-clause-taken c = λ catalog holds.
 
 pub returns-clause-taken : goal.returns-clause-taken
 returns-clause-taken c = λ catalog holds.
-    task_taken c.changes_of_one_kind_are_taken.ensures.tasks c.steps_keep.ensures c.args.manager.now c.note_alone.new.manager catalog c.enter-row.new.self c.enter-row.result (EnterKernel c.args.task) Done holds
+    task_taken c.changes_of_one_kind_are_taken.ensures.tasks c.steps_keep.ensures c.args.manager.now catalog c.enter.new.self c.log_alone.new.log (record_of c.args.task (task_at c.args.manager.now.tasks c.args.task)) (EnterKernel c.args.task) Done holds
     (sym c.in_default.is ∙ c.enter_kernel_refusal.ensures.refusal catalog) refl
-    (changed_as_said c.rows_change_as_the_step_says.ensures (state_in c.args.manager.now catalog) c.args.task (λ (t : Task). record t { mode = Kernel }) c.enter-row.new.self Done c.enter-row.ensures.tasks)
-    c.note_alone.ensures
+    (changed_as_said c.rows_change_as_the_step_says.ensures (state_in c.args.manager.now catalog) c.args.task (λ (t : Task). record t { mode = Kernel }) c.enter.new.self Done c.enter.ensures.tasks)
+    c.log_alone.ensures
 
 pub returns-clause-noted : goal.returns-clause-noted
-returns-clause-noted c = task_noted c.what_is_noted_gives_the_rows_back.ensures.tasks c.args.manager.now c.note_alone.new.manager c.enter-row.new.self _ _ c.enter-row.result Done c.enter-row.ensures c.note_alone.ensures
-    (turned User (λ (t : Task). record t { mode = Kernel }) (λ t. refl) c.args.manager.now.tasks c.enter-row.new.self _ c.args.task c.enter-row.result c.enter-row.ensures refl c.in_default.ensures.mode)
+returns-clause-noted c = task_noted c.what_is_noted_gives_the_rows_back.ensures.tasks c.args.manager.now c.enter.new.self _ c.log_alone.new.log c.args.task (record_of c.args.task (task_at c.args.manager.now.tasks c.args.task)) Done c.enter.ensures c.log_alone.ensures
+    (turned User (λ (t : Task). record t { mode = Kernel }) (λ t. refl) c.args.manager.now.tasks c.enter.new.self _ c.args.task (record_of c.args.task (task_at c.args.manager.now.tasks c.args.task)) c.enter.ensures refl c.in_default.ensures.mode)

@@ -4,6 +4,8 @@ use Rattle.klp_model.specs.declared.event.Reply.TheVariants.{Done}
 use Rattle.klp_model.specs.TaskStep.{exited}
 use Rattle.klp_types.specs.declared.task.Mode.TheVariants.{Kernel}
 use Rattle.klp_manager_state.specs.Managed.{state_in}
+use Rattle.klp_model.specs.Task.{task_at}
+use Rattle.klp_tasks.specs.Changes.{record_of}
 use Rattle.klp_task_events.proofs.TakenLemmas.{refused_taken}
 use Rattle.klp_task_events.proofs.TaskLemmas.{task_taken, changed_as_said}
 use Rattle.klp_task_events.proofs.NotedLemmas.{task_noted, turned, left_kernel}
@@ -15,11 +17,11 @@ returns-in-Some-clause-taken c = λ catalog holds.
 
 pub returns-clause-taken : goal.returns-clause-taken
 returns-clause-taken c = λ catalog holds.
-    task_taken c.changes_of_one_kind_are_taken.ensures.tasks c.steps_keep.ensures c.args.manager.now c.note_alone.new.manager catalog c.leave-row.new.self c.leave-row.result (ExitToUser c.args.task) Done holds
+    task_taken c.changes_of_one_kind_are_taken.ensures.tasks c.steps_keep.ensures c.args.manager.now catalog c.leave.new.self c.log_alone.new.log (record_of c.args.task (task_at c.args.manager.now.tasks c.args.task)) (ExitToUser c.args.task) Done holds
     (sym c.in_default.is ∙ c.exit_to_user_refusal.ensures.refusal catalog) refl
-    (changed_as_said c.rows_change_as_the_step_says.ensures (state_in c.args.manager.now catalog) c.args.task (exited c.args.manager.now.moving) c.leave-row.new.self Done c.leave-row.ensures.tasks)
-    c.note_alone.ensures
+    (changed_as_said c.rows_change_as_the_step_says.ensures (state_in c.args.manager.now catalog) c.args.task (exited c.args.manager.now.moving) c.leave.new.self Done c.leave.ensures.tasks)
+    c.log_alone.ensures
 
 pub returns-clause-noted : goal.returns-clause-noted
-returns-clause-noted c = task_noted c.what_is_noted_gives_the_rows_back.ensures.tasks c.args.manager.now c.note_alone.new.manager c.leave-row.new.self _ _ c.leave-row.result Done c.leave-row.ensures c.note_alone.ensures
-    (turned Kernel (exited c.args.manager.now.moving) (left_kernel c.args.manager.now.moving) c.args.manager.now.tasks c.leave-row.new.self _ c.args.task c.leave-row.result c.leave-row.ensures refl c.in_default.ensures.mode)
+returns-clause-noted c = task_noted c.what_is_noted_gives_the_rows_back.ensures.tasks c.args.manager.now c.leave.new.self _ c.log_alone.new.log c.args.task (record_of c.args.task (task_at c.args.manager.now.tasks c.args.task)) Done c.leave.ensures c.log_alone.ensures
+    (turned Kernel (exited c.args.manager.now.moving) (left_kernel c.args.manager.now.moving) c.args.manager.now.tasks c.leave.new.self _ c.args.task (record_of c.args.task (task_at c.args.manager.now.tasks c.args.task)) c.leave.ensures refl c.in_default.ensures.mode)

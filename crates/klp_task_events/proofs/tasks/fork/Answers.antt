@@ -1,6 +1,8 @@
 use Rattle.std.proofs.Common.{sym, ◌∙◌, refl}
 use Rattle.klp_model.specs.declared.event.Event.TheVariants.{Fork}
 use Rattle.klp_model.specs.declared.event.Reply.TheVariants.{Done}
+use Rattle.klp_model.specs.Task.{task_at}
+use Rattle.klp_tasks.specs.Changes.{record_of}
 use Rattle.klp_task_events.proofs.TakenLemmas.{refused_taken}
 use Rattle.klp_task_events.proofs.TaskLemmas.{task_taken}
 use Rattle.klp_task_events.proofs.NotedLemmas.{task_noted, came}
@@ -12,11 +14,11 @@ returns-in-Some-clause-taken c = λ catalog holds.
 
 pub returns-clause-taken : goal.returns-clause-taken
 returns-clause-taken c = λ catalog holds.
-    task_taken c.changes_of_one_kind_are_taken.ensures.tasks c.steps_keep.ensures c.args.manager.now c.note_alone.new.manager catalog c.fork-row.new.self c.fork-row.result (Fork c.args.parent c.args.child) Done holds
+    task_taken c.changes_of_one_kind_are_taken.ensures.tasks c.steps_keep.ensures c.args.manager.now catalog c.fork.new.self c.log_alone.new.log (record_of c.args.child (task_at c.args.manager.now.tasks c.args.child)) (Fork c.args.parent c.args.child) Done holds
     (sym c.in_default.is ∙ c.fork_refusal.ensures.refusal catalog) refl
-    (rw c.fork-row.ensures.tasks refl)
-    c.note_alone.ensures
+    (rw c.fork.ensures.tasks refl)
+    c.log_alone.ensures
 
 pub returns-clause-noted : goal.returns-clause-noted
-returns-clause-noted c = task_noted c.what_is_noted_gives_the_rows_back.ensures.tasks c.args.manager.now c.note_alone.new.manager c.fork-row.new.self _ _ c.fork-row.result Done c.fork-row.ensures c.note_alone.ensures
-    (came c.args.manager.now.tasks c.fork-row.new.self _ c.args.child c.fork-row.result _ c.fork-row.ensures refl c.in_default.ensures.within c.in_default.ensures.free)
+returns-clause-noted c = task_noted c.what_is_noted_gives_the_rows_back.ensures.tasks c.args.manager.now c.fork.new.self _ c.log_alone.new.log c.args.child (record_of c.args.child (task_at c.args.manager.now.tasks c.args.child)) Done c.fork.ensures c.log_alone.ensures
+    (came c.args.manager.now.tasks c.fork.new.self _ c.args.child (record_of c.args.child (task_at c.args.manager.now.tasks c.args.child)) _ c.fork.ensures refl c.in_default.ensures.within c.in_default.ensures.free)

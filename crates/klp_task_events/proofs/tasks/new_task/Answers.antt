@@ -1,6 +1,8 @@
 use Rattle.std.proofs.Common.{sym, ◌∙◌, refl}
 use Rattle.klp_model.specs.declared.event.Event.TheVariants.{NewTask}
 use Rattle.klp_model.specs.declared.event.Reply.TheVariants.{Done}
+use Rattle.klp_model.specs.Task.{task_at}
+use Rattle.klp_tasks.specs.Changes.{record_of}
 use Rattle.klp_task_events.proofs.TakenLemmas.{refused_taken}
 use Rattle.klp_task_events.proofs.TaskLemmas.{task_taken}
 use Rattle.klp_task_events.proofs.NotedLemmas.{task_noted, came}
@@ -12,11 +14,11 @@ returns-in-Some-clause-taken c = λ catalog holds.
 
 pub returns-clause-taken : goal.returns-clause-taken
 returns-clause-taken c = λ catalog holds.
-    task_taken c.changes_of_one_kind_are_taken.ensures.tasks c.steps_keep.ensures c.args.manager.now c.note_alone.new.manager catalog c.add-row.new.self c.add-row.result (NewTask c.args.task) Done holds
+    task_taken c.changes_of_one_kind_are_taken.ensures.tasks c.steps_keep.ensures c.args.manager.now catalog c.add.new.self c.log_alone.new.log (record_of c.args.task (task_at c.args.manager.now.tasks c.args.task)) (NewTask c.args.task) Done holds
     (sym c.in_default.is ∙ c.new_task_refusal.ensures.refusal catalog) refl
-    (rw (c.add-row.ensures.tasks, c.state_wanted.ensures) refl)
-    c.note_alone.ensures
+    (rw (c.add.ensures.tasks, c.state_wanted.ensures) refl)
+    c.log_alone.ensures
 
 pub returns-clause-noted : goal.returns-clause-noted
-returns-clause-noted c = task_noted c.what_is_noted_gives_the_rows_back.ensures.tasks c.args.manager.now c.note_alone.new.manager c.add-row.new.self _ _ c.add-row.result Done c.add-row.ensures c.note_alone.ensures
-    (came c.args.manager.now.tasks c.add-row.new.self _ c.args.task c.add-row.result _ c.add-row.ensures refl c.in_default.ensures.within c.in_default.ensures.free)
+returns-clause-noted c = task_noted c.what_is_noted_gives_the_rows_back.ensures.tasks c.args.manager.now c.add.new.self _ c.log_alone.new.log c.args.task (record_of c.args.task (task_at c.args.manager.now.tasks c.args.task)) Done c.add.ensures c.log_alone.ensures
+    (came c.args.manager.now.tasks c.add.new.self _ c.args.task (record_of c.args.task (task_at c.args.manager.now.tasks c.args.task)) _ c.add.ensures refl c.in_default.ensures.within c.in_default.ensures.free)

@@ -4,6 +4,8 @@ use Rattle.klp_types.specs.declared.task.Mode.TheVariants.{Kernel, Asleep}
 use Rattle.klp_model.specs.declared.event.Event.TheVariants.{Sleep}
 use Rattle.klp_model.specs.declared.event.Reply.TheVariants.{Done}
 use Rattle.klp_manager_state.specs.Managed.{state_in}
+use Rattle.klp_model.specs.Task.{task_at}
+use Rattle.klp_tasks.specs.Changes.{record_of}
 use Rattle.klp_task_events.proofs.TakenLemmas.{refused_taken}
 use Rattle.klp_task_events.proofs.TaskLemmas.{task_taken, changed_as_said}
 use Rattle.klp_task_events.proofs.NotedLemmas.{task_noted, turned}
@@ -15,11 +17,11 @@ returns-in-Some-clause-taken g c =
 
 pub returns-clause-taken : goal.returns-clause-taken
 returns-clause-taken g c =
-    task_taken c.changes_of_one_kind_are_taken.ensures.tasks c.steps_keep.ensures c.args.manager.now c.note_alone.new.manager c.args.catalog.now c.sleep-row.new.self c.sleep-row.result (Sleep c.args.task c.args.frames) Done c.requires
+    task_taken c.changes_of_one_kind_are_taken.ensures.tasks c.steps_keep.ensures c.args.manager.now c.args.catalog.now c.sleep.new.self c.log_alone.new.log (record_of c.args.task (task_at c.args.manager.now.tasks c.args.task)) (Sleep c.args.task c.args.frames) Done c.requires
     (sym c.in_default.is ∙ c.sleep_refusal.ensures.refusal) refl
-    (changed_as_said c.rows_change_as_the_step_says.ensures (state_in c.args.manager.now c.args.catalog.now) c.args.task (λ (t : Task). record t { mode = Asleep; frames = c.args.frames }) c.sleep-row.new.self Done c.sleep-row.ensures.tasks)
-    c.note_alone.ensures
+    (changed_as_said c.rows_change_as_the_step_says.ensures (state_in c.args.manager.now c.args.catalog.now) c.args.task (λ (t : Task). record t { mode = Asleep; frames = c.args.frames }) c.sleep.new.self Done c.sleep.ensures.tasks)
+    c.log_alone.ensures
 
 pub returns-clause-noted : goal.returns-clause-noted
-returns-clause-noted g c = task_noted c.what_is_noted_gives_the_rows_back.ensures.tasks c.args.manager.now c.note_alone.new.manager c.sleep-row.new.self _ _ c.sleep-row.result Done c.sleep-row.ensures c.note_alone.ensures
-    (turned Kernel (λ (t : Task). record t { mode = Asleep; frames = c.args.frames }) (λ t. refl) c.args.manager.now.tasks c.sleep-row.new.self _ c.args.task c.sleep-row.result c.sleep-row.ensures refl c.in_default.ensures.mode)
+returns-clause-noted g c = task_noted c.what_is_noted_gives_the_rows_back.ensures.tasks c.args.manager.now c.sleep.new.self _ c.log_alone.new.log c.args.task (record_of c.args.task (task_at c.args.manager.now.tasks c.args.task)) Done c.sleep.ensures c.log_alone.ensures
+    (turned Kernel (λ (t : Task). record t { mode = Asleep; frames = c.args.frames }) (λ t. refl) c.args.manager.now.tasks c.sleep.new.self _ c.args.task (record_of c.args.task (task_at c.args.manager.now.tasks c.args.task)) c.sleep.ensures refl c.in_default.ensures.mode)

@@ -7,4 +7,5 @@ abbrev pub invariant-loop-place : goal.invariant-loop-place
 invariant-loop-place l = record {
   all : l.log.noted ++ map (state_row l.patch) (reverse (take l.place l.states)) ≡ l.initial.log.noted ++ map (state_row l.patch) (reverse l.states);
   room : l.log.room ≡ l.initial.log.room;
+  older : l.log.older ≡ l.initial.log.older;
 }

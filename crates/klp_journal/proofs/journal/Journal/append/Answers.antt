@@ -1,49 +1,54 @@
-use Rattle.std.proofs.Common.{◌≡◌, ◌+◌, ◌≤◌, ◌<◌, List, [], ◌∷◌, ◌++◌, length, ◌∙◌, ap, refl, length-append, vec_len, vec_capacity, arith}
-use Rattle.std.proofs.lemmas.List.{length_push}
+use Rattle.std.proofs.Common.{◌≡◌, ◌<◌, [], ◌∷◌, ◌++◌, length, map, refl, ap, length-append, ◌∙◌, vec_len, vec_capacity, arith}
 use Rattle.std.proofs.lemmas.Grind.{common_steps}
-use Rattle.std.proofs.lemmas.List.Sums.{sum_by_push}
-use Rattle.klp_types.specs.declared.record.Record.{Record}
+use Rattle.std.proofs.lemmas.List.{length-map, length_push, map-append}
+use Rattle.klp_types.specs.Records.{RecordList}
 use Rattle.klp_journal.specs.declared.journal.Noted.{Noted}
-use Rattle.klp_journal.specs.Journal.{Group}
-use Rattle.klp_journal.specs.Cut.{counted, cut, group_of}
-use Rattle.klp_journal.proofs.CutLemmas.{groups_seen, records_seen, cut-append}
+use Rattle.klp_journal.specs.Journal.{Accepted, groups_of, counted}
+use Rattle.klp_journal.specs.Stored.{accepted_of}
+use Rattle.klp_journal.proofs.GroupLemmas.{room_for, groups-append, counted_more}
 use Rattle.klp_journal.proofs.journal.Journal.append.Goals as goal
 
--- the groups have all records
-all : (c : goal.Joined-push) → counted c.self.inside.groups.items ≡ length c.self.inside.rows.items
-all c = omega arith
+pub keep-requires : goal.keep-requires
+keep-requires c =
+    let room = (room_for c.args.self.now c.args.log.now.older c.requires.all c.requires.room).1 in
+    omega (arith, room, c.requires.few)
 
--- there was room for the records, so all of them are noted
-kept : (c : goal.Joined-push) → c.extend_from_slice.new.self.items ≡ c.self.inside.rows.items ++ c.args.rows.now
-kept c =
-    let seen = records_seen c.self.inside.groups.items c.self.inside.rows.items c.args.self.now c.self.view_is (all c) in
-    let fit : vec_len c.self.inside.rows + length c.args.rows.now ≤ vec_capacity c.self.inside.rows = omega arith in
+-- there was room for the event
+stored : (c : goal.Joined-push) → c.push.new.self.items ≡ c.self.inside.events.items ++ (record { event = c.of.result; reply = c.of-2.result; count = c.noted-count.result }) ∷ []
+stored c =
+    let room = (room_for c.args.self.now c.args.log.now.older c.requires.all c.requires.room).0 in
+    let many = ap length c.self.view_is in
+    let same = length-map c.self.inside.events.items accepted_of in
+    let fits : vec_len c.self.inside.events < vec_capacity c.self.inside.events = omega arith in
     grind (arith, common_steps)
 
--- there was room for the group, so it is noted
-added : (c : goal.Joined-push) → c.push.new.self.items ≡ c.self.inside.groups.items ++ (record { event = c.of.result; reply = c.of-2.result; rows = length c.args.rows.now }) ∷ []
+added : (c : goal.Joined-push) → map accepted_of c.push.new.self.items
+    ≡ c.args.self.now ++ (record { event = c.args.event.now; reply = c.args.reply.now; count = length c.args.log.now.noted }) ∷ []
 added c =
-    let seen = groups_seen c.self.inside.groups.items c.self.inside.rows.items c.args.self.now c.self.view_is in
-    let fits : vec_len c.self.inside.groups < vec_capacity c.self.inside.groups = omega arith in
-    grind (arith, common_steps)
+    let noted : Noted = record { event = c.of.result; reply = c.of-2.result; count = c.noted-count.result } in
+    ap (map accepted_of) (stored c) ∙ map-append accepted_of c.self.inside.events.items (noted ∷ [])
+    ∙ ap (λ es. es ++ accepted_of noted ∷ []) c.self.view_is
+    ∙ ap (λ e. c.args.self.now ++ (let own : Accepted = record { event = e; reply = c.of-2.result.value; count = c.noted-count.result } in own) ∷ []) c.of.ensures
+    ∙ ap (λ r. c.args.self.now ++ (let own : Accepted = record { event = c.args.event.now; reply = r; count = c.noted-count.result } in own) ∷ []) c.of-2.ensures
+    ∙ ap (λ n. c.args.self.now ++ (let own : Accepted = record { event = c.args.event.now; reply = c.args.reply.now; count = n } in own) ∷ []) c.noted-count.ensures.value
+
+pub returns-clause-groups : goal.returns-clause-groups
+returns-clause-groups c =
+    ap (λ es. groups_of es c.keep.new.self.older) (added c)
+    ∙ ap (λ (l : RecordList). groups_of (c.args.self.now ++ (record { event = c.args.event.now; reply = c.args.reply.now; count = length c.args.log.now.noted }) ∷ []) l.older) c.keep.ensures
+    ∙ groups-append c.args.self.now c.args.log.now.older (record { event = c.args.event.now; reply = c.args.reply.now; count = length c.args.log.now.noted }) c.args.log.now.noted c.requires.all refl
 
 pub invariant_of-self : goal.invariant_of-self
 invariant_of-self c =
-    let noted : Noted = record { event = c.of.result; reply = c.of-2.result; rows = length c.args.rows.now } in
-    let records = records_seen c.self.inside.groups.items c.self.inside.rows.items c.args.self.now c.self.view_is (all c) in
-    let groups = groups_seen c.self.inside.groups.items c.self.inside.rows.items c.args.self.now c.self.view_is in
-    let more = ap length (kept c) ∙ length-append c.self.inside.rows.items c.args.rows.now in
-    let count = ap counted (added c) ∙ sum_by_push (λ (n : Noted). n.rows) c.self.inside.groups.items noted in
-    let one_more = ap length (added c) ∙ length_push c.self.inside.groups.items noted in
-    (omega arith, omega arith, omega arith, omega arith, omega arith)
+    let room = (room_for c.args.self.now c.args.log.now.older c.requires.all c.requires.room).0 in
+    let many = ap length c.self.view_is in
+    let same = length-map c.self.inside.events.items accepted_of in
+    let longer = ap length (stored c) ∙ length_push c.self.inside.events.items _ in
+    (omega arith, omega arith)
 
-pub returns : goal.returns
-returns c =
-    let noted : Noted = record { event = c.of.result; reply = c.of-2.result; rows = length c.args.rows.now } in
-    let more = cut-append c.self.inside.groups.items c.self.inside.rows.items noted c.args.rows.now (all c) refl in
-    ap (λ (rs : List Record). cut c.push.new.self.items rs) (kept c)
-    ∙ ap (λ (ns : List Noted). cut ns (c.self.inside.rows.items ++ c.args.rows.now)) (added c)
-    ∙ more
-    ∙ ap (λ (gs : List Group). gs ++ group_of noted c.args.rows.now ∷ []) c.self.view_is
-    ∙ ap (λ e. c.args.self.now ++ (record { event = e; reply = c.of-2.result.value; rows = c.args.rows.now }) ∷ []) c.of.ensures
-    ∙ ap (λ r. c.args.self.now ++ (record { event = c.args.event.now; reply = r; rows = c.args.rows.now }) ∷ []) c.of-2.ensures
+pub returns-clause-kept : goal.returns-clause-kept
+returns-clause-kept c =
+    let noted = ap (λ (l : RecordList). length l.older) c.keep.ensures in
+    let both = length-append c.args.log.now.older c.args.log.now.noted in
+    let more = ap counted (added c) ∙ counted_more c.args.self.now (record { event = c.args.event.now; reply = c.args.reply.now; count = length c.args.log.now.noted }) in
+    record { all = omega (arith, more, c.requires.all, noted, both); rests = ap (λ (l : RecordList). l.noted) c.keep.ensures }

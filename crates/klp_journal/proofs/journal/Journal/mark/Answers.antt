@@ -1,8 +1,9 @@
-use Rattle.std.proofs.Common.{arith}
-use Rattle.klp_journal.proofs.CutLemmas.{groups_seen}
+use Rattle.std.proofs.Common.{length, ap, arith}
+use Rattle.std.proofs.lemmas.List.{length-map}
+use Rattle.klp_journal.specs.Stored.{accepted_of}
+use Rattle.klp_journal.proofs.GroupLemmas.{length-groups}
 use Rattle.klp_journal.proofs.journal.Journal.mark.Goals as goal
 
-pub returns-clause-value : goal.returns-clause-value
-returns-clause-value c =
-    let seen = groups_seen c.self.inside.groups.items c.self.inside.rows.items c.args.self.now c.self.view_is in
-    omega arith
+pub returns-clause-groups : goal.returns-clause-groups
+returns-clause-groups c = λ rows.
+    omega (arith, length-groups c.args.self.now rows, ap length c.self.view_is, length-map c.self.inside.events.items accepted_of, c.len.ensures)

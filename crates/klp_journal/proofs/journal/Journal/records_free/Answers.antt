@@ -1,16 +1,12 @@
-use Rattle.std.proofs.Common.{◌≡◌, length, arith}
-use Rattle.klp_journal.specs.Cut.{counted}
-use Rattle.klp_journal.proofs.CutLemmas.{records_seen}
+use Rattle.std.proofs.Common.{◌-◌, sym, ap, ◌∙◌, subst, ◌≤◌}
+use Rattle.klp_types.specs.declared.limits.TheConstants.{MAX_JOURNAL_RECORDS}
+use Rattle.klp_journal.proofs.GroupLemmas.{records_in-groups}
 use Rattle.klp_journal.proofs.journal.Journal.records_free.Goals as goal
 
 pub returns-clause-value : goal.returns-clause-value
 returns-clause-value c =
-    let all : counted c.self.inside.groups.items ≡ length c.self.inside.rows.items = omega arith in
-    let seen = records_seen c.self.inside.groups.items c.self.inside.rows.items c.args.self.now c.self.view_is all in
-    omega arith
+    ap (λ n. MAX_JOURNAL_RECORDS - n) (c.older.ensures.value ∙ sym (records_in-groups c.args.self.now c.args.log.now.older c.requires.all))
 
 pub returns-clause-limit : goal.returns-clause-limit
 returns-clause-limit c =
-    let all : counted c.self.inside.groups.items ≡ length c.self.inside.rows.items = omega arith in
-    let seen = records_seen c.self.inside.groups.items c.self.inside.rows.items c.args.self.now c.self.view_is all in
-    omega arith
+    subst (λ n. n ≤ MAX_JOURNAL_RECORDS) (c.older.ensures.value ∙ sym (records_in-groups c.args.self.now c.args.log.now.older c.requires.all)) c.older.ensures.limit

@@ -1,4 +1,5 @@
-use Rattle.std.proofs.Common.{refl}
+use Rattle.std.proofs.Common.{refl, ap}
+use Rattle.klp_types.specs.Records.{RecordList}
 use Rattle.klp_manager_state.proofs.OpeningLemmas.{opening_kept}
 use Rattle.klp_manager_state.proofs.state.ManagerState.new.Goals as goal
 
@@ -11,4 +12,4 @@ returns-clause-kept g c =
       tasks = c.in_ok-made.ensures.tasks;
       moving = refl;
       pinned = c.in_ok-made.ensures.pinned;
-    }) c.requires.limits c.requires.modules c.requires.catalog c.in_ok-made.ensures.log
+    }) c.requires.limits c.requires.modules c.requires.catalog (ap (λ (l : RecordList). l.room) c.in_ok-made.ensures.log)

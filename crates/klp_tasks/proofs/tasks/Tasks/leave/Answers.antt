@@ -1,5 +1,21 @@
-use Rattle.std.proofs.Common.{rules}
+use Rattle.std.proofs.Common.{◌≡◌, refl, ap, arith, rules}
+use Rattle.std.proofs.lemmas.Grind.{common_steps}
+use Rattle.klp_types.specs.declared.task.Task.{Task}
+use Rattle.klp_types.specs.declared.task.Mode.TheVariants.{User}
+use Rattle.klp_model.specs.Task.{task_at, with_task}
+use Rattle.klp_model.specs.TaskStep.{exited}
+use Rattle.std.specs.Prelude.{Some}
+use Rattle.klp_tasks.proofs.TaskLemmas.{is_changed}
 use Rattle.klp_tasks.proofs.tasks.Tasks.leave.Goals as goal
+use Rattle.klp_tasks.proofs.tasks.Tasks.leave.Goals.{in-Some-moving, in_default-moving}
 
 pub returns : goal.returns
-returns c = search rules
+returns c =
+    let there : task_at c.args.self.now c.args.task ≡ Some c.in-Some.row = grind (arith, common_steps, rules) in
+    let row : record c.match-moving.row { mode = User } ≡ exited c.args.moving c.in-Some.row =
+    elim c.match-moving.branch [
+      | in-Some-moving w ↦ rw (w.row-is, w.in-Some-moving.is, w.target_state-row.ensures) refl
+      | in_default-moving w ↦ rw (w.row-is, w.in_default-moving.is) refl
+    ] in
+    is_changed c.args.self.now _ c.args.task (exited c.args.moving) c.in-Some.row there
+    (rw (c.from.ensures, c.task.view_is, c.self.view_is) (ap (λ (r : Task). with_task c.args.self.now c.args.task (Some r)) row))

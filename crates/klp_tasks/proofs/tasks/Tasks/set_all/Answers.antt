@@ -1,24 +1,23 @@
-use Rattle.klp_model.specs.Task.{in_state}
-use Rattle.std.proofs.Common.{◌≡◌, ◌∙◌, refl, arith, length, append-nil, Some, None}
-use Rattle.klp_tasks.proofs.TaskLemmas.{started, one_changed, has_room, all_changed}
-use Rattle.klp_tasks.proofs.tasks.Tasks.set_all.Goals.{in-Some, in_default}
+use Rattle.std.proofs.Common.{◌≡◌, refl, arith, length}
+use Rattle.klp_model.specs.Task.{task_at, in_state}
+use Rattle.klp_tasks.specs.Changes.{changed, record_if_switched}
+use Rattle.klp_tasks.proofs.TaskLemmas.{started, one_changed, room_if, all_changed}
 use Rattle.klp_tasks.proofs.tasks.Tasks.set_all.Goals as goal
 
 pub loop-number-init : goal.loop-number-init
 loop-number-init c = started _ c.args.self.now c.args.log.now
 
-pub note-requires : goal.note-requires
-note-requires c =
-    has_room (in_state c.args.state) c.loop-number.number c.args.self.now c.loop-number.self c.set_state.new.self c.args.log.now c.loop-number.log c.in-Some.row
-    c.loop-number.invariant c.set_state.ensures.tasks c.in-Some.ensures.row c.requires
+pub set_state-requires : goal.set_state-requires
+set_state-requires c =
+    room_if (in_state c.args.state) c.loop-number.number c.args.self.now c.loop-number.self c.args.log.now c.loop-number.log
+    (record_if_switched c.loop-number.number (task_at c.loop-number.self c.loop-number.number) (task_at (changed c.loop-number.self c.loop-number.number (in_state c.args.state)) c.loop-number.number))
+    c.loop-number.invariant refl c.requires
 
 pub loop-number-preserved : goal.loop-number-preserved
 loop-number-preserved c =
-    let set = one_changed _ c.loop-number.number c.args.self.now c.loop-number.self c.set_state.new.self c.args.log.now c.loop-number.log c.match-set_state.log in
-    elim c.match-set_state.branch [
-      | in-Some w ↦ set (Some w.in-Some.row) c.loop-number.invariant c.set_state.ensures.tasks w.in-Some.ensures.row w.in-Some.ensures.undo (w.log-is ∙ w.note.ensures)
-      | in_default w ↦ set None c.loop-number.invariant c.set_state.ensures.tasks w.in_default.ensures.row w.in_default.ensures.undo (w.log-is ∙ rw append-nil refl)
-    ]
+    one_changed (in_state c.args.state) c.loop-number.number c.args.self.now c.loop-number.self c.set_state.new.self c.args.log.now c.loop-number.log c.set_state.new.log
+    (record_if_switched c.loop-number.number (task_at c.loop-number.self c.loop-number.number) (task_at c.set_state.new.self c.loop-number.number))
+    c.loop-number.invariant c.set_state.ensures.tasks refl c.set_state.ensures.noted.undo c.set_state.ensures.noted.records
 
 pub returns-clause-tasks : goal.returns-clause-tasks
 returns-clause-tasks c =

@@ -8,5 +8,6 @@ abbrev pub invariant-loop-id : goal.invariant-loop-id
 invariant-loop-id l = record {
   all : l.log.noted ++ map (λ id. StateRow l.patch id None) (drop l.id-index l.ids) ≡ l.initial.log.noted ++ map (λ id. StateRow l.patch id None) l.ids;
   room : l.log.room ≡ l.initial.log.room;
+  older : l.log.older ≡ l.initial.log.older;
   states : ◌≡◌ {A = Installed} l.installed (record { patch = l.patch; values = map (λ id. (id, 0)) (take l.id-index l.ids) });
 }

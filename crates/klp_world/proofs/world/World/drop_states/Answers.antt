@@ -53,7 +53,7 @@ returns c =
     record {
       changes = record {
         world = taken;
-        records = c.note.ensures ∙ ap (λ (l : RecordList). record { noted = l.noted ++ last; room = l.room }) c.note_states.ensures
+        records = c.note.ensures ∙ ap (λ (l : RecordList). record l { noted = l.noted ++ last }) c.note_states.ensures
             ∙ ap (λ (noted : List Record). record c.args.log.now { noted = noted })
             (append_assoc c.args.log.now.noted _ last ∙ ap (c.args.log.now.noted ++◌) (ap (λ states. map (state_row c.args.patch) (reverse states) ++ last) c.states.ensures.value ∙ sym rows));
         undo = ap (λ (w : World). undone w (rows_of_drop c.args.self.now c.args.patch)) taken

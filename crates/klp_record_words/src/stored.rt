@@ -1,0 +1,171 @@
+//! Records as words in one list, one behind another.
+ghost use Rattle.std.specs.Prelude.{◌≡◌, ◌+◌, ◌*◌, ◌<◌, ◌≤◌, [], ◌∷◌, ◌++◌, length, take, slice_get, Some, IfOk, IfSome, IfNone, vec_len, vec_capacity};
+ghost use Rattle.klp_types.specs.declared.record.Record.TheVariants.{TaskRow};
+ghost use Rattle.klp_types.specs.declared.task.Task.{Task as AnyTask};
+ghost use Rattle.klp_record_words.specs.Small.{row_of};
+
+use crate::read::read_back;
+use crate::small::{SmallRecord, small};
+use crate::switched::{SwitchedTask, switched};
+use crate::write::{put_record, write_task};
+use klp_types::{MAX_RECORD_WORDS, Record, Task, TaskId};
+use std::alloc::{AllocError, Global};
+use std::marker::Model;
+
+/// How many words are made ready at a time.
+const READY: usize = 1024;
+
+/// Records in the order in which they were logged, as words in one list whose room is taken when it is made.
+#[derive(Debug, Drop)]
+pub(crate) struct StoredRecords {
+    /// The words of the records, and behind them words that are ready to be written over.
+    words: Vec<u64>,
+    /// How many of the words are those of records.
+    end: usize,
+    /// How many records there are.
+    count: usize,
+    room: usize,
+}
+
+/// Sees to it that the words of one more record can be written behind so many. The list grows within its room, a
+/// piece at a time, so that memory which no record has needed is never touched.
+#[inline(always)]
+fn make_ready(words: &mut Vec<u64>, end: usize, room: usize)
+    requires within { end ≤ vec_len words.old }
+    requires spare { end + 36 ≤ 36 * room }
+    requires room { 36 * room ≤ vec_capacity words.old }
+    ensures ready { end + 36 ≤ vec_len words.new }
+    ensures written { take end words.new.items ≡ take end words.old.items }
+    ensures room { vec_capacity words.old ≤ vec_capacity words.new }
+{
+    if words.len() - end < MAX_RECORD_WORDS {
+        grow(words, end, room);
+    }
+}
+
+#[cold]
+fn grow(words: &mut Vec<u64>, end: usize, room: usize)
+    requires within { end ≤ vec_len words.old }
+    requires short { vec_len words.old < end + 36 }
+    requires spare { end + 36 ≤ 36 * room }
+    requires room { 36 * room ≤ vec_capacity words.old }
+    ensures ready { end + 36 ≤ vec_len words.new }
+    ensures written { take end words.new.items ≡ take end words.old.items }
+    ensures room { vec_capacity words.old ≤ vec_capacity words.new }
+{
+    let most = MAX_RECORD_WORDS * room;
+    let ready = if most - end < READY {
+        most
+    } else {
+        end + READY
+    };
+    let _ = words.resize(ready, 0);
+}
+
+impl Model for StoredRecords {
+    ghost use Rattle.std.specs.Prelude.{◌≤◌, ◌*◌, take, vec_len, vec_capacity};
+    ghost use Rattle.klp_record_words.specs.Stored.{StoredList, records_in, AreWords};
+
+    ghost Value = { StoredList };
+
+    ghost view = { λ r. record { rows = records_in r.count (take r.end r.words.items); room = r.room } };
+
+    ghost invariant = { λ r. AreWords r.count (take r.end r.words.items) × (r.end ≤ vec_len r.words) × (r.count ≤ r.room)
+        × (36 * r.room ≤ vec_capacity r.words) };
+}
+
+impl StoredRecords {
+    /// An empty list with room for so many records, whatever they say, which never grows. An error is want of memory.
+    pub(crate) fn new(alloc: Global, room: usize) -> Result<Self, AllocError>
+        ensures { IfOk result (λ records. records ≡ record { rows = []; room = room }) }
+    {
+        let most = MAX_RECORD_WORDS.checked_mul(room).ok_or(AllocError)?;
+        Ok(Self {
+            words: Vec::with_capacity(alloc, most)?,
+            end: 0,
+            count: 0,
+            room,
+        })
+    }
+
+    pub(crate) fn count(&self) -> usize
+        ensures value { result ≡ length self.now.rows }
+        ensures limit { result ≤ self.now.room }
+    {
+        self.count
+    }
+
+    #[inline(always)]
+    pub(crate) fn note(&mut self, row: Record)
+        requires { length self.old.rows < self.old.room }
+        ensures { self.new ≡ record self.old { rows = self.old.rows ++ row ∷ [] } }
+    {
+        make_ready(&mut self.words, self.end, self.room);
+        self.end = put_record(&row, &mut self.words, self.end);
+        self.count += 1;
+    }
+
+    #[inline(always)]
+    pub(crate) fn note_task(&mut self, task: TaskId, was: &Task)
+        requires { length self.old.rows < self.old.room }
+        ensures { self.new ≡ record self.old { rows = self.old.rows ++ TaskRow task was.now ∷ [] } }
+    {
+        make_ready(&mut self.words, self.end, self.room);
+        self.end = write_task(task, was, &mut self.words, self.end);
+        self.count += 1;
+    }
+
+    /// Takes the newest record out, if there is one.
+    pub(crate) fn take_newest(&mut self) -> Option<Record>
+        ensures newest { IfSome result
+            (λ newest. self.old ≡ record self.new { rows = self.new.rows ++ newest ∷ [] }) }
+        ensures empty { IfNone result (self.old.rows ≡ []) }
+        ensures unchanged { IfNone result (self.new ≡ self.old) }
+    {
+        let Some((row, count)) = read_back(&self.words[..self.end]) else {
+            return None;
+        };
+        self.end -= count;
+        self.count -= 1;
+        Some(row)
+    }
+
+    /// Takes the newest record out, if it is a small one.
+    #[inline(always)]
+    pub(crate) fn take_small(&mut self) -> Option<SmallRecord>
+        ensures newest { IfSome result
+            (λ newest. self.old ≡ record self.new { rows = self.new.rows ++ row_of newest ∷ [] }) }
+        ensures unchanged { IfNone result (self.new ≡ self.old) }
+    {
+        let Some((newest, count)) = small(&self.words[..self.end]) else {
+            return None;
+        };
+        self.end -= count;
+        self.count -= 1;
+        Some(newest)
+    }
+
+    /// Takes the newest record out, if it is that of a task of which the state or the mode alone is another now.
+    #[inline(always)]
+    pub(crate) fn take_switched(&mut self, tasks: &[Option<Task>]) -> Option<SwitchedTask>
+        ensures newest { IfSome result (λ was. (now : AnyTask) × ((slice_get tasks.now was.task ≡ Some (Some now))
+            × (self.old ≡ record self.new {
+              rows = self.new.rows ++ TaskRow was.task (record now { state = was.state; mode = was.mode }) ∷ [];
+            }))) }
+        ensures unchanged { IfNone result (self.new ≡ self.old) }
+    {
+        let Some((was, count)) = switched(&self.words[..self.end], tasks) else {
+            return None;
+        };
+        self.end -= count;
+        self.count -= 1;
+        Some(was)
+    }
+
+    pub(crate) fn clear(&mut self)
+        ensures { self.new ≡ record self.old { rows = [] } }
+    {
+        self.end = 0;
+        self.count = 0;
+    }
+}

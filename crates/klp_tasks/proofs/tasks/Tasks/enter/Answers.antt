@@ -1,0 +1,13 @@
+use Rattle.std.proofs.Common.{◌≡◌, refl, arith, rules}
+use Rattle.std.proofs.lemmas.Grind.{common_steps}
+use Rattle.klp_types.specs.declared.task.Task.{Task}
+use Rattle.klp_types.specs.declared.task.Mode.TheVariants.{Kernel}
+use Rattle.klp_model.specs.Task.{task_at}
+use Rattle.std.specs.Prelude.{Some}
+use Rattle.klp_tasks.proofs.TaskLemmas.{is_changed}
+use Rattle.klp_tasks.proofs.tasks.Tasks.enter.Goals as goal
+
+pub returns : goal.returns
+returns c =
+    let there : task_at c.args.self.now c.args.task ≡ Some c.in-Some.entered = grind (arith, common_steps, rules) in
+    is_changed c.args.self.now _ c.args.task (λ (t : Task). record t { mode = Kernel }) c.in-Some.entered there (rw (c.from.ensures, c.task.view_is, c.self.view_is) refl)
