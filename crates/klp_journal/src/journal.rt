@@ -115,6 +115,7 @@ impl Journal {
         ensures all { counted self.new ≡ length log.new.older }
         ensures mark { length self.new ≡ length self.old - 1 }
         ensures room { log.new.room ≡ log.old.room }
+        ensures none { self.old ≡ [] → (self.new ≡ []) × (log.new ≡ log.old) }
     {
         let Some(newest) = self.events.pop() else {
             return;

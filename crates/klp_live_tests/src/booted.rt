@@ -1,4 +1,4 @@
-//! The manager that all tests boot.
+//! The manager that tests boot.
 ghost use Rattle.std.specs.Prelude.{◌≡◌, [], length, IfOk};
 ghost use Rattle.klp_catalog_text.specs.Within.{AreTargetsWithin};
 
@@ -69,7 +69,7 @@ fn manager_of(alloc: Global, mut plan: Plan) -> Result<Manager, Fault>
     Ok(Manager::boot(alloc, image, modules, catalog)?)
 }
 
-/// A manager over the catalog of the tests.
+/// A manager over the catalog of the book's tests.
 pub(crate) fn booted(alloc: Global) -> Result<Fresh, Fault> {
     over(alloc, CATALOG)
 }

@@ -5,12 +5,13 @@ ghost use Rattle.klp_live.specs.Opening.{IsFresh};
 ghost use Rattle.klp_live.specs.Shown.{RuleIs};
 
 use crate::booted::Fresh;
-use crate::measure::{apply, empty, since};
+use crate::measure::{apply, since};
+use crate::names::{FIRST, PATCH, PATCHED};
+use crate::settles::empty;
 use crossbeam_utils::rule::Protocol;
 use klp_core::{Machine, Manager};
 use klp_live::{Book, Opened, Published, Seat, Start, StartFault, Table, View, target_of};
 use klp_model::Event;
-use klp_types::{PatchId, Site, TaskId};
 use std::alloc::{AllocError, Global};
 use std::io;
 use std::marker::Brand;
@@ -33,14 +34,7 @@ const CROWDS: [usize; 4] = [0, 1, 2, 4];
 /// A seat for each of four threads that look, and for the one that submits.
 const SEATS: usize = 5;
 
-const TASK: TaskId = TaskId(1);
-
-const PATCH: PatchId = PatchId(0);
-
-/// A function that the patch is for, while its transition isn't done.
-const SITE: Site = Site(0);
-
-/// Finds what a call runs.
+/// Finds what a call of a patched function runs, while the patch's transition isn't done.
 trait Looks<R> {
     fn look(&mut self, rt: &R) -> bool;
 }
@@ -52,7 +46,7 @@ trait Works<R> {
 
 impl<S: Start + Protocol<Published, View>, R> Looks<R> for Seat<S> {
     fn look(&mut self, _rt: &R) -> bool {
-        self.enter(TASK, SITE).is_ok()
+        self.enter(FIRST, PATCHED).is_ok()
     }
 }
 
@@ -65,7 +59,7 @@ struct ByLock<'a> {
 impl<R: Wait> Looks<R> for ByLock<'_> {
     fn look(&mut self, rt: &R) -> bool {
         let table = self.table.read(rt);
-        target_of(&table, TASK, SITE).is_ok()
+        target_of(&table, FIRST, PATCHED).is_ok()
     }
 }
 
@@ -86,8 +80,8 @@ impl<S: Start + Protocol<Published, View>, M: Machine + Drop, B: Wait + Drop> Su
 impl<S: Start + Protocol<Published, View>, M: Machine + Drop, B: Wait + Drop, R: Wait> Works<R>
     for Submits<S, M, B> {
     fn work(&mut self, rt: &R) {
-        self.submit(rt, Event::EnterKernel(TASK));
-        self.submit(rt, Event::ExitToUser(TASK));
+        self.submit(rt, Event::EnterKernel(FIRST));
+        self.submit(rt, Event::ExitToUser(FIRST));
     }
 }
 
@@ -106,15 +100,15 @@ fn write<M: Machine, R: Wait>(rt: &R, table: &RwLock<Table>, machine: &mut M, ev
         begin(machine);
         return;
     }
-    let state = machine.patch_state(TASK);
+    let state = machine.patch_state(FIRST);
     let mut table = table.write(rt);
-    table.states[usize::from(TASK.0)] = state;
+    table.states[usize::from(FIRST.0)] = state;
 }
 
 impl<M: Machine + Drop, R: Wait> Works<R> for Writes<'_, M> {
     fn work(&mut self, rt: &R) {
-        write(rt, self.table, &mut self.machine, Event::EnterKernel(TASK));
-        write(rt, self.table, &mut self.machine, Event::ExitToUser(TASK));
+        write(rt, self.table, &mut self.machine, Event::EnterKernel(FIRST));
+        write(rt, self.table, &mut self.machine, Event::ExitToUser(FIRST));
     }
 }
 
@@ -226,6 +220,12 @@ fn by_four<L: Looks<R> + Drop + Send, W: Works<R>, R: Threads + Clock + Sync>(
     beside.and(one).and(two)
 }
 
+fn two_of<L: Drop>(lookers: &mut Vec<L>) -> Option<(L, L)> {
+    let first = lookers.pop()?;
+    let second = lookers.pop()?;
+    Some((first, second))
+}
+
 /// What the slowest of so many threads took for its looks, where the one beside worked often enough meanwhile.
 fn crowd<L: Looks<R> + Drop + Send, W: Works<R>, R: Threads + Clock + Sync>(
     rt: &R,
@@ -235,22 +235,37 @@ fn crowd<L: Looks<R> + Drop + Send, W: Works<R>, R: Threads + Clock + Sync>(
 ) -> Option<u128> {
     let mut lookers = lookers;
     let done = AtomicU64::new(0);
-    let first = lookers.pop()?;
-    if threads == 0 {
-        return Some(look_often(rt, first, &done));
+    match threads {
+        0 => Some(look_often(rt, lookers.pop()?, &done)),
+        1 => by_one(rt, lookers.pop()?, worker, &done, 1).counted(),
+        2 => by_two(rt, two_of(&mut lookers)?, worker, &done, 2).counted(),
+        _ => {
+            let first = two_of(&mut lookers)?;
+            let second = two_of(&mut lookers)?;
+            by_four(rt, (first, second), worker, &done).counted()
+        }
     }
-    if threads == 1 {
-        return by_one(rt, first, worker, &done, 1).counted();
-    }
-    let second = lookers.pop()?;
-    if threads == 2 {
-        return by_two(rt, (first, second), worker, &done, 2).counted();
-    }
-    let rest = (lookers.pop()?, lookers.pop()?);
-    by_four(rt, ((first, second), rest), worker, &done).counted()
 }
 
 /// Seats enter, beside one that submits.
+fn by_seats<
+    S: Start + Protocol<Published, View> + Send,
+    M: Machine + Drop,
+    R: Threads + Wait + Clock + Sync,
+>(rt: &R, submits: Submits<S, M, &R>, threads: usize, seats: Vec<Seat<S>>) -> (M, Option<u128>) {
+    let mut submits = submits;
+    submits.submit(rt, Event::NewTask(FIRST));
+    submits.submit(rt, Event::Enable(PATCH));
+    let took = crowd(rt, threads, seats, &mut submits);
+    let Submits {
+        alloc: _alloc,
+        book,
+        seat: _seat,
+    } = submits;
+    (book.end(), took)
+}
+
+/// Opens a book with a seat for each thread.
 fn entered<
     S: Start + Protocol<Published, View> + Send,
     M: Machine + Drop,
@@ -278,18 +293,7 @@ fn entered<
             let mut seats = seats;
             match seats.pop() {
                 None => (book.end(), None),
-                Some(seat) => {
-                    let mut submits = Submits { alloc, book, seat };
-                    submits.submit(rt, Event::NewTask(TASK));
-                    submits.submit(rt, Event::Enable(PATCH));
-                    let took = crowd(rt, threads, seats, &mut submits);
-                    let Submits {
-                        alloc: _alloc,
-                        book,
-                        seat: _seat,
-                    } = submits;
-                    (book.end(), took)
-                }
+                Some(seat) => by_seats(rt, Submits { alloc, book, seat }, threads, seats),
             }
         }
     }
@@ -297,7 +301,7 @@ fn entered<
 
 /// The task comes, and the patch is enabled.
 fn begin<M: Machine>(machine: &mut M) {
-    apply(machine, Event::NewTask(TASK));
+    apply(machine, Event::NewTask(FIRST));
     apply(machine, Event::Enable(PATCH));
 }
 

@@ -4,11 +4,12 @@ ghost use Rattle.klp_live.specs.Opening.{IsFresh};
 ghost use Rattle.klp_live.specs.Shown.{RuleIs};
 
 use crate::booted::Fresh;
+use crate::names::{FIRST, PATCH};
+use crate::settles::empty;
 use crossbeam_utils::rule::Protocol;
 use klp_core::{Machine, Manager};
 use klp_live::{Book, Opened, Published, Seat, Start, StartFault, View};
 use klp_model::Event;
-use klp_types::{PatchId, TaskId};
 use std::alloc::Global;
 use std::io;
 use std::marker::Brand;
@@ -22,10 +23,6 @@ const TURNS: u64 = 1_000;
 
 /// How often a patch comes and goes.
 const CYCLES: u64 = 30;
-
-const TASK: TaskId = TaskId(1);
-
-const PATCH: PatchId = PatchId(0);
 
 /// The shortest times, in nanoseconds: of all task events, and of one `Enable`.
 #[derive(Clone, Copy)]
@@ -54,14 +51,14 @@ pub(crate) fn apply<M: Machine>(machine: &mut M, event: Event) {
 }
 
 fn apply_turns<M: Machine, R: Clock>(rt: &R, machine: &mut M, best: &mut Best) -> io::Result<()> {
-    apply(machine, Event::NewTask(TASK));
+    apply(machine, Event::NewTask(FIRST));
     let start = Instant::now(rt)?;
     for _turn in 0..TURNS {
-        apply(machine, Event::EnterKernel(TASK));
-        apply(machine, Event::ExitToUser(TASK));
+        apply(machine, Event::EnterKernel(FIRST));
+        apply(machine, Event::ExitToUser(FIRST));
     }
     best.tasks = best.tasks.min(since(rt, start)?);
-    apply(machine, Event::EndTask(TASK));
+    apply(machine, Event::EndTask(FIRST));
     Ok(())
 }
 
@@ -75,14 +72,6 @@ fn apply_cycles<M: Machine, R: Clock>(rt: &R, machine: &mut M, best: &mut Best) 
         apply(machine, Event::Poll);
     }
     Ok(())
-}
-
-/// Takes back what was applied.
-pub(crate) fn empty<M: Machine>(machine: &mut M)
-    ensures { (M.journaled machine.new).groups ≡ [] }
-{
-    let _standing = machine.mark();
-    let _ = machine.rewind(0);
 }
 
 fn admit<S: Start + Protocol<Published, View>, M: Machine + Drop, R: Wait>(
@@ -102,14 +91,14 @@ fn admit_turns<S: Start + Protocol<Published, View>, M: Machine + Drop, R: Wait 
     seat: &mut Seat<S>,
     best: &mut Best,
 ) -> io::Result<()> {
-    admit(rt, alloc, book, seat, Event::NewTask(TASK));
+    admit(rt, alloc, book, seat, Event::NewTask(FIRST));
     let start = Instant::now(rt)?;
     for _turn in 0..TURNS {
-        admit(rt, alloc, book, seat, Event::EnterKernel(TASK));
-        admit(rt, alloc, book, seat, Event::ExitToUser(TASK));
+        admit(rt, alloc, book, seat, Event::EnterKernel(FIRST));
+        admit(rt, alloc, book, seat, Event::ExitToUser(FIRST));
     }
     best.tasks = best.tasks.min(since(rt, start)?);
-    admit(rt, alloc, book, seat, Event::EndTask(TASK));
+    admit(rt, alloc, book, seat, Event::EndTask(FIRST));
     Ok(())
 }
 

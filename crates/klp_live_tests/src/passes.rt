@@ -4,6 +4,9 @@ ghost use Rattle.klp_live.specs.Opening.{IsFresh};
 ghost use Rattle.klp_live.specs.Shown.{RuleIs};
 
 use crate::booted::{Fault, booted};
+use crate::names::{FIRST, NOWHERE, PATCH, PATCHED, SECOND};
+use crate::pairs::{attached, handed_in, with_one};
+use crate::settles::prepare;
 use crate::shows::Shows;
 use crossbeam_utils::rule::Protocol;
 use klp_core::Manager;
@@ -12,27 +15,15 @@ use klp_live::{
     View,
 };
 use klp_model::Event;
-use klp_types::{PatchId, Site, Target, TaskId};
+use klp_types::{Site, Target, TaskId};
 use std::alloc::Global;
 use std::io;
 use std::marker::Brand;
 use std::sync::Wait;
 use std::sync::ledger::Blank;
 
-const FIRST: TaskId = TaskId(1);
-
-const SECOND: TaskId = TaskId(2);
-
 /// A task that isn't there at the start.
 const LATER: TaskId = TaskId(5);
-
-const PATCH: PatchId = PatchId(0);
-
-/// The kernel's function that the patch replaces.
-const PATCHED: Site = Site(0);
-
-/// A site that the image doesn't have.
-const NOWHERE: Site = Site(9);
 
 /// What the passes of a start do.
 #[derive(Clone, Copy)]
@@ -145,23 +136,37 @@ fn by_two<S: Start + Protocol<Published, View>, M: Shows + Drop, R: Wait + Print
     let (Some(second), Some(first)) = (seats.pop(), seats.pop()) else {
         return Ok(seats);
     };
-    let (Ok(mut first), Ok(mut second)) = (live.attach(first, FIRST), live.attach(second, SECOND))
-    else {
-        return Ok(seats);
-    };
-    if is_heard {
-        heard(rt, alloc, live, &mut first, &mut second)?;
+    let mut first = attached(live, first, FIRST);
+    let mut second = attached(live, second, SECOND);
+    let told = if is_heard {
+        heard(rt, alloc, live, &mut first, &mut second)
     } else {
-        unheard(rt, alloc, live, &mut first, &mut second)?;
-    }
-    seats.push(first.detach())?;
-    seats.push(second.detach())?;
-    Ok(seats)
+        unheard(rt, alloc, live, &mut first, &mut second)
+    };
+    told.and(handed_in(seats, (first.detach(), second.detach())))
 }
 
 /// A seat that is refused to a number above all tasks, is taken by one that isn't there, and then by another: it still
 /// knows what it knew.
 fn by_absent<S: Start + Protocol<Published, View>, M: Shows + Drop, R: Wait + Print>(
+    rt: &R,
+    alloc: Global,
+    live: &Live<S, M, &R>,
+    seat: Seat<S>,
+) -> (Seat<S>, io::Result<()>) {
+    let (seat, refused) = match live.attach(seat, TaskId(64)) {
+        Ok(pass) => (pass.detach(), Ok(())),
+        Err((seat, fault)) => (seat, println!(rt; "{fault:?}")),
+    };
+    let mut pass = attached(live, seat, LATER);
+    let told = absent(rt, alloc, live, &mut pass);
+    let seat = attached(live, pass.detach(), FIRST).detach();
+    let known = println!(rt; "{} known", seat.rows());
+    (seat, refused.and(told).and(known))
+}
+
+/// One of the seats is taken so, and handed back.
+fn by_one<S: Start + Protocol<Published, View>, M: Shows + Drop, R: Wait + Print>(
     rt: &R,
     alloc: Global,
     live: &Live<S, M, &R>,
@@ -171,22 +176,8 @@ fn by_absent<S: Start + Protocol<Published, View>, M: Shows + Drop, R: Wait + Pr
     let Some(seat) = seats.pop() else {
         return Ok(seats);
     };
-    let seat = match live.attach(seat, TaskId(64)) {
-        Ok(pass) => pass.detach(),
-        Err((seat, fault)) => {
-            println!(rt; "{fault:?}")?;
-            seat
-        }
-    };
-    if let Ok(mut pass) = live.attach(seat, LATER) {
-        absent(rt, alloc, live, &mut pass)?;
-        if let Ok(pass) = live.attach(pass.detach(), FIRST) {
-            let seat = pass.detach();
-            println!(rt; "{} known", seat.rows())?;
-            seats.push(seat)?;
-        }
-    }
-    Ok(seats)
+    let (seat, told) = by_absent(rt, alloc, live, seat);
+    told.and(with_one(seats, seat))
 }
 
 fn all_run<S: Start + Protocol<Published, View>, M: Shows + Drop, R: Wait + Print>(
@@ -199,7 +190,7 @@ fn all_run<S: Start + Protocol<Published, View>, M: Shows + Drop, R: Wait + Prin
     match run {
         Run::Heard => by_two(rt, alloc, live, seats, true),
         Run::Unheard => by_two(rt, alloc, live, seats, false),
-        Run::Absent => by_absent(rt, alloc, live, seats),
+        Run::Absent => by_one(rt, alloc, live, seats),
         Run::Idle => Ok(seats),
     }
 }
@@ -289,18 +280,6 @@ fn started<M: Shows + Drop, R: Wait + Print>(
         places,
         run,
     )
-}
-
-/// Two tasks come, and nothing is to be taken back any more.
-fn prepare<M: Shows>(machine: &mut M)
-    ensures { (M.journaled machine.new).groups ≡ [] }
-{
-    for task in [FIRST, SECOND] {
-        let _standing = machine.mark();
-        let _ = machine.apply(Event::NewTask(task));
-    }
-    let _standing = machine.mark();
-    machine.close_journal();
 }
 
 /// A start over a machine with two tasks. In the end all is taken back, and it is as it was.

@@ -1,7 +1,5 @@
 //! What a manager shows: all of it stays where an event isn't taken.
-ghost use Rattle.std.specs.Prelude.{◌≡◌, ◌≤◌, [], length};
-ghost use Rattle.klp_types.specs.declared.limits.TheConstants.{MAX_GROUPS};
-
+use crate::settles::Settles;
 use klp_core::{Machine, Manager};
 use klp_types::{ObjId, PatchId, ShadowKey, ShadowValue, Site, SiteRow, Target, TaskId};
 
@@ -21,16 +19,11 @@ pub(crate) struct Shown {
 }
 
 /// A machine that shows more than the book asks for.
-pub(crate) trait Shows: Machine {
+pub(crate) trait Shows: Settles {
     fn shown(&self) -> Shown;
 
     /// What a task runs at a site, by the manager itself.
     fn picked(&self, task: TaskId, site: Site) -> Option<Target>;
-
-    /// Makes what stands the base, from which nothing is taken back.
-    fn close_journal(&mut self)
-        requires { length (Self.journaled self.old).groups ≤ MAX_GROUPS }
-        ensures { (Self.journaled self.new).groups ≡ [] };
 }
 
 /// The first byte of a symbol's body: that of a NOP or of a call.
@@ -71,9 +64,5 @@ impl Shows for Manager {
 
     fn picked(&self, task: TaskId, site: Site) -> Option<Target> {
         self.pick(task, site)
-    }
-
-    fn close_journal(&mut self) {
-        self.seal();
     }
 }

@@ -4,6 +4,7 @@ ghost use Rattle.klp_live.specs.Opening.{IsFresh};
 ghost use Rattle.klp_live.specs.Shown.{RuleIs};
 
 use crate::booted::Fresh;
+use crate::names::{FIRST, SECOND};
 use crate::shows::{SITES, Shows};
 use crossbeam_utils::rule::Protocol;
 use klp_core::Manager;
@@ -17,10 +18,6 @@ use std::io;
 use std::marker::Brand;
 use std::sync::Wait;
 use std::sync::ledger::Blank;
-
-const FIRST: TaskId = TaskId(1);
-
-const SECOND: TaskId = TaskId(2);
 
 /// Which seat has the event, and the event.
 #[derive(Clone, Copy)]

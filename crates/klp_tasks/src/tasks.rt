@@ -325,16 +325,32 @@ impl Tasks {
     }
 
     /// Gives the row of a number a task that is inside of nothing, as `put_back` of its record does. A number that no
-    /// task can have changes nothing.
+    /// task can have changes nothing. Where the task is inside of nothing as it is, its frames aren't written anew.
+    #[inline(always)]
     pub fn put_resting(&mut self, task: TaskId, state: PatchState, mode: Mode)
         ensures { self.new ≡ with_task self.old task (Some (record { state = state; mode = mode; frames = [] })) }
     {
+        if self.rests(task) {
+            self.put_switched(task, state, mode);
+            return;
+        }
         let was = Task {
             state,
             mode,
             frames: Frames::new(),
         };
         self.put(task, Some(was));
+    }
+
+    /// Whether a task is there, and inside of nothing.
+    #[inline(always)]
+    fn rests(&self, task: TaskId) -> bool
+        ensures { result ≡ true → (now : AnyTask) × ((task_at self.now task ≡ Some now) × (now.frames ≡ [])) }
+    {
+        match self.get(task) {
+            Some(now) => now.frames.len() == 0,
+            None => false,
+        }
     }
 
     /// The rows by their numbers, lent.

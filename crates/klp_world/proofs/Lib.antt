@@ -3,6 +3,7 @@ pub mod ShadowLemmas
 pub mod First
 pub mod StateLemmas
 pub mod PatchLemmas
+pub mod LeftLemmas
 pub mod UndoLemmas
 pub mod NotedLemmas
 pub mod BucketLemmas

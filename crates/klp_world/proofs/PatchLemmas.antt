@@ -1,5 +1,5 @@
 -- The installed patches: what a look-up and an edit at the place of a patch do.
-use Rattle.std.proofs.Common.{◌≡◌, ℕ, zero, suc, Bool, cond, List, [], ◌∷◌, ◌++◌, get_or, set, map, reverse, refl, sym, ap, subst, ◌∙◌, Option, Some, None}
+use Rattle.std.proofs.Common.{◌≡◌, ℕ, zero, suc, Bool, true, false, cond, List, [], ◌∷◌, ◌++◌, get_or, set, map, reverse, refl, sym, ap, subst, ◌∙◌, Option, Some, None}
 use Rattle.std.specs.Bool.{◌==◌}
 use Rattle.std.specs.Option.{option_map}
 use Rattle.std.specs.List.{insert, remove, position}
@@ -7,7 +7,9 @@ use Rattle.std.proofs.lemmas.List.{map-append, take-map, drop-map}
 use Rattle.klp_types.specs.World.{Installed}
 use Rattle.klp_types.specs.World.{World, Shadow, states_of, state_value, value_among, change_states, taken_out}
 use Rattle.klp_types.specs.declared.record.Record.TheVariants.{InstalledPatch}
+use Rattle.klp_types.specs.Entries.{is_empty}
 use Rattle.klp_world.specs.Noted.{place_of, state_row, rows_if_dropped, rows_of_drop}
+use Rattle.klp_world.specs.Undo.{put_patch}
 use Rattle.klp_world.proofs.First.{FirstAt, Nowhere, first_place}
 
 abbrev pub Patches : Type 0
@@ -91,6 +93,16 @@ module _ (patch : ℕ) (seen items : Patches) (shadow : Shadow) (now : World) (s
       sym view ∙ ap (λ patches. record { installed = patches; shadow = shadow }) (sym (out_nowhere patch items (missing_in e)))
       ∙ ap (λ (w : World). record w { installed = taken_out patch w.installed }) view
 
+  -- the record that the patch wasn't installed, put back at a patch of which it is known whether it has states
+  with_states : (b : Bool) → b ≡ is_empty (states_of patch now.installed)
+      → ◌≡◌ {A = World} (record now { installed = cond b (taken_out patch now.installed) now.installed }) (record now { installed = put_patch patch None now.installed })
+  with_states b = ap (λ b. record now { installed = cond b (taken_out patch now.installed) now.installed })
+
+  pub none_out : None ≡ position (is_patch patch) seen → now ≡ record now { installed = put_patch patch None now.installed }
+  none_out e =
+      let none : states_of patch now.installed ≡ [] = ap (λ (w : World). states_of patch w.installed) (sym view) ∙ states_nowhere patch items (missing_in e) in
+      not_in e ∙ with_states true (sym (ap is_empty none))
+
   pub first_in : (i : ℕ) → Some i ≡ position (is_patch patch) seen → FirstAt (is_patch patch) now.installed i
   first_in i e = subst (λ (w : World). FirstAt (is_patch patch) w.installed i) view (found_in i e)
 
@@ -101,6 +113,16 @@ module _ (patch : ℕ) (seen items : Patches) (shadow : Shadow) (now : World) (s
 
     pub states_in : (read : Installed) → read ≡ get_or now.installed i read → states_of patch now.installed ≡ read.values
     states_in read is = states_at patch now.installed i read (first_in i e) ∙ ap (λ (r : Installed). r.values) (sym is)
+
+    states_seen : (read : Installed) → read ≡ get_or items i read → states_of patch now.installed ≡ read.values
+    states_seen read is = states_in read (is ∙ ap (λ (w : World). get_or w.installed i read) view)
+
+    pub bare_out : (read : Installed) → read ≡ get_or items i read → true ≡ is_empty read.values
+        → ◌≡◌ {A = World} (record now { installed = remove now.installed i }) (record now { installed = put_patch patch None now.installed })
+    bare_out read is bare = taken_from ∙ with_states true (bare ∙ sym (ap is_empty (states_seen read is)))
+
+    pub kept_with_states : (read : Installed) → read ≡ get_or items i read → false ≡ is_empty read.values → now ≡ record now { installed = put_patch patch None now.installed }
+    kept_with_states read is some = with_states false (some ∙ sym (ap is_empty (states_seen read is)))
 
     pub rows_dropped : (read : Installed) → read ≡ get_or now.installed i read → rows_of_drop now patch ≡ map (state_row patch) (reverse read.values) ++ InstalledPatch patch (Some i) ∷ []
     rows_dropped read is =

@@ -1,9 +1,9 @@
 -- Each record that a change notes tells a row that is another one afterwards.
-use Rattle.std.proofs.Common.{◌≡◌, ℕ, zero, suc, ◌+◌, ◌<◌, ◌≤◌, Bool, true, false, cond, ltb, List, [], ◌∷◌, ◌++◌, length, length-append, map, reverse, refl, sym, ap, subst, ◌∙◌, arith, Option, Some, None}
+use Rattle.std.proofs.Common.{◌≡◌, ℕ, zero, suc, ◌+◌, ◌≤◌, true, false, cond, ltb, List, [], ◌∷◌, ◌++◌, length, length-append, map, reverse, refl, sym, ap, subst, ◌∙◌, arith, Option, Some, None}
 use Rattle.std.specs.Prelude.{◌≢◌}
 use Rattle.std.specs.Bool.{◌==◌}
 use Rattle.std.specs.List.{insert, list_any}
-use Rattle.std.proofs.lemmas.Bool.{lt-ltb, eqb-true, eq-eqb, or_parts}
+use Rattle.std.proofs.lemmas.Bool.{lt-ltb, eq-eqb}
 use Rattle.std.proofs.lemmas.List.{map-append, reverse-append, length-map}
 use Rattle.std.specs.Ordering.{eq_by_cmp}
 use Rattle.std.specs.FinMap as finite
@@ -18,12 +18,13 @@ use Rattle.klp_types.specs.Script.{Script, alloc_count, allocated, value_taken, 
 use Rattle.klp_types.specs.declared.limits.TheConstants.{MAX_VARIABLES, MAX_PATCHES, MAX_STATES}
 use Rattle.klp_types.proofs.KeyLemmas.{key_total}
 use Rattle.klp_types.proofs.ScriptLemmas.{edit_room, made_allocs}
-use Rattle.klp_world.specs.Undo.{put_back, put_state, state_taken, undone, TellChanges}
+use Rattle.klp_world.specs.Undo.{put_back, put_state, undone, TellChanges}
 use Rattle.klp_world.specs.Noted.{row_if_added, rows_of_alloc, row_if_removed, rows_of_free, variable_row, variable_rows, rows_of_free_all, row_if_set, rows_of_set, rows_of_take, rows_of_add, state_row, rows_if_dropped, rows_of_drop, rows_of_edit, rows_of_edits, rows_of_script}
 use Rattle.klp_world.proofs.First.{FirstAt}
 use Rattle.klp_world.proofs.PatchLemmas.{is_patch, place_at}
 use Rattle.klp_world.proofs.ShadowLemmas.{same_ties}
-use Rattle.klp_world.proofs.UndoLemmas.{undone-append, undone_free, undone_free_all, undone_set, undone_add, changed, restored, undone_variables, few_restored, of_id, count_parted, change_twice, lone, left_of, undone_new_states, one_shorter, put_again}
+use Rattle.klp_world.proofs.LeftLemmas.{left_of, AreThere, others_there, next_taken, new_states, new_are_there}
+use Rattle.klp_world.proofs.UndoLemmas.{undone-append, undone_free, undone_free_all, undone_set, undone_add, changed, restored, undone_variables, few_restored, of_id, count_parted, change_twice, lone, last_states, undone_new_states, one_shorter, put_again}
 use Rattle.klp_world.proofs.ScriptLemmas.{undone_edits}
 
 -- records that tell changes, one list behind another
@@ -146,96 +147,32 @@ told_set world patch id value =
 
 -- a patch with its states
 
--- how many states have this id, and how many ids are this one
-abbrev having : ℕ → List (ℕ × ℕ) → ℕ
-having id [] = 0
-having id (state ∷ states) = cond (state.0 == id) (suc (having id states)) (having id states)
-
-abbrev among : ℕ → List ℕ → ℕ
-among id [] = 0
-among id (first ∷ ids) = cond (first == id) (suc (among id ids)) (among id ids)
-
-having_new : (id : ℕ) (ids : List ℕ) → having id (map (λ n. (n, 0)) ids) ≡ among id ids
-having_new id [] = refl
-having_new id (first ∷ ids) = ap (λ n. cond (first == id) (suc n) n) (having_new id ids)
-
-one_fewer : (q id : ℕ) (states : List (ℕ × ℕ)) → having q states ≤ cond (id == q) (suc (having q (state_taken id states))) (having q (state_taken id states))
-one_fewer q id [] = elim (id == q) as (λ b. 0 ≤ cond b 1 0) [ true ↦ omega arith | false ↦ omega arith ]
-one_fewer q id (state ∷ states) =
-    elim (state.0 == id) as (λ b. (state.0 == id) ≡ b → having q (state ∷ states) ≤ cond (id == q) (suc (having q (cond b states (state ∷ state_taken id states)))) (having q (cond b states (state ∷ state_taken id states)))) [
-      | true ↦ λ t. subst (λ n. having q (state ∷ states) ≤ cond (n == q) (suc (having q states)) (having q states)) (eqb-true state.0 id t) (omega arith)
-      | false ↦ λ t. let rest = one_fewer q id states in
-          elim (state.0 == q) as (λ b. cond b (suc (having q states)) (having q states)
-          ≤ cond (id == q) (suc (cond b (suc (having q (state_taken id states))) (having q (state_taken id states)))) (cond b (suc (having q (state_taken id states))) (having q (state_taken id states)))) [
-            | true ↦ more (id == q) (having q states) (having q (state_taken id states)) rest
-            | false ↦ rest
-          ]
-    ] refl
-  where
-    more : (b : Bool) (m n : ℕ) → m ≤ cond b (suc n) n → suc m ≤ cond b (suc (suc n)) (suc n)
-    more true m n le = omega arith
-    more false m n le = omega arith
-
-one_taken : (id : ℕ) (states : List (ℕ × ℕ)) → 0 < having id states → suc (length (state_taken id states)) ≡ length states
-one_taken id [] some = absurd (omega arith)
-one_taken id (state ∷ states) some =
-    elim (state.0 == id) as (λ b. 0 < cond b (suc (having id states)) (having id states) → suc (length (cond b states (state ∷ state_taken id states))) ≡ suc (length states)) [
-      | true ↦ λ some. refl
-      | false ↦ λ some. ap suc (one_taken id states some)
-    ] some
-
--- as many of an id are left as there are beside those that are taken out
-left_having : (q : ℕ) (ids : List ℕ) (values : List (ℕ × ℕ)) → having q values ≤ among q ids + having q (left_of ids values)
-left_having q [] values = omega arith
-left_having q (id ∷ ids) values =
-    let rest = left_having q ids values in
-    let one = one_fewer q id (left_of ids values) in
-    step (id == q) (having q values) (among q ids) (having q (left_of ids values)) (having q (state_taken id (left_of ids values))) rest one
-  where
-    step : (b : Bool) (whole told left now : ℕ) → whole ≤ told + left → left ≤ cond b (suc now) now → whole ≤ cond b (suc told) told + now
-    step true whole told left now rest one = omega arith
-    step false whole told left now rest one = omega arith
-
-last_states : (patch : ℕ) (patches : List Installed) (values : List (ℕ × ℕ)) → list_any (λ (i : Installed). i.patch == patch) patches ≡ false → states_of patch (patches ++ lone patch values) ≡ values
-last_states patch [] values fresh = ap (λ b. cond b values []) (eq-eqb patch patch refl)
-last_states patch (first ∷ newer) values fresh =
-    let parts = or_parts (first.patch == patch) (list_any (λ (i : Installed). i.patch == patch) newer) fresh in
-    ap (λ b. cond b first.values (states_of patch (newer ++ lone patch values))) parts.0 ∙ last_states patch newer values parts.1
-
 told_new_states : (world : World) (patch : ℕ) (patches : List Installed) (values : List (ℕ × ℕ)) (ids : List ℕ) → list_any (λ (i : Installed). i.patch == patch) patches ≡ false
-    → ((q : ℕ) → among q ids ≤ having q values)
+    → AreThere ids values
     → TellChanges (record world { installed = patches ++ lone patch values }) (map (λ id. StateRow patch id None) ids)
 told_new_states world patch patches values [] fresh all = tt
-told_new_states world patch patches values (id ∷ ids) fresh all =
-    let own : among id (id ∷ ids) ≡ suc (among id ids) = ap (λ b. cond b (suc (among id ids)) (among id ids)) (eq-eqb id id refl) in
-    let left = left_having id ids values in
-    let whole = all id in
-    let some : 0 < having id (left_of ids values) = omega arith in (
-      λ same.
-          let before = undone_new_states world patch patches values ids fresh in
-          let after = undone_new_states world patch patches values (id ∷ ids) fresh in
-          let alike : ◌≡◌ {A = World} (record world { installed = patches ++ lone patch (left_of (id ∷ ids) values) }) (record world { installed = patches ++ lone patch (left_of ids values) }) = sym after ∙ same ∙ before in
-          let states = sym (last_states patch patches (left_of (id ∷ ids) values) fresh) ∙ ap (λ (w : World). states_of patch w.installed) alike ∙ last_states patch patches (left_of ids values) fresh in
-          let shorter = one_taken id (left_of ids values) some in
-          let even = ap length states in
-          omega arith,
-      told_new_states world patch patches values ids fresh (λ q. let most = all q in fewer (id == q) (among q ids) (having q values) most),
-    )
-  where
-    fewer : (b : Bool) (m n : ℕ) → cond b (suc m) m ≤ n → m ≤ n
-    fewer true m n le = omega arith
-    fewer false m n le = le
+told_new_states world patch patches values (id ∷ ids) fresh all = (
+  λ same.
+      let before = undone_new_states world patch patches values ids fresh in
+      let after = undone_new_states world patch patches values (id ∷ ids) fresh in
+      let alike : ◌≡◌ {A = World} (record world { installed = patches ++ lone patch (left_of (id ∷ ids) values) }) (record world { installed = patches ++ lone patch (left_of ids values) }) = sym after ∙ same ∙ before in
+      let states = sym (last_states patch patches (left_of (id ∷ ids) values) fresh) ∙ ap (λ (w : World). states_of patch w.installed) alike ∙ last_states patch patches (left_of ids values) fresh in
+      let shorter = next_taken id ids values all in
+      let even = ap length states in
+      omega arith,
+  told_new_states world patch patches values ids fresh (others_there id ids values all),
+)
 
 pub told_add : (world : World) (patch : ℕ) (ids : List ℕ) → list_any (λ (i : Installed). i.patch == patch) world.installed ≡ false → TellChanges (with_patch world patch ids) (rows_of_add patch ids)
 told_add world patch ids fresh =
-    let values : List (ℕ × ℕ) = map (λ id. (id, 0)) ids in
+    let values = new_states ids in
     let left : List Installed = world.installed ++ lone patch (left_of ids values) in (
       λ same.
           let alike : world ≡ record world { installed = left } = sym (undone_add world patch ids fresh) ∙ same ∙ undone_new_states world patch world.installed values ids fresh in
           let even : length world.installed ≡ length left = ap (λ (w : World). length w.installed) alike in
           let longer : length left ≡ length world.installed + 1 = length-append world.installed (lone patch (left_of ids values)) in
           omega arith,
-      told_new_states world patch world.installed values ids fresh (λ q. let is : having q values ≡ among q ids = having_new q ids in omega arith),
+      told_new_states world patch world.installed values ids fresh (new_are_there ids),
     )
 
 own_states : (patch i : ℕ) (patches : List Installed) (values : List (ℕ × ℕ)) → FirstAt (is_patch patch) patches i → states_of patch (change_states patch (λ _. values) patches) ≡ values

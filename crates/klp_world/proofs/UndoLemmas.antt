@@ -17,9 +17,11 @@ use Rattle.klp_types.specs.World.{Installed}
 use Rattle.klp_types.specs.World.{World, Shadow, key_cmp, variable, state_value, states_of, value_among, set_among, change_states, taken_out, with_variable, without_variable, without_id, with_value, with_patch, without_patch, ShadowValue}
 use Rattle.klp_types.specs.Script.{allocated}
 use Rattle.klp_types.specs.declared.limits.TheConstants.{MAX_VARIABLES, MAX_PATCHES, MAX_STATES}
-use Rattle.klp_world.specs.Undo.{put_back, put_state, put_variable, state_taken, undone}
+use Rattle.klp_types.specs.Entries.{is_empty}
+use Rattle.klp_world.specs.Undo.{put_back, put_patch, put_state, put_variable, undone}
 use Rattle.klp_world.specs.Noted.{row_if_added, rows_of_alloc, row_if_removed, rows_of_free, variable_row, variable_rows, rows_of_free_all, row_if_set, rows_of_set, rows_of_add, state_row, rows_if_dropped, rows_of_drop}
 use Rattle.klp_world.proofs.First.{FirstAt}
+use Rattle.klp_world.proofs.LeftLemmas.{left_of, new_states, none_left}
 use Rattle.klp_world.proofs.PatchLemmas.{is_patch, place_at}
 use Rattle.klp_types.proofs.KeyLemmas.{key_total, key_antisymmetric}
 use Rattle.klp_world.proofs.ShadowLemmas.{unchanged, equal_if, kept_if_none, as_entries, sorted_entries, where_as_map, len_as_map, sorted_where}
@@ -255,10 +257,17 @@ out_last patch (first ∷ newer) values fresh =
     let parts = or_parts (first.patch == patch) (list_any (λ (i : Installed). i.patch == patch) newer) fresh in
     ap (λ b. cond b (newer ++ lone patch values) (first ∷ taken_out patch (newer ++ lone patch values))) parts.0 ∙ ap (first ∷◌) (out_last patch newer values parts.1)
 
--- the states that are left once these are taken out, the last first
-abbrev pub left_of : List ℕ → List (ℕ × ℕ) → List (ℕ × ℕ)
-left_of [] values = values
-left_of (id ∷ ids) values = state_taken id (left_of ids values)
+pub last_states : (patch : ℕ) (patches : List Installed) (values : List (ℕ × ℕ)) → list_any (λ (i : Installed). i.patch == patch) patches ≡ false → states_of patch (patches ++ lone patch values) ≡ values
+last_states patch [] values fresh = ap (λ b. cond b values []) (eq-eqb patch patch refl)
+last_states patch (first ∷ newer) values fresh =
+    let parts = or_parts (first.patch == patch) (list_any (λ (i : Installed). i.patch == patch) newer) fresh in
+    ap (λ b. cond b first.values (states_of patch (newer ++ lone patch values))) parts.0 ∙ last_states patch newer values parts.1
+
+-- a patch that stands last without states is taken out again
+bare_last : (patch : ℕ) (patches : List Installed) → list_any (λ (i : Installed). i.patch == patch) patches ≡ false → put_patch patch None (patches ++ lone patch []) ≡ patches
+bare_last patch patches fresh =
+    let whole = patches ++ lone patch [] in
+    ap (λ states. cond (is_empty states) (taken_out patch whole) whole) (last_states patch patches [] fresh) ∙ out_last patch patches [] fresh
 
 pub undone_new_states : (world : World) (patch : ℕ) (patches : List Installed) (values : List (ℕ × ℕ)) (ids : List ℕ) → list_any (λ (i : Installed). i.patch == patch) patches ≡ false
     → undone (record world { installed = patches ++ lone patch values }) (map (λ id. StateRow patch id None) ids) ≡ record world { installed = patches ++ lone patch (left_of ids values) }
@@ -269,8 +278,9 @@ undone_new_states world patch patches values (id ∷ ids) fresh =
 
 pub undone_add : (world : World) (patch : ℕ) (ids : List ℕ) → list_any (λ (i : Installed). i.patch == patch) world.installed ≡ false → undone (with_patch world patch ids) (rows_of_add patch ids) ≡ world
 undone_add world patch ids fresh =
-    ap (λ w. put_back w (InstalledPatch patch None)) (undone_new_states world patch world.installed (map (λ id. (id, 0)) ids) ids fresh)
-    ∙ ap (λ p. record world { installed = p }) (out_last patch world.installed (left_of ids (map (λ id. (id, 0)) ids)) fresh)
+    ap (λ w. put_back w (InstalledPatch patch None)) (undone_new_states world patch world.installed (new_states ids) ids fresh)
+    ∙ ap (λ values. record world { installed = put_patch patch None (world.installed ++ lone patch values) }) (none_left ids)
+    ∙ ap (λ p. record world { installed = p }) (bare_last patch world.installed fresh)
 
 pub one_shorter : (patch : ℕ) (patches : List Installed) (i : ℕ) → FirstAt (is_patch patch) patches i → suc (length (taken_out patch patches)) ≡ length patches
 one_shorter patch [] i h = absurd h

@@ -5,7 +5,8 @@ use Rattle.klp_types.specs.declared.shadow.ShadowKey.{ShadowKey}
 use Rattle.klp_types.specs.declared.record.Record.{Record}
 use Rattle.klp_types.specs.declared.record.Record.TheVariants.{ShadowVariable, NoShadowVariable, StateValue, StateRow, InstalledPatch}
 use Rattle.klp_types.specs.World.{Installed}
-use Rattle.klp_types.specs.World.{World, ShadowValue, with_variable, without_variable, with_value, change_states, taken_out}
+use Rattle.klp_types.specs.World.{World, ShadowValue, states_of, with_variable, without_variable, with_value, change_states, taken_out}
+use Rattle.klp_types.specs.Entries.{is_empty}
 use Rattle.klp_types.specs.declared.limits.TheConstants.{MAX_VARIABLES, MAX_PATCHES, MAX_STATES}
 
 -- a variable is taken out again, or set where there is room for it
@@ -23,9 +24,10 @@ abbrev pub put_state : ℕ → Option ℕ → List (ℕ × ℕ) → List (ℕ ×
 put_state id None states = state_taken id states
 put_state id (Some value) states = if nat_lt (length states) MAX_STATES then states ++ (id, value) ∷ [] else states
 
--- a patch is taken out again, or put in its place where there is room for it, without states
+-- a patch is taken out again once its states are, since each of them is a row of its own; till then it stays.
+-- Or it is put in its place where there is room for it, without states
 abbrev pub put_patch : ℕ → Option ℕ → List Installed → List Installed
-put_patch patch None installed = taken_out patch installed
+put_patch patch None installed = if is_empty (states_of patch installed) then taken_out patch installed else installed
 put_patch patch (Some place) installed =
     if nat_lt (length installed) MAX_PATCHES then insert installed place (record { patch = patch; values = [] }) else installed
 

@@ -1,6 +1,7 @@
 ghost use Rattle.std.specs.Prelude.{◌≡◌, ℕ, ◌<◌, ◌≤◌, ◌==◌, [], ◌∷◌, ◌++◌, length, position};
 ghost use Rattle.klp_types.specs.World.{Installed};
 ghost use Rattle.klp_types.specs.World.{value_among, set_among};
+ghost use Rattle.klp_types.specs.Entries.{is_empty};
 ghost use Rattle.klp_world.specs.Undo.{state_taken, put_state};
 
 use arrayvec::ArrayVec;
@@ -76,6 +77,13 @@ impl InstalledPatch {
         ensures limit { length result.now ≤ MAX_STATES }
     {
         &self.states
+    }
+
+    /// Whether it has no states: so it is before they are added, and once all are taken out again.
+    pub(crate) fn is_bare(&self) -> bool
+        ensures { result ≡ is_empty self.now.values }
+    {
+        self.states.is_empty()
     }
 
     pub(crate) fn patch(&self) -> PatchId

@@ -294,8 +294,9 @@ impl World {
     }
 
     /// Gives one row what the record has; a row that isn't the world's changes nothing. A row for which
-    /// there is no room stays away, so that the limits hold whatever comes; none is met where the records
-    /// of changes are put back newest first.
+    /// there is no room stays away, so that the limits hold whatever comes, and a patch that still has
+    /// states stays, since they are rows of their own; neither is met where the records of changes are put
+    /// back newest first.
     pub fn put_back(&mut self, row: Record)
         ensures { self.new ≡ put_back self.old row }
     {
@@ -373,7 +374,10 @@ impl World {
         match place {
             None => {
                 if let Some(place) = place_of_patch(&self.patches, patch) {
-                    self.take_out(place);
+                    // Each state is a row of its own, which this record doesn't tell.
+                    if self.patches[place].is_bare() {
+                        self.take_out(place);
+                    }
                 }
             }
             Some(place) => {

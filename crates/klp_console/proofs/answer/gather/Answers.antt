@@ -1,4 +1,4 @@
-use Rattle.std.proofs.Common.{◌-◌, length, refl, sym, subst, ◌∙◌, arith}
+use Rattle.std.proofs.Common.{◌-◌, length, refl, sym, subst, ◌∙◌, arith, rules}
 use Rattle.std.proofs.lemmas.Bool.{both_ways}
 use Rattle.klp_console_io.specs.Gathered.{Gathered}
 use Rattle.klp_console_io.specs.Marks.{events_at_cut}
@@ -49,3 +49,6 @@ returns-else-has_failed-clause-comes g c =
           (record { end = length said.0.bytes; events = c.mark-events.result }) refl c.mark-events.ensures.mark c.mark_line.ensures,
       λ failed. absurd (both_ways _ still failed),
     )
+
+pub returns-then-has_failed-clause-lines : goal.returns-then-has_failed-clause-lines
+returns-then-has_failed-clause-lines g c = search rules

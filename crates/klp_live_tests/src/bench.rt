@@ -1,16 +1,17 @@
 //! What two bodies come to in a second: events that both submit under the one lock, entries that both make, and events of
 //! one beside entries of the other.
-ghost use Rattle.std.specs.Prelude.{IfOk, IfSome, IsSome};
+ghost use Rattle.std.specs.Prelude.{IsSome};
 ghost use Rattle.klp_bodies.specs.Jobs.{body_of};
 
-use crate::bodies::few;
-use crate::meeting::ends_of;
+use crate::measure::since;
+use crate::names::{FIRST, PATCHED, SECOND};
+use crate::pairs::{Steps, ends_of, jobs_of};
 use crossbeam_utils::rule::Protocol;
-use klp_bodies::{Gate, Job, Step, TaskBody, run_two};
+use klp_bodies::{Gate, Job, Step, run_two};
 use klp_core::Machine;
 use klp_live::{Live, Published, Seat, Start, View};
 use klp_model::Event;
-use klp_types::{Site, TaskId};
+use klp_types::TaskId;
 use std::alloc::{AllocError, Global};
 use std::io;
 use std::rt::Clock;
@@ -23,8 +24,6 @@ const EVENTS: u64 = 1_000;
 
 /// How many functions a body enters in a round, and returns from.
 const ENTRIES: u64 = 2_500;
-
-const SITE: Site = Site(0);
 
 /// What a body does.
 #[derive(Clone, Copy)]
@@ -72,7 +71,7 @@ fn steps_of(alloc: Global, task: TaskId, work: Work) -> Result<Vec<Step>, AllocE
             ],
             EVENTS / 2,
         ),
-        Work::Enters => ([Step::Call(SITE), Step::Return], ENTRIES),
+        Work::Enters => ([Step::Call(PATCHED), Step::Return], ENTRIES),
     };
     let mut steps = Vec::new(alloc);
     for _time in 0..times {
@@ -81,42 +80,11 @@ fn steps_of(alloc: Global, task: TaskId, work: Work) -> Result<Vec<Step>, AllocE
     Ok(steps)
 }
 
-/// The job of a task.
-fn job_of<S: Start + Protocol<Published, View>, M: Machine + Drop, R: Wait + Drop>(
-    alloc: Global,
-    live: &Live<S, M, R>,
-    seat: Seat<S>,
-    task: TaskId,
-    work: Work,
-) -> Result<Option<Job<S, Open>>, AllocError>
-    ensures { IfOk result (λ made. IfSome made (λ job. IsSome (body_of job))) }
-{
-    let Some(steps) = few(steps_of(alloc, task, work)?) else {
-        return Ok(None);
-    };
-    match live.attach(seat, task) {
-        Ok(pass) => Ok(Some(Job::new(alloc, TaskBody::new(pass, Open), steps))),
-        Err(_) => Ok(None),
-    }
-}
-
-/// The jobs of both tasks.
-fn jobs_of<S: Start + Protocol<Published, View>, M: Machine + Drop, R: Wait + Drop>(
-    alloc: Global,
-    live: &Live<S, M, R>,
-    seats: (Seat<S>, Seat<S>),
-    works: (Work, Work),
-) -> Result<Option<(Job<S, Open>, Job<S, Open>)>, AllocError>
-    ensures { IfOk result (λ made. IfSome made (λ pair. IsSome (body_of pair.0) × IsSome (body_of pair.1))) }
-{
-    let (first, second) = seats;
-    let Some(one) = job_of(alloc, live, first, TaskId(1), works.0)? else {
-        return Ok(None);
-    };
-    let Some(two) = job_of(alloc, live, second, TaskId(2), works.1)? else {
-        return Ok(None);
-    };
-    Ok(Some((one, two)))
+/// The steps of both bodies.
+fn both_steps(alloc: Global, works: (Work, Work)) -> Result<Steps, AllocError> {
+    let first = steps_of(alloc, FIRST, works.0)?;
+    let second = steps_of(alloc, SECOND, works.1)?;
+    Ok(Steps::new(first, second))
 }
 
 /// The nanoseconds until both jobs have ended.
@@ -136,11 +104,7 @@ fn run_timed<
 {
     let start = Instant::now(rt)?;
     run_two(rt, alloc, live, one, two);
-    Ok(
-        Instant::now(rt)?
-            .saturating_duration_since(start)
-            .as_nanos(),
-    )
+    since(rt, start)
 }
 
 /// Both work at once; the nanoseconds that it took.
@@ -154,13 +118,15 @@ fn timed<
     live: &Live<S, M, &R>,
     seats: (Seat<S>, Seat<S>),
     works: (Work, Work),
-) -> io::Result<Option<((Seat<S>, Seat<S>), u128)>> {
-    let Some((mut one, mut two)) = jobs_of(alloc, live, seats, works)? else {
-        return Ok(None);
+) -> ((Seat<S>, Seat<S>), io::Result<u128>) {
+    let steps = match both_steps(alloc, works) {
+        Ok(steps) => steps,
+        Err(error) => return (seats, Err(io::Error::from(error))),
     };
+    let (mut one, mut two) = jobs_of(alloc, live, seats, (Open, Open), steps);
     let took = run_timed(rt, alloc, live, &mut one, &mut two).unwrap_or(u128::MAX);
-    let (first, second, _ended) = ends_of(rt, one, two)?;
-    Ok(Some(((first, second), took)))
+    let (seats, ended) = ends_of(rt, one, two);
+    (seats, ended.and(Ok(took)))
 }
 
 /// One round of each that both do.
@@ -174,16 +140,17 @@ pub(crate) fn round<
     live: &Live<S, M, &R>,
     seats: (Seat<S>, Seat<S>),
     best: &mut Best,
-) -> io::Result<Option<(Seat<S>, Seat<S>)>> {
+) -> ((Seat<S>, Seat<S>), io::Result<()>) {
     let mut seats = seats;
     for (works, least) in WORKS.iter().zip(best.took.iter_mut()) {
-        let Some((same, took)) = timed(rt, alloc, live, seats, *works)? else {
-            return Ok(None);
-        };
+        let (same, took) = timed(rt, alloc, live, seats, *works);
         seats = same;
-        *least = (*least).min(took);
+        match took {
+            Ok(took) => *least = (*least).min(took),
+            Err(error) => return (seats, Err(error)),
+        }
     }
-    Ok(Some(seats))
+    (seats, Ok(()))
 }
 
 /// How many in a second.

@@ -1,30 +1,21 @@
 //! One body after the other, in one thread.
-ghost use Rattle.std.specs.Prelude.{◌<◌, ◌^◌, length, IfSome, vec_len};
+ghost use Rattle.std.specs.Prelude.{◌<◌, ◌^◌, length};
+ghost use Rattle.klp_types.specs.declared.limits.TheConstants.{MAX_TASKS};
 
 use crate::gates::Slow;
-use crate::shown::{show_kinds, show_outcome};
+use crate::names::{FIRST, NOWHERE, PATCH, PATCHED, SECOND};
+use crate::outcomes::{show_kinds, show_outcome};
+use crate::pairs::{attached, few, job_of, seat_of};
 use crossbeam_utils::rule::Protocol;
-use klp_bodies::{BodyFault, Gate, Job, Outcome, Step, TaskBody};
+use klp_bodies::{Gate, Outcome, Step, TaskBody};
 use klp_core::Machine;
-use klp_live::{Live, Published, Seat, Start, TaskPass, View};
+use klp_live::{Live, Published, Seat, Start, View};
 use klp_model::Event;
-use klp_types::{PatchId, Site, TaskId};
+use klp_types::TaskId;
 use std::alloc::{AllocError, Global};
 use std::io;
 use std::sync::Wait;
 use std::sync::atomic::{AtomicU64, Ordering};
-
-const FIRST: TaskId = TaskId(1);
-
-const SECOND: TaskId = TaskId(2);
-
-const PATCH: PatchId = PatchId(0);
-
-/// The kernel's function that the patch replaces.
-const PATCHED: Site = Site(0);
-
-/// A site that the image doesn't have.
-const NOWHERE: Site = Site(9);
 
 /// How much is printed of outcomes.
 #[derive(Clone, Copy, PartialEq, Eq)]
@@ -43,20 +34,6 @@ fn show_all<R: Print>(rt: &R, outcomes: &[Outcome], detail: Detail) -> io::Resul
     Ok(())
 }
 
-/// The seat of a body that has ended.
-pub(crate) fn seat_of<S: Start + Protocol<Published, View>, R: Print>(
-    rt: &R,
-    ended: Result<TaskPass<S>, BodyFault<S>>,
-) -> io::Result<Seat<S>> {
-    match ended {
-        Ok(pass) => Ok(pass.detach()),
-        Err(BodyFault { pass, cause }) => {
-            println!(rt; "{cause:?}")?;
-            Ok(pass.detach())
-        }
-    }
-}
-
 /// Takes a seat for a task, does its steps, shows what they come to, and gives the seat back.
 pub(crate) fn show_body<
     S: Start + Protocol<Published, View>,
@@ -72,17 +49,16 @@ pub(crate) fn show_body<
     gate: G,
     steps: &[Step],
     detail: Detail,
-) -> io::Result<Seat<S>>
-    requires { length steps.now < 2 ^ 32 }
+) -> (Seat<S>, io::Result<()>)
+    requires there { task < MAX_TASKS }
+    requires few { length steps.now < 2 ^ 32 }
 {
-    let pass = match live.attach(seat, task) {
-        Ok(pass) => pass,
-        Err((seat, _)) => return Ok(seat),
-    };
+    let pass = attached(live, seat, task);
     let mut outcomes = Vec::new(alloc);
     let ended = TaskBody::new(pass, gate).run(rt, alloc, live, steps, &mut outcomes);
-    show_all(rt, outcomes.as_slice(), detail)?;
-    seat_of(rt, ended)
+    let told = show_all(rt, outcomes.as_slice(), detail);
+    let (seat, fault) = seat_of(rt, ended);
+    (seat, told.and(fault))
 }
 
 /// A gate that lets a task in at once.
@@ -90,51 +66,59 @@ fn open(asked: &AtomicU64) -> Slow<'_> {
     Slow { asked, refuses: 0 }
 }
 
-/// The first task enables a patch, which it runs once it was outside of the kernel. The second, which hears nothing, runs
-/// the original, as it wasn't outside; it can't enable the patch again; and once it was outside it runs the patch.
+/// A task enables a patch, which it runs once it was outside of the kernel.
+fn enables(task: TaskId) -> [Step; 5] {
+    [
+        Step::Submit(Event::Enable(PATCH)),
+        Step::Call(PATCHED),
+        Step::Submit(Event::EnterKernel(task)),
+        Step::Submit(Event::ExitToUser(task)),
+        Step::Call(PATCHED),
+    ]
+}
+
+/// A task that hears nothing of that runs the original, as it wasn't outside; it can't enable the patch again; and once
+/// it was outside it runs the patch.
+fn hears_nothing(task: TaskId) -> [Step; 5] {
+    [
+        Step::Call(PATCHED),
+        Step::Submit(Event::Enable(PATCH)),
+        Step::Submit(Event::EnterKernel(task)),
+        Step::Submit(Event::ExitToUser(task)),
+        Step::Call(PATCHED),
+    ]
+}
+
+/// The first task enables a patch, of which the second hears nothing.
 pub(crate) fn show_worked<S: Start + Protocol<Published, View>, M: Machine + Drop, R: Wait + Print>(
     rt: &R,
     alloc: Global,
     live: &Live<S, M, &R>,
     seats: (Seat<S>, Seat<S>),
-) -> io::Result<(Seat<S>, Seat<S>)> {
+) -> ((Seat<S>, Seat<S>), io::Result<()>) {
     let asked = AtomicU64::new(0);
-    let steps = [
-        Step::Submit(Event::Enable(PATCH)),
-        Step::Call(PATCHED),
-        Step::Submit(Event::EnterKernel(FIRST)),
-        Step::Submit(Event::ExitToUser(FIRST)),
-        Step::Call(PATCHED),
-    ];
-    let first = show_body(
+    let (first, told) = show_body(
         rt,
         alloc,
         live,
         seats.0,
         FIRST,
         open(&asked),
-        &steps,
+        &enables(FIRST),
         Detail::All,
-    )?;
-    let steps = [
-        Step::Call(PATCHED),
-        Step::Submit(Event::Enable(PATCH)),
-        Step::Submit(Event::EnterKernel(SECOND)),
-        Step::Submit(Event::ExitToUser(SECOND)),
-        Step::Call(PATCHED),
-    ];
-    let second = show_body(
+    );
+    let (second, heard) = show_body(
         rt,
         alloc,
         live,
         seats.1,
         SECOND,
         open(&asked),
-        &steps,
+        &hears_nothing(SECOND),
         Detail::All,
-    )?;
-    println!(rt; "asked {}", asked.load(Ordering::SeqCst))?;
-    Ok((first, second))
+    );
+    let counted = println!(rt; "asked {}", asked.load(Ordering::SeqCst));
+    ((first, second), told.and(heard).and(counted))
 }
 
 /// A task falls asleep inside of what it entered and hasn't returned from, and wakes up.
@@ -143,7 +127,7 @@ pub(crate) fn show_nap<S: Start + Protocol<Published, View>, M: Machine + Drop, 
     alloc: Global,
     live: &Live<S, M, &R>,
     seat: Seat<S>,
-) -> io::Result<Seat<S>> {
+) -> (Seat<S>, io::Result<()>) {
     let asked = AtomicU64::new(0);
     let steps = [
         Step::Return,
@@ -183,26 +167,16 @@ fn deep(alloc: Global) -> Result<Vec<Step>, AllocError> {
     Ok(steps)
 }
 
-/// Few enough steps for a body.
-pub(crate) fn few(steps: Vec<Step>) -> Option<Vec<Step>>
-    ensures { IfSome result (λ steps. vec_len steps < 2 ^ 32) }
-{
-    if steps.len() < 100_000 {
-        Some(steps)
-    } else {
-        None
-    }
-}
-
 pub(crate) fn show_deep<S: Start + Protocol<Published, View>, M: Machine + Drop, R: Wait + Print>(
     rt: &R,
     alloc: Global,
     live: &Live<S, M, &R>,
     seat: Seat<S>,
-) -> io::Result<Seat<S>> {
+) -> (Seat<S>, io::Result<()>) {
     let asked = AtomicU64::new(0);
-    let Some(steps) = few(deep(alloc)?) else {
-        return Ok(seat);
+    let steps = match deep(alloc) {
+        Ok(steps) => few(steps),
+        Err(error) => return (seat, Err(io::Error::from(error))),
     };
     show_body(
         rt,
@@ -222,8 +196,9 @@ pub(crate) fn show_held<S: Start + Protocol<Published, View>, M: Machine + Drop,
     alloc: Global,
     live: &Live<S, M, &R>,
     seat: Seat<S>,
-) -> io::Result<Seat<S>> {
+) -> (Seat<S>, io::Result<()>) {
     let mut seat = seat;
+    let mut told = Ok(());
     for refuses in [999_999, 1_000_000] {
         let asked = AtomicU64::new(0);
         let gate = Slow {
@@ -231,10 +206,12 @@ pub(crate) fn show_held<S: Start + Protocol<Published, View>, M: Machine + Drop,
             refuses,
         };
         let steps = [Step::Return, Step::Return];
-        seat = show_body(rt, alloc, live, seat, FIRST, gate, &steps, Detail::Kinds)?;
-        println!(rt; "asked {}", asked.load(Ordering::SeqCst))?;
+        let (same, shown) = show_body(rt, alloc, live, seat, FIRST, gate, &steps, Detail::Kinds);
+        seat = same;
+        let counted = println!(rt; "asked {}", asked.load(Ordering::SeqCst));
+        told = told.and(shown).and(counted);
     }
-    Ok(seat)
+    (seat, told)
 }
 
 /// A job that doesn't run.
@@ -243,19 +220,15 @@ pub(crate) fn show_unrun<S: Start + Protocol<Published, View>, M: Machine + Drop
     alloc: Global,
     live: &Live<S, M, &R>,
     seat: Seat<S>,
-) -> io::Result<Seat<S>> {
+) -> (Seat<S>, io::Result<()>) {
     let asked = AtomicU64::new(0);
-    let pass = match live.attach(seat, FIRST) {
-        Ok(pass) => pass,
-        Err((seat, _)) => return Ok(seat),
+    let steps = match vec![in alloc; Step::Return] {
+        Ok(steps) => few(steps),
+        Err(error) => return (seat, Err(io::Error::from(error))),
     };
-    let mut steps = Vec::new(alloc);
-    steps.push(Step::Return)?;
-    let Some(steps) = few(steps) else {
-        return Ok(pass.detach());
-    };
-    let job = Job::new(alloc, TaskBody::new(pass, open(&asked)), steps);
+    let job = job_of(alloc, live, seat, FIRST, open(&asked), steps);
     let (ended, outcomes) = job.end();
-    show_kinds(rt, outcomes.as_slice())?;
-    seat_of(rt, ended)
+    let told = show_kinds(rt, outcomes.as_slice());
+    let (seat, fault) = seat_of(rt, ended);
+    (seat, told.and(fault))
 }

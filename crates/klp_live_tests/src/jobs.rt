@@ -1,12 +1,14 @@
-//! The start that all tests run over, and how it ends.
+//! The start that the tests of bodies and jobs run over, and how it ends.
 ghost use Rattle.std.specs.Prelude.{◌≡◌, []};
 ghost use Rattle.klp_live.specs.Opening.{IsFresh};
 ghost use Rattle.klp_live.specs.Shown.{RuleIs};
 
 use crate::bench::{self, Best};
 use crate::bodies::{show_deep, show_held, show_nap, show_unrun, show_worked};
-use crate::booted::{Fault, Settles, booted, empty, prepare};
+use crate::booted::{Fault, over};
 use crate::meeting::{show_apart, show_meetings, show_turns};
+use crate::pairs::handed_in;
+use crate::settles::{Settles, empty, prepare};
 use crossbeam_utils::rule::Protocol;
 use klp_core::{Machine, Manager};
 use klp_live::{Live, Opened, Published, Seat, Start, StartFault, View};
@@ -18,19 +20,31 @@ use std::sync::Wait;
 use std::sync::ledger::Blank;
 use std::thread::Threads;
 
+/// One function of the kernel, and a patch for it.
+const CATALOG: &[u8] = b"\
+handler ffffffff81000000
+object vmlinux
+symbol f ffffffff81001000 e80000000090c3
+patch p
+target vmlinux
+func .klp.sym.vmlinux.f,0 f_p ffffffffc0001000
+";
+
 /// The bodies of one task after those of another.
 fn one_by_one<S: Start + Protocol<Published, View>, M: Machine + Drop, R: Wait + Print>(
     rt: &R,
     alloc: Global,
     live: &Live<S, M, &R>,
     seats: (Seat<S>, Seat<S>),
-) -> io::Result<(Seat<S>, Seat<S>)> {
-    let (first, second) = show_worked(rt, alloc, live, seats)?;
-    let first = show_nap(rt, alloc, live, first)?;
-    let first = show_deep(rt, alloc, live, first)?;
-    let first = show_held(rt, alloc, live, first)?;
-    let first = show_unrun(rt, alloc, live, first)?;
-    show_apart(rt, alloc, live, (first, second))
+) -> ((Seat<S>, Seat<S>), io::Result<()>) {
+    let ((first, second), worked) = show_worked(rt, alloc, live, seats);
+    let (first, nap) = show_nap(rt, alloc, live, first);
+    let (first, deep) = show_deep(rt, alloc, live, first);
+    let (first, held) = show_held(rt, alloc, live, first);
+    let (first, unrun) = show_unrun(rt, alloc, live, first);
+    let (seats, apart) = show_apart(rt, alloc, live, (first, second));
+    let told = worked.and(nap).and(deep).and(held).and(unrun).and(apart);
+    (seats, told)
 }
 
 /// What two seats do: all tests, or a round that is measured.
@@ -51,11 +65,12 @@ fn both_run<
     live: &Live<S, M, &R>,
     seats: (Seat<S>, Seat<S>),
     runs: Runs<'_>,
-) -> io::Result<Option<(Seat<S>, Seat<S>)>> {
+) -> ((Seat<S>, Seat<S>), io::Result<()>) {
     match runs {
         Runs::Tests => {
-            let both = one_by_one(rt, alloc, live, seats)?;
-            show_meetings(rt, alloc, live, both)
+            let (seats, told) = one_by_one(rt, alloc, live, seats);
+            let (seats, met) = show_meetings(rt, alloc, live, seats);
+            (seats, told.and(met))
         }
         Runs::Round(best) => bench::round(rt, alloc, live, seats, best),
     }
@@ -76,11 +91,8 @@ fn all_run<
     let (Some(second), Some(first)) = (seats.pop(), seats.pop()) else {
         return Ok(seats);
     };
-    if let Some((first, second)) = both_run(rt, alloc, live, (first, second), runs)? {
-        seats.push(first)?;
-        seats.push(second)?;
-    }
-    Ok(seats)
+    let (both, told) = both_run(rt, alloc, live, (first, second), runs);
+    told.and(handed_in(seats, both))
 }
 
 /// Starts, has all run, and ends.
@@ -202,7 +214,7 @@ pub(crate) fn run_all<R: Threads + Wait + Print + Clock + Sync>(
     alloc: Global,
 ) -> Result<(), Fault> {
     show_turns(rt)?;
-    managed(rt, alloc, booted(alloc)?, None)?;
+    managed(rt, alloc, over(alloc, CATALOG)?.manager, None)?;
     Ok(())
 }
 
@@ -211,6 +223,6 @@ pub(crate) fn measure<R: Threads + Wait + Print + Clock + Sync>(
     alloc: Global,
     rounds: u64,
 ) -> Result<(), Fault> {
-    managed(rt, alloc, booted(alloc)?, Some(rounds))?;
+    managed(rt, alloc, over(alloc, CATALOG)?.manager, Some(rounds))?;
     Ok(())
 }

@@ -1,7 +1,7 @@
 use Rattle.std.specs.Prelude.{[]}
 use Rattle.klp_manager_state.specs.Managed.{setting_of}
 use Rattle.klp_live.specs.Shown.{Holds}
-use Rattle.klp_bodies_tests.proofs.starts.started.Given as goal
+use Rattle.klp_live_tests.proofs.jobs.started.Given as goal
 
 abbrev pub ghosts-opened-S-Ledger : goal.ghosts-opened-S-Ledger
 ghosts-opened-S-Ledger g a = record { name = a.blank.name; parts = a.blank.parts }

@@ -1,7 +1,7 @@
 use denote.Exit.{yes}
 use Rattle.klp_core.proofs.Sends.{manager_given}
-use Rattle.klp_bodies_tests.specs.contracts.starts.managed.dyn-1 as table
-use Rattle.klp_bodies_tests.proofs.starts.managed.Goals as goal
+use Rattle.klp_live_tests.specs.contracts.jobs.managed.dyn-1 as table
+use Rattle.klp_live_tests.proofs.jobs.managed.Goals as goal
 
 -- a manager may cross threads
 pub all_by-requires-send-M : goal.all_by-requires-send-M

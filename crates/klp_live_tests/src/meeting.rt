@@ -1,0 +1,129 @@
+//! Two bodies that pass their gates only where both are inside at one time.
+use crate::bodies::{Detail, show_body};
+use crate::gates::Meeting;
+use crate::names::{FIRST, SECOND};
+use crate::pairs::{Steps, ends_of, jobs_of};
+use crossbeam_utils::rule::Protocol;
+use klp_bodies::{Gate, Step, run_two};
+use klp_core::Machine;
+use klp_live::{Live, Published, Seat, Start, View};
+use klp_model::Event;
+use klp_types::TaskId;
+use std::alloc::{AllocError, Global};
+use std::io;
+use std::sync::Wait;
+use std::sync::atomic::AtomicBool;
+use std::thread::Threads;
+
+/// How often the two meet.
+const ROUNDS: u64 = 1_000;
+
+/// A task enters the kernel and leaves it.
+fn turn(task: TaskId) -> [Step; 2] {
+    [
+        Step::Submit(Event::EnterKernel(task)),
+        Step::Submit(Event::ExitToUser(task)),
+    ]
+}
+
+fn turns(alloc: Global) -> Result<Steps, AllocError> {
+    let first = Vec::from_array(alloc, turn(FIRST))?;
+    let second = Vec::from_array(alloc, turn(SECOND))?;
+    Ok(Steps::new(first, second))
+}
+
+/// Both tasks in threads of their own; whether both ended.
+fn meets<
+    S: Start + Protocol<Published, View> + Send + Sync,
+    M: Machine + Drop + Send,
+    R: Threads + Wait + Print + Sync,
+>(
+    rt: &R,
+    alloc: Global,
+    live: &Live<S, M, &R>,
+    seats: (Seat<S>, Seat<S>),
+) -> ((Seat<S>, Seat<S>), io::Result<bool>) {
+    let steps = match turns(alloc) {
+        Ok(steps) => steps,
+        Err(error) => return (seats, Err(io::Error::from(error))),
+    };
+    let raised = (AtomicBool::new(false), AtomicBool::new(false));
+    let gates = (
+        Meeting::new(&raised.0, &raised.1),
+        Meeting::new(&raised.1, &raised.0),
+    );
+    let (mut one, mut two) = jobs_of(alloc, live, seats, gates, steps);
+    run_two(rt, alloc, live, &mut one, &mut two);
+    ends_of(rt, one, two)
+}
+
+/// The two meet again and again.
+pub(crate) fn show_meetings<
+    S: Start + Protocol<Published, View> + Send + Sync,
+    M: Machine + Drop + Send,
+    R: Threads + Wait + Print + Sync,
+>(
+    rt: &R,
+    alloc: Global,
+    live: &Live<S, M, &R>,
+    seats: (Seat<S>, Seat<S>),
+) -> ((Seat<S>, Seat<S>), io::Result<()>) {
+    let mut seats = seats;
+    let mut count: u64 = 0;
+    for _round in 0..ROUNDS {
+        let (same, met) = meets(rt, alloc, live, seats);
+        seats = same;
+        match met {
+            Ok(met) => count = count.saturating_add(u64::from(met)),
+            Err(error) => return (seats, Err(error)),
+        }
+    }
+    (seats, println!(rt; "met {count} times"))
+}
+
+/// The two one after the other in one thread: the first, who is alone, is held.
+pub(crate) fn show_apart<S: Start + Protocol<Published, View>, M: Machine + Drop, R: Wait + Print>(
+    rt: &R,
+    alloc: Global,
+    live: &Live<S, M, &R>,
+    seats: (Seat<S>, Seat<S>),
+) -> ((Seat<S>, Seat<S>), io::Result<()>) {
+    let raised = (AtomicBool::new(false), AtomicBool::new(false));
+    let gate = Meeting::new(&raised.0, &raised.1);
+    let (first, told) = show_body(
+        rt,
+        alloc,
+        live,
+        seats.0,
+        FIRST,
+        gate,
+        &turn(FIRST),
+        Detail::Kinds,
+    );
+    let gate = Meeting::new(&raised.1, &raised.0);
+    let (second, heard) = show_body(
+        rt,
+        alloc,
+        live,
+        seats.1,
+        SECOND,
+        gate,
+        &turn(SECOND),
+        Detail::Kinds,
+    );
+    ((first, second), told.and(heard))
+}
+
+/// The gates asked by turns in one thread: the one that was asked first never lets its task in.
+pub(crate) fn show_turns<R: Print>(rt: &R) -> io::Result<()> {
+    let raised = (AtomicBool::new(false), AtomicBool::new(false));
+    let one = Meeting::new(&raised.0, &raised.1);
+    let two = Meeting::new(&raised.1, &raised.0);
+    let asked = [
+        one.before(FIRST, 1),
+        two.before(SECOND, 1),
+        one.before(FIRST, 1),
+        two.before(SECOND, 1),
+    ];
+    println!(rt; "{asked:?}")
+}

@@ -1,0 +1,15 @@
+//! The tasks, the patch and the sites that most tests speak of.
+use klp_types::{PatchId, Site, TaskId};
+
+pub(crate) const FIRST: TaskId = TaskId(1);
+
+pub(crate) const SECOND: TaskId = TaskId(2);
+
+/// The first patch of each catalog.
+pub(crate) const PATCH: PatchId = PatchId(0);
+
+/// The kernel's function that the patch replaces.
+pub(crate) const PATCHED: Site = Site(0);
+
+/// A site that only the large image has.
+pub(crate) const NOWHERE: Site = Site(9);
