@@ -8,3 +8,4 @@ pub mod StoredLemmas
 pub mod KindLemmas
 pub mod SplitLemmas
 pub mod LastLemmas
+pub mod FrameLemmas

@@ -2,3 +2,4 @@ pub mod Words
 pub mod Decoded
 pub mod Stored
 pub mod Small
+pub mod Frames

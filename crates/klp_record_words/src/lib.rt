@@ -4,7 +4,8 @@
 //! it: so the newest record is found from the end of the list (`specs/Words`). [`Records`] is a list of them, those of
 //! earlier events and behind them those of the one that is under way (`src/stored.rt` has the words themselves). It logs a
 //! record last, and gives the newest back; its room is taken once. What events log most is given back in a form of a few
-//! bytes: [`SmallRecord`], and a [`SwitchedTask`] without its frames.
+//! bytes: [`SmallRecord`], and a [`SwitchedTask`] without its frames. A table of tasks keeps the words of its tasks' frames
+//! as [`FrameWords`], so that these are copied and compared as they are.
 //!
 //! [`write_record`] puts one record behind any words, [`read_back`] reads the last of them, and each takes what the other
 //! gives, and nothing else. `laws` has that no record's words are the last of another's, and how many a record has;
@@ -13,6 +14,7 @@
 
 mod behind;
 pub mod examples;
+mod frame_words;
 pub mod laws;
 mod read;
 mod records;
@@ -22,6 +24,7 @@ mod switched;
 mod write;
 
 pub use behind::write_record;
+pub use frame_words::FrameWords;
 pub use read::read_back;
 pub use records::Records;
 pub use small::SmallRecord;

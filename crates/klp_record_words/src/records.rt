@@ -1,10 +1,12 @@
-ghost use Rattle.std.specs.Prelude.{◌≡◌, ◌+◌, ◌-◌, ◌<◌, ◌≤◌, [], ◌∷◌, ◌++◌, length, take, drop, slice_get, Some, IfOk, IfSome, IfNone};
+ghost use Rattle.std.specs.Prelude.{◌≡◌, ◌+◌, ◌-◌, ◌<◌, ◌≤◌, [], ◌∷◌, ◌++◌, length, map, take, drop, slice_get, Some, IfOk, IfSome, IfNone};
 ghost use Rattle.klp_types.specs.declared.limits.TheConstants.{MAX_JOURNAL_RECORDS};
 ghost use Rattle.klp_types.specs.declared.record.Record.TheVariants.{TaskRow};
 ghost use Rattle.klp_types.specs.declared.task.Task.{Task as AnyTask};
 ghost use Rattle.klp_types.specs.Records.{spare_of};
 ghost use Rattle.klp_record_words.specs.Small.{row_of};
+ghost use Rattle.klp_record_words.specs.Frames.{frames_in};
 
+use crate::frame_words::FrameWords;
 use crate::small::SmallRecord;
 use crate::stored::StoredRecords;
 use crate::switched::SwitchedTask;
@@ -91,13 +93,15 @@ impl Records {
         self.noted += 1;
     }
 
-    /// Logs a task as it is, which is lent and not copied: its row has room for all the frames that it might have.
+    /// Logs a task as it is. It is lent and not copied, since its row has room for all the frames that it might have, and
+    /// the words of its frames are those that the table of tasks keeps.
     #[inline(always)]
-    pub fn note_task(&mut self, task: TaskId, was: &Task)
-        requires { 0 < spare_of self.old }
+    pub fn note_task(&mut self, task: TaskId, was: &Task, frames: &FrameWords)
+        requires room { 0 < spare_of self.old }
+        requires frames { frames.now ≡ was.now.frames }
         ensures { self.new ≡ record self.old { noted = self.old.noted ++ TaskRow task was.now ∷ [] } }
     {
-        self.all.note_task(task, was);
+        self.all.note_task(task, was, frames);
         self.noted += 1;
     }
 
@@ -116,7 +120,8 @@ impl Records {
         Some(newest)
     }
 
-    /// The same, if it is of one of the kinds that are most; no record is taken out where it is of another.
+    /// Takes the newest record of the event out in a form of a few bytes, where it can be, as those of the kinds that are
+    /// most can. `None` takes nothing out and says nothing of the newest record: then `take_newest` takes it.
     #[inline(always)]
     pub fn take_small(&mut self) -> Option<SmallRecord>
         ensures newest { IfSome result
@@ -131,10 +136,15 @@ impl Records {
         Some(newest)
     }
 
-    /// The same, if it is that of a task of which the state or the mode alone is another now, by the tasks as they are: the
-    /// frames of a sleeper that was switched needn't be read and handed on.
+    /// The same, in the form that the record of a task has without its frames, where these are still those of the task, by
+    /// the tasks as they are and the words of their frames: so those of a switched sleeper needn't be read and handed on.
     #[inline(always)]
-    pub fn take_switched(&mut self, tasks: &[Option<Task>]) -> Option<SwitchedTask>
+    pub fn take_switched(
+        &mut self,
+        tasks: &[Option<Task>],
+        frames: &[FrameWords],
+    ) -> Option<SwitchedTask>
+        requires frames { frames.now ≡ map frames_in tasks.now }
         ensures newest { IfSome result (λ was. (now : AnyTask) × ((slice_get tasks.now was.task ≡ Some (Some now))
             × (self.old ≡ record self.new {
               noted = self.new.noted ++ TaskRow was.task (record now { state = was.state; mode = was.mode }) ∷ [];
@@ -144,7 +154,7 @@ impl Records {
         if self.noted == 0 {
             return None;
         }
-        let was = self.all.take_switched(tasks)?;
+        let was = self.all.take_switched(tasks, frames)?;
         self.noted -= 1;
         Some(was)
     }

@@ -1,13 +1,15 @@
 //! Records as words in one list, one behind another.
-ghost use Rattle.std.specs.Prelude.{◌≡◌, ◌+◌, ◌*◌, ◌<◌, ◌≤◌, [], ◌∷◌, ◌++◌, length, take, slice_get, Some, IfOk, IfSome, IfNone, vec_len, vec_capacity};
+ghost use Rattle.std.specs.Prelude.{◌≡◌, ◌+◌, ◌*◌, ◌<◌, ◌≤◌, [], ◌∷◌, ◌++◌, length, map, take, slice_get, Some, IfOk, IfSome, IfNone, vec_len, vec_capacity};
 ghost use Rattle.klp_types.specs.declared.record.Record.TheVariants.{TaskRow};
 ghost use Rattle.klp_types.specs.declared.task.Task.{Task as AnyTask};
 ghost use Rattle.klp_record_words.specs.Small.{row_of};
+ghost use Rattle.klp_record_words.specs.Frames.{frames_in};
 
+use crate::frame_words::FrameWords;
 use crate::read::read_back;
 use crate::small::{SmallRecord, small};
 use crate::switched::{SwitchedTask, switched};
-use crate::write::{put_record, write_task};
+use crate::write::{copy_task, put_record};
 use klp_types::{MAX_RECORD_WORDS, Record, Task, TaskId};
 use std::alloc::{AllocError, Global};
 use std::marker::Model;
@@ -106,12 +108,13 @@ impl StoredRecords {
     }
 
     #[inline(always)]
-    pub(crate) fn note_task(&mut self, task: TaskId, was: &Task)
-        requires { length self.old.rows < self.old.room }
+    pub(crate) fn note_task(&mut self, task: TaskId, was: &Task, frames: &FrameWords)
+        requires room { length self.old.rows < self.old.room }
+        requires frames { frames.now ≡ was.now.frames }
         ensures { self.new ≡ record self.old { rows = self.old.rows ++ TaskRow task was.now ∷ [] } }
     {
         make_ready(&mut self.words, self.end, self.room);
-        self.end = write_task(task, was, &mut self.words, self.end);
+        self.end = copy_task(task, was, frames, &mut self.words, self.end);
         self.count += 1;
     }
 
@@ -130,7 +133,7 @@ impl StoredRecords {
         Some(row)
     }
 
-    /// Takes the newest record out, if it is a small one.
+    /// Takes the newest record out as a small one, where it can be. Where it can't, nothing is taken out.
     #[inline(always)]
     pub(crate) fn take_small(&mut self) -> Option<SmallRecord>
         ensures newest { IfSome result
@@ -145,16 +148,22 @@ impl StoredRecords {
         Some(newest)
     }
 
-    /// Takes the newest record out, if it is that of a task of which the state or the mode alone is another now.
+    /// Takes the newest record out without the frames that it has, where these can be told to be those of its task now.
+    /// Where they can't, nothing is taken out.
     #[inline(always)]
-    pub(crate) fn take_switched(&mut self, tasks: &[Option<Task>]) -> Option<SwitchedTask>
+    pub(crate) fn take_switched(
+        &mut self,
+        tasks: &[Option<Task>],
+        frames: &[FrameWords],
+    ) -> Option<SwitchedTask>
+        requires frames { frames.now ≡ map frames_in tasks.now }
         ensures newest { IfSome result (λ was. (now : AnyTask) × ((slice_get tasks.now was.task ≡ Some (Some now))
             × (self.old ≡ record self.new {
               rows = self.new.rows ++ TaskRow was.task (record now { state = was.state; mode = was.mode }) ∷ [];
             }))) }
         ensures unchanged { IfNone result (self.new ≡ self.old) }
     {
-        let Some((was, count)) = switched(&self.words[..self.end], tasks) else {
+        let Some((was, count)) = switched(&self.words[..self.end], tasks, frames) else {
             return None;
         };
         self.end -= count;

@@ -1,14 +1,14 @@
 //! A task of which the state or the mode alone changed, as undoing takes it. Its frames are still what its record says, so
 //! none has to be read and handed on.
-ghost use Rattle.std.specs.Prelude.{◌≡◌, true, ℕ, List, ◌++◌, length, map, drop, slice_get, Some, IfSome};
-ghost use Rattle.std.specs.List.{All};
+ghost use Rattle.std.specs.Prelude.{◌≡◌, true, ℕ, List, ◌++◌, length, map, slice_get, Some, IfSome};
 ghost use Rattle.klp_types.specs.declared.record.Record.TheVariants.{TaskRow};
 ghost use Rattle.klp_types.specs.declared.task.Task.{Task as AnyTask};
-ghost use Rattle.klp_record_words.specs.Words.{frame_word, words_of, IsFrame, IsTaskOf, IsRecord, IsBody};
+ghost use Rattle.klp_record_words.specs.Words.{words_of, IsTaskOf, IsRecord, IsBody};
+ghost use Rattle.klp_record_words.specs.Frames.{frames_in};
 
+use crate::frame_words::FrameWords;
 use crate::read::{read_mode, read_state};
-use crate::write::frame_word;
-use klp_types::{Mode, PatchState, Task, TaskId, Version};
+use klp_types::{Mode, PatchState, Task, TaskId};
 
 /// How far a task was, and where.
 #[derive(Clone, Copy, Debug)]
@@ -18,35 +18,46 @@ pub struct SwitchedTask {
     pub mode: Mode,
 }
 
-/// Whether words are those of frames. They nearly always are, so nearly always all are looked at, one after another: a
-/// loop that compares two at once is slower by a fifth, by what it takes to put two frames together.
-fn are_frames(words: &[u64], frames: &[Version]) -> bool
-    requires { length words.now ≡ length frames.now }
-    ensures same { result ≡ true → map frame_word frames.now ≡ words.now }
-    ensures range { result ≡ true → All IsFrame frames.now }
+/// Whether words are the same. They nearly always are, so all are looked at, with no test in between: then several are
+/// compared at once.
+fn are_same(words: &[u64], others: &[u64]) -> bool
+    requires { length words.now ≡ length others.now }
+    ensures { result ≡ true → words.now ≡ others.now }
 {
-    for (k, frame) in frames.iter().enumerate() {
-        if words[k] != frame_word(*frame) {
-            return false;
-        }
+    let mut differing = 0;
+    for (k, word) in words.iter().enumerate() {
+        differing |= *word ^ others[k];
     }
-    true
+    differing == 0
 }
 
-/// How far a task was and where, by its words, where it was inside of what it is inside of now.
-fn switched_row(word: u64, frames: &[u64], now: &Task) -> Option<(PatchState, Mode)>
+/// How far a task was and where, by its words, where it was inside of what it is inside of now: where the words of its
+/// frames are those that its table keeps.
+fn switched_row(
+    word: u64,
+    frames: &[u64],
+    now: &Task,
+    own: &FrameWords,
+) -> Option<(PatchState, Mode)>
+    requires { own.now ≡ now.now.frames }
     ensures { IfSome result (λ was. IsTaskOf word frames.now (record now.now { state = was.0; mode = was.1 })) }
 {
     let state = read_state(word % 4)?;
     let mode = read_mode(word / 4)?;
-    if frames.len() != now.frames.count() || !are_frames(frames, now.frames.as_slice()) {
+    let own = own.as_words();
+    if frames.len() != own.len() || !are_same(frames, own) {
         return None;
     }
     Some((state, mode))
 }
 
 /// The same, of the words before the tag.
-fn switched_body(body: &[u64], tasks: &[Option<Task>]) -> Option<SwitchedTask>
+fn switched_body(
+    body: &[u64],
+    tasks: &[Option<Task>],
+    frames: &[FrameWords],
+) -> Option<SwitchedTask>
+    requires { frames.now ≡ map frames_in tasks.now }
     ensures { IfSome result (λ was. (now : AnyTask) × ((slice_get tasks.now was.task ≡ Some (Some now))
         × IsBody 1 body.now (TaskRow was.task (record now { state = was.state; mode = was.mode })))) }
 {
@@ -59,14 +70,20 @@ fn switched_body(body: &[u64], tasks: &[Option<Task>]) -> Option<SwitchedTask>
     }
     let task = TaskId(number as u8);
     let now = tasks.get(usize::from(task.0))?.as_ref()?;
-    let (state, mode) = switched_row(body[1], &body[2..], now)?;
+    let own = &frames[usize::from(task.0)];
+    let (state, mode) = switched_row(body[1], &body[2..], now, own)?;
     Some(SwitchedTask { task, state, mode })
 }
 
 /// A task of which the state or the mode alone changed, by the tasks as they are now, if the list ends with the record of
 /// one, and how many words that has with its tag.
 #[inline(always)]
-pub(crate) fn switched(words: &[u64], tasks: &[Option<Task>]) -> Option<(SwitchedTask, usize)>
+pub(crate) fn switched(
+    words: &[u64],
+    tasks: &[Option<Task>],
+    frames: &[FrameWords],
+) -> Option<(SwitchedTask, usize)>
+    requires { frames.now ≡ map frames_in tasks.now }
     ensures { IfSome result (λ found. (now : AnyTask) × ((slice_get tasks.now found.0.task ≡ Some (Some now))
         × ((older : List ℕ) × ((words.now ≡ older ++ words_of (TaskRow found.0.task (record now { state = found.0.state; mode = found.0.mode })))
         × (found.1 ≡ length (words_of (TaskRow found.0.task (record now { state = found.0.state; mode = found.0.mode }))))
@@ -81,6 +98,6 @@ pub(crate) fn switched(words: &[u64], tasks: &[Option<Task>]) -> Option<(Switche
     if tag % 256 != 1 || count > last as u64 {
         return None;
     }
-    let was = switched_body(&words[last - count as usize..last], tasks)?;
+    let was = switched_body(&words[last - count as usize..last], tasks, frames)?;
     Some((was, count as usize + 1))
 }

@@ -7,6 +7,7 @@ ghost use Rattle.klp_types.specs.declared.record.Record.TheVariants.{TaskRow, Sh
 ghost use Rattle.klp_types.specs.PatchStates.{IsPatchState};
 ghost use Rattle.klp_record_words.specs.Words.{flag_word, state_word, mode_word, frame_word, byte_words, func_word, words_of, IsFrame, IsBelow, IsRecord};
 
+use crate::frame_words::FrameWords;
 use klp_types::{
     Mode, ObjId, PatchId, PatchState, Place, Record, ShadowKey, ShadowValue, Site, Task, TaskId,
     Version,
@@ -78,6 +79,21 @@ fn append(words: &mut [u64], at: usize, new: &[u64]) -> usize
     at + new.len()
 }
 
+/// The same, all at once, since they may be many. Mostly there are none, and then nothing is called.
+#[inline(always)]
+fn copy(words: &mut [u64], at: usize, new: &[u64]) -> usize
+    requires { at + length new.now ≤ length words.old }
+    ensures written { take result words.new ≡ take at words.old ++ new.now }
+    ensures end { result ≡ at + length new.now }
+{
+    if new.is_empty() {
+        return at;
+    }
+    let end = at + new.len();
+    words[at..end].copy_from_slice(new);
+    end
+}
+
 /// Numbers as words. A reader gets the range of each with it, which only a read of the number shows.
 fn task_number(task: TaskId) -> u64
     ensures value { result ≡ task }
@@ -135,7 +151,7 @@ fn mode_word(mode: Mode) -> u64
     }
 }
 
-pub(crate) fn frame_word(frame: Version) -> u64
+fn frame_word(frame: Version) -> u64
     ensures value { result ≡ frame_word frame }
     ensures range { IsFrame frame }
 {
@@ -146,7 +162,7 @@ pub(crate) fn frame_word(frame: Version) -> u64
 }
 
 /// The frames of a task, outermost first.
-fn write_frames(frames: &[Version], words: &mut [u64], at: usize) -> usize
+pub(crate) fn write_frames(frames: &[Version], words: &mut [u64], at: usize) -> usize
     requires { at + length frames.now ≤ length words.old }
     ensures written { take result words.new ≡ take at words.old ++ map frame_word frames.now }
     ensures end { result ≡ at + length frames.now }
@@ -159,7 +175,7 @@ fn write_frames(frames: &[Version], words: &mut [u64], at: usize) -> usize
 }
 
 #[inline(always)]
-pub(crate) fn write_task(task: TaskId, was: &Task, words: &mut [u64], at: usize) -> usize
+fn write_task(task: TaskId, was: &Task, words: &mut [u64], at: usize) -> usize
     requires { at + 36 ≤ length words.old }
     ensures written { take result words.new ≡ take at words.old ++ words_of (TaskRow task was.now) }
     ensures end { result ≤ length words.old }
@@ -171,6 +187,29 @@ pub(crate) fn write_task(task: TaskId, was: &Task, words: &mut [u64], at: usize)
     let at = append(words, at, &[number, word]);
     let at = write_frames(was.frames.as_slice(), words, at);
     append(words, at, &[1 + 256 * (2 + count as u64)])
+}
+
+/// The same, of a task the words of whose frames are at hand.
+#[inline(always)]
+pub(crate) fn copy_task(
+    task: TaskId,
+    was: &Task,
+    frames: &FrameWords,
+    words: &mut [u64],
+    at: usize,
+) -> usize
+    requires spare { at + 36 ≤ length words.old }
+    requires frames { frames.now ≡ was.now.frames }
+    ensures written { take result words.new ≡ take at words.old ++ words_of (TaskRow task was.now) }
+    ensures end { result ≤ length words.old }
+    ensures range { IsRecord (TaskRow task was.now) }
+{
+    let number = task_number(task);
+    let word = state_word(was.state) + 4 * mode_word(was.mode);
+    let frames = frames.as_words();
+    let at = append(words, at, &[number, word]);
+    let at = copy(words, at, frames);
+    append(words, at, &[1 + 256 * (2 + frames.len() as u64)])
 }
 
 fn write_variable(key: ShadowKey, was: &ShadowValue, words: &mut [u64], at: usize) -> usize

@@ -17,14 +17,14 @@ make_ready-requires-clause-spare c =
 
 -- the list is written over
 abbrev after : (c : goal.After-self-3-1) → List ℕ
-after c = (with_items c.make_ready.new.words c.write_task-self-inside.new.words).items
+after c = (with_items c.make_ready.new.words c.copy_task-self-inside.new.words).items
 
 -- the words are those that were there and those of the record
-written : (c : goal.After-self-3-1) → take c.write_task-self-inside.result (after c)
+written : (c : goal.After-self-3-1) → take c.copy_task-self-inside.result (after c)
     ≡ take c.self.inside.end c.self.inside.words.items ++ words_of (TaskRow c.args.task c.args.was.now)
 written c =
-    ap (take c.write_task-self-inside.result) (with_items_is c.make_ready.new.words c.write_task-self-inside.new.words (omega arith))
-    ∙ c.write_task-self-inside.ensures.written
+    ap (take c.copy_task-self-inside.result) (with_items_is c.make_ready.new.words c.copy_task-self-inside.new.words (omega arith))
+    ∙ c.copy_task-self-inside.ensures.written
     ∙ ap (λ xs. take c.self.inside.end xs ++ words_of (TaskRow c.args.task c.args.was.now)) c.deref_mut.ensures.value
     ∙ ap (λ xs. xs ++ words_of (TaskRow c.args.task c.args.was.now)) c.make_ready.ensures.written
 
@@ -37,7 +37,7 @@ invariant_of-self c =
     let count = length-records_in c.self.inside.count (take c.self.inside.end c.self.inside.words.items) in
     let many = ap (λ (r : StoredList). length r.rows) c.self.view_is in
     let room = ap (λ (r : StoredList). r.room) c.self.view_is in (
-      subst (λ n. AreWords n (take c.write_task-self-inside.result (after c))) (more c) (subst (AreWords (suc c.self.inside.count)) (sym (written c)) (are_more c.self.inside.count _ (TaskRow c.args.task c.args.was.now) c.write_task-self-inside.ensures.range c.self.invariant.0)),
+      subst (λ n. AreWords n (take c.copy_task-self-inside.result (after c))) (more c) (subst (AreWords (suc c.self.inside.count)) (sym (written c)) (are_more c.self.inside.count _ (TaskRow c.args.task c.args.was.now) c.copy_task-self-inside.ensures.range c.self.invariant.0)),
       omega arith,
       omega arith,
       omega arith,
@@ -47,6 +47,6 @@ pub returns : goal.returns
 returns c =
     let own = take c.self.inside.end c.self.inside.words.items in
     ap (λ rows. let list : StoredList = record { rows = rows; room = c.self.inside.room } in list)
-    (ap (λ n. records_in n (take c.write_task-self-inside.result (after c))) (sym (more c)) ∙ ap (records_in (suc c.self.inside.count)) (written c)
-    ∙ records_more c.self.inside.count own (TaskRow c.args.task c.args.was.now) c.write_task-self-inside.ensures.range)
+    (ap (λ n. records_in n (take c.copy_task-self-inside.result (after c))) (sym (more c)) ∙ ap (records_in (suc c.self.inside.count)) (written c)
+    ∙ records_more c.self.inside.count own (TaskRow c.args.task c.args.was.now) c.copy_task-self-inside.ensures.range)
     ∙ ap (λ (list : StoredList). record list { rows = list.rows ++ (TaskRow c.args.task c.args.was.now) ∷ [] }) c.self.view_is
