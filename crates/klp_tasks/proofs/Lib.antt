@@ -2,3 +2,4 @@ pub mod MemberLemmas
 pub mod TaskLemmas
 pub mod ListedLemmas
 pub mod ToldLemmas
+pub mod FrameLemmas

@@ -1,20 +1,22 @@
-ghost use Rattle.std.specs.Prelude.{◌≡◌, ◌<◌, ◌≤◌, ◌++◌, ◌&&◌, not, Bool, true, false, List, [], ◌∷◌, Some, None, length, map, replicate, is_some, option_map, option_copied, option_to_list, IfOk};
+ghost use Rattle.std.specs.Prelude.{◌≡◌, ◌<◌, ◌≤◌, ◌++◌, ◌&&◌, not, Bool, true, false, List, [], ◌∷◌, Some, None, length, map, replicate, is_some, option_map, option_copied, option_to_list, IfOk, IfSome, IfNone};
 ghost use Rattle.std.specs.List.{count_by, list_any};
 ghost use Rattle.std.specs.Ordering.{int_eq};
 ghost use Rattle.klp_types.specs.Records.{spare_of};
 ghost use Rattle.klp_types.specs.declared.version.Version.{Version as AnyVersion};
+ghost use Rattle.klp_types.specs.declared.record.Record.TheVariants.{TaskRow};
 ghost use Rattle.klp_types.specs.declared.task.Task.{Task as AnyTask};
 ghost use Rattle.klp_types.specs.declared.task.Mode.TheVariants.{Kernel, Asleep};
 ghost use Rattle.klp_model.specs.Task.{task_at, with_task, is_mode, at_target, in_state, all_in};
 ghost use Rattle.klp_model.specs.TaskStep.{new_task, state_of_task, exited};
 ghost use Rattle.klp_model.specs.Blocked.{switched, lags};
+ghost use Rattle.klp_record_words.specs.Frames.{frames_in};
 ghost use Rattle.klp_tasks.specs.Members.{has, ArePassing, IsSetOf};
 ghost use Rattle.klp_tasks.specs.Sleepers.{sleeps_where};
 ghost use Rattle.klp_tasks.specs.Changes.{Changes, changed, record_of, record_if_switched, records_switched, IsSwitchNoted, put_back, undone};
 
 use crate::version_set::VersionSet;
 use arrayvec::ArrayVec;
-use klp_record_words::Records;
+use klp_record_words::{FrameWords, Records, SwitchedTask};
 use klp_types::{Frames, MAX_TASKS, Mode, PatchState, Record, Task, TaskId, Transition};
 use std::alloc::{AllocError, Global};
 use std::marker::Model;
@@ -26,18 +28,23 @@ use std::marker::Model;
 #[derive(Debug, Drop)]
 pub struct Tasks {
     rows: Vec<Option<Task>>,
+    /// For each number the words of the task's frames. They are put together when it falls asleep, so that to log it and
+    /// to put it back takes them as they are.
+    frames: Vec<FrameWords>,
 }
 
 impl Model for Tasks {
-    ghost use Rattle.std.specs.Prelude.{◌≡◌, List, Option, vec_len};
+    ghost use Rattle.std.specs.Prelude.{◌≡◌, List, Option, map, vec_len};
     ghost use Rattle.klp_types.specs.declared.task.Task.{Task};
     ghost use Rattle.klp_types.specs.declared.limits.TheConstants.{MAX_TASKS};
+    ghost use Rattle.klp_record_words.specs.Frames.{frames_in};
 
     ghost Value = { List (Option Task) };
 
     ghost view = { λ t. t.rows.items };
 
-    ghost invariant = { λ t. vec_len t.rows ≡ MAX_TASKS };
+    ghost invariant = { λ t. (vec_len t.rows ≡ MAX_TASKS) × (vec_len t.frames ≡ MAX_TASKS)
+        × (t.frames.items ≡ map frames_in t.rows.items) };
 }
 
 /// Whether a task isn't at the target. A number without a task never lags, so an empty table lets every
@@ -88,6 +95,16 @@ fn has_state(task: &Task, state: PatchState) -> bool
     task.state == state
 }
 
+/// The words are those of the row's frames from now on: none, where it has no task.
+fn set_words(words: &mut FrameWords, row: &Option<Task>)
+    ensures { words.new ≡ frames_in row.now }
+{
+    match row {
+        Some(task) => words.set(&task.frames),
+        None => words.clear(),
+    }
+}
+
 impl Tasks {
     /// No task, with a row for each number that there may be. An error is want of memory.
     pub fn new(alloc: Global) -> Result<Self, AllocError>
@@ -95,6 +112,7 @@ impl Tasks {
     {
         Ok(Self {
             rows: vec![in alloc; None; MAX_TASKS]?,
+            frames: vec![in alloc; FrameWords::new(); MAX_TASKS]?,
         })
     }
 
@@ -145,7 +163,7 @@ impl Tasks {
         ensures { log.new ≡ record log.old { noted = log.old.noted ++ record_of task (task_at self.now task) ∷ [] } }
     {
         match self.get(task) {
-            Some(was) => log.note_task(task, was),
+            Some(was) => log.note_task(task, was, self.words(task)),
             None => log.note(Record::NoTaskRow { task }),
         }
     }
@@ -242,6 +260,7 @@ impl Tasks {
         };
         row.mode = Mode::Asleep;
         row.frames = frames;
+        self.frames[usize::from(task.0)].set(&frames);
     }
 
     /// A task wakes up in the kernel, and its frames are known no more.
@@ -256,6 +275,7 @@ impl Tasks {
         };
         row.mode = Mode::Kernel;
         row.frames = Frames::new();
+        self.frames[usize::from(task.0)].clear();
     }
 
     /// A sleeping task is brought to the target where none of its frames is blocked (stack checking of
@@ -353,11 +373,18 @@ impl Tasks {
         }
     }
 
-    /// The rows by their numbers, lent.
-    pub fn rows(&self) -> &[Option<Task>]
-        ensures { result.now ≡ self.now }
+    /// Takes the newest record out of the log, where it is that of a task which is inside of what it was inside of, as the
+    /// words of both tell: what is left of the record is what `put_switched` takes. `None` takes nothing out, and says
+    /// nothing of the newest record.
+    #[inline(always)]
+    pub fn take_switched(&self, log: &mut Records) -> Option<SwitchedTask>
+        ensures newest { IfSome result (λ was. (now : AnyTask) × ((task_at self.now was.task ≡ Some now)
+            × (log.old ≡ record log.new {
+              noted = log.new.noted ++ TaskRow was.task (record now { state = was.state; mode = was.mode }) ∷ [];
+            }))) }
+        ensures unchanged { IfNone result (log.new ≡ log.old) }
     {
-        &self.rows
+        log.take_switched(&self.rows, &self.frames)
     }
 
     /// Gives a task that is there its state and its mode back, as `put_back` of its record does where its frames didn't
@@ -393,6 +420,15 @@ impl Tasks {
         }
     }
 
+    /// The words of the frames of a task that is there.
+    #[inline(always)]
+    fn words(&self, task: TaskId) -> &FrameWords
+        requires { is_some (task_at self.now task) ≡ true }
+        ensures { result.now ≡ frames_in (task_at self.now task) }
+    {
+        &self.frames[usize::from(task.0)]
+    }
+
     /// The row of a number is this from now on. A number that there can't be has no row, and nothing
     /// changes.
     fn put(&mut self, task: TaskId, row: Option<Task>)
@@ -400,6 +436,7 @@ impl Tasks {
     {
         let task = usize::from(task.0);
         if task < MAX_TASKS {
+            set_words(&mut self.frames[task], &row);
             self.rows[task] = row;
         }
     }
@@ -425,7 +462,7 @@ impl Tasks {
         if has_state(was, state) {
             return;
         }
-        log.note_task(task, was);
+        log.note_task(task, was, self.words(task));
         self.put_state(task, state);
     }
 

@@ -1,11 +1,21 @@
-use Rattle.std.proofs.Common.{◌≡◌, refl, arith, rules}
+use Rattle.std.proofs.Common.{◌≡◌, refl, arith, rules, set, sym, ap, ◌∙◌}
 use Rattle.std.proofs.lemmas.Grind.{common_steps}
 use Rattle.klp_types.specs.declared.task.Task.{Task}
 use Rattle.klp_types.specs.declared.task.Mode.TheVariants.{Kernel}
 use Rattle.klp_model.specs.Task.{task_at}
 use Rattle.std.specs.Prelude.{Some, []}
 use Rattle.klp_tasks.proofs.TaskLemmas.{is_changed}
+use Rattle.klp_tasks.proofs.FrameLemmas.{frames_put}
 use Rattle.klp_tasks.proofs.tasks.Tasks.wake.Goals as goal
+
+pub invariant_of-self : goal.invariant_of-self
+invariant_of-self c =
+    let own = c.clear.new.self in (
+      c.self.invariant.0,
+      c.self.invariant.1,
+      ap (λ n. set c.self.inside.frames.items n own) (c.from-2.ensures ∙ sym c.from.ensures)
+          ∙ frames_put c.self.inside.rows.items c.self.inside.frames.items c.from.result _ own c.self.invariant.2 (c.clear.ensures ∙ sym c.new-row.ensures),
+    )
 
 pub returns : goal.returns
 returns c =
