@@ -21,6 +21,7 @@ impl ManagerState {
         ensures rows { rows_in self.new ≡ undone (rows_in self.old) self.old.log.noted }
         ensures modules { self.new.modules ≡ record self.old.modules { loaded = self.new.sites.loaded } }
         ensures log { self.new.log ≡ record self.old.log { noted = [] } }
+        ensures blocked { self.new.blocked ≡ self.old.blocked }
     {
         while self.put_newest_back() {}
     }
@@ -33,12 +34,13 @@ impl ManagerState {
         requires due { are_due (rows_in self.old) self.old.log.noted ≡ true }
         ensures one { result ≡ true → IsOneBack self.old self.new }
         ensures none { result ≡ false → (self.old.log.noted ≡ []) × (self.new ≡ self.old) }
+        ensures blocked { self.new.blocked ≡ self.old.blocked }
     {
         if let Some(newest) = self.log.take_small() {
             self.put_small_back(newest);
             return true;
         }
-        if let Some(was) = self.log.take_switched(self.tasks.rows()) {
+        if let Some(was) = self.tasks.take_switched(&mut self.log) {
             self.tasks.put_switched(was.task, was.state, was.mode);
             return true;
         }
@@ -59,6 +61,7 @@ impl ManagerState {
         ensures rows { rows_in self.new ≡ put_back (rows_in self.old) (row_of row) }
         ensures modules { self.new.modules ≡ record self.old.modules { loaded = self.new.sites.loaded } }
         ensures log { self.new.log ≡ self.old.log }
+        ensures blocked { self.new.blocked ≡ self.old.blocked }
     {
         match row {
             SmallRecord::Entry { site, patch, was } => self.sites.put_entry(site, patch, was),
@@ -76,6 +79,7 @@ impl ManagerState {
         ensures rows { rows_in self.new ≡ put_back (rows_in self.old) row.now }
         ensures modules { self.new.modules ≡ record self.old.modules { loaded = self.new.sites.loaded } }
         ensures log { self.new.log ≡ self.old.log }
+        ensures blocked { self.new.blocked ≡ self.old.blocked }
     {
         match row {
             Record::StackEntry { .. } | Record::HookFlag { .. } => self.sites.put_back(*row),

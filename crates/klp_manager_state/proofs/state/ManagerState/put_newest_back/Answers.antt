@@ -1,8 +1,7 @@
-use Rattle.std.proofs.Common.{◌≡◌, Bool, List, Some, None, refl, sym, ap, ◌∙◌}
-use Rattle.std.proofs.lemmas.Option.{get_or_from_slice_get}
+use Rattle.std.proofs.Common.{Bool, List, refl, sym, ap, ◌∙◌}
 use Rattle.klp_types.specs.declared.record.Record.TheVariants.{TaskRow}
 use Rattle.klp_types.specs.declared.task.Task.{Task}
-use Rattle.klp_model.specs.Task.{Tasks, task_at}
+use Rattle.klp_model.specs.Task.{Tasks}
 use Rattle.klp_tasks.specs.Changes.{changed_row}
 use Rattle.klp_types.specs.Records.{RecordList}
 use Rattle.klp_record_words.specs.Small.{row_of}
@@ -25,12 +24,10 @@ returns-in-Some-take_switched-clause-one c = λ _.
     let before = c.args.self.now in
     let was = c.in-Some-take_switched.was in
     let found = c.in-Some-take_switched.ensures.newest in
-    let there : task_at before.tasks was.task ≡ Some found.0 =
-    ap (λ (tasks : Tasks). task_at tasks was.task) (sym c.rows.ensures) ∙ get_or_from_slice_get c.rows.result.now was.task (Some found.0) None found.1.0 in
-    one_back before _ c.take_switched.new.self (TaskRow was.task (record found.0 { state = was.state; mode = was.mode }))
+    one_back before _ c.take_switched.new.log (TaskRow was.task (record found.0 { state = was.state; mode = was.mode }))
     (sym c.in_default.ensures.unchanged ∙ found.1.1)
     (ap (λ (tasks : Tasks). record (rows_in before) { tasks = tasks })
-    (c.put_switched.ensures ∙ ap (changed_row before.tasks was.task (λ (t : Task). record t { state = was.state; mode = was.mode })) there))
+    (c.put_switched.ensures ∙ ap (changed_row before.tasks was.task (λ (t : Task). record t { state = was.state; mode = was.mode })) found.1.0))
     (ap (λ (l : List Bool). record before.modules { loaded = l }) c.requires.modules) refl c.requires.objects c.requires.due
 
 pub put_back-requires-clause-due : goal.put_back-requires-clause-due

@@ -10,6 +10,7 @@ invariant-loop l = record {
   modules : l.self.modules ≡ record l.fn.self.modules { loaded = l.self.sites.loaded };
   objects : length l.self.sites.loaded ≡ length l.self.sites.image.objects;
   log : record l.self.log { noted = [] } ≡ record l.fn.self.log { noted = [] };
+  blocked : l.self.blocked ≡ l.fn.self.blocked;
 }
 
 abbrev pub decreases-loop : goal.decreases-loop
