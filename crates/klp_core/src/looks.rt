@@ -9,6 +9,7 @@ ghost use Rattle.klp_types.specs.World.{variable, state_value};
 ghost use Rattle.klp_types.specs.Pick.{moves};
 ghost use Rattle.klp_model.specs.State.{is_installed, installed_patches};
 ghost use Rattle.klp_model.specs.Task.{task_at};
+ghost use Rattle.klp_model.specs.TaskStep.{frames_of};
 ghost use Rattle.klp_model.specs.Frames.{object_of_version};
 ghost use Rattle.klp_model.specs.Bytes.{text_of};
 ghost use Rattle.klp_model.specs.Entries.{entries_of};
@@ -23,7 +24,8 @@ use arrayvec::ArrayVec;
 use klp_catalog::Catalog;
 use klp_modules::Modules;
 use klp_types::{
-    Entry, MAX_PATCHES, Mode, ObjId, PatchId, ShadowKey, ShadowValue, Site, TaskId, Version, Which,
+    Entry, Frames, MAX_PATCHES, Mode, ObjId, PatchId, ShadowKey, ShadowValue, Site, TaskId,
+    Transition, Version, Which,
 };
 
 impl Manager {
@@ -95,6 +97,24 @@ impl Manager {
     {
         let row = self.state.tasks.get(task)?;
         Some(row.mode)
+    }
+
+    /// What a task is inside of, outermost first: the frames of one that sleeps. Any other has none, since what it runs
+    /// isn't known, and a number without a task has none either.
+    pub fn frames(&self, task: TaskId) -> Frames
+        ensures { result ≡ frames_of (task_at self.now.managed.state.tasks task) }
+    {
+        match self.state.tasks.get(task) {
+            Some(row) => row.frames,
+            None => Frames::new(),
+        }
+    }
+
+    /// The patch in transition with its target, where one moves.
+    pub fn moving(&self) -> Option<Transition>
+        ensures { result ≡ self.now.managed.state.moving }
+    {
+        self.state.moving
     }
 
     /// The object that a version lies in: that of its site, or that of the function of a patch. `None` where

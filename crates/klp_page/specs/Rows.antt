@@ -3,7 +3,8 @@ use Rattle.std.specs.Prelude.{◌≡◌, ℕ, List, [], ◌∷◌}
 use Rattle.klp_core.specs.Journaled.{Journaled}
 use Rattle.klp_console.specs.Answered.{Answer, IsAnswered}
 use Rattle.klp_page.specs.declared.row.Row.{Row}
-use Rattle.klp_page.specs.Holding.{AreHolders}
+use Rattle.klp_manager_state.specs.Managed.{setting_of}
+use Rattle.klp_page.specs.Holding.{holders}
 
 -- a line was answered, and the row has the line, its answer, and the tasks that hold a transition up after it
 pub record IsRowOf (before after : Journaled) (line : List ℕ) (row : Row) : Type 0 where
@@ -11,7 +12,7 @@ pub record IsRowOf (before after : Journaled) (line : List ℕ) (row : Row) : Ty
   pub answered : IsAnswered before after line answer
   pub line_is : row.line.items ≡ line
   pub answer_is : row.answer.items ≡ answer.text
-  pub holders : AreHolders after row.holders.is_known row.holders.tasks.items
+  pub holders : row.holders.items ≡ holders (setting_of after.managed) after.managed.state
 
 -- a line was answered with this text
 abbrev pub IsAnsweredBy : Journaled → Journaled → List ℕ → List ℕ → Type 0

@@ -46,7 +46,7 @@ mark_text (task ∷ tasks) = codes "<b class=held>held up by task" ++ holders_te
 unfoldable pub row_text : Row → List ℕ
 row_text row =
     parts_text row.before.items ++ codes "<code class=line>" ++ escaped row.line.items ++ codes "</code><samp>" ++ escaped row.answer.items
-    ++ codes "</samp>" ++ mark_text row.holders.tasks.items ++ parts_text row.rest.items
+    ++ codes "</samp>" ++ mark_text row.holders.items ++ parts_text row.rest.items
 
 abbrev pub rows_text : List Row → List ℕ
 rows_text [] = []

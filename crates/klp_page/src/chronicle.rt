@@ -3,11 +3,10 @@
 use crate::bars::{Bars, Sign};
 use crate::cards::{add_ended_card, add_gone_card, add_patch_card, add_site_card, add_task_card};
 use crate::drawing::add_drawing;
-use crate::holding::{Sleepers, blocked, is_blocked, moving};
+use crate::holding::{blocked, is_blocked};
 use crate::names::add_object;
 use crate::part::Part;
 use crate::room::add_tasks;
-use crate::row::Holders;
 use crate::sheet::Sheet;
 use crate::shot::{PatchShot, TaskShot, patch_shots, task_shot};
 use crate::story::Story;
@@ -38,8 +37,6 @@ pub(crate) struct Chronicle {
     quiet: u64,
     transitions: u64,
     moving: Option<Transition>,
-    /// Whether the journal had room to look at sleepers.
-    has_room: bool,
     tasks: Vec<Option<TaskShot>>,
     patches: Vec<PatchShot>,
     stacks: Vec<ArrayVec<Entry, MAX_PATCHES>>,
@@ -183,7 +180,6 @@ impl Chronicle {
             quiet: 0,
             transitions: 0,
             moving: None,
-            has_room: true,
             tasks: Vec::new(alloc),
             patches: Vec::new(alloc),
             stacks: Vec::new(alloc),
@@ -209,8 +205,7 @@ impl Chronicle {
         manager: &Manager,
         line: &[u8],
         answer: &[u8],
-        holders: &Holders,
-        sleepers: &Sleepers,
+        holders: &[TaskId],
     ) -> Result<Told, AllocError> {
         self.line = self.line.saturating_add(1);
         // each accepted event has its own mark, and so has what is taken back
@@ -219,7 +214,7 @@ impl Chronicle {
         }
         let change = self.change_of(alloc, manager, line)?;
         let mut cards = Sheet::new(alloc);
-        match self.tell_change(alloc, manager, &mut cards, &change, holders, sleepers)? {
+        match self.tell_change(alloc, manager, &mut cards, &change, holders)? {
             Extent::Nothing => self.quiet_row(alloc, answer),
             Extent::Tasks => self.row(alloc, &mut cards, "<details class=row id=line-"),
             Extent::Patches => self.row(alloc, &mut cards, "<details class=row open id=line-"),
@@ -240,7 +235,7 @@ impl Chronicle {
             None
         };
         self.mark = mark;
-        let moving = moving(manager);
+        let moving = manager.moving();
         let blocked = match moving {
             Some(ref moving) => blocked(alloc, manager, moving)?,
             None => Vec::new(alloc),
@@ -261,14 +256,12 @@ impl Chronicle {
         manager: &Manager,
         cards: &mut Sheet,
         change: &Change,
-        holders: &Holders,
-        sleepers: &Sleepers,
+        holders: &[TaskId],
     ) -> Result<Extent, AllocError> {
         self.tell_event(manager, change);
-        self.tell_room(holders);
         let modules = add_module(cards, manager, change);
         let patches = self.tell_patches(alloc, manager, cards, change)?;
-        let tasks = self.tell_tasks(manager, cards, change, holders, sleepers);
+        let tasks = self.tell_tasks(manager, cards, change, holders);
         let sites = self.tell_sites(manager, cards);
         self.bars
             .see(self.line, change.sign, self.tasks.as_slice())?;
@@ -396,28 +389,18 @@ impl Chronicle {
         }
     }
 
-    /// Says once that nobody can see where tasks sleep.
-    fn tell_room(&mut self, holders: &Holders) {
-        if self.has_room && !holders.is_known {
-            let what = "the journal has no room left, so nobody sees where tasks sleep.";
-            self.story.tell_line(self.line, what);
-        }
-        self.has_room = holders.is_known;
-    }
-
     /// The tasks that changed or hold the transition up. Answers whether one changed.
     fn tell_tasks(
         &mut self,
         manager: &Manager,
         cards: &mut Sheet,
         change: &Change,
-        holders: &Holders,
-        sleepers: &Sleepers,
+        holders: &[TaskId],
     ) -> bool {
         let mut is_changed = false;
         for number in 0..MAX_TASKS {
             let task = TaskId(number as u8);
-            let shot = task_shot(manager, sleepers, holders, task);
+            let shot = task_shot(manager, holders, task);
             is_changed |= self.tell_task(manager, cards, change, task, shot);
         }
         is_changed

@@ -6,7 +6,6 @@ ghost use Rattle.klp_program.specs.Booted.{never_ran};
 ghost use Rattle.klp_page.specs.Pages.{IsPage, IsScriptFault, IsPageOver, IsFaultOver, IsPageOf, IsFaultOf};
 
 use crate::chronicle::Chronicle;
-use crate::holding::Sleepers;
 use crate::record::record;
 use crate::row::page_of;
 use klp_callback::{Boxed, Scripted};
@@ -32,8 +31,7 @@ fn paged(
     ensures fault { IfErr result (λ fault. IsScriptFault script.now fault) }
 {
     chronicle.open(manager)?;
-    let mut sleepers = Sleepers::new();
-    let rows = record(alloc, manager, script, &mut sleepers, chronicle)?;
+    let rows = record(alloc, manager, script, chronicle)?;
     let head = chronicle.head(alloc, manager)?;
     let foot = chronicle.foot(alloc)?;
     Ok(page_of(alloc, &head, &rows, &foot)?)

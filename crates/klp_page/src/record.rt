@@ -7,7 +7,7 @@ ghost use Rattle.klp_page.specs.Rows.{IsAnsweredBy, IsRowOf, AreRows};
 ghost use Rattle.klp_page.specs.Pages.{HasRows, IsScriptFault};
 
 use crate::chronicle::Chronicle;
-use crate::holding::{Sleepers, look};
+use crate::holding::holders;
 use crate::row::Row;
 use klp_console::{ServeFault, serve};
 use klp_console_io::{Feed, LineBuffer, OverWrite, TooLong};
@@ -61,15 +61,14 @@ fn record_line(
     alloc: Global,
     manager: &mut Manager,
     line: &[u8],
-    sleepers: &mut Sleepers,
     chronicle: &mut Chronicle,
 ) -> Result<Row, AllocError>
     requires { lines_and_rest line.now ≡ line.now ∷ [] }
     ensures { IfOk result (λ row. IsRowOf manager.old manager.new line.now row) }
 {
     let answer = answer(alloc, manager, line)?;
-    let holders = look(alloc, manager, sleepers)?;
-    let told = chronicle.tell(alloc, manager, line, answer.as_slice(), &holders, sleepers)?;
+    let holders = holders(alloc, manager)?;
+    let told = chronicle.tell(alloc, manager, line, answer.as_slice(), holders.as_slice())?;
     let line = Vec::from_slice(alloc, line)?;
     Ok(Row {
         before: told.before,
@@ -86,7 +85,6 @@ fn record_lines(
     manager: &mut Manager,
     script: &[u8],
     line: &mut LineBuffer,
-    sleepers: &mut Sleepers,
     chronicle: &mut Chronicle,
     rows: &mut Vec<Row>,
 ) -> Result<(), Fault>
@@ -101,7 +99,7 @@ fn record_lines(
             Err(TooLong) => return Err(Fault::Serve(ServeFault::LineTooLong)),
             Ok(None) => return Ok(()),
             Ok(Some(after)) => {
-                rows.push(record_line(alloc, manager, line.bytes(), sleepers, chronicle)?)?;
+                rows.push(record_line(alloc, manager, line.bytes(), chronicle)?)?;
                 line.clear();
                 rest = after;
             }
@@ -116,7 +114,6 @@ pub(crate) fn record(
     alloc: Global,
     manager: &mut Manager,
     script: &[u8],
-    sleepers: &mut Sleepers,
     chronicle: &mut Chronicle,
 ) -> Result<Vec<Row>, Fault>
     ensures rows { IfOk result (λ rows. AreRows manager.old manager.new (lines_of script.now) rows.items) }
@@ -124,13 +121,11 @@ pub(crate) fn record(
 {
     let mut line = LineBuffer::new();
     let mut rows = Vec::new(alloc);
-    record_lines(
-        alloc, manager, script, &mut line, sleepers, chronicle, &mut rows,
-    )?;
+    record_lines(alloc, manager, script, &mut line, chronicle, &mut rows)?;
     let last = line.bytes();
     if last.is_empty() {
         return Ok(rows);
     }
-    rows.push(record_line(alloc, manager, last, sleepers, chronicle)?)?;
+    rows.push(record_line(alloc, manager, last, chronicle)?)?;
     Ok(rows)
 }

@@ -7,14 +7,6 @@ use itoa::Buffer;
 use klp_types::TaskId;
 use std::alloc::{AllocError, Global};
 
-/// The tasks that hold a transition up.
-#[derive(Drop)]
-pub(crate) struct Holders {
-    pub tasks: Vec<TaskId>,
-    /// Whether they could be looked for.
-    pub is_known: bool,
-}
-
 /// What a page shows of a line.
 #[derive(Drop)]
 pub(crate) struct Row {
@@ -22,7 +14,8 @@ pub(crate) struct Row {
     pub before: Vec<Part>,
     pub line: Vec<u8>,
     pub answer: Vec<u8>,
-    pub holders: Holders,
+    /// The tasks that hold a transition up after the line.
+    pub holders: Vec<TaskId>,
     /// What stands behind the mark.
     pub rest: Vec<Part>,
 }
@@ -66,7 +59,7 @@ fn add_row(page: &mut Vec<u8>, row: &Row) -> Result<(), AllocError>
     page.extend_from_slice(b"</code><samp>")?;
     add_text(page, &row.answer)?;
     page.extend_from_slice(b"</samp>")?;
-    add_mark(page, &row.holders.tasks)?;
+    add_mark(page, &row.holders)?;
     add_parts(page, &row.rest)?;
     Ok(())
 }

@@ -1,7 +1,5 @@
 //! What is seen of a manager after a line, so that it can be compared with what was seen before.
 
-use crate::holding::Sleepers;
-use crate::row::Holders;
 use klp_core::Manager;
 use klp_types::{Frames, Mode, PatchId, TaskId};
 use std::alloc::{AllocError, Global};
@@ -11,7 +9,7 @@ use std::alloc::{AllocError, Global};
 pub(crate) struct TaskShot {
     pub mode: Mode,
     pub state: i8,
-    /// What it sleeps inside of; none where the journal has no room to look.
+    /// What it sleeps inside of.
     pub frames: Frames,
     pub is_holding: bool,
 }
@@ -34,23 +32,14 @@ fn has(tasks: &[TaskId], task: TaskId) -> bool {
 }
 
 /// A task, if it is there.
-pub(crate) fn task_shot(
-    manager: &Manager,
-    sleepers: &Sleepers,
-    holders: &Holders,
-    task: TaskId,
-) -> Option<TaskShot> {
+pub(crate) fn task_shot(manager: &Manager, holders: &[TaskId], task: TaskId) -> Option<TaskShot> {
     let mode = manager.mode(task)?;
     let state = manager.patch_state(task)?;
-    let mut frames = Frames::new();
-    if mode == Mode::Asleep && holders.is_known {
-        frames = sleepers.frames(task);
-    }
     Some(TaskShot {
         mode,
         state,
-        frames,
-        is_holding: has(holders.tasks.as_slice(), task),
+        frames: manager.frames(task),
+        is_holding: has(holders, task),
     })
 }
 
