@@ -62,11 +62,21 @@ impl StoredSymbol {
     }
 }
 
-/// Writes over the entry site that begins there in a body. All five bytes change in one step, so no task
-/// runs a half of them.
+/// Writes over the entry site that begins there in a body.
 fn write_entry(body: &mut [u8], offset: usize, entry: &[u8; ENTRY_SITE_LEN])
     requires { offset + 5 ≤ length body.old }
     ensures { body.new ≡ with_entry_at offset entry.now body.old }
 {
-    body[offset..offset + ENTRY_SITE_LEN].copy_from_slice(entry);
+    write_site(&mut body[offset..offset + ENTRY_SITE_LEN], entry);
+}
+
+/// All five bytes of an entry site change in one step, so no task runs a half of them. They are one array that is
+/// assigned, since a copy from slice to slice goes over its bytes one by one, and reads them back from memory.
+fn write_site(site: &mut [u8], entry: &[u8; ENTRY_SITE_LEN])
+    requires { length site.old ≡ 5 }
+    ensures { site.new ≡ entry.now }
+{
+    if let Some(site) = site.as_mut_array() {
+        *site = *entry;
+    }
 }
