@@ -1,4 +1,5 @@
 pub mod BootLemmas
+pub mod BriefLemmas
 pub mod EventLemmas
 pub mod PlacedLemmas
 pub mod ViewLemmas

@@ -22,7 +22,7 @@ use Rattle.klp_manager_state.specs.declared.state.ManagerState.{ManagerState}
 use Rattle.klp_manager_state.specs.Events.{TakesEvent}
 use Rattle.klp_manager_state.specs.Invariant.{Invariant}
 use Rattle.klp_manager_state.specs.Managed.{Managed, setting_of, setting_in, state_in}
-use Rattle.klp_manager_state.specs.Rows.{Rows, rows_in, rows_before, undone, undone_if_told}
+use Rattle.klp_manager_state.specs.Rows.{Rows, rows_in, undone, undone_if_told}
 use Rattle.klp_manager_state.proofs.RowLemmas.{given_back}
 use Rattle.klp_core.specs.Journaled.{stacks_from, rows_of}
 

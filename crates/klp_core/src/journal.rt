@@ -8,7 +8,7 @@ ghost use Rattle.klp_manager_state.specs.Rows.{rows_in};
 ghost use Rattle.klp_core.specs.Journaled.{rows_before_all, journaled_of, groups_in, AreInStep};
 ghost use Rattle.klp_core.specs.Taking.{IsTaken};
 
-use crate::take::{refused, take};
+use crate::take::{refused, take, take_brief};
 use klp_catalog::Catalog;
 use klp_journal::Journal;
 use klp_manager_state::ManagerState;
@@ -52,6 +52,30 @@ pub(crate) fn take_and_append(
     if !journal.has_room(&state.log) {
         return Err(refused(state, catalog, event).unwrap_or(Refusal::JournalFull));
     }
+    let Some(refusal) = take_brief(state, event) else {
+        return take_any(state, catalog, journal, event);
+    };
+    if let Some(refusal) = refusal {
+        return Err(refusal);
+    }
+    append(state, journal, event, &Reply::Done);
+    Ok(Reply::Done)
+}
+
+/// The same of any event, by a journal with room. It is a function of its own, since one clears all its room for replies
+/// when it begins, which a brief event needs none of.
+fn take_any(
+    state: &mut ManagerState,
+    catalog: &mut Catalog,
+    journal: &mut Journal,
+    event: &Event,
+) -> Result<Reply, Refusal>
+    requires kept { AreInStep state.old catalog.old journal.old }
+    requires room { has_room (groups_in state.old journal.old) ≡ true }
+    ensures kept { AreInStep state.new catalog.new journal.new }
+    ensures taken { IsTaken (journaled_of state.old catalog.old (groups_in state.old journal.old))
+        (journaled_of state.new catalog.new (groups_in state.new journal.new)) event.now result }
+{
     let reply = take(state, catalog, event)?;
     append(state, journal, event, &reply);
     Ok(reply)

@@ -108,13 +108,22 @@ impl Manager {
         ensures setting { setting_of self.new.managed ≡ setting_of self.old.managed }
         ensures stands { Stands self.new }
     {
+        self.apply_lent(&event)
+    }
+
+    /// The same of an event that is lent, and so not copied, though it has room for the frames of a sleeper. It
+    /// becomes part of who calls it, so that no reply is handed on to one who doesn't look at it.
+    #[inline(always)]
+    fn apply_lent(&mut self, event: &Event) -> Result<Reply, Refusal>
+        ensures taken { IsTaken self.old self.new event.now result }
+        ensures counts { IfOk result
+            (λ reply. AreCounted self.old.managed.catalog self.new.managed.catalog
+            (callbacks_of (setting_of self.old.managed) self.old.managed.state event.now)) }
+        ensures setting { setting_of self.new.managed ≡ setting_of self.old.managed }
+        ensures stands { Stands self.new }
+    {
         klp_catalog::laws::counts_grow_by_runs();
-        take_and_append(
-            &mut self.state,
-            &mut self.catalog,
-            &mut self.journal,
-            &event,
-        )
+        take_and_append(&mut self.state, &mut self.catalog, &mut self.journal, event)
     }
 
     /// Takes events in order, and answers how many of them were accepted and how many refused. A refused
@@ -133,7 +142,7 @@ impl Manager {
         let mut accepted = 0;
         let mut refused = 0;
         for event in events {
-            match self.apply(*event) {
+            match self.apply_lent(event) {
                 Ok(_) => accepted += 1,
                 Err(_) => refused += 1,
             }

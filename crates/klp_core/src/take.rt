@@ -1,7 +1,10 @@
-ghost use Rattle.std.specs.Prelude.{◌≡◌, true, length, IfOk};
+ghost use Rattle.std.specs.Prelude.{◌≡◌, true, length, IfOk, IfSome, IfNone};
+ghost use Rattle.klp_types.specs.declared.limits.TheConstants.{MAX_RECORDS};
+ghost use Rattle.klp_types.specs.FirstOf.{unless};
+ghost use Rattle.klp_model.specs.declared.event.Reply.TheVariants.{Done};
 ghost use Rattle.klp_manager_state.specs.Invariant.{Invariant};
 ghost use Rattle.klp_manager_state.specs.Managed.{refused_in};
-ghost use Rattle.klp_manager_state.specs.Events.{TakesEvent};
+ghost use Rattle.klp_manager_state.specs.Events.{TakesEvent, TakesEventAlone};
 ghost use Rattle.klp_manager_state.specs.Rows.{IsNoted};
 ghost use Rattle.klp_core.specs.Journaled.{is_of_a_task};
 
@@ -13,6 +16,27 @@ use klp_patch_events::{
     poll, poll_refusal, set_enabled, set_refusal,
 };
 use klp_task_events::{shadow, tasks};
+
+/// Takes an event of a task that answers no more than that it was done, and tells why it was refused, if it was; nothing
+/// where it is another event. Such events are most, and the answer alone of one would cost more than all that it does,
+/// since a reply has room for the frames of a sleeper. Where it took none, `take` would.
+#[tactic(auto, using(crate::proofs::BriefLemmas::brief_noted, crate::proofs::BriefLemmas::brief_one))]
+pub(crate) fn take_brief(state: &mut ManagerState, event: &Event) -> Option<Option<Refusal>>
+    requires room { state.old.log.room ≡ MAX_RECORDS }
+    ensures taken { IfSome result (λ refusal. TakesEventAlone state.old state.new event.now (unless refusal Done)) }
+    ensures noted { IfSome result (λ refusal. IsNoted state.old state.new (unless refusal Done)) }
+    ensures one { IfSome result (λ refusal. IfNone refusal (length state.new.log.noted ≡ 1)) }
+    ensures unchanged { IfNone result (state.new ≡ state.old) }
+{
+    match *event {
+        Event::NewTask(task) => Some(tasks::new_task(state, task).err()),
+        Event::Fork(parent, child) => Some(tasks::fork(state, parent, child).err()),
+        Event::EndTask(task) => Some(tasks::end_task(state, task).err()),
+        Event::EnterKernel(task) => Some(tasks::enter_kernel(state, task).err()),
+        Event::ExitToUser(task) => Some(tasks::exit_to_user(state, task).err()),
+        _ => None,
+    }
+}
 
 /// Each event goes to its own step. It is lent, since one has room for the frames of a sleeper.
 pub(crate) fn take(

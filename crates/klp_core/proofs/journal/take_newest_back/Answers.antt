@@ -1,9 +1,9 @@
-use Rattle.std.proofs.Common.{◌≡◌, ◌++◌, [], ◌∷◌, length, sym, ap, subst, ◌∙◌}
+use Rattle.std.proofs.Common.{sym, ap, subst, ◌∙◌}
 use Rattle.klp_types.specs.Records.{RecordList}
 use Rattle.klp_journal.specs.Journal.{groups_of}
 use Rattle.klp_manager_state.specs.Rows.{rows_in, undone}
 use Rattle.klp_core.specs.Journaled.{rows_before_all, groups_in, IsSound}
-use Rattle.klp_core.proofs.JournalLemmas.{over, some_newest, before_more, sound_due, sound_few, taken_back, taken_back_in_step, IsTakenBack, others_are}
+use Rattle.klp_core.proofs.JournalLemmas.{over, some_newest, before_more, sound_due, sound_few, taken_back, taken_back_in_step, others_are}
 use Rattle.klp_core.proofs.journal.take_newest_back.Goals as goal
 
 pub reopen-requires-clause-few : goal.reopen-requires-clause-few

@@ -4,23 +4,23 @@ use Rattle.klp_manager_state.specs.Managed.{setting_of}
 use Rattle.klp_core.specs.Journaled.{Journaled, journaled_of, groups_in}
 use Rattle.klp_core.specs.Taking.{IsTaken}
 use Rattle.klp_core.proofs.JournalLemmas.{over, sound_stands, counted, same_setting_taken}
-use Rattle.klp_core.proofs.manager.Manager.apply.Goals as goal
+use Rattle.klp_core.proofs.manager.Manager.apply_lent.Goals as goal
 
 pub returns-clause-taken : goal.returns-clause-taken
 returns-clause-taken g c =
-    subst (λ (m : Journaled). IsTaken m (journaled_of c.take_and_append.new.state c.take_and_append.new.catalog (groups_in c.take_and_append.new.state c.take_and_append.new.journal)) c.args.event c.take_and_append.result)
+    subst (λ (m : Journaled). IsTaken m (journaled_of c.take_and_append.new.state c.take_and_append.new.catalog (groups_in c.take_and_append.new.state c.take_and_append.new.journal)) c.args.event.now c.take_and_append.result)
     c.self.view_is c.take_and_append.ensures.taken
 
 pub returns-clause-counts : goal.returns-clause-counts
 returns-clause-counts g c =
     let own = c.args.self.now.managed in
-    let calls = callbacks_of (setting_of own) own.state c.args.event in
-    counted c.args.self.now (journaled_of c.take_and_append.new.state c.take_and_append.new.catalog (groups_in c.take_and_append.new.state c.take_and_append.new.journal)) c.args.event c.take_and_append.result calls (returns-clause-taken g c)
+    let calls = callbacks_of (setting_of own) own.state c.args.event.now in
+    counted c.args.self.now (journaled_of c.take_and_append.new.state c.take_and_append.new.catalog (groups_in c.take_and_append.new.state c.take_and_append.new.journal)) c.args.event.now c.take_and_append.result calls (returns-clause-taken g c)
     (λ patch object place which there. c.counts_grow_by_runs.ensures.looks own.catalog calls patch object place which there)
 
 pub returns-clause-setting : goal.returns-clause-setting
 returns-clause-setting g c =
-    same_setting_taken c.args.self.now (journaled_of c.take_and_append.new.state c.take_and_append.new.catalog (groups_in c.take_and_append.new.state c.take_and_append.new.journal)) c.args.event c.take_and_append.result (returns-clause-taken g c)
+    same_setting_taken c.args.self.now (journaled_of c.take_and_append.new.state c.take_and_append.new.catalog (groups_in c.take_and_append.new.state c.take_and_append.new.journal)) c.args.event.now c.take_and_append.result (returns-clause-taken g c)
 
 pub returns-clause-stands : goal.returns-clause-stands
 returns-clause-stands g c = sound_stands c.take_and_append.new.state c.take_and_append.new.catalog (groups_in c.take_and_append.new.state c.take_and_append.new.journal) (over c.take_and_append.new.state c.take_and_append.new.catalog c.take_and_append.new.journal c.take_and_append.ensures.kept)
