@@ -119,6 +119,7 @@ impl Stacks {
 
     /// Takes the entry of a patch out of a site's stack, if it has one, and answers where it was: with that
     /// it can be put back below entries that are newer.
+    #[inline(always)]
     fn take_out(&mut self, site: Site, patch: PatchId) -> Option<Place>
         requires { site < length self.old }
         ensures place { result ≡ place_of patch (entries_at self.old site) }

@@ -449,7 +449,9 @@ impl Tasks {
     }
 
     /// A task gets the state, if it is there. Its row is logged before, and only where its state was another, since no
-    /// record is kept of an unchanged row. It is lent to the list, and so not copied, but for what it says.
+    /// record is kept of an unchanged row. It is lent to the list, and so not copied, but for what it says. It is called
+    /// for each number that a task may have, of which most have none.
+    #[inline(always)]
     fn set_state(&mut self, task: TaskId, state: PatchState, log: &mut Records)
         requires { is_some (record_if_switched task (task_at self.old task)
             (task_at (changed self.old task (in_state state)) task)) ≡ true → 0 < spare_of log.old }
