@@ -1,4 +1,5 @@
-//! Two jobs at once.
+//! Two jobs at once. What takes a body out and what keeps its end are functions of their own, since each drops what
+//! was there (docs/DECISIONS.md, "One way out for an owner").
 ghost use Rattle.std.specs.Prelude.{◌≡◌, ◌<◌, ◌^◌, [], length, Some, None, IsSome, IfSome, vec_len};
 ghost use Rattle.klp_bodies.specs.Jobs.{body_of, IsRun};
 ghost use Rattle.klp_bodies.specs.Running.{Ends};
@@ -37,6 +38,34 @@ fn go<
     (ended, outcomes)
 }
 
+/// Takes the body out of a job that hasn't run.
+fn taken<S: Start + Protocol<Published, View>, G: Gate + Drop>(
+    body: &mut Option<TaskBody<S, G>>,
+) -> TaskBody<S, G>
+    requires { IsSome body.old }
+    ensures body { body.old ≡ Some result }
+    ensures left { body.new ≡ None }
+{
+    match body.take() {
+        Some(body) => body,
+        None => unreachable!(),
+    }
+}
+
+/// Keeps what a body came to in the job that it was taken out of.
+fn keep<S: Start + Protocol<Published, View>>(
+    ended: &mut Option<Result<TaskPass<S>, BodyFault<S>>>,
+    outcomes: &mut Vec<Outcome>,
+    end: Result<TaskPass<S>, BodyFault<S>>,
+    told: Vec<Outcome>,
+)
+    ensures ended { ended.new ≡ Some end }
+    ensures outcomes { outcomes.new ≡ told }
+{
+    *ended = Some(end);
+    *outcomes = told;
+}
+
 /// Runs the bodies of two jobs at once where a second thread can be made, else one after the other, and waits for both.
 pub fn run_two<
     S: Start + Protocol<Published, View> + Send + Sync,
@@ -50,17 +79,13 @@ pub fn run_two<
     ensures first { IfSome (body_of a.old) (λ body. IsRun S.setting S.base G.answers body a.old a.new) }
     ensures second { IfSome (body_of b.old) (λ body. IsRun S.setting S.base G.answers body b.old b.new) }
 {
-    let (Some(first), Some(second)) = (a.body.take(), b.body.take()) else {
-        unreachable!()
-    };
+    let (first, second) = (taken(&mut a.body), taken(&mut b.body));
     let (mine, other) = (a.steps.as_slice(), b.steps.as_slice());
     let ((one, told), (two, heard)) = join(
         rt,
         || go(rt, alloc, live, first, mine),
         || go(rt, alloc, live, second, other),
     );
-    a.ended = Some(one);
-    a.outcomes = told;
-    b.ended = Some(two);
-    b.outcomes = heard;
+    keep(&mut a.ended, &mut a.outcomes, one, told);
+    keep(&mut b.ended, &mut b.outcomes, two, heard);
 }

@@ -8,6 +8,7 @@ ghost use Rattle.klp_core.specs.Boot.{IsMatch, AreNamed, IsFaultOf};
 
 use crate::fault::BootFault;
 use klp_catalog::Catalog;
+use klp_journal::Journal;
 use klp_manager_state::ManagerState;
 use klp_modules::Modules;
 use klp_text::Image;
@@ -35,30 +36,32 @@ fn is_match(image: &Image, modules: &Modules, catalog: &Catalog) -> bool
     true
 }
 
-/// The state of a manager when it opens, where the three match. The image and the modules go into
-/// it as they are.
-pub(crate) fn state_over(
+/// The state and the journal of a manager when it opens, where the three match. The image and the modules go into the
+/// state as they are. The journal is made before the state, which is so deep that to drop it costs more than all else.
+pub(crate) fn parts_over(
     alloc: Global,
     image: Image,
     modules: Modules,
     catalog: &Catalog,
-) -> Result<ManagerState, BootFault>
+) -> Result<(ManagerState, Journal), BootFault>
     requires image { image ≡ opening image.image.handler image.image.objects }
     requires modules { modules.loaded ≡ slice_set (replicate (length modules.names) false) 0 true }
     requires names { IsMatch image.image modules catalog.now → AreNamed image.image modules catalog.now }
-    ensures matches { IfOk result (λ state. IsMatch image.image modules catalog.now) }
-    ensures kept { IfOk result (λ state. Invariant state catalog.now) }
-    ensures opening { IfOk result (λ state. managed_of state catalog.now ≡ record {
+    ensures matches { IfOk result (λ made. IsMatch image.image modules catalog.now) }
+    ensures kept { IfOk result (λ made. Invariant made.0 catalog.now) }
+    ensures opening { IfOk result (λ made. managed_of made.0 catalog.now ≡ record {
       image = image.image;
       catalog = catalog.now;
-      state = opening_state (setting_in state catalog.now);
+      state = opening_state (setting_in made.0 catalog.now);
     }) }
-    ensures log { IfOk result (λ state. state.log ≡ record { noted = []; room = MAX_RECORDS; older = [] }) }
+    ensures log { IfOk result (λ made. made.0.log ≡ record { noted = []; room = MAX_RECORDS; older = [] }) }
+    ensures journal { IfOk result (λ made. made.1 ≡ []) }
     ensures fault { IfErr result (λ fault. IsFaultOf image.image modules catalog.now fault) }
 {
     if !is_match(&image, &modules, catalog) {
         return Err(BootFault::Mismatch);
     }
+    let journal = Journal::new(alloc)?;
     let state = ManagerState::new(alloc, image, modules, catalog)?;
-    Ok(state)
+    Ok((state, journal))
 }

@@ -13,7 +13,7 @@ ghost use Rattle.klp_core.specs.Taking.{IsTaken, AreTaken};
 ghost use Rattle.klp_core.specs.Rewinding.{IsRewound};
 ghost use Rattle.klp_core.specs.Withdrawal.{LeavesNoTrace};
 
-use crate::boot::state_over;
+use crate::boot::parts_over;
 use crate::fault::{BadMark, BootFault};
 use crate::journal::{rewind_to, take_and_append};
 use crate::laws::what_is_withdrawn_leaves_no_trace;
@@ -83,8 +83,7 @@ impl Manager {
         ensures stands { IfOk result (λ manager. Stands manager) }
         ensures fault { IfErr result (λ fault. IsFaultOf image.image modules catalog fault) }
     {
-        let state = state_over(alloc, image, modules, &catalog)?;
-        let journal = Journal::new(alloc)?;
+        let (state, journal) = parts_over(alloc, image, modules, &catalog)?;
         Ok(Manager {
             state,
             catalog,

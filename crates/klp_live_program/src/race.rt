@@ -1,5 +1,5 @@
 //! Two task threads run their steps over one machine, and all that was accepted is taken back.
-ghost use Rattle.std.specs.Prelude.{◌≡◌, ◌<◌, ◌≤◌, [], ◌∷◌, vec_len, Some, Ok, IsSomeAnd, IfOk, IfErr};
+ghost use Rattle.std.specs.Prelude.{◌≡◌, ◌<◌, ◌≤◌, [], ◌∷◌, ◌++◌, vec_len, Some, Ok, IsSomeAnd, IfOk, IfErr, OnOk};
 ghost use Rattle.klp_types.specs.declared.limits.TheConstants.{MAX_TASKS};
 ghost use Rattle.klp_live.specs.Opening.{IsFresh};
 ghost use Rattle.klp_live.specs.Passing.{Passing};
@@ -18,7 +18,7 @@ use klp_bodies::{BodyCause, Gate, Job, Outcome, Step, TaskBody, run_two};
 use klp_core::Machine;
 use klp_live::{Live, Opened, Published, Seat, Start, View};
 use klp_types::TaskId;
-use std::alloc::Global;
+use std::alloc::{AllocError, Global};
 use std::marker::Brand;
 use std::sync::Wait;
 use std::sync::ledger::Blank;
@@ -88,6 +88,19 @@ fn ended<S: Start + Protocol<Published, View>>(
     }
 }
 
+/// Gives both seats back.
+fn give_back<S: Start + Protocol<Published, View>>(
+    seats: &mut Vec<Seat<S>>,
+    first: Seat<S>,
+    second: Seat<S>,
+) -> Result<(), AllocError>
+    ensures { OnOk result (seats.new.items ≡ seats.old.items ++ first ∷ second ∷ []) }
+{
+    seats.push(first)?;
+    seats.push(second)?;
+    Ok(())
+}
+
 /// Both tasks run their steps, and give back the seats, which they took before anybody knew of an event.
 fn run_both<
     S: Start + Protocol<Published, View> + Send + Sync,
@@ -119,8 +132,7 @@ fn run_both<
     run_two(rt, alloc, live, &mut one, &mut two);
     let (one, first) = ended(one)?;
     let (two, second) = ended(two)?;
-    seats.push(one)?;
-    seats.push(two)?;
+    give_back(&mut seats, one, two)?;
     Ok((seats, Done { first, second }))
 }
 

@@ -10,13 +10,10 @@ returns-clause-done g c =
     in
     let one = c.in_ok-one.ensures.done in
     let two = c.in_ok-two.ensures.done in
-    let alone : c.push.new.self.items ≡ c.in_ok-one.one ∷ [] =
-    c.in_ok-push.ensures.items ∙ ap (λ (seats : List Knows). seats ++ c.in_ok-one.one ∷ []) taken.left_is
-    in
     record {
       of_first = c.in_ok-one.one;
       of_second = c.in_ok-two.two;
-      known_is = c.in_ok-push-2.ensures.items ∙ ap (λ (seats : List Knows). seats ++ c.in_ok-two.two ∷ []) alone;
+      known_is = c.in_ok-give_back.ensures ∙ ap (λ (seats : List Knows). seats ++ c.in_ok-one.one ∷ c.in_ok-two.two ∷ []) taken.left_is;
       first_ended = job_has_ended g.S.Start.setting g.S.Start.base 1 c.job_of-one.result c.run_two.new.a c.in-Some-Some.first one.0 c.in_ok-one.one
           c.args.steps.first.items c.in_ok-one.first.items c.job_of-one.ensures.body c.run_two.ensures.first taken.one_is c.job_of-one.ensures.steps
           one.3 one.1 one.2;
