@@ -3,7 +3,7 @@ use crossbeam_utils::rule::Protocol;
 use klp_live::{Published, Start, TaskPass, View};
 
 /// Why a body has stopped.
-#[derive(Clone, Copy, Debug, PartialEq, Eq)]
+#[derive(Clone, Copy, Debug)]
 pub enum BodyCause {
     /// The gate was asked 1,000,000 times before a step, and didn't let the task in.
     Held,

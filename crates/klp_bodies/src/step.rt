@@ -4,7 +4,7 @@ use klp_model::{Event, Refusal, Reply};
 use klp_types::{Site, Target};
 
 /// What a task does next.
-#[derive(Clone, Copy, Debug)]
+#[derive(Clone, Copy)]
 pub enum Step {
     /// An event is submitted: any event, of whichever task.
     Submit(Event),
@@ -18,7 +18,7 @@ pub enum Step {
 
 /// What a receipt tells, as plain data: the number of an accepted event, counted from 1, the event, and what it was
 /// answered.
-#[derive(Clone, Copy, Debug)]
+#[derive(Clone, Copy)]
 pub struct Accepted {
     pub number: u64,
     pub event: Event,
@@ -26,7 +26,7 @@ pub struct Accepted {
 }
 
 /// What a step came to.
-#[derive(Clone, Copy, Debug)]
+#[derive(Clone, Copy)]
 pub enum What {
     /// The event was accepted.
     Receipt(Accepted),
@@ -43,7 +43,7 @@ pub enum What {
 }
 
 /// What a step came to, and how many events were known then.
-#[derive(Clone, Copy, Debug)]
+#[derive(Clone, Copy)]
 pub struct Outcome {
     pub known: u64,
     pub what: What,

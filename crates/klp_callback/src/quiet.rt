@@ -8,7 +8,7 @@ use klp_world::{Script, World};
 use std::marker::Model;
 
 /// A callback that edits nothing and succeeds: for a place where one is wanted, and nothing has to happen.
-#[derive(Debug, Drop)]
+#[derive(Drop)]
 pub struct Quiet {
     /// The empty script, which is kept because it is lent.
     script: Script,

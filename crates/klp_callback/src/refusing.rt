@@ -8,7 +8,7 @@ use klp_world::{Script, World};
 use std::marker::Model;
 
 /// A callback that edits nothing and answers a status, so that a pre-patch refuses its patch.
-#[derive(Debug, Drop)]
+#[derive(Drop)]
 pub struct Refusing {
     /// A script without edits that has the status. It is kept because it is lent.
     script: Script,

@@ -8,7 +8,7 @@ use klp_world::{Script, World};
 use std::marker::Model;
 
 /// A callback that runs any script, as a catalog's text gives it.
-#[derive(Debug, Drop)]
+#[derive(Drop)]
 pub struct Scripted {
     script: Script,
     runs: u64,

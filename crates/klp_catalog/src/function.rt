@@ -4,7 +4,7 @@ use klp_types::{ObjId, Site};
 use std::marker::Model;
 
 /// A new function of a catalog's patch, with what its line says and the site that this comes to.
-#[derive(Debug, Drop)]
+#[derive(Drop)]
 pub struct CatalogFunction {
     pub(crate) object: ObjId,
     pub(crate) symbol: String,

@@ -39,7 +39,7 @@ impl Model for PlanFunction {
 
 /// A system state that a patch names (system-state): its id, and the version in which the patch knows it,
 /// by which patches are compared.
-#[derive(Clone, Copy, Debug, PartialEq, Eq)]
+#[derive(Clone, Copy)]
 pub struct SystemState {
     pub id: u64,
     pub version: u32,

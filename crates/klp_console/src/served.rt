@@ -4,7 +4,7 @@ use thiserror::Error;
 
 /// How many lines were served, and how many of them were refused: what a caller can know without reading
 /// answers.
-#[derive(Clone, Copy, Debug, Default, PartialEq, Eq)]
+#[derive(Clone, Copy, Default, PartialEq, Eq)]
 pub struct Served {
     /// All lines, empty ones too, so that the count is the number of the last line.
     pub lines: u64,

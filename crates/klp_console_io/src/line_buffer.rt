@@ -7,7 +7,7 @@ use klp_types::MAX_CONSOLE_LINE;
 use std::marker::Model;
 
 /// That a line is longer than [`MAX_CONSOLE_LINE`]. There is no more to report, since the line isn't kept.
-#[derive(Debug, Clone, Copy, PartialEq, Eq)]
+#[derive(Clone, Copy)]
 pub struct TooLong;
 
 /// The bytes of one line, as far as they were heard: contracts see them as a list. A line feed ends the

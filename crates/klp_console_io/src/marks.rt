@@ -10,7 +10,7 @@ use std::marker::Model;
 pub const MARKS_ROOM: usize = 512;
 
 /// A line whose answer is gathered.
-#[derive(Clone, Copy, Debug, Default, PartialEq, Eq)]
+#[derive(Clone, Copy, Default, PartialEq, Eq)]
 pub struct Mark {
     /// How many bytes were gathered when the line was answered: its answer ends there.
     pub end: usize,

@@ -5,7 +5,7 @@ ghost use Rattle.std.specs.Io.KnownBytes.{Appends, Keeps};
 ghost use Rattle.klp_console_io.specs.Written.{Written};
 
 /// That a write failed. What went wrong isn't said, since the console can only stop.
-#[derive(Debug, Clone, Copy, PartialEq, Eq)]
+#[derive(Clone, Copy)]
 pub struct Failed;
 
 /// What takes bytes, perhaps fewer than it is given, as a pipe does.

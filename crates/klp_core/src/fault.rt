@@ -25,6 +25,6 @@ impl From<AllocError> for BootFault {
 }
 
 /// There are not so many events in the journal. It is no refusal of an event, since `rewind` is none.
-#[derive(Clone, Copy, Debug, PartialEq, Eq, Error)]
+#[derive(Clone, Copy, Debug, Error)]
 #[error("BadMark")]
 pub struct BadMark;

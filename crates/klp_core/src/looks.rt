@@ -9,7 +9,7 @@ ghost use Rattle.klp_types.specs.World.{variable, state_value};
 ghost use Rattle.klp_types.specs.Pick.{moves};
 ghost use Rattle.klp_model.specs.State.{is_installed, installed_patches};
 ghost use Rattle.klp_model.specs.Task.{task_at};
-ghost use Rattle.klp_model.specs.TaskStep.{frames_of};
+ghost use Rattle.klp_types.specs.Frames.{frames_of};
 ghost use Rattle.klp_model.specs.Frames.{object_of_version};
 ghost use Rattle.klp_model.specs.Bytes.{text_of};
 ghost use Rattle.klp_model.specs.Entries.{entries_of};

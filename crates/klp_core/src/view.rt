@@ -7,7 +7,7 @@ use std::marker::Model;
 
 /// The text of one loaded object, lent by the manager: its symbols in order, each with the bytes that a
 /// processor would run. No event can be taken while it is lent, so the bytes are of one moment.
-#[derive(Debug, Drop)]
+#[derive(Drop)]
 pub struct TextView<'a> {
     image: &'a Image,
     object: ObjId,

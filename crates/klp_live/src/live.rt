@@ -33,7 +33,7 @@ pub struct Live<S: Start + Protocol<Published, View>, M: Machine + Drop, R: Wait
 }
 
 /// That no task has this number.
-#[derive(Clone, Copy, Debug, PartialEq, Eq)]
+#[derive(Clone, Copy, Debug)]
 pub struct BadTask;
 
 /// Seats are missing, so a start can't be closed: it and the seats are handed back.

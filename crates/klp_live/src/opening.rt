@@ -27,7 +27,7 @@ use std::sync::Wait;
 use std::sync::ledger::{Blank, Share};
 
 /// Why there is no start: memory was refused, or a place for a reader.
-#[derive(Clone, Copy, Debug, PartialEq, Eq)]
+#[derive(Clone, Copy, Debug)]
 pub enum StartCause {
     NoMemory,
     NoPlace,

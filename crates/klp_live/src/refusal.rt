@@ -2,7 +2,7 @@
 use klp_model::Refusal;
 
 /// Why an event isn't admitted.
-#[derive(Clone, Copy, Debug, PartialEq, Eq)]
+#[derive(Clone, Copy, Debug)]
 pub enum LiveRefusal {
     /// The manager refuses it.
     Refused(Refusal),

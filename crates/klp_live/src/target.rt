@@ -13,7 +13,7 @@ use crate::table::Table;
 use klp_types::{Site, SiteRow, Target, TaskId, Version};
 
 /// Why a call finds nothing. They are looked at in this order, but for the last.
-#[derive(Clone, Copy, Debug, PartialEq, Eq)]
+#[derive(Clone, Copy, Debug)]
 pub enum EnterFault {
     /// There is no such site, or its object isn't loaded.
     NoSite,

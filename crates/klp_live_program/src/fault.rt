@@ -11,7 +11,7 @@ use std::alloc::{AllocError, AllocFailed};
 use thiserror::Error;
 
 /// What is wrong with a line of the steps.
-#[derive(Clone, Copy, Debug, PartialEq, Eq, Error)]
+#[derive(Clone, Copy, Debug, Error)]
 pub enum StepsFaultKind {
     /// It is no step of task 1 or 2, or has a name that isn't known.
     #[error("BadStep")]
@@ -22,7 +22,7 @@ pub enum StepsFaultKind {
 }
 
 /// The first line of the steps that is at fault.
-#[derive(Clone, Copy, Debug, PartialEq, Eq, Error)]
+#[derive(Clone, Copy, Debug, Error)]
 #[error("line {line}: {kind}")]
 pub struct StepsFault {
     /// Counted from 1, lines without words too.
@@ -31,7 +31,7 @@ pub struct StepsFault {
 }
 
 /// Why steps aren't read.
-#[derive(Clone, Copy, Debug, PartialEq, Eq, Error)]
+#[derive(Clone, Copy, Debug, Error)]
 pub enum ReadFault {
     #[error("NoMemory")]
     NoMemory,
@@ -48,7 +48,7 @@ impl<T: Drop> From<AllocFailed<T>> for ReadFault {
 }
 
 /// Why two tasks don't come to their end.
-#[derive(Clone, Copy, Debug, PartialEq, Eq, Error)]
+#[derive(Clone, Copy, Debug, Error)]
 pub enum LiveFault {
     /// No manager is booted over the catalog's text, or the output fails.
     #[error(transparent)]

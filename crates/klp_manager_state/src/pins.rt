@@ -10,7 +10,7 @@ use std::marker::Model;
 
 /// Which patches are pinned: a forced transition left functions behind that a task may still be inside of
 /// (livepatch, Force). A pin never goes but by undo. All room is taken by [`Pins::new`].
-#[derive(Debug, Drop)]
+#[derive(Drop)]
 pub struct Pins {
     flags: Vec<bool>,
 }

@@ -7,6 +7,7 @@ use Rattle.klp_model.specs.declared.event.Reply.{Reply}
 use Rattle.klp_model.specs.declared.event.Reply.TheVariants.{Done, Value, Freed, Woken}
 use Rattle.klp_model.specs.declared.event.Refusal.{Refusal}
 use Rattle.klp_types.specs.FirstOf.{unless}
+use Rattle.klp_types.specs.Frames.{frames_of}
 use Rattle.klp_types.specs.Setting.{Setting}
 use Rattle.klp_types.specs.World.{variable}
 use Rattle.klp_types.specs.declared.task.Task.{Task}
@@ -20,7 +21,7 @@ use Rattle.klp_model.specs.Enabling.{enabled, turned}
 use Rattle.klp_model.specs.Forcing.{forced}
 use Rattle.klp_model.specs.Completing.{polled}
 use Rattle.klp_model.specs.ModuleStep.{come, gone}
-use Rattle.klp_model.specs.TaskStep.{state_wanted, change, put_task, new_task, state_of_task, exited, frames_of}
+use Rattle.klp_model.specs.TaskStep.{state_wanted, change, put_task, new_task, state_of_task, exited}
 
 -- what an event does that nothing refuses: so the patch that is forced is the one that moves, and what starts a disabling is the
 -- value false

@@ -1,7 +1,6 @@
 -- What task events do to a task.
-use Rattle.std.specs.Prelude.{ℕ, ℤ, List, [], Option, Some, None}
+use Rattle.std.specs.Prelude.{ℕ, ℤ, [], Option, Some, None}
 use Rattle.klp_types.specs.declared.task.Mode.TheVariants.{User}
-use Rattle.klp_types.specs.declared.version.Version.{Version}
 use Rattle.klp_types.specs.declared.version.Transition.{Transition}
 use Rattle.klp_types.specs.declared.task.Task.{Task}
 use Rattle.klp_model.specs.Task.{task_at, with_task, at_rest, at_target}
@@ -33,7 +32,3 @@ state_of_task (Some task) = task.state
 abbrev pub exited : Option Transition → Task → Task
 exited None task = record task { mode = User }
 exited (Some move) task = record task { mode = User; state = at_target move.target }
-
-abbrev pub frames_of : Option Task → List Version
-frames_of None = []
-frames_of (Some task) = task.frames

@@ -3,7 +3,7 @@ use std::{error, fmt};
 
 /// What may happen to the manager. One event is one atomic step, so callbacks, entries and tasks of one
 /// event are never seen apart.
-#[derive(Clone, Copy, Debug)]
+#[derive(Clone, Copy)]
 pub enum Event {
     /// The patch is loaded and enabled: its transition starts (the kernel's `klp_enable_patch`). In a
     /// kernel the two are one too, since a patch module enables its patch when it is loaded.
@@ -50,7 +50,7 @@ pub enum Event {
 }
 
 /// What an accepted event answers. An event that is accepted may still have failed: see `PreFailed`.
-#[derive(Clone, Copy, Debug, PartialEq, Eq)]
+#[derive(Clone, Copy, Debug)]
 pub enum Reply {
     /// The event did what it says, and there is no more to report.
     Done,
@@ -74,7 +74,7 @@ pub enum Reply {
 }
 
 /// Why an event is refused. The numbers are this project's own, and stay, so that scripts may rely on them.
-#[derive(Clone, Copy, Debug, PartialEq, Eq)]
+#[derive(Clone, Copy, Debug)]
 pub enum Refusal {
     /// The catalog has no such patch. It is asked first of all, since nothing else is known of such a
     /// number.

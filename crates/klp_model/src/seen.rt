@@ -3,7 +3,7 @@ use klp_types::{Site, TaskId};
 
 /// What is seen of a running kernel: an event, or what a task does between events. Calls and returns change
 /// nothing but what the task is inside of.
-#[derive(Clone, Copy, Debug)]
+#[derive(Clone, Copy)]
 pub enum Seen {
     /// An event is handed to the manager, which takes it or refuses it.
     Event(Event),

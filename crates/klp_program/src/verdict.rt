@@ -1,7 +1,7 @@
 use klp_watch::NotHonest;
 
 /// How many items of a trace are of each kind. Events count whether they were accepted or refused.
-#[derive(Clone, Copy, Debug, PartialEq, Eq)]
+#[derive(Clone, Copy)]
 pub struct Counts {
     pub events: usize,
     pub calls: usize,
@@ -9,7 +9,7 @@ pub struct Counts {
 }
 
 /// What a trace comes to.
-#[derive(Clone, Copy, Debug, PartialEq, Eq)]
+#[derive(Clone, Copy)]
 pub enum Verdict {
     Honest(Counts),
     /// The first item that isn't honest. Each line is an item, so it tells the line too.

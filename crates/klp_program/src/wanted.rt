@@ -1,5 +1,5 @@
 /// What the words of the program ask for.
-#[derive(Debug, Drop, PartialEq, Eq)]
+#[derive(Drop)]
 pub enum Words {
     /// To serve standard input over the catalog in this file, or over the built-in one.
     Console(Option<String>),

@@ -2,4 +2,3 @@ pub mod Words
 pub mod Decoded
 pub mod Stored
 pub mod Small
-pub mod Frames

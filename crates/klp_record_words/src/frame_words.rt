@@ -10,7 +10,7 @@ use klp_types::{Frames, MAX_FRAMES};
 use std::marker::Model;
 
 /// The words of a task's frames, outermost first, as its record has them.
-#[derive(Clone, Debug, Drop)]
+#[derive(Clone, Drop)]
 pub struct FrameWords {
     /// The words of the frames, and behind them words that mean nothing.
     words: [u64; MAX_FRAMES],

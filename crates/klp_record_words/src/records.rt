@@ -4,7 +4,7 @@ ghost use Rattle.klp_types.specs.declared.record.Record.TheVariants.{TaskRow};
 ghost use Rattle.klp_types.specs.declared.task.Task.{Task as AnyTask};
 ghost use Rattle.klp_types.specs.Records.{spare_of};
 ghost use Rattle.klp_record_words.specs.Small.{row_of};
-ghost use Rattle.klp_record_words.specs.Frames.{frames_in};
+ghost use Rattle.klp_types.specs.Frames.{frames_of};
 
 use crate::frame_words::FrameWords;
 use crate::small::SmallRecord;
@@ -20,7 +20,7 @@ use std::marker::Model;
 ///
 /// To log takes no memory, since no event may fail half done. What undoes a change takes them newest first,
 /// so that each row finds the rows around it as they were when it was logged.
-#[derive(Debug, Drop)]
+#[derive(Drop)]
 pub struct Records {
     all: StoredRecords,
     /// How many of them are of the event that is under way: these are the last ones.
@@ -144,7 +144,7 @@ impl Records {
         tasks: &[Option<Task>],
         frames: &[FrameWords],
     ) -> Option<SwitchedTask>
-        requires frames { frames.now ≡ map frames_in tasks.now }
+        requires frames { frames.now ≡ map frames_of tasks.now }
         ensures newest { IfSome result (λ was. (now : AnyTask) × ((slice_get tasks.now was.task ≡ Some (Some now))
             × (self.old ≡ record self.new {
               noted = self.new.noted ++ TaskRow was.task (record now { state = was.state; mode = was.mode }) ∷ [];

@@ -8,7 +8,7 @@ use klp_types::{Mode, PatchId, PatchState, Place, Site, TaskId};
 
 /// A record of one of the kinds that events log most. It is small: a [`Record`](klp_types::Record) has room for a whole
 /// task, and to hand that on costs more than to put an entry back.
-#[derive(Clone, Copy, Debug)]
+#[derive(Clone, Copy)]
 pub enum SmallRecord {
     /// The entry of a patch on the function stack of a site, or that it had none there.
     Entry {

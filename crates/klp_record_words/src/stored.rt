@@ -3,7 +3,7 @@ ghost use Rattle.std.specs.Prelude.{◌≡◌, ◌+◌, ◌*◌, ◌<◌, ◌≤
 ghost use Rattle.klp_types.specs.declared.record.Record.TheVariants.{TaskRow};
 ghost use Rattle.klp_types.specs.declared.task.Task.{Task as AnyTask};
 ghost use Rattle.klp_record_words.specs.Small.{row_of};
-ghost use Rattle.klp_record_words.specs.Frames.{frames_in};
+ghost use Rattle.klp_types.specs.Frames.{frames_of};
 
 use crate::frame_words::FrameWords;
 use crate::read::read_back;
@@ -18,7 +18,7 @@ use std::marker::Model;
 const READY: usize = 1024;
 
 /// Records in the order in which they were logged, as words in one list whose room is taken when it is made.
-#[derive(Debug, Drop)]
+#[derive(Drop)]
 pub(crate) struct StoredRecords {
     /// The words of the records, and behind them words that are ready to be written over.
     words: Vec<u64>,
@@ -156,7 +156,7 @@ impl StoredRecords {
         tasks: &[Option<Task>],
         frames: &[FrameWords],
     ) -> Option<SwitchedTask>
-        requires frames { frames.now ≡ map frames_in tasks.now }
+        requires frames { frames.now ≡ map frames_of tasks.now }
         ensures newest { IfSome result (λ was. (now : AnyTask) × ((slice_get tasks.now was.task ≡ Some (Some now))
             × (self.old ≡ record self.new {
               rows = self.new.rows ++ TaskRow was.task (record now { state = was.state; mode = was.mode }) ∷ [];

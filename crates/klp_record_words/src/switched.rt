@@ -4,14 +4,14 @@ ghost use Rattle.std.specs.Prelude.{◌≡◌, true, ℕ, List, ◌++◌, length
 ghost use Rattle.klp_types.specs.declared.record.Record.TheVariants.{TaskRow};
 ghost use Rattle.klp_types.specs.declared.task.Task.{Task as AnyTask};
 ghost use Rattle.klp_record_words.specs.Words.{words_of, IsTaskOf, IsRecord, IsBody};
-ghost use Rattle.klp_record_words.specs.Frames.{frames_in};
+ghost use Rattle.klp_types.specs.Frames.{frames_of};
 
 use crate::frame_words::FrameWords;
 use crate::read::{read_mode, read_state};
 use klp_types::{Mode, PatchState, Task, TaskId};
 
 /// How far a task was, and where.
-#[derive(Clone, Copy, Debug)]
+#[derive(Clone, Copy)]
 pub struct SwitchedTask {
     pub task: TaskId,
     pub state: PatchState,
@@ -57,7 +57,7 @@ fn switched_body(
     tasks: &[Option<Task>],
     frames: &[FrameWords],
 ) -> Option<SwitchedTask>
-    requires { frames.now ≡ map frames_in tasks.now }
+    requires { frames.now ≡ map frames_of tasks.now }
     ensures { IfSome result (λ was. (now : AnyTask) × ((slice_get tasks.now was.task ≡ Some (Some now))
         × IsBody 1 body.now (TaskRow was.task (record now { state = was.state; mode = was.mode })))) }
 {
@@ -83,7 +83,7 @@ pub(crate) fn switched(
     tasks: &[Option<Task>],
     frames: &[FrameWords],
 ) -> Option<(SwitchedTask, usize)>
-    requires { frames.now ≡ map frames_in tasks.now }
+    requires { frames.now ≡ map frames_of tasks.now }
     ensures { IfSome result (λ found. (now : AnyTask) × ((slice_get tasks.now found.0.task ≡ Some (Some now))
         × ((older : List ℕ) × ((words.now ≡ older ++ words_of (TaskRow found.0.task (record now { state = found.0.state; mode = found.0.mode })))
         × (found.1 ≡ length (words_of (TaskRow found.0.task (record now { state = found.0.state; mode = found.0.mode }))))

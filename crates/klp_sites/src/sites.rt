@@ -26,7 +26,7 @@ use std::marker::Model;
 ///
 /// All room is taken by [`Sites::new`]. Each change logs or answers a record of every row that it changes,
 /// as it was. To put these records back, newest first, gives the table before the changes.
-#[derive(Debug, Drop)]
+#[derive(Drop)]
 pub struct Sites {
     image: Image,
     stacks: Stacks,

@@ -16,7 +16,7 @@ use klp_types::{Entry, MAX_PATCHES, PatchId, Place, Site, SiteWord, Transition, 
 
 /// The entries of one site (the kernel's `func_stack`), newest first. The order is that of the enablings,
 /// since a newer patch hides the older ones.
-#[derive(Clone, Copy, Debug)]
+#[derive(Clone, Copy)]
 pub(crate) struct Chain {
     /// The number of the slot with the newest entry; it says nothing where there is none.
     pub(crate) newest: u16,

@@ -8,7 +8,7 @@ use crate::slot::{MAX_ENTRIES, Slot};
 use klp_types::Entry;
 
 /// The slots of all stacks, and those that are free, as a list of their own.
-#[derive(Debug, Drop)]
+#[derive(Drop)]
 pub(crate) struct Pool {
     /// By number; as many as [`MAX_ENTRIES`] from the start, since no later call takes memory.
     pub(crate) slots: Vec<Slot>,

@@ -7,7 +7,7 @@ use klp_types::{Entry, MAX_FUNCTIONS, MAX_PATCHES, MAX_SITES};
 pub const MAX_ENTRIES: usize = (MAX_PATCHES - 1) * MAX_FUNCTIONS + MAX_SITES;
 
 /// A place of the pool. It is on one stack, or in the free list.
-#[derive(Clone, Copy, Debug)]
+#[derive(Clone, Copy)]
 pub(crate) struct Slot {
     /// What is there while the slot is on a stack.
     pub(crate) entry: Entry,

@@ -24,7 +24,7 @@ use std::marker::Model;
 /// All room is taken by [`Stacks::new`], for [`MAX_ENTRIES`] entries of all sites together. Each change
 /// answers a record of the one entry that it changes, as it was. To put these records back, newest first,
 /// gives the stacks before the changes.
-#[derive(Debug, Drop)]
+#[derive(Drop)]
 pub struct Stacks {
     pool: Pool,
     /// By site, so that no look-up is needed.

@@ -9,7 +9,7 @@ ghost use Rattle.klp_types.specs.declared.task.Mode.TheVariants.{Kernel, Asleep}
 ghost use Rattle.klp_model.specs.Task.{task_at, with_task, is_mode, at_target, in_state, all_in};
 ghost use Rattle.klp_model.specs.TaskStep.{new_task, state_of_task, exited};
 ghost use Rattle.klp_model.specs.Blocked.{switched, lags};
-ghost use Rattle.klp_record_words.specs.Frames.{frames_in};
+ghost use Rattle.klp_types.specs.Frames.{frames_of};
 ghost use Rattle.klp_tasks.specs.Members.{has, ArePassing, IsSetOf};
 ghost use Rattle.klp_tasks.specs.Sleepers.{sleeps_where};
 ghost use Rattle.klp_tasks.specs.Changes.{Changes, changed, record_of, record_if_switched, records_switched, IsSwitchNoted, put_back, undone};
@@ -25,7 +25,7 @@ use std::marker::Model;
 ///
 /// All room is taken by [`Tasks::new`]. Each change of one task takes the same time however many tasks there are; who
 /// makes it logs the row before, by [`Tasks::log_row`].
-#[derive(Debug, Drop)]
+#[derive(Drop)]
 pub struct Tasks {
     rows: Vec<Option<Task>>,
     /// For each number the words of the task's frames. They are put together when it falls asleep, so that to log it and
@@ -37,14 +37,14 @@ impl Model for Tasks {
     ghost use Rattle.std.specs.Prelude.{◌≡◌, List, Option, map, vec_len};
     ghost use Rattle.klp_types.specs.declared.task.Task.{Task};
     ghost use Rattle.klp_types.specs.declared.limits.TheConstants.{MAX_TASKS};
-    ghost use Rattle.klp_record_words.specs.Frames.{frames_in};
+    ghost use Rattle.klp_types.specs.Frames.{frames_of};
 
     ghost Value = { List (Option Task) };
 
     ghost view = { λ t. t.rows.items };
 
     ghost invariant = { λ t. (vec_len t.rows ≡ MAX_TASKS) × (vec_len t.frames ≡ MAX_TASKS)
-        × (t.frames.items ≡ map frames_in t.rows.items) };
+        × (t.frames.items ≡ map frames_of t.rows.items) };
 }
 
 /// Whether a task isn't at the target. A number without a task never lags, so an empty table lets every
@@ -97,7 +97,7 @@ fn has_state(task: &Task, state: PatchState) -> bool
 
 /// The words are those of the row's frames from now on: none, where it has no task.
 fn set_words(words: &mut FrameWords, row: &Option<Task>)
-    ensures { words.new ≡ frames_in row.now }
+    ensures { words.new ≡ frames_of row.now }
 {
     match row {
         Some(task) => words.set(&task.frames),
@@ -424,7 +424,7 @@ impl Tasks {
     #[inline(always)]
     fn words(&self, task: TaskId) -> &FrameWords
         requires { is_some (task_at self.now task) ≡ true }
-        ensures { result.now ≡ frames_in (task_at self.now task) }
+        ensures { result.now ≡ frames_of (task_at self.now task) }
     {
         &self.frames[usize::from(task.0)]
     }

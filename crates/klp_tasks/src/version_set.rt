@@ -10,7 +10,7 @@ use std::marker::Model;
 /// A set of versions, as of those that hold a sleeping task back. It is flags and no list, so that to ask
 /// for a version takes the same time whatever the set has. No call takes memory: the flags are 1,280 bytes,
 /// which `new` and `clear` write.
-#[derive(Debug, Drop)]
+#[derive(Drop)]
 pub struct VersionSet {
     /// By site, whether its original is in the set. All sites that there may be have a flag, so that none
     /// is looked up.

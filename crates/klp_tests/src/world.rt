@@ -1,6 +1,6 @@
-//! A world that is full, or that memory was refused for, and records that are put back.
+//! A world that is full, or that memory was refused for.
 use klp_record_words::Records;
-use klp_types::{MAX_VARIABLES, ObjId, Record, ShadowKey, ShadowValue};
+use klp_types::{MAX_VARIABLES, Record, ShadowKey, ShadowValue};
 use klp_world::World;
 use std::alloc::{AllocError, Global};
 
@@ -50,34 +50,4 @@ fn is_filled(alloc: Global) -> Result<bool, AllocError> {
 fn a_world_holds_512_variables(rt: HostRuntime) {
     let told = is_filled(rt.alloc()).or_else(|_| is_filled(rt.alloc()));
     assert!(rt; told == Ok(true));
-}
-
-fn loaded(object: u8) -> Record {
-    Record::LoadedFlag {
-        object: ObjId(object),
-        was: true,
-    }
-}
-
-/// The room of a new log, of one that three rows were noted in, and of one that is cleared; and the
-/// rows that are taken of the last two.
-fn taken(alloc: Global) -> Result<([usize; 3], [Option<Record>; 2]), AllocError> {
-    let mut log = Records::new(alloc, 3)?;
-    let empty = log.spare();
-    for object in 1..4 {
-        if log.spare() > 0 {
-            log.note(loaded(object));
-        }
-    }
-    let full = log.spare();
-    let last = log.take_newest();
-    log.clear();
-    let cleared = log.spare();
-    Ok(([empty, full, cleared], [last, log.take_newest()]))
-}
-
-#[test]
-fn records_are_taken_newest_first_and_cleared(rt: HostRuntime) {
-    let told = taken(rt.alloc());
-    assert!(rt; told == Ok(([3, 0, 3], [Some(loaded(3)), None])));
 }

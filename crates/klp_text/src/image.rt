@@ -21,7 +21,7 @@ use std::marker::Model;
 /// Sites are numbered over all objects in order. The objects are fixed from the start; what changes is
 /// which of them are loaded and which sites are hooked. All calls but `new` cost the same however many
 /// sites there are, and take no memory.
-#[derive(Debug, Drop)]
+#[derive(Drop)]
 pub struct Image {
     handler: u64,
     /// As they were given, since contracts speak of the image that was handed in (docs/DECISIONS.md,

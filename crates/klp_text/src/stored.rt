@@ -9,7 +9,7 @@ use std::alloc::{AllocError, Global};
 
 /// A symbol as it is in the text now. Where its entry site is stands beside the body, since a call is made
 /// from there each time that the site is hooked.
-#[derive(Debug, Drop)]
+#[derive(Drop)]
 pub struct StoredSymbol {
     /// The address of the entry site.
     pub address: u64,

@@ -13,3 +13,4 @@ pub mod Examples
 pub mod Padded
 pub mod PatchStates
 pub mod Finds
+pub mod Frames

@@ -1,6 +1,6 @@
 /// When a callback of a patch runs for an object (callbacks, Callbacks). The kinds go in pairs, since what
 /// one sets up the other has to clean up: pre-patch with post-unpatch, post-patch with pre-unpatch.
-#[derive(Clone, Copy, Debug, PartialEq, Eq)]
+#[derive(Clone, Copy)]
 pub enum Which {
     /// Before the object is patched. A status other than 0 stops the patch, and this is the only kind that
     /// can, since nothing has been patched yet.

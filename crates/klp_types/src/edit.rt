@@ -3,7 +3,7 @@ use crate::shadow::{ShadowKey, ShadowValue};
 /// What a script does in one step, for the patch whose callback runs it. The edits are this project's own:
 /// a kernel's callback is code, and these are in place of what such code does to shadow variables and
 /// system states.
-#[derive(Clone, Copy, Debug, PartialEq, Eq)]
+#[derive(Clone, Copy, PartialEq, Eq)]
 pub enum Edit {
     /// Adds a shadow variable with this value; nothing where it is there.
     Alloc(ShadowKey, ShadowValue),

@@ -3,7 +3,7 @@ use std::marker::Model;
 /// An object, by its place in the image from 0. Object 0 is `vmlinux`, the others are modules. In contracts
 /// it is its number alone, so that definitions speak of plain numbers (docs/DECISIONS.md, "Numbers of
 /// objects, sites and patches").
-#[derive(Clone, Copy, Debug, Default, PartialEq, Eq, PartialOrd, Ord, Hash)]
+#[derive(Clone, Copy, Debug, PartialEq, Eq)]
 pub struct ObjId(pub u8);
 
 impl Model for ObjId {
@@ -18,7 +18,7 @@ impl Model for ObjId {
 
 /// A site, which is one symbol of one object: sites are numbered from 0 over the symbols of all objects in
 /// the image's order, loaded or not, so a site keeps its number while modules come and go.
-#[derive(Clone, Copy, Debug, Default, PartialEq, Eq, PartialOrd, Ord, Hash)]
+#[derive(Clone, Copy, Debug, PartialEq, Eq)]
 pub struct Site(pub u16);
 
 impl Model for Site {
@@ -33,7 +33,7 @@ impl Model for Site {
 
 /// A patch, by its place in the catalog from 0. It says nothing of the order in which patches are
 /// installed.
-#[derive(Clone, Copy, Debug, Default, PartialEq, Eq, PartialOrd, Ord, Hash)]
+#[derive(Clone, Copy, Debug, Default, PartialEq, Eq)]
 pub struct PatchId(pub u8);
 
 impl Model for PatchId {

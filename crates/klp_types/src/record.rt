@@ -5,7 +5,7 @@ use crate::version::Transition;
 
 /// What one row of the state was before a change. To put it back undoes the change of that row. A row that
 /// wasn't there has a kind of its own, or a `None`, since to undo its coming is to take it out.
-#[derive(Clone, Copy, Debug, PartialEq, Eq)]
+#[derive(Clone, Copy)]
 pub enum Record {
     /// A shadow variable that was there.
     ShadowVariable {
@@ -79,7 +79,7 @@ pub enum Record {
 }
 
 /// Where an entry was on a function stack, and what it was. Its patch and its site are in the record.
-#[derive(Clone, Copy, Debug, PartialEq, Eq)]
+#[derive(Clone, Copy)]
 pub struct Place {
     /// The place from the oldest entry, counted from 0, since the entries above it may have gone when it is
     /// put back.

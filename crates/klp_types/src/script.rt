@@ -8,7 +8,7 @@ use std::marker::Model;
 /// What a callback does and answers: edits of the world in order, and a status. A script with a status
 /// other than 0 makes no edit, so that a pre-patch which refuses leaves nothing to undo. (Scripts are this
 /// project's own, since a kernel's callback is code.)
-#[derive(Debug, Drop)]
+#[derive(Drop)]
 pub struct Script {
     pub edits: ArrayVec<Edit, MAX_EDITS>,
     pub status: i32,

@@ -9,7 +9,7 @@ use std::marker::Model;
 
 /// The key of a shadow variable: the number of its parent object, and its id (shadow-vars, Brief
 /// summary). Keys are ordered by the parent object, then by the id.
-#[derive(Clone, Copy, Debug, Default, PartialEq, Eq, PartialOrd, Ord, Hash)]
+#[derive(Clone, Copy, Default, PartialEq, Eq, PartialOrd, Ord)]
 pub struct ShadowKey {
     pub obj: u64,
     pub id: u64,

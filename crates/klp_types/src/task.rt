@@ -7,7 +7,7 @@ use crate::version::Version;
 use std::marker::Model;
 
 /// A task, by its number, which is free again when the task ends.
-#[derive(Clone, Copy, Debug, PartialEq, Eq)]
+#[derive(Clone, Copy, PartialEq, Eq)]
 pub struct TaskId(pub u8);
 
 impl Model for TaskId {
@@ -22,7 +22,7 @@ impl Model for TaskId {
 
 /// How far a task is brought to the patch in transition, as `/proc/<pid>/patch_state` shows it: a number
 /// that is -1, 0 or 1 by its type, so that no state of the machine asks for it.
-#[derive(Clone, Copy, Debug, PartialEq, Eq)]
+#[derive(Clone, Copy, PartialEq, Eq)]
 pub struct PatchState(i8);
 
 impl Model for PatchState {
@@ -59,7 +59,7 @@ impl PatchState {
 
 /// Where a task is. There are three because a transition switches each in its own way: a sleeper by its
 /// frames, the others when they next leave the kernel.
-#[derive(Clone, Copy, Debug, PartialEq, Eq)]
+#[derive(Clone, Copy, PartialEq, Eq)]
 pub enum Mode {
     /// In user space: it runs no function of the kernel, and switches when it next leaves the kernel.
     User,
@@ -159,7 +159,7 @@ impl Frames {
 
 /// A task: how far it is brought to the patch in transition, where it is, and what it is inside of. It is a
 /// row of the state, and copied whole into the record that undoes a change of it.
-#[derive(Clone, Copy, Debug, PartialEq, Eq)]
+#[derive(Clone, Copy)]
 pub struct Task {
     /// -1 where no patch moves, else 1 where the task runs the patch in transition, and 0 where it
     /// doesn't.

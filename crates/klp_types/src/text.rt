@@ -3,7 +3,7 @@ use std::marker::Model;
 /// A symbol of an object: its name, the address of its first byte, and the bytes of its body. It is plain
 /// fields and a record of lists in contracts, so that it gives back what went in (docs/DECISIONS.md, "Texts
 /// as records of lists").
-#[derive(Debug, Drop)]
+#[derive(Drop)]
 pub struct SymbolText {
     pub name: String,
     pub address: u64,
@@ -20,7 +20,7 @@ impl Model for SymbolText {
 }
 
 /// An object of the image: its name, and its symbols in order. That order is the one of its sites.
-#[derive(Debug, Drop)]
+#[derive(Drop)]
 pub struct ObjectText {
     pub name: String,
     pub symbols: Vec<SymbolText>,

@@ -14,7 +14,7 @@ pub enum Version {
 }
 
 /// A version with the address that a call jumps to, which is what a handler needs.
-#[derive(Clone, Copy, Debug, PartialEq, Eq)]
+#[derive(Clone, Copy, PartialEq, Eq)]
 pub struct Target {
     pub version: Version,
     /// The address of the new function, or the one behind the entry site of an original, so that the
@@ -23,7 +23,7 @@ pub struct Target {
 }
 
 /// An entry of a function stack: what one installed patch does with a site.
-#[derive(Clone, Copy, Debug, Default, PartialEq, Eq)]
+#[derive(Clone, Copy, Default, PartialEq, Eq)]
 pub struct Entry {
     pub patch: PatchId,
     /// The function of the patch that replaces the site's own. `None` is a nop: a cumulative patch that
@@ -32,7 +32,7 @@ pub struct Entry {
 }
 
 /// The patch in transition. There is one at most (the kernel's `klp_transition_patch`).
-#[derive(Clone, Copy, Debug, PartialEq, Eq)]
+#[derive(Clone, Copy, PartialEq, Eq)]
 pub struct Transition {
     pub patch: PatchId,
     /// The state that tasks are brought to: `true` to run the patch, `false` to leave it. A reversal turns

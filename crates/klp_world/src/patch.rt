@@ -10,7 +10,7 @@ use std::marker::Model;
 
 /// A system state of an installed patch: its id and its value. Its version is the catalog's, since it never
 /// changes.
-#[derive(Clone, Copy, Debug, Default)]
+#[derive(Clone, Copy, Default)]
 pub(crate) struct SystemState {
     pub(crate) id: u64,
     pub(crate) value: u64,
@@ -27,7 +27,7 @@ impl Model for SystemState {
 }
 
 /// An installed patch with its system states, in the order of the patch, which is that of the text.
-#[derive(Debug, Drop)]
+#[derive(Drop)]
 pub(crate) struct InstalledPatch {
     patch: PatchId,
     states: ArrayVec<SystemState, MAX_STATES>,

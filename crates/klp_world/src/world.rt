@@ -23,7 +23,7 @@ use std::marker::Model;
 /// All room is taken by [`World::new`]. Each change logs, in the records handed in, every row that it
 /// changes as it was; a row that it leaves as it was isn't logged. To put these records back, newest first,
 /// gives the world before the change.
-#[derive(Debug, Drop)]
+#[derive(Drop)]
 pub struct World {
     patches: Vec<InstalledPatch>,
     /// The numbers of `patches`, kept beside it so that `installed` can lend them as a slice
