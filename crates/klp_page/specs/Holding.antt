@@ -24,10 +24,23 @@ abbrev pub numbered_where : (Option Task → Bool) → ℕ → Tasks → List �
 numbered_where keeps number [] = []
 numbered_where keeps number (task ∷ tasks) = (if keeps task then number ∷ [] else []) ++ numbered_where keeps (suc number) tasks
 
--- the tasks that hold the transition up, where there is one
-abbrev pub holders_of : Setting → State → Option Transition → List ℕ
-holders_of setting state None = []
-holders_of setting state (Some move) = numbered_where (is_holding (blocked setting state move) move.target) 0 state.tasks
+-- what a transition blocks, where there is one
+abbrev pub blocked_by : Setting → State → Option Transition → List Version
+blocked_by setting state None = []
+blocked_by setting state (Some move) = blocked setting state move
 
+-- what is blocked now
+abbrev pub blocked_now : Setting → State → List Version
+blocked_now setting state = blocked_by setting state state.moving
+
+-- the tasks that hold a transition up, where there is one and these versions are blocked
+abbrev pub holders_of : List Version → Tasks → Option Transition → List ℕ
+holders_of versions tasks None = []
+holders_of versions tasks (Some move) = numbered_where (is_holding versions move.target) 0 tasks
+
+abbrev pub holders_by : List Version → State → List ℕ
+holders_by versions state = holders_of versions state.tasks state.moving
+
+-- the tasks that hold the transition up now
 abbrev pub holders : Setting → State → List ℕ
-holders setting state = holders_of setting state state.moving
+holders setting state = holders_by (blocked_now setting state) state

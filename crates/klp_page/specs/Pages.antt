@@ -11,7 +11,7 @@ use Rattle.klp_console.specs.Lines.{lines_of}
 use Rattle.klp_program.specs.declared.fault.Fault.{Fault}
 use Rattle.klp_program.specs.declared.fault.Fault.TheVariants.{NoMemory, Text, Serve}
 use Rattle.klp_program.specs.Booted.{IsBootedOver, IsBootFault}
-use Rattle.klp_page.specs.declared.part.Part.{Part}
+use Rattle.klp_chronicle.specs.declared.part.Part.{Part}
 use Rattle.klp_page.specs.declared.row.Row.{Row}
 use Rattle.klp_page.specs.Rows.{AreRows}
 use Rattle.klp_page.specs.Text.{page_text}

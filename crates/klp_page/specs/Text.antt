@@ -1,8 +1,8 @@
 -- The text of a page.
 use Rattle.std.specs.Prelude.{ℕ, ◌==◌, List, [], ◌∷◌, ◌++◌, codes, if◌then◌else◌}
 use Rattle.std.specs.Fmt.{decimal}
-use Rattle.klp_page.specs.declared.part.Part.{Part}
-use Rattle.klp_page.specs.declared.part.Part.TheVariants.{Markup, Text, Number}
+use Rattle.klp_chronicle.specs.declared.part.Part.{Part}
+use Rattle.klp_chronicle.specs.declared.part.Part.TheVariants.{Markup, Text, Number}
 use Rattle.klp_page.specs.declared.row.Row.{Row}
 
 -- a byte that a browser could take for markup is spelled by its name

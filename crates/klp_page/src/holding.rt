@@ -7,7 +7,7 @@ ghost use Rattle.klp_types.specs.Pick.{version_of};
 ghost use Rattle.klp_model.specs.Blocked.{is_version, is_held, blocked, held_version, blocked_among};
 ghost use Rattle.klp_model.specs.Task.{task_at, is_in};
 ghost use Rattle.klp_manager_state.specs.Managed.{setting_of};
-ghost use Rattle.klp_page.specs.Holding.{is_switched, is_holding, numbered_where, holders};
+ghost use Rattle.klp_page.specs.Holding.{is_switched, is_holding, numbered_where, blocked_now, holders_by};
 
 use klp_core::Manager;
 use klp_types::{Entry, MAX_TASKS, Mode, Site, TaskId, Transition, Version};
@@ -68,7 +68,7 @@ fn add_blocked(
 }
 
 /// The versions that no task may be inside of when it switches.
-pub(crate) fn blocked(
+fn blocked(
     alloc: Global,
     manager: &Manager,
     moving: &Transition,
@@ -98,7 +98,7 @@ fn is_same(own: &Version, other: &Version) -> bool
 }
 
 /// Whether a version is one of these.
-pub(crate) fn is_blocked(frame: &Version, blocked: &[Version]) -> bool
+fn is_blocked(frame: &Version, blocked: &[Version]) -> bool
     ensures { result ≡ list_any (is_version frame.now) blocked.now }
 {
     for version in blocked {
@@ -170,14 +170,27 @@ fn holders_among(
     Ok(tasks)
 }
 
-/// The same of the patch in transition, if there is one.
-pub(crate) fn holders(alloc: Global, manager: &Manager) -> Result<Vec<TaskId>, AllocError>
-    ensures { IfOk result (λ tasks. tasks.items ≡ holders
+/// What the transition that goes on blocks: nothing where there is none.
+pub(crate) fn blocked_now(alloc: Global, manager: &Manager) -> Result<Vec<Version>, AllocError>
+    ensures { IfOk result (λ versions. versions.items ≡ blocked_now
         (setting_of manager.now.managed) manager.now.managed.state) }
 {
-    let Some(moving) = manager.moving() else {
-        return Ok(Vec::new(alloc));
-    };
-    let blocked = blocked(alloc, manager, &moving)?;
-    holders_among(alloc, manager, blocked.as_slice(), moving.target)
+    match manager.moving() {
+        Some(ref moving) => blocked(alloc, manager, moving),
+        None => Ok(Vec::new(alloc)),
+    }
+}
+
+/// The tasks that hold up the transition that goes on, where these versions are blocked: none where there is none.
+pub(crate) fn holders(
+    alloc: Global,
+    manager: &Manager,
+    blocked: &[Version],
+) -> Result<Vec<TaskId>, AllocError>
+    ensures { IfOk result (λ tasks. tasks.items ≡ holders_by blocked.now manager.now.managed.state) }
+{
+    match manager.moving() {
+        Some(moving) => holders_among(alloc, manager, blocked, moving.target),
+        None => Ok(Vec::new(alloc)),
+    }
 }

@@ -5,12 +5,12 @@ ghost use Rattle.klp_catalog_text.specs.Within.{AreTargetsWithin};
 ghost use Rattle.klp_program.specs.Booted.{never_ran};
 ghost use Rattle.klp_page.specs.Pages.{IsPage, IsScriptFault, IsPageOver, IsFaultOver, IsPageOf, IsFaultOf};
 
-use crate::chronicle::Chronicle;
 use crate::record::record;
 use crate::row::page_of;
 use klp_callback::{Boxed, Scripted};
 use klp_catalog::Catalog;
 use klp_catalog_text::Plan;
+use klp_chronicle::Chronicle;
 use klp_console::ServeFault;
 use klp_core::Manager;
 use klp_program::{Fault, boot, close, refused_by, told_by};

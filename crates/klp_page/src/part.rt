@@ -1,18 +1,10 @@
-//! What the text of a page is made of.
+//! The text of a page's pieces.
 ghost use Rattle.std.specs.Prelude.{◌≡◌, ◌++◌, OnOk};
 ghost use Rattle.klp_page.specs.Text.{escaped_byte, escaped, part_text, parts_text};
 
 use itoa::Buffer;
+use klp_chronicle::Part;
 use std::alloc::AllocError;
-
-/// A piece of a page. What comes from the run is a `Text` or a `Number`: markup is what stands in the program,
-/// so nothing that a catalog or a script says can be taken for it.
-#[derive(Drop)]
-pub(crate) enum Part {
-    Markup(&'static str),
-    Text(Vec<u8>),
-    Number(u64),
-}
 
 // Adds a byte, by its name where a browser could take it for markup.
 fn add_byte(page: &mut Vec<u8>, byte: u8) -> Result<(), AllocError>

@@ -6,9 +6,9 @@ ghost use Rattle.klp_console.specs.Lines.{lines_of};
 ghost use Rattle.klp_page.specs.Rows.{IsAnsweredBy, IsRowOf, AreRows};
 ghost use Rattle.klp_page.specs.Pages.{HasRows, IsScriptFault};
 
-use crate::chronicle::Chronicle;
-use crate::holding::holders;
+use crate::holding::{blocked_now, holders};
 use crate::row::Row;
+use klp_chronicle::Chronicle;
 use klp_console::{ServeFault, serve};
 use klp_console_io::{Feed, LineBuffer, OverWrite, TooLong};
 use klp_core::Manager;
@@ -67,12 +67,20 @@ fn record_line(
     ensures { IfOk result (λ row. IsRowOf manager.old manager.new line.now row) }
 {
     let answer = answer(alloc, manager, line)?;
-    let holders = holders(alloc, manager)?;
-    let told = chronicle.tell(alloc, manager, line, answer.as_slice(), holders.as_slice())?;
-    let line = Vec::from_slice(alloc, line)?;
+    let blocked = blocked_now(alloc, manager)?;
+    let holders = holders(alloc, manager, blocked.as_slice())?;
+    let copy = Vec::from_slice(alloc, line)?;
+    let told = chronicle.tell(
+        alloc,
+        manager,
+        line,
+        answer.as_slice(),
+        blocked.as_slice(),
+        holders.as_slice(),
+    )?;
     Ok(Row {
         before: told.before,
-        line,
+        line: copy,
         answer,
         holders,
         rest: told.rest,

@@ -2,8 +2,9 @@
 ghost use Rattle.std.specs.Prelude.{◌≡◌, ◌++◌, OnOk, IfOk};
 ghost use Rattle.klp_page.specs.Text.{holder_text, holders_text, mark_text, row_text, rows_text, page_text};
 
-use crate::part::{Part, add_parts, add_text};
+use crate::part::{add_parts, add_text};
 use itoa::Buffer;
+use klp_chronicle::Part;
 use klp_types::TaskId;
 use std::alloc::{AllocError, Global};
 

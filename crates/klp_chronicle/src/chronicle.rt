@@ -3,7 +3,6 @@
 use crate::bars::{Bars, Sign};
 use crate::cards::{add_ended_card, add_gone_card, add_patch_card, add_site_card, add_task_card};
 use crate::drawing::add_drawing;
-use crate::holding::{blocked, is_blocked};
 use crate::names::add_object;
 use crate::part::Part;
 use crate::room::add_tasks;
@@ -23,14 +22,14 @@ const PLAIN_ROWS: u64 = 3;
 
 /// What stands in front of a line, and what behind its answer.
 #[derive(Drop)]
-pub(crate) struct Told {
+pub struct Told {
     pub before: Vec<Part>,
     pub rest: Vec<Part>,
 }
 
-/// What was seen after the last line.
+/// What was seen after the last line, and what is told of the run up to there.
 #[derive(Drop)]
-pub(crate) struct Chronicle {
+pub struct Chronicle {
     line: u64,
     mark: u32,
     /// How many of the last rows had no change.
@@ -44,12 +43,12 @@ pub(crate) struct Chronicle {
     story: Story,
 }
 
-/// What a line changed.
-#[derive(Drop)]
-struct Change {
+/// What a line changed, and what no task may be inside of now when it switches.
+#[derive(Clone, Copy)]
+struct Change<'a> {
     event: Option<Event>,
     moving: Option<Transition>,
-    blocked: Vec<Version>,
+    blocked: &'a [Version],
     sign: Option<(Sign, PatchId)>,
 }
 
@@ -121,7 +120,7 @@ fn sentence_of(
 }
 
 /// Whether a patch that is gone was replaced: it left by an event, and another patch moved.
-fn is_replaced(change: &Change, patch: PatchId) -> bool {
+fn is_replaced(change: &Change<'_>, patch: PatchId) -> bool {
     match change.sign {
         Some((Sign::Ends, moved)) => moved != patch,
         _ => false,
@@ -141,7 +140,7 @@ fn has_patch(shots: &[PatchShot], patch: PatchId) -> bool {
 fn blocked_frame(shot: &TaskShot, blocked: &[Version]) -> Option<Version> {
     let mut found = None;
     for frame in shot.frames.as_slice() {
-        if is_blocked(frame, blocked) {
+        if blocked.contains(frame) {
             found = Some(*frame);
         }
     }
@@ -149,7 +148,7 @@ fn blocked_frame(shot: &TaskShot, blocked: &[Version]) -> Option<Version> {
 }
 
 /// The module that came or went, if one did.
-fn add_module(sheet: &mut Sheet, manager: &Manager, change: &Change) -> bool {
+fn add_module(sheet: &mut Sheet, manager: &Manager, change: &Change<'_>) -> bool {
     let (Some(Event::Coming(object)) | Some(Event::Going(object))) = change.event else {
         return false;
     };
@@ -173,7 +172,7 @@ fn add_opening(sheet: &mut Sheet, opening: &'static str, line: u64, number: &'st
 
 impl Chronicle {
     /// Nothing is told yet, and no room is taken.
-    pub(crate) fn new(alloc: Global) -> Chronicle {
+    pub fn new(alloc: Global) -> Chronicle {
         Chronicle {
             line: 0,
             mark: 0,
@@ -189,7 +188,7 @@ impl Chronicle {
     }
 
     /// Takes the room for each task and each site.
-    pub(crate) fn open(&mut self, manager: &Manager) -> Result<(), AllocError> {
+    pub fn open(&mut self, manager: &Manager) -> Result<(), AllocError> {
         add_tasks(&mut self.tasks, None)?;
         for _site in 0..manager.sites() {
             self.stacks.push(ArrayVec::new())?;
@@ -198,13 +197,15 @@ impl Chronicle {
         self.story.open()
     }
 
-    /// Tells of a line that was answered.
-    pub(crate) fn tell(
+    /// Tells of a line that was answered. The versions are those that the transition which goes on blocks, and the
+    /// tasks those that hold it up: none of either where there is no transition.
+    pub fn tell(
         &mut self,
         alloc: Global,
         manager: &Manager,
         line: &[u8],
         answer: &[u8],
+        blocked: &[Version],
         holders: &[TaskId],
     ) -> Result<Told, AllocError> {
         self.line = self.line.saturating_add(1);
@@ -212,7 +213,7 @@ impl Chronicle {
         if manager.mark() == self.mark {
             return self.quiet_row(alloc, answer);
         }
-        let change = self.change_of(alloc, manager, line)?;
+        let change = self.change_of(manager, line, blocked);
         let mut cards = Sheet::new(alloc);
         match self.tell_change(alloc, manager, &mut cards, &change, holders)? {
             Extent::Nothing => self.quiet_row(alloc, answer),
@@ -222,12 +223,12 @@ impl Chronicle {
     }
 
     /// What a line may have changed.
-    fn change_of(
+    fn change_of<'a>(
         &mut self,
-        alloc: Global,
         manager: &Manager,
         line: &[u8],
-    ) -> Result<Change, AllocError> {
+        blocked: &'a [Version],
+    ) -> Change<'a> {
         let mark = manager.mark();
         let event = if mark > self.mark {
             event_of(line, manager)
@@ -236,17 +237,12 @@ impl Chronicle {
         };
         self.mark = mark;
         let moving = manager.moving();
-        let blocked = match moving {
-            Some(ref moving) => blocked(alloc, manager, moving)?,
-            None => Vec::new(alloc),
-        };
-        let sign = sign_of(&self.moving, &moving, &event);
-        Ok(Change {
+        Change {
             event,
             moving,
             blocked,
-            sign,
-        })
+            sign: sign_of(&self.moving, &moving, &event),
+        }
     }
 
     /// Tells of what a line changed, in sentences, bars and cards.
@@ -255,7 +251,7 @@ impl Chronicle {
         alloc: Global,
         manager: &Manager,
         cards: &mut Sheet,
-        change: &Change,
+        change: &Change<'_>,
         holders: &[TaskId],
     ) -> Result<Extent, AllocError> {
         self.tell_event(manager, change);
@@ -335,7 +331,7 @@ impl Chronicle {
         alloc: Global,
         manager: &Manager,
         cards: &mut Sheet,
-        change: &Change,
+        change: &Change<'_>,
     ) -> Result<bool, AllocError> {
         let shots = patch_shots(alloc, manager)?;
         if shots.as_slice() == self.patches.as_slice() {
@@ -358,7 +354,7 @@ impl Chronicle {
     }
 
     /// The sentences of what an event did.
-    fn tell_event(&mut self, manager: &Manager, change: &Change) {
+    fn tell_event(&mut self, manager: &Manager, change: &Change<'_>) {
         let line = self.line;
         match change.event {
             Some(Event::Coming(object)) => {
@@ -394,7 +390,7 @@ impl Chronicle {
         &mut self,
         manager: &Manager,
         cards: &mut Sheet,
-        change: &Change,
+        change: &Change<'_>,
         holders: &[TaskId],
     ) -> bool {
         let mut is_changed = false;
@@ -410,7 +406,7 @@ impl Chronicle {
         &mut self,
         manager: &Manager,
         cards: &mut Sheet,
-        change: &Change,
+        change: &Change<'_>,
         task: TaskId,
         shot: Option<TaskShot>,
     ) -> bool {
@@ -420,7 +416,7 @@ impl Chronicle {
         }
         let before = self.tasks[number];
         self.tasks[number] = shot;
-        let blocked = change.blocked.as_slice();
+        let blocked = change.blocked;
         match (before, shot) {
             (None, None) => return false,
             (Some(_), None) => add_ended_card(cards, u64::from(task.0)),
@@ -445,7 +441,7 @@ impl Chronicle {
     fn tell_hold(
         &mut self,
         manager: &Manager,
-        change: &Change,
+        change: &Change<'_>,
         task: TaskId,
         shot: Option<TaskShot>,
     ) {
@@ -453,7 +449,7 @@ impl Chronicle {
         if let Some(moving) = change.moving {
             if let Some(ref shot) = shot {
                 if shot.is_holding {
-                    holds = Some((moving, blocked_frame(shot, change.blocked.as_slice())));
+                    holds = Some((moving, blocked_frame(shot, change.blocked)));
                 }
             }
         }
@@ -476,11 +472,7 @@ impl Chronicle {
     }
 
     /// What stands above the rows.
-    pub(crate) fn head(
-        &mut self,
-        alloc: Global,
-        manager: &Manager,
-    ) -> Result<Vec<Part>, AllocError> {
+    pub fn head(&mut self, alloc: Global, manager: &Manager) -> Result<Vec<Part>, AllocError> {
         self.bars.close()?;
         let mut head = Sheet::new(alloc);
         head.markup(HEAD);
@@ -497,7 +489,7 @@ impl Chronicle {
     }
 
     /// What stands below them.
-    pub(crate) fn foot(&mut self, alloc: Global) -> Result<Vec<Part>, AllocError> {
+    pub fn foot(&mut self, alloc: Global) -> Result<Vec<Part>, AllocError> {
         let mut foot = Sheet::new(alloc);
         self.end_fold(&mut foot);
         foot.markup(FOOT);

@@ -1,6 +1,5 @@
 //! What a row shows at a click: a card for each patch, task and site.
 
-use crate::holding::is_blocked;
 use crate::names::{add_entry, add_patch, add_site, add_version};
 use crate::sheet::Sheet;
 use crate::shot::{PatchShot, TaskShot};
@@ -89,7 +88,7 @@ fn add_frame(
         add_version(sheet, manager, version);
         return;
     };
-    if !is_blocked(&version, blocked) {
+    if !blocked.contains(&version) {
         sheet.markup("<li>");
         add_version(sheet, manager, version);
         return;
