@@ -1,110 +1,78 @@
-//! Faults of an image that no catalog's text comes to, since the text is refused before; and that there is
-//! nothing beyond its objects.
+//! Faults of an image that no catalog's text comes to, since the text is refused before. A contract says which fault
+//! there is, and lets want of memory stand in its place.
 use klp_text::{Image, ImageFault};
-use klp_types::{ObjId, ObjectText, SymbolText};
+use klp_types::{ObjectText, SymbolText};
 use std::alloc::{AllocError, Global};
 
 const HANDLER: u64 = 0xffff_ffff_8100_0000;
 
-/// The address of the first symbol of each object.
-const FIRST: u64 = 0xffff_ffff_8100_1000;
+/// The address of each symbol.
+const ADDRESS: u64 = 0xffff_ffff_8100_1000;
 
-/// The name of an object, and the lengths of its symbols.
-type Given = (&'static str, &'static [usize]);
-
-const SEVENTEEN: [Given; 17] = [
-    ("vmlinux", &[]),
-    ("a", &[]),
-    ("b", &[]),
-    ("c", &[]),
-    ("d", &[]),
-    ("e", &[]),
-    ("f", &[]),
-    ("g", &[]),
-    ("h", &[]),
-    ("i", &[]),
-    ("j", &[]),
-    ("k", &[]),
-    ("l", &[]),
-    ("m", &[]),
-    ("n", &[]),
-    ("o", &[]),
-    ("p", &[5; 256]),
+/// How many objects there are, of how many symbols each, of how many bytes; and the fault of an image of them. A limit
+/// is looked at before all else.
+const ROWS: [([usize; 3], ImageFault); 8] = [
+    ([0, 0, 0], ImageFault::NoKernel),
+    ([2, 0, 0], ImageFault::DuplicateObject),
+    ([17, 0, 0], ImageFault::DuplicateObject),
+    ([18, 0, 0], ImageFault::TooMany),
+    ([1, 256, 5], ImageFault::Overlap),
+    ([1, 257, 5], ImageFault::TooMany),
+    ([2, 129, 5], ImageFault::TooMany),
+    ([1, 1, 257], ImageFault::TooMany),
 ];
 
-const EIGHTEEN: [Given; 18] = [("vmlinux", &[]); 18];
+fn symbol(alloc: Global, length: usize) -> Result<SymbolText, AllocError> {
+    let body = vec![in alloc; 0xcc; length]?;
+    Ok(SymbolText {
+        name: String::new(alloc),
+        address: ADDRESS,
+        body,
+    })
+}
 
-/// Objects, and the fault of an image of them.
-const ROWS: [(&[Given], Option<ImageFault>); 11] = [
-    (&[], Some(ImageFault::NoKernel)),
-    (&[("m", &[]), ("m", &[])], Some(ImageFault::NoKernel)),
-    (
-        &[("vmlinux", &[]), ("vmlinux", &[])],
-        Some(ImageFault::DuplicateObject),
-    ),
-    (
-        &[("vmlinux", &[]), ("m", &[]), ("m", &[4])],
-        Some(ImageFault::DuplicateObject),
-    ),
-    (&[("vmlinux", &[257])], Some(ImageFault::TooMany)),
-    (
-        &[("vmlinux", &[4]), ("m", &[257])],
-        Some(ImageFault::TooMany),
-    ),
-    (&[("m", &[257]), ("m", &[])], Some(ImageFault::TooMany)),
-    // as many objects and symbols as there may be, and one more
-    (&SEVENTEEN, None),
-    (&EIGHTEEN, Some(ImageFault::TooMany)),
-    (&[("vmlinux", &[5; 257])], Some(ImageFault::TooMany)),
-    (
-        &[("vmlinux", &[5; 256]), ("m", &[5])],
-        Some(ImageFault::TooMany),
-    ),
-];
+fn put_symbols(
+    alloc: Global,
+    symbols: &mut Vec<SymbolText>,
+    [count, length]: [usize; 2],
+) -> Result<(), AllocError> {
+    for _ in 0..count {
+        symbols.push(symbol(alloc, length)?)?;
+    }
+    Ok(())
+}
 
-fn object(alloc: Global, (name, lengths): Given) -> Result<ObjectText, AllocError> {
-    let mut symbols = Vec::new(alloc);
-    let mut address = FIRST;
-    for length in lengths {
-        symbols.push(SymbolText {
-            name: String::from_str(alloc, "f")?,
-            address,
-            body: vec![in alloc; 0xcc; *length]?,
+/// Adds objects, all of the kernel's name.
+fn put_objects(
+    alloc: Global,
+    objects: &mut Vec<ObjectText>,
+    [count, symbols, length]: [usize; 3],
+) -> Result<(), AllocError> {
+    for _ in 0..count {
+        objects.push(ObjectText {
+            name: String::from_str(alloc, "vmlinux")?,
+            symbols: Vec::new(alloc),
         })?;
-        address = address.saturating_add(8);
+        if let Some(object) = objects.last_mut() {
+            put_symbols(alloc, &mut object.symbols, [symbols, length])?;
+        }
     }
-    Ok(ObjectText {
-        name: String::from_str(alloc, name)?,
-        symbols,
-    })
+    Ok(())
 }
 
-/// Whether an image tells nothing of an object and a symbol that it doesn't have.
-fn ends(image: &Image) -> bool {
-    let (kernel, beyond) = (ObjId(0), ObjId(image.objects()));
-    let symbols = image.symbols(kernel).unwrap_or(0);
-    image.symbols(beyond).is_none()
-        && image.object_name(beyond).is_none()
-        && image.symbol(kernel, symbols).is_none()
-        && image.bytes(kernel, symbols).is_none()
-}
-
-/// Whether an image of these objects has this fault, or else ends with them.
-fn is_told(alloc: Global, given: &[Given], want: Option<ImageFault>) -> Result<bool, AllocError> {
+/// The fault of an image of these objects.
+fn fault_of(alloc: Global, counts: [usize; 3]) -> Option<ImageFault> {
     let mut objects = Vec::new(alloc);
-    for one in given {
-        objects.push(object(alloc, *one)?)?;
+    match put_objects(alloc, &mut objects, counts) {
+        Ok(()) => Image::new(alloc, objects, HANDLER).err(),
+        Err(_) => Some(ImageFault::NoMemory),
     }
-    Ok(match Image::new(alloc, objects, HANDLER) {
-        Ok(image) => want.is_none() && ends(&image),
-        Err(fault) => want == Some(fault),
-    })
 }
 
 #[test]
 fn images_have_limits(rt: HostRuntime) {
-    for (number, (given, want)) in ROWS.iter().enumerate() {
-        let told = is_told(rt.alloc(), given, *want);
-        assert!(rt; told == Ok(true), "row {number}");
+    for (counts, wanted) in ROWS {
+        let fault = fault_of(rt.alloc(), counts);
+        assert!(rt; fault == Some(wanted), "{}", counts[0]);
     }
 }

@@ -1,20 +1,13 @@
-//! Tests of what no contract says and no example shows. Of the layers below the manager: what a catalog's text
-//! gives, images that no text comes to, why a name and a position pick no symbol, how many entries all stacks
-//! have room for, and records that are put back. Above them: faults of another number of callbacks, values of
-//! system states, names and numbers of faults, which item of a trace is told for which cause, the program's words,
-//! and streams that it reports as failed. Of what fails or ends early: a catalog that
-//! is cut after each byte, reads and writes that fail while the console is served, with what stands then, streams in
-//! memory that give or take little, and lines that are too long. What a script can show of full tables, and of memory
-//! that runs out, is shown by `klp_examples`. They stand above all crates, and in one crate, so that what they test is
-//! proved once and what they stand on is read once.
+//! Tests of what no contract says and no example shows: what the program's words ask for, the numbers of faults and
+//! refusals and the names that faults print, faults of images and catalogs that no text comes to, reads and writes
+//! that fail, with what stands then, and catalogs that are cut behind each of their bytes, by rules of their own. What a
+//! manager does is proved, and what a script shows is an example.
 #![tactic(auto)]
 
 #[cfg(test)]
-mod callback;
+mod broken;
 #[cfg(test)]
-mod catalog;
-#[cfg(test)]
-mod console;
+mod callbacks;
 #[cfg(test)]
 mod cut;
 #[cfg(test)]
@@ -26,22 +19,6 @@ mod input;
 #[cfg(test)]
 mod managed;
 #[cfg(test)]
-mod modules;
-#[cfg(test)]
 mod names;
 #[cfg(test)]
-mod plan;
-#[cfg(test)]
-mod program;
-#[cfg(test)]
-mod shown;
-#[cfg(test)]
-mod stacks;
-#[cfg(test)]
-mod streams;
-#[cfg(test)]
-mod values;
-#[cfg(test)]
-mod watched;
-#[cfg(test)]
-mod world;
+mod words;

@@ -4,7 +4,7 @@ use Rattle.std.proofs.lemmas.List.{length-map}
 use Rattle.klp_modules.specs.Names.{ModuleTable, names_of_object}
 use Rattle.klp_catalog_text.specs.Plan.{Plan}
 use Rattle.klp_catalog_text.specs.Within.{AreTargetsWithin}
-use Rattle.klp_tests.proofs.shown.booted.Goals as goal
+use Rattle.klp_tests.proofs.managed.booted.Goals as goal
 
 pub assemble-requires : goal.assemble-requires
 assemble-requires g c =

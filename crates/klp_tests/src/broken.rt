@@ -1,0 +1,78 @@
+//! Reads and writes that fail: that a stream of std which does is told as one that does is in no clause.
+use klp_program::{CATALOG, console};
+use std::alloc::Global;
+use std::io;
+use std::io::{Read, Write};
+
+/// Fails at each write, or else takes nothing, and fails at each read behind these lines, or else gives an empty line
+/// at each read.
+#[derive(Drop)]
+struct Broken {
+    lines: &'static [u8],
+    is_endless: bool,
+    is_full: bool,
+}
+
+impl Read for Broken {
+    fn read(&mut self, buf: &mut [u8]) -> io::Result<usize> {
+        if self.is_endless {
+            return b"\n".as_slice().read(buf);
+        }
+        if self.lines.is_empty() {
+            return Err(io::Error::from(io::ErrorKind::Other));
+        }
+        self.lines.read(buf)
+    }
+}
+
+impl Write for Broken {
+    fn write(&mut self, _buf: &[u8]) -> io::Result<usize> {
+        if self.is_full {
+            return Ok(0);
+        }
+        Err(io::Error::from(io::ErrorKind::Other))
+    }
+
+    fn flush(&mut self) -> io::Result<()> {
+        Ok(())
+    }
+}
+
+/// A stream that fails.
+fn failing(lines: &'static [u8]) -> Broken {
+    Broken {
+        lines,
+        is_endless: false,
+        is_full: false,
+    }
+}
+
+/// Whether the console ends with status 1 and this line on `err`.
+fn ends_with(alloc: Global, mut input: Broken, mut out: Broken, printed: &[u8]) -> bool {
+    let mut err = Vec::new(alloc);
+    let status = console(alloc, CATALOG, &mut input, &mut out, &mut err);
+    status == 1 && err.as_slice() == printed
+}
+
+#[test]
+fn streams_that_fail_or_never_end_are_told(rt: HostRuntime) {
+    let read = ends_with(rt.alloc(), failing(b""), failing(b""), b"klpsim: Read\n");
+    let write = ends_with(
+        rt.alloc(),
+        failing(b"load p\n"),
+        failing(b""),
+        b"klpsim: Write\n",
+    );
+    let full = Broken {
+        is_full: true,
+        ..failing(b"")
+    };
+    let taken = ends_with(rt.alloc(), failing(b"load p\n"), full, b"klpsim: Write\n");
+    let endless = Broken {
+        is_endless: true,
+        ..failing(b"")
+    };
+    // an empty line has no answer, so no write fails
+    let endless = ends_with(rt.alloc(), endless, failing(b""), b"klpsim: Read\n");
+    assert!(rt; read && write && taken && endless);
+}

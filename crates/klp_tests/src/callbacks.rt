@@ -1,0 +1,55 @@
+//! A catalog of another number of callbacks than its text has scripts. The contract leaves open which fault is told where
+//! memory could be short too, and no program comes to it.
+use crate::managed::{Given, outcome};
+use klp_catalog::AssembleFault;
+use klp_program::Fault;
+use std::alloc::Global;
+
+/// Two objects, a patch for both, and three callbacks.
+const THREE: &str = "handler ffffffff81000000
+object vmlinux
+symbol f ffffffff81001000 e800000000c3
+object m
+symbol f ffffffffa0000000 e800000000c3
+patch p
+target vmlinux
+post 0
+pre 0
+target m
+pre 0
+";
+
+/// Two functions for one site, and a callback.
+const TWICE: &str = "handler ffffffff81000000
+object vmlinux
+symbol f ffffffff81001000 e800000000c3
+patch p
+target vmlinux
+func .klp.sym.vmlinux.f,0 a 1
+func .klp.sym.vmlinux.f,1 b 2
+pre 0
+";
+
+fn fault_of(alloc: Global, text: &str, callbacks: usize) -> Option<Fault> {
+    outcome(alloc, Given { text, callbacks }, &[]).err()
+}
+
+#[test]
+fn another_number_of_callbacks_is_refused(rt: HostRuntime) {
+    let wrong = Some(Fault::Assemble(AssembleFault::WrongCallbacks));
+    for (number, (text, callbacks, wanted)) in [
+        (THREE, 3, None),
+        (THREE, 2, wrong),
+        (THREE, 4, wrong),
+        // another number is told first
+        (TWICE, 1, Some(Fault::Assemble(AssembleFault::SameSite))),
+        (TWICE, 0, wrong),
+        (TWICE, 2, wrong),
+    ]
+    .into_iter()
+    .enumerate()
+    {
+        let fault = fault_of(rt.alloc(), text, callbacks);
+        assert!(rt; fault == wanted, "case {number}");
+    }
+}

@@ -1,0 +1,70 @@
+//! The program's words: of them no contract says more than which status refuses them.
+use klp_program::{Words, words};
+use std::alloc::{AllocError, Global};
+
+/// Words, and what they ask for: the files that they name, if they do.
+const CASES: &str = "\
+console => console
+ => console
+console fix.catalog => console fix.catalog
+console - => console -
+console -- -x => console -x
+live fix.catalog steps => live fix.catalog steps
+live - - => live - -
+--help => usage
+-h => usage
+help => usage
+-V => usage
+--version => usage
+fix.catalog => usage
+console fix.catalog more => usage
+console --help => usage
+console -x => usage
+live => usage
+live fix.catalog => usage
+live fix.catalog steps more => usage
+live fix.catalog -x => usage
+live --help => usage
+";
+
+fn put_words(alloc: Global, given: &mut Vec<String>, words: &str) -> Result<(), AllocError> {
+    for word in words.split(' ').filter(|word| !word.is_empty()) {
+        given.push(String::from_str(alloc, word)?)?;
+    }
+    Ok(())
+}
+
+/// What words ask for.
+fn asked(alloc: Global, words: &Words) -> Result<String, AllocError> {
+    match words {
+        Words::Console(None) => String::from_str(alloc, "console"),
+        Words::Console(Some(catalog)) => format!(in alloc; "console {catalog}"),
+        Words::Live(catalog, steps) => format!(in alloc; "live {catalog} {steps}"),
+    }
+}
+
+/// Whether these words are answered so. Where they are refused, and only then, a line says so.
+fn is_answer(alloc: Global, given: &[String], wanted: &str) -> Result<bool, AllocError> {
+    let mut err = Vec::new(alloc);
+    Ok(match words(alloc, given, &mut err) {
+        Ok(words) => asked(alloc, &words)?.as_str() == wanted && err.is_empty(),
+        Err(status) => {
+            status == 2 && wanted == "usage" && err.as_slice() == b"klpsim: usage\n".as_slice()
+        }
+    })
+}
+
+fn is_case(alloc: Global, case: &str) -> Result<bool, AllocError> {
+    let (words, wanted) = case.split_once(" => ").unwrap_or((case, ""));
+    let mut given = Vec::new(alloc);
+    put_words(alloc, &mut given, words)?;
+    is_answer(alloc, &given, wanted)
+}
+
+#[test]
+fn words_name_files_or_none_or_are_refused(rt: HostRuntime) {
+    for case in CASES.lines() {
+        let told = is_case(rt.alloc(), case);
+        assert!(rt; told == Ok(true), "{case}");
+    }
+}
