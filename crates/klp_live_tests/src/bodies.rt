@@ -1,41 +1,63 @@
-//! One body after the other, in one thread.
+//! Bodies of two tasks, one after the other in one thread.
 ghost use Rattle.std.specs.Prelude.{◌<◌, ◌^◌, length};
 ghost use Rattle.klp_types.specs.declared.limits.TheConstants.{MAX_TASKS};
 
 use crate::gates::Slow;
 use crate::names::{FIRST, NOWHERE, PATCH, PATCHED, SECOND};
-use crate::outcomes::{show_kinds, show_outcome};
-use crate::pairs::{attached, few, job_of, seat_of};
+use crate::outcomes::{Detail, show_outcomes};
+use crate::pairs::{attached, seat_of};
 use crossbeam_utils::rule::Protocol;
-use klp_bodies::{Gate, Outcome, Step, TaskBody};
+use klp_bodies::{Gate, Step, TaskBody};
 use klp_core::Machine;
 use klp_live::{Live, Published, Seat, Start, View};
 use klp_model::Event;
 use klp_types::TaskId;
-use std::alloc::{AllocError, Global};
+use std::alloc::Global;
 use std::io;
 use std::sync::Wait;
 use std::sync::atomic::{AtomicU64, Ordering};
 
-/// How much is printed of outcomes.
-#[derive(Clone, Copy, PartialEq, Eq)]
-pub(crate) enum Detail {
-    All,
-    Kinds,
+/// What both tasks do, one after the other, how often a gate refuses that both share, and what is shown of it.
+#[derive(Clone, Copy)]
+struct Bodies<'a> {
+    steps: (&'a [Step], &'a [Step]),
+    refuses: u64,
+    detail: Detail,
+    /// Whether it is told how often the gate was asked.
+    is_counted: bool,
 }
 
-fn show_all<R: Print>(rt: &R, outcomes: &[Outcome], detail: Detail) -> io::Result<()> {
-    if detail == Detail::Kinds {
-        return show_kinds(rt, outcomes);
+impl<'a> Bodies<'a> {
+    /// Of both tasks, with how often the gate was asked.
+    fn counted(first: &'a [Step], second: &'a [Step], refuses: u64, detail: Detail) -> Bodies<'a> {
+        Bodies {
+            steps: (first, second),
+            refuses,
+            detail,
+            is_counted: true,
+        }
     }
-    for outcome in outcomes {
-        show_outcome(rt, outcome)?;
+
+    /// Of the first task alone.
+    fn alone(first: &'a [Step], detail: Detail) -> Bodies<'a> {
+        Bodies {
+            steps: (first, &[]),
+            refuses: 0,
+            detail,
+            is_counted: false,
+        }
     }
-    Ok(())
+}
+
+/// No more steps than any body of the tests has.
+fn few(steps: &[Step]) -> &[Step]
+    ensures { length result.now < 2 ^ 32 }
+{
+    steps.get(..100).unwrap_or(steps)
 }
 
 /// Takes a seat for a task, does its steps, shows what they come to, and gives the seat back.
-pub(crate) fn show_body<
+fn show_body<
     S: Start + Protocol<Published, View>,
     G: Gate + Drop,
     M: Machine + Drop,
@@ -50,86 +72,62 @@ pub(crate) fn show_body<
     steps: &[Step],
     detail: Detail,
 ) -> (Seat<S>, io::Result<()>)
-    requires there { task < MAX_TASKS }
-    requires few { length steps.now < 2 ^ 32 }
+    requires { task < MAX_TASKS }
 {
     let pass = attached(live, seat, task);
     let mut outcomes = Vec::new(alloc);
-    let ended = TaskBody::new(pass, gate).run(rt, alloc, live, steps, &mut outcomes);
-    let told = show_all(rt, outcomes.as_slice(), detail);
+    let ended = TaskBody::new(pass, gate).run(rt, alloc, live, few(steps), &mut outcomes);
+    let told = show_outcomes(rt, steps.len(), outcomes.as_slice(), detail);
     let (seat, fault) = seat_of(rt, ended);
     (seat, told.and(fault))
 }
 
-/// A gate that lets a task in at once.
-fn open(asked: &AtomicU64) -> Slow<'_> {
-    Slow { asked, refuses: 0 }
-}
-
-/// A task enables a patch, which it runs once it was outside of the kernel.
-fn enables(task: TaskId) -> [Step; 5] {
-    [
-        Step::Submit(Event::Enable(PATCH)),
-        Step::Call(PATCHED),
-        Step::Submit(Event::EnterKernel(task)),
-        Step::Submit(Event::ExitToUser(task)),
-        Step::Call(PATCHED),
-    ]
-}
-
-/// A task that hears nothing of that runs the original, as it wasn't outside; it can't enable the patch again; and once
-/// it was outside it runs the patch.
-fn hears_nothing(task: TaskId) -> [Step; 5] {
-    [
-        Step::Call(PATCHED),
-        Step::Submit(Event::Enable(PATCH)),
-        Step::Submit(Event::EnterKernel(task)),
-        Step::Submit(Event::ExitToUser(task)),
-        Step::Call(PATCHED),
-    ]
-}
-
-/// The first task enables a patch, of which the second hears nothing.
-pub(crate) fn show_worked<S: Start + Protocol<Published, View>, M: Machine + Drop, R: Wait + Print>(
+/// The body of the first task, and then that of the second.
+pub(crate) fn show_both<
+    S: Start + Protocol<Published, View>,
+    G: Gate + Drop,
+    M: Machine + Drop,
+    R: Wait + Print,
+>(
     rt: &R,
     alloc: Global,
     live: &Live<S, M, &R>,
     seats: (Seat<S>, Seat<S>),
+    gates: (G, G),
+    steps: (&[Step], &[Step]),
+    detail: Detail,
 ) -> ((Seat<S>, Seat<S>), io::Result<()>) {
-    let asked = AtomicU64::new(0);
-    let (first, told) = show_body(
-        rt,
-        alloc,
-        live,
-        seats.0,
-        FIRST,
-        open(&asked),
-        &enables(FIRST),
-        Detail::All,
-    );
-    let (second, heard) = show_body(
-        rt,
-        alloc,
-        live,
-        seats.1,
-        SECOND,
-        open(&asked),
-        &hears_nothing(SECOND),
-        Detail::All,
-    );
-    let counted = println!(rt; "asked {}", asked.load(Ordering::SeqCst));
-    ((first, second), told.and(heard).and(counted))
+    let (first, told) = show_body(rt, alloc, live, seats.0, FIRST, gates.0, steps.0, detail);
+    let (second, heard) = show_body(rt, alloc, live, seats.1, SECOND, gates.1, steps.1, detail);
+    ((first, second), told.and(heard))
+}
+
+/// The first task enables a patch, which it runs once it was outside of the kernel.
+fn enables() -> [Step; 5] {
+    [
+        Step::Submit(Event::Enable(PATCH)),
+        Step::Call(PATCHED),
+        Step::Submit(Event::EnterKernel(FIRST)),
+        Step::Submit(Event::ExitToUser(FIRST)),
+        Step::Call(PATCHED),
+    ]
+}
+
+/// The second task hears nothing of that, and runs the original, as it wasn't outside; it can't enable the patch again;
+/// and once it was outside it runs the patch.
+fn hears_nothing() -> [Step; 5] {
+    [
+        Step::Call(PATCHED),
+        Step::Submit(Event::Enable(PATCH)),
+        Step::Submit(Event::EnterKernel(SECOND)),
+        Step::Submit(Event::ExitToUser(SECOND)),
+        Step::Call(PATCHED),
+    ]
 }
 
 /// A task falls asleep inside of what it entered and hasn't returned from, and wakes up.
-pub(crate) fn show_nap<S: Start + Protocol<Published, View>, M: Machine + Drop, R: Wait + Print>(
-    rt: &R,
-    alloc: Global,
-    live: &Live<S, M, &R>,
-    seat: Seat<S>,
-) -> (Seat<S>, io::Result<()>) {
-    let asked = AtomicU64::new(0);
-    let steps = [
+fn naps() -> [Step; 13] {
+    [
         Step::Return,
         Step::Nap,
         Step::Submit(Event::EnterKernel(FIRST)),
@@ -143,92 +141,85 @@ pub(crate) fn show_nap<S: Start + Protocol<Published, View>, M: Machine + Drop, 
         Step::Nap,
         Step::Submit(Event::Wake(FIRST)),
         Step::Submit(Event::ExitToUser(FIRST)),
-    ];
-    show_body(
-        rt,
-        alloc,
-        live,
-        seat,
-        FIRST,
-        open(&asked),
-        &steps,
-        Detail::All,
-    )
+    ]
 }
 
 /// Calls until no more versions are kept, and returns from all of them and once more.
-fn deep(alloc: Global) -> Result<Vec<Step>, AllocError> {
-    let mut steps = Vec::new(alloc);
-    steps.extend_from_slice(&[Step::Call(PATCHED); 34])?;
-    steps.extend_from_slice(&[Step::Return; 1])?;
-    steps.extend_from_slice(&[Step::Call(PATCHED); 2])?;
-    steps.extend_from_slice(&[Step::Return; 33])?;
-    steps.extend_from_slice(&[Step::Call(PATCHED); 1])?;
-    Ok(steps)
+fn goes_deep() -> [Step; 71] {
+    let mut steps = [Step::Call(PATCHED); 71];
+    steps[34] = Step::Return;
+    for number in 37..70 {
+        steps[number] = Step::Return;
+    }
+    steps
 }
 
-pub(crate) fn show_deep<S: Start + Protocol<Published, View>, M: Machine + Drop, R: Wait + Print>(
+/// Bodies over a gate that counts how often it is asked.
+fn show_counted<S: Start + Protocol<Published, View>, M: Machine + Drop, R: Wait + Print>(
     rt: &R,
     alloc: Global,
     live: &Live<S, M, &R>,
-    seat: Seat<S>,
-) -> (Seat<S>, io::Result<()>) {
+    seats: (Seat<S>, Seat<S>),
+    bodies: &Bodies<'_>,
+) -> ((Seat<S>, Seat<S>), io::Result<()>) {
     let asked = AtomicU64::new(0);
-    let steps = match deep(alloc) {
-        Ok(steps) => few(steps),
-        Err(error) => return (seat, Err(io::Error::from(error))),
+    let gate = Slow {
+        asked: &asked,
+        refuses: bodies.refuses,
     };
-    show_body(
+    let (seats, told) = show_both(
         rt,
         alloc,
         live,
-        seat,
-        FIRST,
-        open(&asked),
-        steps.as_slice(),
-        Detail::Kinds,
-    )
+        seats,
+        (gate, gate),
+        bodies.steps,
+        bodies.detail,
+    );
+    (seats, told.and(show_asked(rt, bodies, &asked)))
 }
 
-/// A gate that lets the task in late, and one that never does.
-pub(crate) fn show_held<S: Start + Protocol<Published, View>, M: Machine + Drop, R: Wait + Print>(
-    rt: &R,
-    alloc: Global,
-    live: &Live<S, M, &R>,
-    seat: Seat<S>,
-) -> (Seat<S>, io::Result<()>) {
-    let mut seat = seat;
-    let mut told = Ok(());
-    for refuses in [999_999, 1_000_000] {
-        let asked = AtomicU64::new(0);
-        let gate = Slow {
-            asked: &asked,
-            refuses,
-        };
-        let steps = [Step::Return, Step::Return];
-        let (same, shown) = show_body(rt, alloc, live, seat, FIRST, gate, &steps, Detail::Kinds);
-        seat = same;
-        let counted = println!(rt; "asked {}", asked.load(Ordering::SeqCst));
-        told = told.and(shown).and(counted);
+fn show_asked<R: Print>(rt: &R, bodies: &Bodies<'_>, asked: &AtomicU64) -> io::Result<()> {
+    if !bodies.is_counted {
+        return Ok(());
     }
-    (seat, told)
+    println!(rt; "asked {}", asked.load(Ordering::SeqCst))
 }
 
-/// A job that doesn't run.
-pub(crate) fn show_unrun<S: Start + Protocol<Published, View>, M: Machine + Drop, R: Wait + Print>(
+/// What the tasks do, one after the other.
+fn show_each<S: Start + Protocol<Published, View>, M: Machine + Drop, R: Wait + Print>(
     rt: &R,
     alloc: Global,
     live: &Live<S, M, &R>,
-    seat: Seat<S>,
-) -> (Seat<S>, io::Result<()>) {
-    let asked = AtomicU64::new(0);
-    let steps = match vec![in alloc; Step::Return] {
-        Ok(steps) => few(steps),
-        Err(error) => return (seat, Err(io::Error::from(error))),
-    };
-    let job = job_of(alloc, live, seat, FIRST, open(&asked), steps);
-    let (ended, outcomes) = job.end();
-    let told = show_kinds(rt, outcomes.as_slice());
-    let (seat, fault) = seat_of(rt, ended);
-    (seat, told.and(fault))
+    seats: (Seat<S>, Seat<S>),
+    all: &[Bodies<'_>],
+) -> ((Seat<S>, Seat<S>), io::Result<()>) {
+    let mut seats = seats;
+    let mut told = Ok(());
+    for bodies in all {
+        let (same, shown) = show_counted(rt, alloc, live, seats, bodies);
+        seats = same;
+        told = told.and(shown);
+    }
+    (seats, told)
+}
+
+/// A patch that is enabled, a nap, deep calls, and a gate that lets the task in late or never.
+pub(crate) fn show_bodies<S: Start + Protocol<Published, View>, M: Machine + Drop, R: Wait + Print>(
+    rt: &R,
+    alloc: Global,
+    live: &Live<S, M, &R>,
+    seats: (Seat<S>, Seat<S>),
+) -> ((Seat<S>, Seat<S>), io::Result<()>) {
+    let (first, second) = (enables(), hears_nothing());
+    let (nap, deep) = (naps(), goes_deep());
+    let returns = [Step::Return; 2];
+    let all = [
+        Bodies::counted(&first, &second, 0, Detail::All),
+        Bodies::alone(&nap, Detail::All),
+        Bodies::alone(&deep, Detail::Kinds),
+        Bodies::counted(&returns, &[], 999_999, Detail::Kinds),
+        Bodies::counted(&returns, &[], 1_000_000, Detail::Kinds),
+    ];
+    show_each(rt, alloc, live, seats, &all)
 }

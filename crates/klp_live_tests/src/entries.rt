@@ -1,47 +1,53 @@
 //! What an entry costs, alone and beside others while one thread submits, and what a look at the same table costs under
 //! a read lock.
-ghost use Rattle.std.specs.Prelude.{◌≡◌, ◌+◌, ◌≤◌, []};
-ghost use Rattle.klp_live.specs.Opening.{IsFresh};
-ghost use Rattle.klp_live.specs.Shown.{RuleIs};
-
-use crate::booted::Fresh;
-use crate::measure::{apply, since};
+use crate::books::Use;
+use crate::measure::{Seated, Takes, booked, since, turn};
 use crate::names::{FIRST, PATCH, PATCHED};
-use crate::settles::empty;
+use crate::shows::{Shows, apply, empty};
 use crossbeam_utils::rule::Protocol;
-use klp_core::{Machine, Manager};
-use klp_live::{Book, Opened, Published, Seat, Start, StartFault, Table, View, target_of};
+use klp_core::Machine;
+use klp_live::{Book, Published, Seat, Start, Table, View, target_of};
 use klp_model::Event;
-use std::alloc::{AllocError, Global};
+use std::alloc::Global;
 use std::io;
-use std::marker::Brand;
 use std::rt::Clock;
 use std::sync::atomic::{AtomicU64, Ordering};
-use std::sync::ledger::Blank;
 use std::sync::{RwLock, Wait};
-use std::thread::{Threads, join};
+use std::thread::{self, Threads, join};
 use std::time::Instant;
 
 /// How often each thread looks in a round. What is submitted meanwhile has to fit into the journal.
 const LOOKS: u64 = 20_000;
 
-/// How often the one beside has to submit two events meanwhile.
+/// How often the one beside has to submit two events meanwhile: a round doesn't count where other programs held it up.
 const TURNS: u64 = 200;
 
-/// How many threads look beside one that submits. The first time one looks alone.
-const CROWDS: [usize; 4] = [0, 1, 2, 4];
+/// How many threads look at most.
+const LOOKERS: usize = 4;
 
-/// A seat for each of four threads that look, and for the one that submits.
-const SEATS: usize = 5;
+/// How many threads look, beside one that submits, and what the slowest of them took for its looks in the best round, in
+/// nanoseconds. With no thread beside, one looks alone.
+#[derive(Clone, Copy)]
+pub(crate) struct Crowd {
+    threads: usize,
+    seats: u64,
+    lock: u64,
+}
+
+impl Crowd {
+    /// Before the first round.
+    pub(crate) fn of(threads: usize) -> Crowd {
+        Crowd {
+            threads,
+            seats: u64::MAX,
+            lock: u64::MAX,
+        }
+    }
+}
 
 /// Finds what a call of a patched function runs, while the patch's transition isn't done.
 trait Looks<R> {
     fn look(&mut self, rt: &R) -> bool;
-}
-
-/// Changes what is found, as often as it is called.
-trait Works<R> {
-    fn work(&mut self, rt: &R);
 }
 
 impl<S: Start + Protocol<Published, View>, R> Looks<R> for Seat<S> {
@@ -51,7 +57,7 @@ impl<S: Start + Protocol<Published, View>, R> Looks<R> for Seat<S> {
 }
 
 /// Looks at a table under a read lock.
-#[derive(Drop)]
+#[derive(Clone, Copy)]
 struct ByLock<'a> {
     table: &'a RwLock<Table>,
 }
@@ -63,33 +69,17 @@ impl<R: Wait> Looks<R> for ByLock<'_> {
     }
 }
 
-/// Has events admitted.
+/// Has events applied, and writes the task's state under the lock.
 #[derive(Drop)]
-struct Submits<S: Start + Protocol<Published, View>, M: Machine + Drop, B: Wait + Drop> {
-    alloc: Global,
-    book: Book<S, M, B>,
-    seat: Seat<S>,
-}
-
-impl<S: Start + Protocol<Published, View>, M: Machine + Drop, B: Wait + Drop> Submits<S, M, B> {
-    fn submit<R: Wait>(&mut self, rt: &R, event: Event) {
-        let _ = self.book.admit(rt, self.alloc, &mut self.seat, event);
-    }
-}
-
-impl<S: Start + Protocol<Published, View>, M: Machine + Drop, B: Wait + Drop, R: Wait> Works<R>
-    for Submits<S, M, B> {
-    fn work(&mut self, rt: &R) {
-        self.submit(rt, Event::EnterKernel(FIRST));
-        self.submit(rt, Event::ExitToUser(FIRST));
-    }
-}
-
-/// Has events applied, and writes what they change under the lock.
-#[derive(Drop)]
-struct Writes<'a, M: Machine + Drop> {
+struct Writes<'a, M: Machine> {
     table: &'a RwLock<Table>,
-    machine: M,
+    machine: &'a mut M,
+}
+
+impl<M: Machine, R: Wait> Takes<R> for Writes<'_, M> {
+    fn take(&mut self, rt: &R, event: Event) {
+        write(rt, self.table, self.machine, event);
+    }
 }
 
 fn write<M: Machine, R: Wait>(rt: &R, table: &RwLock<Table>, machine: &mut M, event: Event) {
@@ -105,310 +95,171 @@ fn write<M: Machine, R: Wait>(rt: &R, table: &RwLock<Table>, machine: &mut M, ev
     table.states[usize::from(FIRST.0)] = state;
 }
 
-impl<M: Machine + Drop, R: Wait> Works<R> for Writes<'_, M> {
-    fn work(&mut self, rt: &R) {
-        write(rt, self.table, &mut self.machine, Event::EnterKernel(FIRST));
-        write(rt, self.table, &mut self.machine, Event::ExitToUser(FIRST));
-    }
-}
-
-/// Looks in a loop, and tells how many nanoseconds all looks took: none that would count where one found nothing.
-fn look_often<L: Looks<R> + Drop, R: Clock>(rt: &R, looker: L, done: &AtomicU64) -> u128 {
-    let mut looker = looker;
-    let took = timed(rt, &mut looker);
-    done.fetch_add(1, Ordering::SeqCst);
-    took.unwrap_or(u128::MAX)
-}
-
-fn timed<L: Looks<R>, R: Clock>(rt: &R, looker: &mut L) -> io::Result<u128> {
-    let start = Instant::now(rt)?;
-    let mut found = 0u64;
-    for _look in 0..LOOKS {
-        found = found.wrapping_add(u64::from(looker.look(rt)));
-    }
-    let took = since(rt, start)?;
-    Ok(if found == LOOKS { took } else { u128::MAX })
-}
-
-/// What the slowest thread took for its looks, in nanoseconds, and how often the one beside worked meanwhile.
-#[derive(Clone, Copy)]
-struct Beside {
-    took: u128,
-    turns: u64,
-}
-
-/// Works until so many have looked.
-fn work_until<W: Works<R>, R>(rt: &R, worker: &mut W, done: &AtomicU64, wanted: u64) -> Beside {
-    let mut turns = 0u64;
-    for turn in 0..u64::MAX {
-        if done.load(Ordering::SeqCst) >= wanted {
-            break;
-        }
-        worker.work(rt);
-        turns = turn;
-    }
-    Beside { took: 0, turns }
-}
-
-impl Beside {
-    /// With one thread more.
-    fn and(self, took: u128) -> Beside {
-        Beside {
-            took: self.took.max(took),
-            turns: self.turns,
-        }
-    }
-
-    /// A round counts where the one beside wasn't held up by other programs.
-    fn counted(self) -> Option<u128> {
-        if self.turns < TURNS {
-            return None;
-        }
-        Some(self.took)
-    }
-}
-
-fn by_one<L: Looks<R> + Drop + Send, W: Works<R>, R: Threads + Clock + Sync>(
-    rt: &R,
-    looker: L,
-    worker: &mut W,
-    done: &AtomicU64,
-    wanted: u64,
-) -> Beside {
-    let (took, beside) = join(
-        rt,
-        || look_often(rt, looker, done),
-        || work_until(rt, worker, done, wanted),
-    );
-    beside.and(took)
-}
-
-fn by_two<L: Looks<R> + Drop + Send, W: Works<R>, R: Threads + Clock + Sync>(
-    rt: &R,
-    lookers: (L, L),
-    worker: &mut W,
-    done: &AtomicU64,
-    wanted: u64,
-) -> Beside {
-    let (first, second) = lookers;
-    let (took, beside) = join(
-        rt,
-        || look_often(rt, first, done),
-        || by_one(rt, second, worker, done, wanted),
-    );
-    beside.and(took)
-}
-
-fn by_four<L: Looks<R> + Drop + Send, W: Works<R>, R: Threads + Clock + Sync>(
-    rt: &R,
-    lookers: ((L, L), (L, L)),
-    worker: &mut W,
-    done: &AtomicU64,
-) -> Beside {
-    let ((first, second), rest) = lookers;
-    let (one, (two, beside)) = join(
-        rt,
-        || look_often(rt, first, done),
-        || {
-            join(
-                rt,
-                || look_often(rt, second, done),
-                || by_two(rt, rest, worker, done, 4),
-            )
-        },
-    );
-    beside.and(one).and(two)
-}
-
-fn two_of<L: Drop>(lookers: &mut Vec<L>) -> Option<(L, L)> {
-    let first = lookers.pop()?;
-    let second = lookers.pop()?;
-    Some((first, second))
-}
-
-/// What the slowest of so many threads took for its looks, where the one beside worked often enough meanwhile.
-fn crowd<L: Looks<R> + Drop + Send, W: Works<R>, R: Threads + Clock + Sync>(
-    rt: &R,
-    threads: usize,
-    lookers: Vec<L>,
-    worker: &mut W,
-) -> Option<u128> {
-    let mut lookers = lookers;
-    let done = AtomicU64::new(0);
-    match threads {
-        0 => Some(look_often(rt, lookers.pop()?, &done)),
-        1 => by_one(rt, lookers.pop()?, worker, &done, 1).counted(),
-        2 => by_two(rt, two_of(&mut lookers)?, worker, &done, 2).counted(),
-        _ => {
-            let first = two_of(&mut lookers)?;
-            let second = two_of(&mut lookers)?;
-            by_four(rt, (first, second), worker, &done).counted()
-        }
-    }
-}
-
-/// Seats enter, beside one that submits.
-fn by_seats<
-    S: Start + Protocol<Published, View> + Send,
-    M: Machine + Drop,
-    R: Threads + Wait + Clock + Sync,
->(rt: &R, submits: Submits<S, M, &R>, threads: usize, seats: Vec<Seat<S>>) -> (M, Option<u128>) {
-    let mut submits = submits;
-    submits.submit(rt, Event::NewTask(FIRST));
-    submits.submit(rt, Event::Enable(PATCH));
-    let took = crowd(rt, threads, seats, &mut submits);
-    let Submits {
-        alloc: _alloc,
-        book,
-        seat: _seat,
-    } = submits;
-    (book.end(), took)
-}
-
-/// Opens a book with a seat for each thread.
-fn entered<
-    S: Start + Protocol<Published, View> + Send,
-    M: Machine + Drop,
-    R: Threads + Wait + Clock + Sync,
->(
-    rt: &R,
-    alloc: Global,
-    blank: Blank,
-    opened: Opened,
-    machine: M,
-    threads: usize,
-) -> (M, Option<u128>)
-    requires name { blank.name ≡ S.name }
-    requires parts { (blank.parts ≡ S.parts) × (blank.parts ≡ 5) }
-    requires book { opened.seen.book ≡ S.book }
-    requires rule { RuleIs S.holds S.first S.setting S.base S.book }
-    requires fresh { IsFresh S.setting S.base (M.journaled machine) }
-{
-    match Book::<S, M, &R>::pair(rt, alloc, blank, opened, machine, SEATS) {
-        Err(fault) => {
-            let StartFault { manager, cause: _ } = fault;
-            (manager, None)
-        }
-        Ok((book, seats)) => {
-            let mut seats = seats;
-            match seats.pop() {
-                None => (book.end(), None),
-                Some(seat) => by_seats(rt, Submits { alloc, book, seat }, threads, seats),
-            }
-        }
-    }
-}
-
 /// The task comes, and the patch is enabled.
 fn begin<M: Machine>(machine: &mut M) {
     apply(machine, Event::NewTask(FIRST));
     apply(machine, Event::Enable(PATCH));
 }
 
-fn readers<'a>(alloc: Global, table: &'a RwLock<Table>) -> Result<Vec<ByLock<'a>>, AllocError> {
-    let mut all = Vec::new(alloc);
-    for _thread in 1..SEATS {
-        all.push(ByLock { table })?;
+/// The nanoseconds that all looks took: none that would count where one found nothing.
+fn timed<L: Looks<R>, R: Clock>(rt: &R, looker: &mut L) -> io::Result<u64> {
+    let start = Instant::now(rt)?;
+    let mut found = 0u64;
+    for _look in 0..LOOKS {
+        found = found.wrapping_add(u64::from(looker.look(rt)));
     }
-    Ok(all)
+    let took = since(rt, start)?;
+    Ok(if found == LOOKS { took } else { u64::MAX })
+}
+
+/// How many have looked, and what the slowest of them took.
+#[derive(Drop)]
+struct Looked {
+    done: AtomicU64,
+    slowest: AtomicU64,
+}
+
+fn look_often<L: Looks<R>, R: Clock>(rt: &R, looked: &Looked, looker: &mut L) {
+    let took = timed(rt, looker).unwrap_or(u64::MAX);
+    looked.slowest.fetch_max(took, Ordering::SeqCst);
+    looked.done.fetch_add(1, Ordering::SeqCst);
+}
+
+/// All look, each in a thread of its own.
+fn look_all<L: Looks<R> + Send, R: Threads + Clock + Sync>(
+    rt: &R,
+    looked: &Looked,
+    lookers: &mut [L],
+) {
+    thread::for_each_mut(
+        rt,
+        lookers,
+        LOOKERS,
+        &|_, looker| {
+            look_often(rt, looked, looker);
+        },
+    );
+}
+
+/// Submits until so many have looked, and tells how often.
+fn submit_until<T: Takes<R>, R>(rt: &R, looked: &Looked, wanted: u64, takes: &mut T) -> u64 {
+    let mut turns = 0;
+    for count in 0..u64::MAX {
+        if looked.done.load(Ordering::SeqCst) >= wanted {
+            break;
+        }
+        turn(rt, takes);
+        turns = count;
+    }
+    turns
+}
+
+/// What the slowest took for its looks, where the one beside submitted often enough meanwhile.
+fn beside<L: Looks<R> + Send, T: Takes<R>, R: Threads + Clock + Sync>(
+    rt: &R,
+    lookers: &mut [L],
+    takes: &mut T,
+) -> u64 {
+    let wanted = lookers.len() as u64;
+    let looked = Looked {
+        done: AtomicU64::new(0),
+        slowest: AtomicU64::new(0),
+    };
+    let (_, turns) = join(
+        rt,
+        || look_all(rt, &looked, lookers),
+        || submit_until(rt, &looked, wanted, takes),
+    );
+    if turns < TURNS {
+        return u64::MAX;
+    }
+    looked.slowest.load(Ordering::SeqCst)
+}
+
+/// The same with so many of these.
+fn look_by<L: Looks<R> + Send, T: Takes<R>, R: Threads + Clock + Sync>(
+    rt: &R,
+    threads: usize,
+    lookers: &mut [L],
+    takes: &mut T,
+) -> u64 {
+    if threads == 0 {
+        return match lookers.first_mut() {
+            Some(looker) => timed(rt, looker).unwrap_or(u64::MAX),
+            None => u64::MAX,
+        };
+    }
+    match lookers.get_mut(..threads) {
+        Some(lookers) => beside(rt, lookers, takes),
+        None => u64::MAX,
+    }
+}
+
+/// Seats enter, beside one that submits, and the book ends.
+pub(crate) fn entered<
+    S: Start + Protocol<Published, View> + Send,
+    M: Machine + Drop,
+    B: Wait + Drop,
+    R: Threads + Wait + Clock + Sync,
+>(
+    rt: &R,
+    alloc: Global,
+    book: Book<S, M, B>,
+    seat: Seat<S>,
+    others: &mut [Seat<S>],
+    best: &mut Crowd,
+) -> M {
+    let mut seated = Seated { alloc, book, seat };
+    seated.take(rt, Event::NewTask(FIRST));
+    seated.take(rt, Event::Enable(PATCH));
+    best.seats = best
+        .seats
+        .min(look_by(rt, best.threads, others, &mut seated));
+    seated.end()
 }
 
 /// The same under a lock, beside one that writes.
-fn locked<M: Machine + Drop, R: Threads + Wait + Clock + Sync>(
-    rt: &R,
-    alloc: Global,
-    machine: M,
-    threads: usize,
-) -> (M, Option<u128>) {
-    let mut machine = machine;
-    begin(&mut machine);
+fn locked<M: Machine, R: Threads + Wait + Clock + Sync>(rt: &R, machine: &mut M, best: &mut Crowd) {
+    begin(machine);
     let mut table = Table::empty();
-    table.fill(&machine);
+    table.fill(machine);
     let table = RwLock::new(table);
+    let mut readers = [ByLock { table: &table }; LOOKERS];
     let mut writes = Writes {
         table: &table,
         machine,
     };
-    let took = match readers(alloc, &table) {
-        Ok(readers) => crowd(rt, threads, readers, &mut writes),
-        Err(_) => None,
-    };
-    let Writes {
-        table: _table,
-        machine,
-    } = writes;
-    (machine, took)
+    best.lock = best
+        .lock
+        .min(look_by(rt, best.threads, &mut readers, &mut writes));
 }
 
-/// What the slowest thread took for its looks, by seats and under a lock.
-#[derive(Clone, Copy)]
-struct Took {
-    seats: u128,
-    lock: u128,
-}
-
-impl Took {
-    const NONE: Took = Took {
-        seats: u128::MAX,
-        lock: u128::MAX,
-    };
-
-    /// The better ones.
-    fn keep(&mut self, seats: Option<u128>, lock: Option<u128>) {
-        self.seats = self.seats.min(seats.unwrap_or(u128::MAX));
-        self.lock = self.lock.min(lock.unwrap_or(u128::MAX));
-    }
-}
-
-fn round<M: Machine + Drop, R: Threads + Wait + Clock + Sync>(
+/// One round with each number of threads.
+pub(crate) fn crowds<M: Shows + Drop, R: Threads + Wait + Clock + Print + Sync>(
     rt: &R,
     alloc: Global,
     machine: M,
-    threads: usize,
-    best: &mut Took,
+    best: &mut [Crowd; 4],
 ) -> M {
     let mut machine = machine;
-    empty(&mut machine);
-    let (machine, seats) = entered::<Brand, M, R>(
-        rt,
-        alloc,
-        Blank::new(5),
-        Opened::new(),
-        machine,
-        threads,
-    );
-    let mut machine = machine;
-    empty(&mut machine);
-    let (machine, lock) = locked(rt, alloc, machine, threads);
-    best.keep(seats, lock);
+    for crowd in best.iter_mut() {
+        machine = booked(rt, alloc, machine, Use::Entries(crowd)).0;
+        empty(&mut machine);
+        locked(rt, &mut machine, crowd);
+    }
     machine
 }
 
-/// So many rounds with so many threads.
-fn rounds_of<M: Machine + Drop, R: Threads + Wait + Clock + Sync>(
-    rt: &R,
-    alloc: Global,
-    machine: M,
-    threads: usize,
-    rounds: u64,
-) -> (M, Took) {
-    let mut machine = machine;
-    let mut best = Took::NONE;
-    for _round in 0..rounds {
-        machine = round(rt, alloc, machine, threads, &mut best);
-    }
-    (machine, best)
-}
-
 /// The nanoseconds of 1,000 looks, or 0 where no round counted.
-fn by_thousand(took: u128) -> u128 {
-    if took == u128::MAX {
+fn by_thousand(took: u64) -> u64 {
+    if took == u64::MAX {
         return 0;
     }
-    took / u128::from(LOOKS / 1_000)
+    took / (LOOKS / 1_000)
 }
 
-fn tell<R: Print>(rt: &R, threads: usize, best: Took) -> io::Result<()> {
+pub(crate) fn tell_crowd<R: Print>(rt: &R, best: &Crowd) -> io::Result<()> {
+    let threads = best.threads;
     let seats = by_thousand(best.seats);
     let lock = by_thousand(best.lock);
     if threads == 0 {
@@ -417,31 +268,4 @@ fn tell<R: Print>(rt: &R, threads: usize, best: Took) -> io::Result<()> {
     println!(rt;
         "the same by each of {threads} threads, beside one that submits: {seats} ns, {lock} ns"
     )
-}
-
-/// So many rounds with a manager for each number of threads, and what they came to.
-fn all_rounds<M: Machine + Drop, R: Threads + Wait + Clock + Sync + Print>(
-    rt: &R,
-    alloc: Global,
-    machine: M,
-    rounds: u64,
-) -> io::Result<()> {
-    let mut machine = machine;
-    let mut told = Ok(());
-    for threads in CROWDS {
-        let (same, best) = rounds_of(rt, alloc, machine, threads, rounds);
-        machine = same;
-        told = told.and(tell(rt, threads, best));
-    }
-    told
-}
-
-/// The same with the manager.
-pub(crate) fn run<R: Threads + Wait + Clock + Sync + Print>(
-    rt: &R,
-    alloc: Global,
-    fresh: Fresh,
-    rounds: u64,
-) -> io::Result<()> {
-    all_rounds::<Manager, R>(rt, alloc, fresh.manager, rounds)
 }

@@ -10,6 +10,16 @@ const LOOKS: u32 = 1_000_000;
 /// The step before which two tasks meet.
 const MEETING: u32 = 1;
 
+/// Lets each task in.
+#[derive(Clone, Copy)]
+pub(crate) struct Open;
+
+impl Gate for Open {
+    fn before(&self, _task: TaskId, _step: u32) -> bool {
+        true
+    }
+}
+
 /// Where two tasks meet: before one step each raises its own flag, and then looks for the other's. It lets the task in
 /// if that was seen, and says the same from then on. So two bodies pass it only where both are before that step at one
 /// time.
@@ -54,7 +64,7 @@ impl Gate for Meeting<'_> {
 }
 
 /// Lets a task in once it was asked more than so often, and counts how often it was asked.
-#[derive(Drop)]
+#[derive(Clone, Copy)]
 pub(crate) struct Slow<'a> {
     pub(crate) asked: &'a AtomicU64,
     pub(crate) refuses: u64,

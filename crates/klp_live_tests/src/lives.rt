@@ -63,20 +63,13 @@ fn tell<R: Threads + Wait + Sync + Files + Print + AllocGlobal>(
     Ok(())
 }
 
-fn tell_all<R: Threads + Wait + Sync + Files + Print + AllocGlobal>(
-    rt: &R,
-    index: &str,
-) -> Result<(), Fault> {
-    for line in index.lines() {
-        tell(rt, line)?;
-    }
-    Ok(())
-}
-
 /// Tells of each line of the index whether it holds.
 pub(crate) fn run<R: Threads + Wait + Sync + Files + Print + AllocGlobal>(
     rt: &R,
 ) -> Result<(), Fault> {
     let index = fs::read_to_string(rt, INDEX)?;
-    tell_all(rt, index.as_str())
+    for line in index.as_str().lines() {
+        tell(rt, line)?;
+    }
+    Ok(())
 }

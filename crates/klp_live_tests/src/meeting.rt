@@ -1,16 +1,18 @@
 //! Two bodies that pass their gates only where both are inside at one time.
-use crate::bodies::{Detail, show_body};
+use crate::bodies::show_both;
 use crate::gates::Meeting;
 use crate::names::{FIRST, SECOND};
-use crate::pairs::{Steps, ends_of, jobs_of};
+use crate::outcomes::Detail;
+use crate::pairs::{Ran, Steps, run_pair};
 use crossbeam_utils::rule::Protocol;
-use klp_bodies::{Gate, Step, run_two};
+use klp_bodies::{Gate, Step};
 use klp_core::Machine;
 use klp_live::{Live, Published, Seat, Start, View};
 use klp_model::Event;
 use klp_types::TaskId;
 use std::alloc::{AllocError, Global};
 use std::io;
+use std::rt::Clock;
 use std::sync::Wait;
 use std::sync::atomic::AtomicBool;
 use std::thread::Threads;
@@ -29,39 +31,33 @@ fn turn(task: TaskId) -> [Step; 2] {
 fn turns(alloc: Global) -> Result<Steps, AllocError> {
     let first = Vec::from_array(alloc, turn(FIRST))?;
     let second = Vec::from_array(alloc, turn(SECOND))?;
-    Ok(Steps::new(first, second))
+    Ok(Steps { first, second })
 }
 
-/// Both tasks in threads of their own; whether both ended.
-fn meets<
+/// Both tasks in threads of their own.
+fn meet<
     S: Start + Protocol<Published, View> + Send + Sync,
     M: Machine + Drop + Send,
-    R: Threads + Wait + Print + Sync,
+    R: Threads + Wait + Print + Clock + Sync,
 >(
     rt: &R,
     alloc: Global,
     live: &Live<S, M, &R>,
     seats: (Seat<S>, Seat<S>),
-) -> ((Seat<S>, Seat<S>), io::Result<bool>) {
-    let steps = match turns(alloc) {
-        Ok(steps) => steps,
-        Err(error) => return (seats, Err(io::Error::from(error))),
-    };
+) -> ((Seat<S>, Seat<S>), io::Result<Ran>) {
     let raised = (AtomicBool::new(false), AtomicBool::new(false));
     let gates = (
         Meeting::new(&raised.0, &raised.1),
         Meeting::new(&raised.1, &raised.0),
     );
-    let (mut one, mut two) = jobs_of(alloc, live, seats, gates, steps);
-    run_two(rt, alloc, live, &mut one, &mut two);
-    ends_of(rt, one, two)
+    run_pair(rt, alloc, live, seats, gates, turns(alloc))
 }
 
-/// The two meet again and again.
+/// The two meet again and again. They have met where both have ended.
 pub(crate) fn show_meetings<
     S: Start + Protocol<Published, View> + Send + Sync,
     M: Machine + Drop + Send,
-    R: Threads + Wait + Print + Sync,
+    R: Threads + Wait + Print + Clock + Sync,
 >(
     rt: &R,
     alloc: Global,
@@ -71,12 +67,10 @@ pub(crate) fn show_meetings<
     let mut seats = seats;
     let mut count: u64 = 0;
     for _round in 0..ROUNDS {
-        let (same, met) = meets(rt, alloc, live, seats);
+        let (same, ran) = meet(rt, alloc, live, seats);
         seats = same;
-        match met {
-            Ok(met) => count = count.saturating_add(u64::from(met)),
-            Err(error) => return (seats, Err(error)),
-        }
+        let met = matches!(&ran, Ok(ran) if ran.have_ended);
+        count = count.saturating_add(u64::from(met));
     }
     (seats, println!(rt; "met {count} times"))
 }
@@ -89,29 +83,20 @@ pub(crate) fn show_apart<S: Start + Protocol<Published, View>, M: Machine + Drop
     seats: (Seat<S>, Seat<S>),
 ) -> ((Seat<S>, Seat<S>), io::Result<()>) {
     let raised = (AtomicBool::new(false), AtomicBool::new(false));
-    let gate = Meeting::new(&raised.0, &raised.1);
-    let (first, told) = show_body(
+    let gates = (
+        Meeting::new(&raised.0, &raised.1),
+        Meeting::new(&raised.1, &raised.0),
+    );
+    let steps = (turn(FIRST), turn(SECOND));
+    show_both(
         rt,
         alloc,
         live,
-        seats.0,
-        FIRST,
-        gate,
-        &turn(FIRST),
+        seats,
+        gates,
+        (&steps.0, &steps.1),
         Detail::Kinds,
-    );
-    let gate = Meeting::new(&raised.1, &raised.0);
-    let (second, heard) = show_body(
-        rt,
-        alloc,
-        live,
-        seats.1,
-        SECOND,
-        gate,
-        &turn(SECOND),
-        Detail::Kinds,
-    );
-    ((first, second), told.and(heard))
+    )
 }
 
 /// The gates asked by turns in one thread: the one that was asked first never lets its task in.

@@ -5,6 +5,9 @@ pub(crate) const FIRST: TaskId = TaskId(1);
 
 pub(crate) const SECOND: TaskId = TaskId(2);
 
+/// A task that isn't there at a start.
+pub(crate) const LATER: TaskId = TaskId(5);
+
 /// The first patch of each catalog.
 pub(crate) const PATCH: PatchId = PatchId(0);
 

@@ -1,8 +1,48 @@
-//! What is printed of outcomes.
+//! What is printed of events and of what steps come to.
 use klp_bodies::{Accepted, Outcome, What};
+use klp_live::{LiveRefusal, Receipt, Start};
 use klp_model::Reply;
 use klp_types::Target;
 use std::io;
+
+/// The number and the reply of an event, or why it isn't admitted.
+pub(crate) fn show_told<S: Start, R: Print>(
+    rt: &R,
+    told: &Result<Receipt<S>, LiveRefusal>,
+) -> io::Result<()> {
+    match told {
+        Ok(receipt) => println!(rt; "{} {:?}", receipt.number(), receipt.reply()),
+        Err(refusal) => println!(rt; "{refusal:?}"),
+    }
+}
+
+/// How much is printed of outcomes.
+#[derive(Clone, Copy)]
+pub(crate) enum Detail {
+    All,
+    Kinds,
+}
+
+/// What the steps of a body came to. Nothing is shown of one that has none.
+pub(crate) fn show_outcomes<R: Print>(
+    rt: &R,
+    steps: usize,
+    outcomes: &[Outcome],
+    detail: Detail,
+) -> io::Result<()> {
+    if steps == 0 {
+        return Ok(());
+    }
+    match detail {
+        Detail::Kinds => show_kinds(rt, outcomes),
+        Detail::All => {
+            for outcome in outcomes {
+                show_outcome(rt, outcome)?;
+            }
+            Ok(())
+        }
+    }
+}
 
 /// What an accepted event was answered, of frames that were woken in only their versions.
 fn show_receipt<R: Print>(rt: &R, known: u64, accepted: &Accepted) -> io::Result<()> {
@@ -18,7 +58,7 @@ fn show_receipt<R: Print>(rt: &R, known: u64, accepted: &Accepted) -> io::Result
 }
 
 /// How many events were known after a step, and what it came to.
-pub(crate) fn show_outcome<R: Print>(rt: &R, outcome: &Outcome) -> io::Result<()> {
+fn show_outcome<R: Print>(rt: &R, outcome: &Outcome) -> io::Result<()> {
     let known = outcome.known;
     match &outcome.what {
         What::Receipt(accepted) => show_receipt(rt, known, accepted),
@@ -45,7 +85,7 @@ fn kind(what: &What) -> &'static str {
 }
 
 /// How many outcomes of one kind follow each other, for one kind after the other.
-pub(crate) fn show_kinds<R: Print>(rt: &R, outcomes: &[Outcome]) -> io::Result<()> {
+fn show_kinds<R: Print>(rt: &R, outcomes: &[Outcome]) -> io::Result<()> {
     let mut count: u64 = 0;
     let mut last = "outcomes";
     for outcome in outcomes {

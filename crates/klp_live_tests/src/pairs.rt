@@ -4,44 +4,28 @@ ghost use Rattle.std.specs.Prelude.{◌<◌, ◌^◌, IsSome, vec_len};
 ghost use Rattle.klp_types.specs.declared.limits.TheConstants.{MAX_TASKS};
 ghost use Rattle.klp_bodies.specs.Jobs.{body_of};
 
+use crate::measure::since;
 use crate::names::{FIRST, SECOND};
 use crossbeam_utils::rule::Protocol;
-use klp_bodies::{BodyFault, Gate, Job, Step, TaskBody};
+use klp_bodies::{BodyFault, Gate, Job, Step, TaskBody, run_two};
 use klp_core::Machine;
 use klp_live::{Live, Published, Seat, Start, TaskPass, View};
 use klp_types::TaskId;
-use std::alloc::Global;
+use std::alloc::{AllocError, Global};
 use std::io;
+use std::rt::Clock;
 use std::sync::Wait;
+use std::thread::Threads;
+use std::time::Instant;
 
-/// More steps than any body of the tests has.
+/// More steps than any job of the tests has.
 const STEPS: usize = 100_000;
 
-/// The steps of both tasks, few enough for a body.
+/// The steps of both tasks.
 #[derive(Drop)]
 pub(crate) struct Steps {
-    first: Vec<Step>,
-    second: Vec<Step>,
-    ghost few_first: { vec_len first < 2 ^ 32 },
-    ghost few_second: { vec_len second < 2 ^ 32 },
-}
-
-impl Steps {
-    pub(crate) fn new(first: Vec<Step>, second: Vec<Step>) -> Steps {
-        Steps {
-            first: few(first),
-            second: few(second),
-        }
-    }
-}
-
-/// The steps, of which no more are left than a body may have.
-pub(crate) fn few(steps: Vec<Step>) -> Vec<Step>
-    ensures { vec_len result < 2 ^ 32 }
-{
-    let mut steps = steps;
-    steps.truncate(STEPS);
-    steps
+    pub(crate) first: Vec<Step>,
+    pub(crate) second: Vec<Step>,
 }
 
 /// The seat of a task, by its pass.
@@ -59,12 +43,7 @@ pub(crate) fn attached<S: Start + Protocol<Published, View>, M: Machine + Drop, 
 }
 
 /// The job of a task.
-pub(crate) fn job_of<
-    S: Start + Protocol<Published, View>,
-    G: Gate + Drop,
-    M: Machine + Drop,
-    R: Wait + Drop,
->(
+fn job_of<S: Start + Protocol<Published, View>, G: Gate + Drop, M: Machine + Drop, R: Wait + Drop>(
     alloc: Global,
     live: &Live<S, M, R>,
     seat: Seat<S>,
@@ -72,35 +51,13 @@ pub(crate) fn job_of<
     gate: G,
     steps: Vec<Step>,
 ) -> Job<S, G>
-    requires there { task < MAX_TASKS }
-    requires few { vec_len steps < 2 ^ 32 }
+    requires { task < MAX_TASKS }
     ensures { IsSome (body_of result) }
 {
     let pass = attached(live, seat, task);
+    let mut steps = steps;
+    steps.truncate(STEPS);
     Job::new(alloc, TaskBody::new(pass, gate), steps)
-}
-
-/// The jobs of both tasks.
-pub(crate) fn jobs_of<
-    S: Start + Protocol<Published, View>,
-    G: Gate + Drop,
-    M: Machine + Drop,
-    R: Wait + Drop,
->(
-    alloc: Global,
-    live: &Live<S, M, R>,
-    seats: (Seat<S>, Seat<S>),
-    gates: (G, G),
-    steps: Steps,
-) -> (Job<S, G>, Job<S, G>)
-    ensures first { IsSome (body_of result.0) }
-    ensures second { IsSome (body_of result.1) }
-{
-    let Steps { first, second } = steps;
-    (
-        job_of(alloc, live, seats.0, FIRST, gates.0, first),
-        job_of(alloc, live, seats.1, SECOND, gates.1, second),
-    )
 }
 
 /// The seat of a body that has ended, whose fault is shown.
@@ -114,35 +71,73 @@ pub(crate) fn seat_of<S: Start + Protocol<Published, View>, R: Print>(
     }
 }
 
-/// The seats of two jobs, and whether both have ended.
-pub(crate) fn ends_of<S: Start + Protocol<Published, View>, G: Gate + Drop, R: Print>(
+/// What two jobs came to.
+#[derive(Clone, Copy)]
+pub(crate) struct Ran {
+    pub(crate) have_ended: bool,
+    /// The nanoseconds until both had ended.
+    pub(crate) took: u64,
+}
+
+/// The nanoseconds that both jobs take.
+fn run_timed<
+    S: Start + Protocol<Published, View> + Send + Sync,
+    G: Gate + Drop + Send,
+    M: Machine + Drop + Send,
+    R: Threads + Wait + Clock + Sync,
+>(
+    rt: &R,
+    alloc: Global,
+    live: &Live<S, M, &R>,
+    one: &mut Job<S, G>,
+    two: &mut Job<S, G>,
+) -> io::Result<u64>
+    requires first { IsSome (body_of one.old) }
+    requires second { IsSome (body_of two.old) }
+{
+    let start = Instant::now(rt);
+    run_two(rt, alloc, live, one, two);
+    since(rt, start?)
+}
+
+/// The seats of two jobs, and what came of them.
+fn ends_of<S: Start + Protocol<Published, View>, G: Gate + Drop, R: Print>(
     rt: &R,
     one: Job<S, G>,
     two: Job<S, G>,
-) -> ((Seat<S>, Seat<S>), io::Result<bool>) {
+    took: io::Result<u64>,
+) -> ((Seat<S>, Seat<S>), io::Result<Ran>) {
     let (first, _outcomes) = one.end();
     let (second, _outcomes) = two.end();
-    let met = first.is_ok() && second.is_ok();
+    let ran = Ran {
+        have_ended: first.is_ok() && second.is_ok(),
+        took: took.unwrap_or(u64::MAX),
+    };
     let (first, told) = seat_of(rt, first);
     let (second, heard) = seat_of(rt, second);
-    ((first, second), told.and(heard).and(Ok(met)))
+    ((first, second), told.and(heard).and(Ok(ran)))
 }
 
-/// One seat behind the others.
-pub(crate) fn with_one<S: Start + Protocol<Published, View>>(
-    seats: Vec<Seat<S>>,
-    seat: Seat<S>,
-) -> io::Result<Vec<Seat<S>>> {
-    let mut seats = seats;
-    seats.push(seat)?;
-    Ok(seats)
-}
-
-/// Both seats behind the others.
-pub(crate) fn handed_in<S: Start + Protocol<Published, View>>(
-    seats: Vec<Seat<S>>,
-    both: (Seat<S>, Seat<S>),
-) -> io::Result<Vec<Seat<S>>> {
-    let seats = with_one(seats, both.0)?;
-    with_one(seats, both.1)
+/// Both tasks do their steps, where there is memory for them, in threads of their own.
+pub(crate) fn run_pair<
+    S: Start + Protocol<Published, View> + Send + Sync,
+    G: Gate + Drop + Send,
+    M: Machine + Drop + Send,
+    R: Threads + Wait + Print + Clock + Sync,
+>(
+    rt: &R,
+    alloc: Global,
+    live: &Live<S, M, &R>,
+    seats: (Seat<S>, Seat<S>),
+    gates: (G, G),
+    steps: Result<Steps, AllocError>,
+) -> ((Seat<S>, Seat<S>), io::Result<Ran>) {
+    let Steps { first, second } = match steps {
+        Ok(steps) => steps,
+        Err(error) => return (seats, Err(io::Error::from(error))),
+    };
+    let mut one = job_of(alloc, live, seats.0, FIRST, gates.0, first);
+    let mut two = job_of(alloc, live, seats.1, SECOND, gates.1, second);
+    let took = run_timed(rt, alloc, live, &mut one, &mut two);
+    ends_of(rt, one, two, took)
 }

@@ -1,68 +1,84 @@
-//! What a manager shows: all of it stays where an event isn't taken.
-use crate::settles::Settles;
-use klp_core::{Machine, Manager};
-use klp_types::{ObjId, PatchId, ShadowKey, ShadowValue, Site, SiteRow, Target, TaskId};
+//! What the tests ask of a machine besides what a book does, and what of it stays where an event isn't taken.
+ghost use Rattle.std.specs.Prelude.{◌≡◌, ◌≤◌, [], length};
+ghost use Rattle.klp_types.specs.declared.limits.TheConstants.{MAX_GROUPS};
 
-/// How many sites the image of the tests has.
+use crate::names::{FIRST, SECOND};
+use klp_core::{Machine, Manager};
+use klp_model::Event;
+use klp_types::{PatchId, Site, SiteRow, Target, TaskId};
+
+/// How many sites the image of the book's tests has.
 pub(crate) const SITES: u16 = 3;
 
-/// What stands, what is installed and hooked, and what tasks and variables there are.
-#[derive(Clone, Copy, PartialEq, Eq)]
+/// What stands, what is installed, and what tasks there are.
+#[derive(Drop, PartialEq)]
 pub(crate) struct Shown {
     mark: u32,
-    free: u32,
-    enabled: [Option<bool>; 3],
+    moving: Option<PatchId>,
     rows: [Option<SiteRow>; 3],
     states: [Option<i8>; 3],
-    first_bytes: [Option<u8>; 3],
-    variable: Option<ShadowValue>,
 }
 
-/// A machine that shows more than the book asks for.
-pub(crate) trait Shows: Settles {
-    fn shown(&self) -> Shown;
+impl Shown {
+    pub(crate) fn of<M: Machine>(machine: &M) -> Shown {
+        Shown {
+            mark: machine.mark(),
+            moving: machine.in_transition(),
+            rows: [
+                machine.row(Site(0)),
+                machine.row(Site(1)),
+                machine.row(Site(2)),
+            ],
+            states: [
+                machine.patch_state(TaskId(1)),
+                machine.patch_state(TaskId(2)),
+                machine.patch_state(TaskId(3)),
+            ],
+        }
+    }
+}
 
+/// A machine that picks versions by itself, and from which nothing need be taken back.
+pub(crate) trait Shows: Machine {
     /// What a task runs at a site, by the manager itself.
     fn picked(&self, task: TaskId, site: Site) -> Option<Target>;
-}
 
-/// The first byte of a symbol's body: that of a NOP or of a call.
-fn first_byte(manager: &Manager, object: ObjId, symbol: u16) -> Option<u8> {
-    let text = manager.text(object)?;
-    let (_, _, body) = text.get(symbol)?;
-    body.first().copied()
+    /// Makes what stands the base.
+    fn close_journal(&mut self)
+        requires { length (Self.journaled self.old).groups ≤ MAX_GROUPS }
+        ensures { (Self.journaled self.new).groups ≡ [] };
 }
 
 impl Shows for Manager {
-    fn shown(&self) -> Shown {
-        Shown {
-            mark: Manager::mark(self),
-            free: self.records_free(),
-            enabled: [
-                self.enabled(PatchId(0)),
-                self.enabled(PatchId(1)),
-                self.enabled(PatchId(2)),
-            ],
-            rows: [
-                Manager::row(self, Site(0)),
-                Manager::row(self, Site(1)),
-                Manager::row(self, Site(2)),
-            ],
-            states: [
-                Manager::patch_state(self, TaskId(1)),
-                Manager::patch_state(self, TaskId(2)),
-                Manager::patch_state(self, TaskId(3)),
-            ],
-            first_bytes: [
-                first_byte(self, ObjId(0), 0),
-                first_byte(self, ObjId(0), 1),
-                first_byte(self, ObjId(1), 0),
-            ],
-            variable: self.shadow_get(ShadowKey { obj: 1, id: 9 }),
-        }
-    }
-
     fn picked(&self, task: TaskId, site: Site) -> Option<Target> {
         self.pick(task, site)
     }
+
+    fn close_journal(&mut self) {
+        self.seal();
+    }
+}
+
+/// Has a machine take an event, whatever it answers.
+pub(crate) fn apply<M: Machine>(machine: &mut M, event: Event) {
+    let _standing = machine.mark();
+    let _ = machine.apply(event);
+}
+
+/// Two tasks come, and nothing is to be taken back any more.
+pub(crate) fn prepare<M: Shows>(machine: &mut M)
+    ensures { (M.journaled machine.new).groups ≡ [] }
+{
+    apply(machine, Event::NewTask(FIRST));
+    apply(machine, Event::NewTask(SECOND));
+    let _standing = machine.mark();
+    machine.close_journal();
+}
+
+/// Takes back all that was accepted.
+pub(crate) fn empty<M: Machine>(machine: &mut M)
+    ensures { (M.journaled machine.new).groups ≡ [] }
+{
+    let _standing = machine.mark();
+    let _ = machine.rewind(0);
 }

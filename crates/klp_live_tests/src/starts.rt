@@ -1,194 +1,169 @@
-//! Two seats at the book of a manager: what each of their events is answered, and what calls run after it.
-ghost use Rattle.std.specs.Prelude.{◌≡◌, [], IfErr};
+//! A start over a machine, from its opening to its end. The owner of a machine picks the start.
+ghost use Rattle.std.specs.Prelude.{◌≡◌, ◌<◌, ◌≤◌, []};
 ghost use Rattle.klp_live.specs.Opening.{IsFresh};
 ghost use Rattle.klp_live.specs.Shown.{RuleIs};
 
-use crate::booted::Fresh;
-use crate::names::{FIRST, SECOND};
-use crate::shows::{SITES, Shows};
+use crate::bodies::show_bodies;
+use crate::meeting::{show_apart, show_meetings};
+use crate::passes::{Story, passed};
+use crate::rates::{self, Best};
+use crate::shows::{Shown, Shows, prepare};
 use crossbeam_utils::rule::Protocol;
-use klp_core::Manager;
-use klp_live::{
-    Book, EnterFault, LiveRefusal, Opened, Published, Receipt, Seat, Start, StartFault, View,
-};
-use klp_model::Event;
-use klp_types::{Frames, ObjId, PatchId, ShadowKey, ShadowValue, Site, TaskId, Version};
+use klp_core::Machine;
+use klp_live::{Live, Opened, Published, Seat, Start, StartFault, View};
 use std::alloc::Global;
 use std::io;
 use std::marker::Brand;
+use std::rt::Clock;
 use std::sync::Wait;
 use std::sync::ledger::Blank;
+use std::thread::Threads;
 
-/// Which seat has the event, and the event.
-#[derive(Clone, Copy)]
-struct Turn(usize, Event);
-
-/// Each kind of event, most of them by both seats in turn.
-fn turns() -> [Turn; 24] {
-    [
-        Turn(0, Event::NewTask(FIRST)),
-        Turn(1, Event::NewTask(SECOND)),
-        Turn(0, Event::Enable(PatchId(0))),
-        Turn(1, Event::Enable(PatchId(1))),
-        Turn(1, Event::Coming(ObjId(1))),
-        Turn(0, Event::Poll),
-        Turn(0, Event::EnterKernel(FIRST)),
-        Turn(1, Event::ExitToUser(FIRST)),
-        Turn(1, Event::Force(PatchId(0))),
-        Turn(1, Event::Poll),
-        Turn(0, Event::Enable(PatchId(1))),
-        Turn(1, Event::SetEnabled(PatchId(1), false)),
-        Turn(0, Event::SetEnabled(PatchId(1), true)),
-        Turn(0, Event::Force(PatchId(1))),
-        Turn(1, Event::Poll),
-        Turn(0, Event::Enable(PatchId(2))),
-        Turn(1, Event::EnterKernel(SECOND)),
-        Turn(1, Event::Fork(SECOND, TaskId(3))),
-        Turn(0, Event::EndTask(TaskId(3))),
-        Turn(0, Event::Force(PatchId(2))),
-        Turn(1, Event::Poll),
-        Turn(
-            0,
-            Event::ShadowAlloc(ShadowKey { obj: 1, id: 9 }, ShadowValue::of(5)),
-        ),
-        Turn(1, Event::ShadowFree(ShadowKey { obj: 1, id: 9 })),
-        Turn(0, Event::Going(ObjId(1))),
-    ]
+/// What the seats of a start do.
+#[derive(Drop)]
+pub(crate) enum Run<'a> {
+    Passes(Story),
+    Bodies,
+    /// A round that is measured.
+    Round(&'a mut Best),
 }
 
-fn lacks_memory<S: Start>(told: &Result<Receipt<S>, LiveRefusal>) -> bool {
-    matches!(told, Err(LiveRefusal::NoMemory))
-}
-
-/// Admits an event. Where memory is refused, nothing has changed, and the event is admitted then.
-fn admitted<S: Start + Protocol<Published, View>, M: Shows + Drop, R: Wait + Print>(
+/// All bodies of the tests.
+fn all_bodies<
+    S: Start + Protocol<Published, View> + Send + Sync,
+    M: Machine + Drop + Send,
+    R: Threads + Wait + Print + Clock + Sync,
+>(
     rt: &R,
     alloc: Global,
-    book: &mut Book<S, M, &R>,
-    seat: &mut Seat<S>,
-    event: &Event,
-) -> Result<Receipt<S>, LiveRefusal> {
-    let shown = book.machine().shown();
-    let rows = book.rows();
-    let known = seat.rows();
-    let first = book.admit(rt, alloc, seat, *event);
-    if !lacks_memory(&first) {
-        return first;
-    }
-    if book.machine().shown() != shown || book.rows() != rows || seat.rows() != known {
-        let _ = println!(rt; "not as before");
-    }
-    book.admit(rt, alloc, seat, *event)
+    live: &Live<S, M, &R>,
+    seats: (Seat<S>, Seat<S>),
+) -> ((Seat<S>, Seat<S>), io::Result<()>) {
+    let (seats, told) = show_bodies(rt, alloc, live, seats);
+    let (seats, apart) = show_apart(rt, alloc, live, seats);
+    let (seats, met) = show_meetings(rt, alloc, live, seats);
+    (seats, told.and(apart).and(met))
 }
 
-/// Whether a call at each site runs what the manager itself picks.
-fn runs_what_is_picked<S: Start + Protocol<Published, View>, M: Shows>(
-    machine: &M,
-    seat: &mut Seat<S>,
-    task: TaskId,
-) -> bool {
-    let mut same = true;
-    for site in 0..SITES {
-        let site = Site(site);
-        same = same && seat.enter(task, site).ok() == machine.picked(task, site);
-    }
-    same
-}
-
-/// Admits an event by a seat, and tells its row.
-fn taken<S: Start + Protocol<Published, View>, M: Shows + Drop, R: Wait + Print>(
+/// All that two seats do, which are handed back.
+fn both_run<
+    S: Start + Protocol<Published, View> + Send + Sync,
+    M: Machine + Drop + Send,
+    R: Threads + Wait + Print + Clock + Sync,
+>(
     rt: &R,
     alloc: Global,
-    book: &mut Book<S, M, &R>,
-    seat: &mut Seat<S>,
-    event: Event,
-) -> io::Result<()> {
-    match admitted(rt, alloc, book, seat, &event) {
-        Ok(receipt) => println!(rt; "{} {:?}", receipt.number(), receipt.reply())?,
-        Err(refusal) => println!(rt; "{refusal:?}")?,
+    live: &Live<S, M, &R>,
+    seats: (Seat<S>, Seat<S>),
+    run: Run<'_>,
+) -> ((Seat<S>, Seat<S>), io::Result<()>) {
+    match run {
+        Run::Passes(story) => passed(rt, alloc, live, seats, story),
+        Run::Bodies => all_bodies(rt, alloc, live, seats),
+        Run::Round(best) => rates::round(rt, alloc, live, seats, best),
     }
-    let same = runs_what_is_picked(book.machine(), seat, FIRST)
-        && runs_what_is_picked(book.machine(), seat, SECOND);
-    if !same {
-        println!(rt; "another version")?;
-    }
-    Ok(())
 }
 
-/// All turns.
-fn all_taken<S: Start + Protocol<Published, View>, M: Shows + Drop, R: Wait + Print>(
+/// Two of the seats run, where there are two, and are put back. There is room for them: so none of the pushes fails, or
+/// the start wouldn't end.
+fn all_run<
+    S: Start + Protocol<Published, View> + Send + Sync,
+    M: Machine + Drop + Send,
+    R: Threads + Wait + Print + Clock + Sync,
+>(
     rt: &R,
     alloc: Global,
-    book: &mut Book<S, M, &R>,
+    live: &Live<S, M, &R>,
     seats: &mut Vec<Seat<S>>,
+    run: Run<'_>,
 ) -> io::Result<()> {
-    for Turn(place, event) in turns() {
-        if let Some(seat) = seats.get_mut(place) {
-            taken(rt, alloc, book, seat, event)?;
-        }
-    }
-    for seat in seats.iter() {
-        println!(rt; "{} of {}", seat.rows(), book.rows())?;
-    }
-    Ok(())
+    let Some(second) = seats.pop() else {
+        return Ok(());
+    };
+    let Some(first) = seats.pop() else {
+        return Ok(seats.push(second)?);
+    };
+    let ((first, second), told) = both_run(rt, alloc, live, (first, second), run);
+    let _ = seats.push(first);
+    let _ = seats.push(second);
+    told
 }
 
-/// Opens a book, and takes all turns.
-fn opened<S: Start + Protocol<Published, View>, M: Shows + Drop, R: Wait + Print>(
+/// Starts, has the seats run, and ends. There is no machine where a seat is missing then.
+fn opened<
+    S: Start + Protocol<Published, View> + Send + Sync,
+    M: Machine + Drop + Send,
+    R: Threads + Wait + Print + Clock + Sync,
+>(
     rt: &R,
     alloc: Global,
     blank: Blank,
     opened: Opened,
     machine: M,
-) -> Result<(M, io::Result<()>), StartFault<M>>
+    places: usize,
+    run: Run<'_>,
+) -> Result<(Option<M>, io::Result<()>), StartFault<M>>
     requires name { blank.name ≡ S.name }
-    requires parts { (blank.parts ≡ S.parts) × (blank.parts ≡ 2) }
+    requires parts { (blank.parts ≡ S.parts) × (blank.parts ≡ places) × (places ≡ S.places) }
     requires book { opened.seen.book ≡ S.book }
     requires rule { RuleIs S.holds S.first S.setting S.base S.book }
     requires fresh { IsFresh S.setting S.base (M.journaled machine) }
-    ensures { IfErr result (λ fault. fault.manager ≡ machine) }
+    requires places { (0 < places) × (places ≤ 64) }
 {
-    let (book, seats) = Book::<S, M, &R>::pair(rt, alloc, blank, opened, machine, 2)?;
-    let mut book = book;
-    let mut seats = seats;
-    let ended = all_taken(rt, alloc, &mut book, &mut seats);
-    Ok((book.end(), ended))
+    let (live, mut seats) = Live::<S, M, &R>::start(rt, alloc, blank, opened, machine, places)?;
+    let told = all_run(rt, alloc, &live, &mut seats, run);
+    Ok((live.close(rt, seats).ok(), told))
 }
 
-/// The owner of a machine picks the start.
-fn once<M: Shows + Drop, R: Wait + Print>(
+/// A start over a machine from which nothing is to be taken back, with 1 to 64 seats.
+pub(crate) fn started<M: Machine + Drop + Send, R: Threads + Wait + Print + Clock + Sync>(
     rt: &R,
     alloc: Global,
     machine: M,
-) -> Result<(M, io::Result<()>), StartFault<M>>
-    requires empty { (M.journaled machine).groups ≡ [] }
-    ensures { IfErr result (λ fault. fault.manager ≡ machine) }
+    places: usize,
+    run: Run<'_>,
+) -> Result<(Option<M>, io::Result<()>), StartFault<M>>
+    requires { (M.journaled machine).groups ≡ [] }
 {
-    opened::<Brand, M, R>(rt, alloc, Blank::new(2), Opened::new(), machine)
+    let places = places.clamp(1, 64);
+    opened::<Brand, M, R>(
+        rt,
+        alloc,
+        Blank::new(places as u64),
+        Opened::new(),
+        machine,
+        places,
+        run,
+    )
 }
 
-/// Where memory is refused for a start, the manager is as it was, and is started with then.
-fn twice<M: Shows + Drop, R: Wait + Print>(rt: &R, alloc: Global, machine: M) -> io::Result<()>
-    requires empty { (M.journaled machine).groups ≡ [] }
-{
-    let before = machine.shown();
-    let told = match once(rt, alloc, machine) {
-        Ok(told) => Ok(told),
-        Err(fault) => {
-            let StartFault { manager, cause: _ } = fault;
-            if manager.shown() != before {
-                let _ = println!(rt; "another manager");
-            }
-            once(rt, alloc, manager)
-        }
+/// Takes all back, and tells how much that was and whether the machine is as it was before its start.
+fn show_end<M: Shows + Drop, R: Print>(
+    rt: &R,
+    machine: Option<M>,
+    before: &Shown,
+) -> io::Result<()> {
+    let Some(mut machine) = machine else {
+        return println!(rt; "no end");
     };
-    match told {
-        Ok((_machine, ended)) => ended,
-        Err(fault) => println!(rt; "{:?}", fault.cause),
-    }
+    let standing = machine.mark();
+    let is_back = machine.rewind(0).is_ok() && Shown::of(&machine) == *before;
+    println!(rt; "{standing} standing, taken back: {is_back}")
 }
 
-/// The start of a manager.
-pub(crate) fn run<R: Wait + Print>(rt: &R, alloc: Global, fresh: Fresh) -> io::Result<()> {
-    twice::<Manager, R>(rt, alloc, fresh.manager)
+/// A start over a machine with two tasks. In the end all is taken back, and it is as it was.
+pub(crate) fn show_start<M: Shows + Drop + Send, R: Threads + Wait + Print + Clock + Sync>(
+    rt: &R,
+    alloc: Global,
+    machine: M,
+    places: usize,
+    run: Run<'_>,
+) -> io::Result<()> {
+    let mut machine = machine;
+    prepare(&mut machine);
+    let before = Shown::of(&machine);
+    match started(rt, alloc, machine, places, run) {
+        Ok((machine, told)) => told.and(show_end(rt, machine, &before)),
+        Err(_) => println!(rt; "no start"),
+    }
 }

@@ -1,0 +1,123 @@
+//! A book over a machine, which is handed back. The owner of a machine picks the start.
+ghost use Rattle.std.specs.Prelude.{◌≡◌, ◌<◌, ◌≤◌, [], IfErr};
+ghost use Rattle.klp_live.specs.Opening.{IsFresh};
+ghost use Rattle.klp_live.specs.Shown.{RuleIs};
+
+use crate::entries::{self, Crowd};
+use crate::measure::{self, Times};
+use crate::shows::Shows;
+use crate::turns;
+use crossbeam_utils::rule::Protocol;
+use klp_live::{Book, Opened, Published, Seat, Start, StartFault, View};
+use std::alloc::Global;
+use std::io;
+use std::marker::Brand;
+use std::rt::Clock;
+use std::sync::Wait;
+use std::sync::ledger::Blank;
+use std::thread::Threads;
+
+/// What is done with a book and its seats.
+#[derive(Drop)]
+pub(crate) enum Use<'a> {
+    /// The tests' turns of two seats.
+    Turns,
+    /// One seat has events admitted, which is timed.
+    Events(&'a mut Times),
+    /// Seats enter beside one that has events admitted, which is timed.
+    Entries(&'a mut Crowd),
+}
+
+impl Use<'_> {
+    /// How many seats it takes.
+    fn places(&self) -> usize
+        ensures { (0 < result) × (result ≤ 64) }
+    {
+        match self {
+            Use::Turns => 2,
+            Use::Events(_) => 1,
+            Use::Entries(_) => 5,
+        }
+    }
+}
+
+/// Does that, and ends the book.
+fn used<
+    S: Start + Protocol<Published, View> + Send,
+    M: Shows + Drop,
+    R: Threads + Wait + Clock + Print + Sync,
+>(
+    rt: &R,
+    alloc: Global,
+    book: Book<S, M, &R>,
+    seats: Vec<Seat<S>>,
+    how: Use<'_>,
+) -> (M, io::Result<()>) {
+    let mut book = book;
+    let mut seats = seats;
+    match how {
+        Use::Turns => {
+            let told = turns::all_taken(rt, alloc, &mut book, &mut seats);
+            (book.end(), told)
+        }
+        Use::Events(times) => match seats.pop() {
+            Some(seat) => measure::admitted(rt, alloc, book, seat, times),
+            None => (book.end(), Ok(())),
+        },
+        Use::Entries(crowd) => match seats.pop() {
+            Some(seat) => {
+                let machine = entries::entered(rt, alloc, book, seat, &mut seats, crowd);
+                (machine, Ok(()))
+            }
+            None => (book.end(), Ok(())),
+        },
+    }
+}
+
+fn opened<
+    S: Start + Protocol<Published, View> + Send,
+    M: Shows + Drop,
+    R: Threads + Wait + Clock + Print + Sync,
+>(
+    rt: &R,
+    alloc: Global,
+    blank: Blank,
+    opened: Opened,
+    machine: M,
+    places: usize,
+    how: Use<'_>,
+) -> Result<(M, io::Result<()>), StartFault<M>>
+    requires name { blank.name ≡ S.name }
+    requires parts { (blank.parts ≡ S.parts) × (blank.parts ≡ places) }
+    requires book { opened.seen.book ≡ S.book }
+    requires rule { RuleIs S.holds S.first S.setting S.base S.book }
+    requires fresh { IsFresh S.setting S.base (M.journaled machine) }
+    requires places { (0 < places) × (places ≤ 64) }
+    ensures { IfErr result (λ fault. fault.manager ≡ machine) }
+{
+    let (book, seats) = Book::<S, M, &R>::pair(rt, alloc, blank, opened, machine, places)?;
+    Ok(used(rt, alloc, book, seats, how))
+}
+
+/// A book over a machine from which nothing is to be taken back. Where there is no memory for it, the machine is as it
+/// was.
+pub(crate) fn over<M: Shows + Drop, R: Threads + Wait + Clock + Print + Sync>(
+    rt: &R,
+    alloc: Global,
+    machine: M,
+    how: Use<'_>,
+) -> Result<(M, io::Result<()>), StartFault<M>>
+    requires { (M.journaled machine).groups ≡ [] }
+    ensures { IfErr result (λ fault. fault.manager ≡ machine) }
+{
+    let places = how.places();
+    opened::<Brand, M, R>(
+        rt,
+        alloc,
+        Blank::new(places as u64),
+        Opened::new(),
+        machine,
+        places,
+        how,
+    )
+}

@@ -1,0 +1,41 @@
+//! The one owner of a manager: it boots one, and hands it on to what is generic over it and so sees no box.
+use crate::booted::Fault;
+use crate::runs::{Work, do_work};
+use klp_catalog::Catalog;
+use klp_core::Manager;
+use klp_program::boot;
+use std::alloc::Global;
+use std::io;
+use std::rt::Clock;
+use std::sync::Wait;
+use std::thread::Threads;
+
+/// Boots a manager over a catalog without callbacks.
+fn booted(alloc: Global, text: &[u8]) -> Result<Manager, Fault> {
+    let plan = Catalog::read(alloc, text)?;
+    if let Some(_script) = plan.script(0) {
+        return Err(Fault::Callbacks);
+    }
+    Ok(boot(alloc, plan, Vec::new(alloc))?)
+}
+
+/// Does something with a manager, which may cross threads.
+fn hand_on<R: Threads + Wait + Clock + Print + Sync>(
+    rt: &R,
+    alloc: Global,
+    manager: Manager,
+    work: Work,
+) -> io::Result<()> {
+    do_work::<Manager, R>(rt, alloc, manager, work)
+}
+
+/// Boots a manager over a catalog, and does something with it.
+pub(crate) fn managed<R: Threads + Wait + Clock + Print + Sync>(
+    rt: &R,
+    alloc: Global,
+    text: &[u8],
+    work: Work,
+) -> Result<(), Fault> {
+    let manager = booted(alloc, text)?;
+    Ok(hand_on(rt, alloc, manager, work)?)
+}

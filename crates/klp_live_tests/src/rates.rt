@@ -1,0 +1,177 @@
+//! What two bodies come to in a second: events that both submit under the one lock, entries that both make, and events of
+//! one beside entries of the other.
+ghost use Rattle.std.specs.Prelude.{◌≡◌, []};
+
+use crate::gates::Open;
+use crate::names::{FIRST, PATCHED, SECOND};
+use crate::pairs::{Ran, Steps, run_pair};
+use crate::shows::{Shows, empty, prepare};
+use crate::starts::{Run, started};
+use crossbeam_utils::rule::Protocol;
+use klp_bodies::Step;
+use klp_core::Machine;
+use klp_live::{Live, Published, Seat, Start, View};
+use klp_model::Event;
+use klp_types::TaskId;
+use std::alloc::{AllocError, Global};
+use std::io;
+use std::rt::Clock;
+use std::sync::Wait;
+use std::thread::Threads;
+
+/// How many events a body submits in a round: two bodies fill half of the journal.
+const EVENTS: u64 = 1_000;
+
+/// How many functions a body enters in a round, and returns from.
+const ENTRIES: u64 = 2_500;
+
+/// What a body does.
+#[derive(Clone, Copy)]
+enum Work {
+    Submits,
+    Enters,
+}
+
+/// What both do, and the nanoseconds that they took in the best round.
+#[derive(Clone, Copy)]
+struct Timed {
+    works: (Work, Work),
+    took: u64,
+}
+
+impl Timed {
+    /// Before the first round.
+    fn of(first: Work, second: Work) -> Timed {
+        Timed {
+            works: (first, second),
+            took: u64::MAX,
+        }
+    }
+}
+
+/// The best of all rounds.
+#[derive(Clone, Copy)]
+pub(crate) struct Best([Timed; 3]);
+
+impl Best {
+    /// Before the first round.
+    fn new() -> Best {
+        Best([
+            Timed::of(Work::Submits, Work::Submits),
+            Timed::of(Work::Enters, Work::Enters),
+            Timed::of(Work::Submits, Work::Enters),
+        ])
+    }
+}
+
+/// The steps of a body.
+fn steps_of(alloc: Global, task: TaskId, work: Work) -> Result<Vec<Step>, AllocError> {
+    let (pair, times) = match work {
+        Work::Submits => (
+            [
+                Step::Submit(Event::EnterKernel(task)),
+                Step::Submit(Event::ExitToUser(task)),
+            ],
+            EVENTS / 2,
+        ),
+        Work::Enters => ([Step::Call(PATCHED), Step::Return], ENTRIES),
+    };
+    let mut steps = Vec::new(alloc);
+    for _time in 0..times {
+        steps.extend_from_slice(&pair)?;
+    }
+    Ok(steps)
+}
+
+fn both_steps(alloc: Global, works: (Work, Work)) -> Result<Steps, AllocError> {
+    let first = steps_of(alloc, FIRST, works.0)?;
+    let second = steps_of(alloc, SECOND, works.1)?;
+    Ok(Steps { first, second })
+}
+
+/// One round of each that both do.
+pub(crate) fn round<
+    S: Start + Protocol<Published, View> + Send + Sync,
+    M: Machine + Drop + Send,
+    R: Threads + Wait + Print + Clock + Sync,
+>(
+    rt: &R,
+    alloc: Global,
+    live: &Live<S, M, &R>,
+    seats: (Seat<S>, Seat<S>),
+    best: &mut Best,
+) -> ((Seat<S>, Seat<S>), io::Result<()>) {
+    let mut seats = seats;
+    let mut ended = Ok(());
+    for timed in best.0.iter_mut() {
+        let steps = both_steps(alloc, timed.works);
+        let (same, ran) = run_pair(rt, alloc, live, seats, (Open, Open), steps);
+        seats = same;
+        ended = ended.and(keep(timed, ran));
+    }
+    (seats, ended)
+}
+
+fn keep(timed: &mut Timed, ran: io::Result<Ran>) -> io::Result<()> {
+    timed.took = timed.took.min(ran?.took);
+    Ok(())
+}
+
+/// One round over a machine from which all is taken back first.
+fn again<M: Shows + Drop + Send, R: Threads + Wait + Print + Clock + Sync>(
+    rt: &R,
+    alloc: Global,
+    machine: M,
+    best: &mut Best,
+) -> (Option<M>, io::Result<()>) {
+    let mut machine = machine;
+    empty(&mut machine);
+    match started(rt, alloc, machine, 2, Run::Round(best)) {
+        Ok(ended) => ended,
+        Err(_) => (None, Ok(())),
+    }
+}
+
+/// So many rounds over a machine with two tasks, and what they came to.
+pub(crate) fn rounds_of<M: Shows + Drop + Send, R: Threads + Wait + Print + Clock + Sync>(
+    rt: &R,
+    alloc: Global,
+    machine: M,
+    rounds: u64,
+) -> io::Result<()> {
+    let mut machine = machine;
+    let mut best = Best::new();
+    let mut ended = Ok(());
+    prepare(&mut machine);
+    for _round in 0..rounds {
+        let (same, ran) = again(rt, alloc, machine, &mut best);
+        ended = ended.and(ran);
+        match same {
+            Some(same) => machine = same,
+            None => return println!(rt; "no end"),
+        }
+    }
+    ended.and(tell(rt, &best))
+}
+
+/// How many in a second.
+fn rate(count: u64, took: u64) -> u128 {
+    u128::from(count) * 1_000_000_000 / u128::from(took.max(1))
+}
+
+fn tell<R: Print>(rt: &R, best: &Best) -> io::Result<()> {
+    let [submit, enter, beside] = best.0;
+    println!(rt;
+        "both submit: {} events a second",
+        rate(2 * EVENTS, submit.took)
+    )?;
+    println!(rt;
+        "both enter: {} entries a second",
+        rate(2 * ENTRIES, enter.took)
+    )?;
+    println!(rt;
+        "one submits, one enters: {} events and {} entries a second",
+        rate(EVENTS, beside.took),
+        rate(ENTRIES, beside.took)
+    )
+}

@@ -1,0 +1,40 @@
+//! What is done with a machine: a test, or so many rounds that are measured.
+use crate::passes::Story;
+use crate::shows::Shows;
+use crate::starts::{Run, show_start};
+use crate::{measure, rates, turns};
+use std::alloc::Global;
+use std::io;
+use std::rt::Clock;
+use std::sync::Wait;
+use std::thread::Threads;
+
+#[derive(Clone, Copy)]
+pub(crate) enum Work {
+    /// Two seats at a book.
+    Turns,
+    /// A start with so many seats.
+    Passes(usize, Story),
+    /// A start with the bodies and jobs of two tasks.
+    Bodies,
+    /// Rounds of what an event and an entry cost.
+    Costs(u64),
+    /// Rounds of what two bodies come to in a second.
+    Rates(u64),
+}
+
+/// Does that with the machine, which goes then.
+pub(crate) fn do_work<M: Shows + Drop + Send, R: Threads + Wait + Clock + Print + Sync>(
+    rt: &R,
+    alloc: Global,
+    machine: M,
+    work: Work,
+) -> io::Result<()> {
+    match work {
+        Work::Turns => turns::twice(rt, alloc, machine),
+        Work::Passes(places, story) => show_start(rt, alloc, machine, places, Run::Passes(story)),
+        Work::Bodies => show_start(rt, alloc, machine, 2, Run::Bodies),
+        Work::Costs(rounds) => measure::rounds_of(rt, alloc, machine, rounds),
+        Work::Rates(rounds) => rates::rounds_of(rt, alloc, machine, rounds),
+    }
+}
