@@ -66,7 +66,7 @@ fn used<
         },
         Use::Entries(crowd) => match seats.pop() {
             Some(seat) => {
-                let machine = entries::entered(rt, alloc, book, seat, &mut seats, crowd);
+                let machine = entries::entered(rt, alloc, book, seat, seats, crowd);
                 (machine, Ok(()))
             }
             None => (book.end(), Ok(())),

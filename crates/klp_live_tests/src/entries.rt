@@ -119,26 +119,25 @@ struct Looked {
     slowest: AtomicU64,
 }
 
-fn look_often<L: Looks<R>, R: Clock>(rt: &R, looked: &Looked, looker: &mut L) {
-    let took = timed(rt, looker).unwrap_or(u64::MAX);
+fn look_often<L: Looks<R> + Drop, R: Clock>(rt: &R, looked: &Looked, looker: L) {
+    let mut looker = looker;
+    let took = timed(rt, &mut looker).unwrap_or(u64::MAX);
     looked.slowest.fetch_max(took, Ordering::SeqCst);
     looked.done.fetch_add(1, Ordering::SeqCst);
 }
 
-/// All look, each in a thread of its own.
-fn look_all<L: Looks<R> + Send, R: Threads + Clock + Sync>(
+/// All look, each in a thread of its own, which owns what it looks with: beside one another in memory two would share
+/// what each writes. Nothing counts where there is no memory for that.
+fn look_all<L: Looks<R> + Drop + Send, R: Threads + Clock + Sync>(
     rt: &R,
     looked: &Looked,
-    lookers: &mut [L],
+    lookers: Vec<L>,
 ) {
-    thread::for_each_mut(
-        rt,
-        lookers,
-        LOOKERS,
-        &|_, looker| {
-            look_often(rt, looked, looker);
-        },
-    );
+    let all = thread::map_vec(rt, lookers, &|looker| look_often(rt, looked, looker));
+    if all.is_err() {
+        looked.slowest.store(u64::MAX, Ordering::SeqCst);
+        looked.done.store(u64::MAX, Ordering::SeqCst);
+    }
 }
 
 /// Submits until so many have looked, and tells how often.
@@ -155,9 +154,9 @@ fn submit_until<T: Takes<R>, R>(rt: &R, looked: &Looked, wanted: u64, takes: &mu
 }
 
 /// What the slowest took for its looks, where the one beside submitted often enough meanwhile.
-fn beside<L: Looks<R> + Send, T: Takes<R>, R: Threads + Clock + Sync>(
+fn beside<L: Looks<R> + Drop + Send, T: Takes<R>, R: Threads + Clock + Sync>(
     rt: &R,
-    lookers: &mut [L],
+    lookers: Vec<L>,
     takes: &mut T,
 ) -> u64 {
     let wanted = lookers.len() as u64;
@@ -177,22 +176,21 @@ fn beside<L: Looks<R> + Send, T: Takes<R>, R: Threads + Clock + Sync>(
 }
 
 /// The same with so many of these.
-fn look_by<L: Looks<R> + Send, T: Takes<R>, R: Threads + Clock + Sync>(
+fn look_by<L: Looks<R> + Drop + Send, T: Takes<R>, R: Threads + Clock + Sync>(
     rt: &R,
     threads: usize,
-    lookers: &mut [L],
+    lookers: Vec<L>,
     takes: &mut T,
 ) -> u64 {
+    let mut lookers = lookers;
     if threads == 0 {
-        return match lookers.first_mut() {
-            Some(looker) => timed(rt, looker).unwrap_or(u64::MAX),
+        return match lookers.pop() {
+            Some(mut looker) => timed(rt, &mut looker).unwrap_or(u64::MAX),
             None => u64::MAX,
         };
     }
-    match lookers.get_mut(..threads) {
-        Some(lookers) => beside(rt, lookers, takes),
-        None => u64::MAX,
-    }
+    lookers.truncate(threads);
+    beside(rt, lookers, takes)
 }
 
 /// Seats enter, beside one that submits, and the book ends.
@@ -206,7 +204,7 @@ pub(crate) fn entered<
     alloc: Global,
     book: Book<S, M, B>,
     seat: Seat<S>,
-    others: &mut [Seat<S>],
+    others: Vec<Seat<S>>,
     best: &mut Crowd,
 ) -> M {
     let mut seated = Seated { alloc, book, seat };
@@ -219,19 +217,25 @@ pub(crate) fn entered<
 }
 
 /// The same under a lock, beside one that writes.
-fn locked<M: Machine, R: Threads + Wait + Clock + Sync>(rt: &R, machine: &mut M, best: &mut Crowd) {
+fn locked<M: Machine, R: Threads + Wait + Clock + Sync>(
+    rt: &R,
+    alloc: Global,
+    machine: &mut M,
+    best: &mut Crowd,
+) {
     begin(machine);
     let mut table = Table::empty();
     table.fill(machine);
     let table = RwLock::new(table);
-    let mut readers = [ByLock { table: &table }; LOOKERS];
     let mut writes = Writes {
         table: &table,
         machine,
     };
-    best.lock = best
-        .lock
-        .min(look_by(rt, best.threads, &mut readers, &mut writes));
+    if let Ok(readers) = Vec::from_array(alloc, [ByLock { table: &table }; LOOKERS]) {
+        best.lock = best
+            .lock
+            .min(look_by(rt, best.threads, readers, &mut writes));
+    }
 }
 
 /// One round with each number of threads.
@@ -245,7 +249,7 @@ pub(crate) fn crowds<M: Shows + Drop, R: Threads + Wait + Clock + Print + Sync>(
     for crowd in best.iter_mut() {
         machine = booked(rt, alloc, machine, Use::Entries(crowd)).0;
         empty(&mut machine);
-        locked(rt, &mut machine, crowd);
+        locked(rt, alloc, &mut machine, crowd);
     }
     machine
 }
