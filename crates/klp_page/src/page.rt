@@ -1,20 +1,18 @@
 //! A manager is booted over a catalog's text, and a script is shown by it.
-ghost use Rattle.std.specs.Prelude.{◌≡◌, ◌⊎◌, length, option_map, slice_get, IfOk, IfErr};
-ghost use Rattle.klp_catalog_text.specs.Scripts.{scripts_of};
+ghost use Rattle.std.specs.Prelude.{◌≡◌, ◌⊎◌, length, IfOk, IfErr};
 ghost use Rattle.klp_catalog_text.specs.Within.{AreTargetsWithin};
-ghost use Rattle.klp_program.specs.Booted.{never_ran};
 ghost use Rattle.klp_page.specs.Pages.{IsPage, IsScriptFault, IsPageOver, IsFaultOver, IsPageOf, IsFaultOf};
 
 use crate::record::record;
 use crate::row::page_of;
-use klp_callback::{Boxed, Scripted};
+use klp_callback::Boxed;
 use klp_catalog::Catalog;
 use klp_catalog_text::Plan;
 use klp_chronicle::Chronicle;
 use klp_console::ServeFault;
 use klp_core::Manager;
-use klp_program::{Fault, boot, close, refused_by, told_by};
-use std::alloc::{AllocError, Global};
+use klp_program::{Fault, boot, close, refused_by, scripted, told_by};
+use std::alloc::Global;
 use std::io::Write;
 
 /// The name that the program gives itself.
@@ -48,30 +46,15 @@ fn page_by(alloc: Global, mut manager: Manager, script: &[u8]) -> Result<Vec<u8>
     page
 }
 
-/// A callback for the script of this number, in the order of the text, if there is one.
-fn callback_of(
-    alloc: Global,
-    plan: &Plan,
-    number: usize,
-) -> Result<Option<Box<Scripted>>, AllocError>
-    ensures { IfOk result (λ callback. option_map (λ made. made.value) callback ≡ option_map never_ran
-        (slice_get (scripts_of plan.now.patches) number)) }
-{
-    match plan.script(number) {
-        Some(script) => Ok(Some(Box::new(alloc, Scripted::new(script.copy()))?)),
-        None => Ok(None),
-    }
-}
-
-// Boots a manager over a plan, and shows the script by it. The callbacks are made here, as where the console is
-// served.
+// Boots a manager over a plan, and shows the script by it. The callbacks are made here, as where a trace is
+// watched.
 fn page_plan(alloc: Global, plan: Plan, script: &[u8]) -> Result<Vec<u8>, Fault>
     requires { AreTargetsWithin (length plan.objects) plan.patches }
     ensures page { IfOk result (λ page. IsPageOver plan script.now page.items) }
     ensures fault { IfErr result (λ fault. IsFaultOver plan script.now fault) }
 {
     let mut callbacks = Vec::new(alloc);
-    while let Some(callback) = callback_of(alloc, &plan, callbacks.len())? {
+    while let Some(callback) = scripted(alloc, &plan, callbacks.len())? {
         callbacks.push(Boxed::new(callback))?;
     }
     let manager = boot(alloc, plan, callbacks)?;

@@ -1,10 +1,8 @@
 -- The manager that is booted step by step is that of the plan.
 use Rattle.std.proofs.Common.{◌≡◌, ◌⊎◌, ℕ, List, [], ◌∷◌, length, map, false, Some, None, Result, Ok, Err, refl, sym, ap, subst, ◌∙◌, inl, inr}
 use Rattle.std.proofs.lemmas.List.{length-map}
-use Rattle.klp_types.specs.Image.{Image, Object, Symbol}
+use Rattle.klp_types.specs.Image.{Object, Symbol}
 use Rattle.klp_types.specs.Script.{Script}
-use Rattle.klp_text.specs.declared.fault.ImageFault.{ImageFault}
-use Rattle.klp_text.specs.declared.fault.ImageFault.TheVariants as image
 use Rattle.klp_text.specs.Faults.{image_fault}
 use Rattle.klp_text.specs.TextImage as text
 use Rattle.klp_text.specs.TextImage.{TextImage}
@@ -26,17 +24,16 @@ use Rattle.klp_manager_state.specs.Managed.{setting_of}
 use Rattle.std.specs.Result.{IsErrAnd, IfErr}
 use Rattle.klp_program.specs.declared.fault.Fault.{Fault}
 use Rattle.klp_program.specs.declared.fault.Fault.TheVariants as faults
-use Rattle.klp_program.specs.Booted.{IsBootedOver, IsBootFault, image_of, never_ran}
+use Rattle.klp_program.specs.Booted.{IsBootedOver, IsBootFault, IsImageFault, never_ran}
 
 -- callbacks that never ran tell the scripts that they were made of
 pub scripts_made : (scripts : List Script) → scripts_told (map never_ran scripts) ≡ scripts
 scripts_made [] = refl
 scripts_made (script ∷ scripts) = ap (λ (l : List Script). script ∷ l) (scripts_made scripts)
 
-pub booted_over : (plan after : Plan) (handler : ℕ) (objects : List Object) (callbacks : List Told) (image : TextImage) (modules : ModuleTable) (catalog : Catalog) (manager : Journaled)
-    → after ≡ record plan { objects = [] } → objects ≡ plan.objects → handler ≡ after.handler
-    → callbacks ≡ map never_ran (scripts_of plan.patches)
-    → image ≡ text.opening handler objects → modules ≡ names.opening image.image.objects
+pub booted_over : (plan after : Plan) (callbacks : List Told) (image : TextImage) (modules : ModuleTable) (catalog : Catalog) (manager : Journaled)
+    → after ≡ record plan { objects = [] } → callbacks ≡ map never_ran (scripts_of plan.patches)
+    → image ≡ text.opening plan.handler plan.objects → modules ≡ names.opening plan.objects
     → catalog.names ≡ modules.names → map without_scripts catalog.patches ≡ map without_scripts after.patches
     → scripts_of catalog.patches ≡ scripts_told callbacks → HasCounts catalog.patches catalog.runs → catalog.runs ≡ counts_told callbacks
     → manager ≡ record {
@@ -45,11 +42,10 @@ pub booted_over : (plan after : Plan) (handler : ℕ) (objects : List Object) (c
       groups = [];
     }
     → IsBootedOver plan manager
-booted_over plan after handler objects callbacks image modules catalog manager rest taken handled given made numbered named patched scripted shaped counted booted =
-    let over : image.image ≡ image_of plan = rw (made, handled, taken, rest) refl in
+booted_over plan after callbacks image modules catalog manager rest given made numbered named patched scripted shaped counted booted =
     record {
-      image = ap (λ (m : Journaled). m.managed.image) booted ∙ over;
-      names = ap (λ (m : Journaled). m.managed.catalog.names) booted ∙ named ∙ ap (λ (m : ModuleTable). m.names) numbered ∙ ap (λ (i : Image). names.names_of i.objects) over;
+      image = ap (λ (m : Journaled). m.managed.image) booted ∙ ap (λ (t : TextImage). t.image) made;
+      names = ap (λ (m : Journaled). m.managed.catalog.names) booted ∙ named ∙ ap (λ (m : ModuleTable). m.names) numbered;
       patches = ap (λ (m : Journaled). map without_scripts m.managed.catalog.patches) booted ∙ patched ∙ ap (λ (p : Plan). map without_scripts p.patches) rest;
       scripts = ap (λ (m : Journaled). scripts_of m.managed.catalog.patches) booted ∙ scripted ∙ ap scripts_told given ∙ scripts_made (scripts_of plan.patches);
       shape = subst (λ (m : Journaled). HasCounts m.managed.catalog.patches m.managed.catalog.runs) (sym booted) shaped;
@@ -59,42 +55,31 @@ booted_over plan after handler objects callbacks image modules catalog manager r
       groups = ap (λ (m : Journaled). m.groups) booted;
     }
 
-named_handler : (plan after : Plan) (handler : ℕ) → after ≡ record plan { objects = [] } → handler ≡ after.handler → handler ≡ plan.handler
-named_handler plan after handler rest handled = handled ∙ ap (λ (p : Plan). p.handler) rest
-
--- a plan that is booted has no fault
-pub sound_over : (plan after : Plan) (handler : ℕ) (objects : List Object) (image : TextImage) (modules : ModuleTable) → after ≡ record plan { objects = [] } → objects ≡ plan.objects → handler ≡ after.handler
-    → image_fault handler objects ≡ None → image ≡ text.opening handler objects → modules ≡ names.opening image.image.objects
-    → some_same_site modules.names after.patches ≡ false
-    → (image_fault plan.handler plan.objects ≡ None) × (some_same_site (names.names_of plan.objects) plan.patches ≡ false)
-sound_over plan after handler objects image modules rest taken handled sound made numbered distinct =
-    let named : modules.names ≡ names.names_of plan.objects =
-    ap (λ (m : ModuleTable). m.names) numbered ∙ ap (λ (t : TextImage). names.names_of t.image.objects) made ∙ ap names.names_of taken
-    in (
-      sym (λ i. image_fault (named_handler plan after handler rest handled i) (taken i)) ∙ sound,
-      sym (λ i. some_same_site (named i) (rest i).patches) ∙ distinct,
-    )
+-- the patches of a plan that is booted have no two functions for one site
+pub apart_over : (plan after : Plan) (modules : ModuleTable) → after ≡ record plan { objects = [] } → modules ≡ names.opening plan.objects
+    → some_same_site modules.names after.patches ≡ false → some_same_site (names.names_of plan.objects) plan.patches ≡ false
+apart_over plan after modules rest numbered distinct = sym (λ i. some_same_site (numbered i).names (rest i).patches) ∙ distinct
 
 -- a fault of the image is one of the plan
-pub image_faulty : (plan after : Plan) (handler : ℕ) (objects : List Object) (fault : ImageFault) → after ≡ record plan { objects = [] } → objects ≡ plan.objects → handler ≡ after.handler
-    → (fault ≡ image.NoMemory) ⊎ (image_fault handler objects ≡ Some fault) → IsBootFault plan (faults.Image fault)
-image_faulty plan after handler objects fault rest taken handled told =
-    subst (λ (os : List Object). (fault ≡ image.NoMemory) ⊎ (image_fault plan.handler os ≡ Some fault)) taken
-    (subst (λ (h : ℕ). (fault ≡ image.NoMemory) ⊎ (image_fault h objects ≡ Some fault)) (named_handler plan after handler rest handled) told)
+pub image_faulty : (plan : Plan) (fault : Fault) → IsImageFault plan fault → IsBootFault plan fault
+image_faulty plan faults.CannotRead is = absurd is
+image_faulty plan faults.NoMemory is = tt
+image_faulty plan (faults.Text fault) is = absurd is
+image_faulty plan (faults.Image fault) is = is
+image_faulty plan (faults.Assemble fault) is = absurd is
+image_faulty plan (faults.Boot fault) is = absurd is
+image_faulty plan (faults.Serve fault) is = absurd is
+image_faulty plan (faults.Trace fault) is = absurd is
 
 -- a fault of the catalog is one of the plan
-pub assemble_faulty : (plan after : Plan) (handler : ℕ) (objects : List Object) (callbacks : List Told) (image : TextImage) (modules : ModuleTable) (fault : AssembleFault)
-    → after ≡ record plan { objects = [] } → objects ≡ plan.objects → handler ≡ after.handler
-    → callbacks ≡ map never_ran (scripts_of plan.patches)
-    → image_fault handler objects ≡ None → image ≡ text.opening handler objects → modules ≡ names.opening image.image.objects
+pub assemble_faulty : (plan after : Plan) (callbacks : List Told) (modules : ModuleTable) (fault : AssembleFault)
+    → after ≡ record plan { objects = [] } → callbacks ≡ map never_ran (scripts_of plan.patches)
+    → image_fault plan.handler plan.objects ≡ None → modules ≡ names.opening plan.objects
     → IsAssembleFault modules.names after.patches (length callbacks) fault → IsBootFault plan (faults.Assemble fault)
-assemble_faulty plan after handler objects callbacks image modules fault rest taken handled given sound made numbered told =
-    let named : modules.names ≡ names.names_of plan.objects =
-    ap (λ (m : ModuleTable). m.names) numbered ∙ ap (λ (t : TextImage). names.names_of t.image.objects) made ∙ ap names.names_of taken
-    in
+assemble_faulty plan after callbacks modules fault rest given sound numbered told =
     let count : length callbacks ≡ length (scripts_of plan.patches) = ap length given ∙ length-map (scripts_of plan.patches) never_ran in (
-      subst (λ (os : List Object). image_fault plan.handler os ≡ None) taken (subst (λ (h : ℕ). image_fault h objects ≡ None) (named_handler plan after handler rest handled) sound),
-      subst (λ (ns : List ObjectNames). IsAssembleFault ns plan.patches (length (scripts_of plan.patches)) fault) named
+      sound,
+      subst (λ (ns : List ObjectNames). IsAssembleFault ns plan.patches (length (scripts_of plan.patches)) fault) (ap (λ (m : ModuleTable). m.names) numbered)
           (subst (λ (p : Plan). IsAssembleFault modules.names p.patches (length (scripts_of plan.patches)) fault) rest
           (subst (λ (n : ℕ). IsAssembleFault modules.names after.patches n fault) count told)),
     )

@@ -39,6 +39,12 @@ pub record IsBootedOver (plan : Plan) (manager : Journaled) : Type 0 where
   pub base : manager.base ≡ manager.managed.state
   pub groups : manager.groups ≡ []
 
+-- why the objects of a plan make no image: for a fault of theirs, in place of which want of memory may stand
+abbrev pub IsImageFault : Plan → Fault → Type 0
+IsImageFault plan NoMemory = Unit {0}
+IsImageFault plan (Image fault) = (fault ≡ image.NoMemory) ⊎ (image_fault plan.handler plan.objects ≡ Some fault)
+IsImageFault plan other = ⊥
+
 -- why a plan isn't booted: a fault of the image; else one of the catalog, which has the names of that image and a
 -- callback for each script; want of memory may stand in place of the others
 abbrev pub IsBootFault : Plan → Fault → Type 0

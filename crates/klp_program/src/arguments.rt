@@ -23,15 +23,24 @@ const USAGE: u8 = 2;
 /// The status of any other fault.
 const FAULT: u8 = 1;
 
-fn command<'a>(alloc: Global) -> Result<Command<'a>, AllocError> {
-    let console = Command::new(alloc, "console").arg(Arg::new(alloc, CATALOG))?;
-    let live = Command::new(alloc, LIVE)
+// The console's words: a catalog, or none.
+fn console_command<'a>(alloc: Global) -> Result<Command<'a>, AllocError> {
+    Command::new(alloc, "console").arg(Arg::new(alloc, CATALOG))
+}
+
+// Those of two task threads: a catalog and steps.
+fn live_command<'a>(alloc: Global) -> Result<Command<'a>, AllocError> {
+    Command::new(alloc, LIVE)
         .arg(Arg::new(alloc, CATALOG).required(true))?
-        .arg(Arg::new(alloc, STEPS).required(true))?;
-    Command::new(alloc, NAME)
+        .arg(Arg::new(alloc, STEPS).required(true))
+}
+
+fn command<'a>(alloc: Global) -> Result<Command<'a>, AllocError> {
+    let console = console_command(alloc)?;
+    let command = Command::new(alloc, NAME)
         .no_binary_name(true)
-        .subcommand(console)?
-        .subcommand(live)
+        .subcommand(console)?;
+    command.subcommand(live_command(alloc)?)
 }
 
 // The path that is given under this name.

@@ -1,10 +1,11 @@
-ghost use Rattle.std.specs.Prelude.{◌≡◌, false, length, map, None, OnOk, IfOk, IfErr};
+ghost use Rattle.std.specs.Prelude.{◌≡◌, [], false, length, map, None, OnOk, IfOk, IfErr};
 ghost use Rattle.klp_text.specs.Faults.{image_fault};
-ghost use Rattle.klp_modules.specs.Names.{names_of};
+ghost use Rattle.klp_text.specs.TextImage.{opening as image_over};
+ghost use Rattle.klp_modules.specs.Names.{names_of, opening as names_over};
 ghost use Rattle.klp_catalog_text.specs.Scripts.{scripts_of};
 ghost use Rattle.klp_catalog_text.specs.Within.{AreTargetsWithin};
 ghost use Rattle.klp_catalog.specs.Catalog.{some_same_site};
-ghost use Rattle.klp_program.specs.Booted.{IsBootedOver, IsBootFault, never_ran};
+ghost use Rattle.klp_program.specs.Booted.{IsBootedOver, IsBootFault, IsImageFault, never_ran};
 
 use crate::fault::Fault;
 use klp_callback::Boxed;
@@ -14,6 +15,20 @@ use klp_core::Manager;
 use klp_modules::Modules;
 use klp_text::Image;
 use std::alloc::Global;
+
+/// The image of a plan's objects, and their names. The plan has no objects afterwards.
+pub fn opened(alloc: Global, plan: &mut Plan) -> Result<(Image, Modules), Fault>
+    ensures rest { plan.new ≡ record plan.old { objects = [] } }
+    ensures sound { OnOk result (image_fault plan.old.handler plan.old.objects ≡ None) }
+    ensures opened { IfOk result (λ made. (made.0 ≡ image_over plan.old.handler plan.old.objects)
+        × (made.1 ≡ names_over plan.old.objects)) }
+    ensures fault { IfErr result (λ fault. IsImageFault plan.old fault) }
+{
+    let objects = plan.take_objects();
+    let image = Image::new(alloc, objects, plan.handler())?;
+    let modules = Modules::new(alloc, &image)?;
+    Ok((image, modules))
+}
 
 /// Boots a manager over a plan: over the image of the plan's objects, and the plan's patches with
 /// the names of that image. Nothing is installed. Faults are found in this order: those of the
@@ -30,9 +45,7 @@ pub fn boot(alloc: Global, mut plan: Plan, callbacks: Vec<Boxed>) -> Result<Mana
         × (some_same_site (names_of plan.objects) plan.patches ≡ false)) }
     ensures fault { IfErr result (λ fault. IsBootFault plan fault) }
 {
-    let objects = plan.take_objects();
-    let image = Image::new(alloc, objects, plan.handler())?;
-    let modules = Modules::new(alloc, &image)?;
+    let (image, modules) = opened(alloc, &mut plan)?;
     let catalog = Catalog::assemble(alloc, &modules, plan, callbacks)?;
     Ok(Manager::boot(alloc, image, modules, catalog)?)
 }

@@ -34,6 +34,22 @@ fn kind_of(alloc: Global, script: &Script) -> Result<Kind, AllocError>
     }
 }
 
+/// A callback of the kind that runs any script, for the script of this number, in the order of the text. `None` where
+/// the plan has no such script. Who wants few kinds of callbacks takes this one for each script.
+pub fn scripted(
+    alloc: Global,
+    plan: &Plan,
+    number: usize,
+) -> Result<Option<Box<Scripted>>, AllocError>
+    ensures { IfOk result (λ callback. option_map (λ made. made.value) callback ≡ option_map never_ran
+        (slice_get (scripts_of plan.now.patches) number)) }
+{
+    match plan.script(number) {
+        Some(script) => Ok(Some(Box::new(alloc, Scripted::new(script.copy()))?)),
+        None => Ok(None),
+    }
+}
+
 /// A callback for the script of this number, in the order of the text. `None` where the plan has no
 /// such script.
 pub(crate) fn callback_of(

@@ -8,7 +8,7 @@ ghost use Rattle.klp_program.specs.Watches.{counted, IsFound, WatchesBy, Watches
 use crate::arguments::{refused_by, told_by};
 use crate::booted::boot;
 use crate::fault::Fault;
-use crate::kind::{Kind, callback_of};
+use crate::kind::scripted;
 use crate::serve::close;
 use crate::trace::items_of;
 use crate::verdict::{Counts, Verdict};
@@ -73,19 +73,15 @@ fn watch_by(alloc: Global, manager: Manager, trace: &[u8]) -> Result<Verdict, Fa
     }
 }
 
-// Boots a manager over a plan, and watches it. The callbacks are made here, as where the console is served.
+// Boots a manager over a plan, and watches it. The callbacks are made here, as where the console is served, but all of
+// one kind.
 fn watch_plan(alloc: Global, plan: Plan, trace: &[u8]) -> Result<Verdict, Fault>
     requires { AreTargetsWithin (length plan.objects) plan.patches }
     ensures { WatchesPlan plan trace.now result }
 {
     let mut callbacks = Vec::new(alloc);
-    while let Some(kind) = callback_of(alloc, &plan, callbacks.len())? {
-        let callback = match kind {
-            Kind::Scripted(callback) => Boxed::new(callback),
-            Kind::Refusing(callback) => Boxed::new(callback),
-            Kind::Quiet(callback) => Boxed::new(callback),
-        };
-        callbacks.push(callback)?;
+    while let Some(callback) = scripted(alloc, &plan, callbacks.len())? {
+        callbacks.push(Boxed::new(callback))?;
     }
     let manager = boot(alloc, plan, callbacks)?;
     watch_by(alloc, manager, trace)

@@ -1,8 +1,6 @@
 //! What a manager over a catalog's text answers while it serves the console, input after input. It is the only owner of
 //! one here, since a function that owns a manager is dear to prove: each way out that it has then is proved anew.
-ghost use Rattle.std.specs.Prelude.{◌≡◌, [], length, IfOk};
-ghost use Rattle.klp_text.specs.TextImage.{opening as image_over};
-ghost use Rattle.klp_modules.specs.Names.{opening as names_over};
+ghost use Rattle.std.specs.Prelude.{length};
 ghost use Rattle.klp_catalog_text.specs.Within.{AreTargetsWithin};
 
 use crate::input::{Input, serve_input};
@@ -12,9 +10,7 @@ use klp_catalog::Catalog;
 use klp_catalog_text::Plan;
 use klp_console::{ServeFault, Served};
 use klp_core::Manager;
-use klp_modules::Modules;
-use klp_program::{Fault, close};
-use klp_text::Image;
+use klp_program::{Fault, close, opened};
 use klp_world::Script;
 use std::alloc::{AllocError, Global};
 
@@ -50,18 +46,6 @@ fn script_at(plan: &Plan, number: usize) -> Script {
             status: 0,
         },
     }
-}
-
-/// The image of a plan's objects, and their names. The plan has no objects afterwards.
-fn opened(alloc: Global, plan: &mut Plan) -> Result<(Image, Modules), Fault>
-    ensures rest { plan.new ≡ record plan.old { objects = [] } }
-    ensures opened { IfOk result (λ made. (made.0 ≡ image_over plan.old.handler plan.old.objects)
-        × (made.1 ≡ names_over plan.old.objects)) }
-{
-    let objects = plan.take_objects();
-    let image = Image::new(alloc, objects, plan.handler())?;
-    let modules = Modules::new(alloc, &image)?;
-    Ok((image, modules))
 }
 
 /// Boots a manager over a plan with these callbacks, as many as they may be.
