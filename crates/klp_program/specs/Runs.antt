@@ -80,3 +80,9 @@ pub record Exits (text : List ℕ) (left taken : Option (List ℕ)) (status : �
   pub ended : Result Served Fault
   pub runs : RunsOver text left taken ended
   pub is_status : status ≡ status_of ended
+
+-- a catalog's text was served, whatever standard input had and standard output took before
+pub record IsServed (text : List ℕ) (status : ℕ) : Type 0 where
+  pub left : Option (List ℕ)
+  pub taken : Option (List ℕ)
+  pub exits : Exits text left taken status

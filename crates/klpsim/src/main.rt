@@ -2,6 +2,10 @@
 //! standard output, or has two task threads run the steps of a file.
 #![tactic(auto)]
 
+ghost use Rattle.std.specs.Prelude.{◌≡◌, ◌⊎◌, ℕ, List, None, IfErr};
+ghost use Rattle.klp_program.specs.declared.sample.TheConstants.{CATALOG};
+ghost use Rattle.klp_program.specs.Runs.{IsServed};
+
 use klp_live_program::live;
 use klp_program::{Fault, Words, bytes_in, catalog_in, console, refused, told, words};
 use std::io::{ErrorKind, Input, Write};
@@ -20,17 +24,14 @@ fn given<R: Env + AllocGlobal>(rt: &R) -> io::Result<Vec<String>> {
     Ok(given)
 }
 
-// Standard input is served over a catalog.
-fn serve(rt: &HostRuntime, path: Option<String>) -> u8 {
-    let mut err = rt.stderr();
+// Standard input is served over a catalog, the built-in one where no file is named. The answer is the exit status, which is
+// 1 too where the catalog isn't read.
+fn serve(rt: &HostRuntime, path: Option<String>) -> u8
+    ensures { (result ≡ 1) ⊎ ((text : List ℕ) × (path ≡ None → text ≡ CATALOG.now) × IsServed text result) }
+{
+    let (mut input, mut out, mut err) = (rt.reader(), io::writer(rt), rt.stderr());
     match catalog_in(rt, path) {
-        Ok(catalog) => console(
-            rt.alloc(),
-            &catalog,
-            &mut rt.reader(),
-            &mut io::writer(rt),
-            &mut err,
-        ),
+        Ok(catalog) => console(rt.alloc(), &catalog, &mut input, &mut out, &mut err),
         Err(fault) => told(fault, &mut err),
     }
 }
@@ -59,7 +60,9 @@ fn race<R: Threads + Wait + Sync + Files + Print + AllocGlobal, E: Write>(
 }
 
 // What the words ask for, or the exit status. Words that aren't text are refused.
-fn asked(rt: &HostRuntime) -> Result<Words, u8> {
+fn asked(rt: &HostRuntime) -> Result<Words, u8>
+    ensures { IfErr result (λ status. (status ≡ 1) ⊎ (status ≡ 2)) }
+{
     let mut err = rt.stderr();
     match given(rt) {
         Ok(given) => words(rt.alloc(), &given, &mut err),
