@@ -2,10 +2,12 @@ ghost use Rattle.std.specs.Prelude.{◌≡◌, ◌⊎◌, IfErr};
 
 use crate::fault::Fault;
 use crate::wanted::Words;
-use clap::error::ErrorKind;
+use clap::error::ErrorKind as WordsErrorKind;
 use clap::{Arg, ArgMatches, Command};
 use std::alloc::{AllocError, Global};
-use std::io::Write;
+use std::io::{ErrorKind, Write};
+use std::rt::Env;
+use std::{env, io};
 
 /// The name that the program gives itself.
 const NAME: &str = "klpsim";
@@ -70,6 +72,33 @@ fn asked(alloc: Global, matches: &ArgMatches<'_>) -> Result<Option<Words>, Alloc
     }
 }
 
+// The words behind a program's name.
+fn words_given<R: Env + AllocGlobal>(rt: &R) -> io::Result<Vec<String>> {
+    let mut given = Vec::new(rt.alloc());
+    for word in env::args(rt)?.skip(1) {
+        given.push(word)?;
+    }
+    Ok(given)
+}
+
+/// The words behind the program's name, which is this. Where they aren't text, or memory runs out, a line on `err` says
+/// so, and the answer is the exit status: 2 for words, 1 for memory.
+pub fn given<R: Env + AllocGlobal, W: Write>(
+    rt: &R,
+    name: &str,
+    err: &mut W,
+) -> Result<Vec<String>, u8>
+    ensures { IfErr result (λ status. (status ≡ 1) ⊎ (status ≡ 2)) }
+{
+    match words_given(rt) {
+        Ok(given) => Ok(given),
+        Err(error) if error.kind() == ErrorKind::OutOfMemory => {
+            Err(told_by(name, Fault::NoMemory, err))
+        }
+        Err(_) => Err(refused_by(name, err)),
+    }
+}
+
 fn parsed(alloc: Global, given: &[String]) -> Result<Words, Option<Fault>> {
     let command = command(alloc).map_err(|_| Some(Fault::NoMemory))?;
     match command.try_get_matches_from(given) {
@@ -78,7 +107,7 @@ fn parsed(alloc: Global, given: &[String]) -> Result<Words, Option<Fault>> {
             Ok(None) => Err(None),
             Err(_) => Err(Some(Fault::NoMemory)),
         },
-        Err(error) if error.kind() == ErrorKind::OutOfMemory => Err(Some(Fault::NoMemory)),
+        Err(error) if error.kind() == WordsErrorKind::OutOfMemory => Err(Some(Fault::NoMemory)),
         Err(_) => Err(None),
     }
 }

@@ -29,3 +29,15 @@ pub fn bytes_in<R: Files + AllocGlobal>(rt: &R, path: &str) -> Result<Vec<u8>, F
         _ => Fault::CannotRead,
     })
 }
+
+/// The bytes of two files.
+pub fn bytes_in_both<R: Files + AllocGlobal>(
+    rt: &R,
+    first: &str,
+    second: &str,
+) -> Result<(Vec<u8>, Vec<u8>), Fault>
+    ensures { IfErr result (λ fault. (fault ≡ NoMemory) ⊎ (fault ≡ CannotRead)) }
+{
+    let first = bytes_in(rt, first)?;
+    Ok((first, bytes_in(rt, second)?))
+}

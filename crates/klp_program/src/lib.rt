@@ -15,10 +15,10 @@ mod verdict;
 mod wanted;
 mod watch;
 
-pub use arguments::{refused, refused_by, told, told_by, words};
+pub use arguments::{given, refused, refused_by, told, told_by, words};
 pub use booted::{boot, opened};
 pub use fault::{Fault, TraceFault};
-pub use file::{bytes_in, catalog_in};
+pub use file::{bytes_in, bytes_in_both, catalog_in};
 pub use kind::scripted;
 pub use sample::CATALOG;
 pub use serve::{close, console, served};

@@ -5,24 +5,18 @@
 ghost use Rattle.std.specs.Prelude.{◌≡◌, ◌⊎◌, ℕ, List, None, IfErr};
 ghost use Rattle.klp_program.specs.declared.sample.TheConstants.{CATALOG};
 ghost use Rattle.klp_program.specs.Runs.{IsServed};
+ghost use Rattle.klp_live_program.specs.Living.{Exits};
 
 use klp_live_program::live;
-use klp_program::{Fault, Words, bytes_in, catalog_in, console, refused, told, words};
-use std::io::{ErrorKind, Input, Write};
+use klp_program::{Words, bytes_in_both, catalog_in, console, given, told, words};
+use std::io;
+use std::io::{Input, Write};
 use std::process::ExitCode;
-use std::rt::{Env, Files};
+use std::rt::Files;
 use std::sync::Wait;
 use std::thread::Threads;
-use std::{env, io};
 
-// The words behind the program's name.
-fn given<R: Env + AllocGlobal>(rt: &R) -> io::Result<Vec<String>> {
-    let mut given = Vec::new(rt.alloc());
-    for word in env::args(rt)?.skip(1) {
-        given.push(word)?;
-    }
-    Ok(given)
-}
+const NAME: &str = "klpsim";
 
 // Standard input is served over a catalog, the built-in one where no file is named. The answer is the exit status, which is
 // 1 too where the catalog isn't read.
@@ -36,24 +30,17 @@ fn serve(rt: &HostRuntime, path: Option<String>) -> u8
     }
 }
 
-// Both files, whole.
-fn files<R: Files + AllocGlobal>(
-    rt: &R,
-    catalog: &str,
-    steps: &str,
-) -> Result<(Vec<u8>, Vec<u8>), Fault> {
-    let catalog = bytes_in(rt, catalog)?;
-    Ok((catalog, bytes_in(rt, steps)?))
-}
-
-// Two tasks run. It takes a handle of its own, since the runtime has threads in `main` alone.
+// Two tasks run the steps of a file over a catalog. The answer is the exit status, which is 1 too where a file isn't read.
+// It takes a handle of its own, since the runtime has threads in `main` alone.
 fn race<R: Threads + Wait + Sync + Files + Print + AllocGlobal, E: Write>(
     rt: &R,
     catalog: &str,
     steps: &str,
     err: &mut E,
-) -> u8 {
-    match files(rt, catalog, steps) {
+) -> u8
+    ensures { (result ≡ 1) ⊎ ((first : List ℕ) × (second : List ℕ) × Exits first second result) }
+{
+    match bytes_in_both(rt, catalog, steps) {
         Ok((catalog, steps)) => live(rt, rt.alloc(), &catalog, &steps, &mut io::writer(rt), err),
         Err(fault) => told(fault, err),
     }
@@ -64,13 +51,8 @@ fn asked(rt: &HostRuntime) -> Result<Words, u8>
     ensures { IfErr result (λ status. (status ≡ 1) ⊎ (status ≡ 2)) }
 {
     let mut err = rt.stderr();
-    match given(rt) {
-        Ok(given) => words(rt.alloc(), &given, &mut err),
-        Err(error) if error.kind() == ErrorKind::OutOfMemory => {
-            Err(told(Fault::NoMemory, &mut err))
-        }
-        Err(_) => Err(refused(&mut err)),
-    }
+    let given = given(rt, NAME, &mut err)?;
+    words(rt.alloc(), &given, &mut err)
 }
 
 fn main(rt: HostRuntime) -> ExitCode {

@@ -2,52 +2,28 @@
 //! observed run, or its first line that isn't.
 #![tactic(auto)]
 
-use klp_program::{Fault, bytes_in, refused_by, told_by, trace_words, watch_trace};
-use std::io::{ErrorKind, Input};
+use klp_program::{bytes_in_both, given, told_by, trace_words, watch_trace};
+use std::io;
+use std::io::Input;
 use std::process::ExitCode;
-use std::rt::Env;
-use std::{env, io};
 
 const NAME: &str = "klpwatch";
 
-// The words behind the program's name.
-fn given<R: Env + AllocGlobal>(rt: &R) -> io::Result<Vec<String>> {
-    let mut given = Vec::new(rt.alloc());
-    for word in env::args(rt)?.skip(1) {
-        given.push(word)?;
-    }
-    Ok(given)
-}
-
-// Both files, whole.
-fn files(rt: &HostRuntime, catalog: &str, trace: &str) -> Result<(Vec<u8>, Vec<u8>), Fault> {
-    let catalog = bytes_in(rt, catalog)?;
-    Ok((catalog, bytes_in(rt, trace)?))
-}
-
 // The exit status. Words that aren't text are refused.
-fn run(rt: &HostRuntime) -> u8 {
-    let alloc = rt.alloc();
+fn run(rt: &HostRuntime) -> Result<u8, u8> {
     let mut err = rt.stderr();
-    let given = match given(rt) {
-        Ok(given) => given,
-        Err(error) if error.kind() == ErrorKind::OutOfMemory => {
-            return told_by(NAME, Fault::NoMemory, &mut err);
-        }
-        Err(_) => return refused_by(NAME, &mut err),
-    };
-    let (catalog, trace) = match trace_words(&given, &mut err) {
-        Ok(words) => words,
-        Err(status) => return status,
-    };
-    match files(rt, catalog, trace) {
+    let given = given(rt, NAME, &mut err)?;
+    let (catalog, trace) = trace_words(&given, &mut err)?;
+    match bytes_in_both(rt, catalog, trace) {
         Ok((catalog, trace)) => {
-            watch_trace(alloc, &catalog, &trace, &mut io::writer(rt), &mut err)
+            let mut out = io::writer(rt);
+            Ok(watch_trace(rt.alloc(), &catalog, &trace, &mut out, &mut err))
         }
-        Err(fault) => told_by(NAME, fault, &mut err),
+        Err(fault) => Err(told_by(NAME, fault, &mut err)),
     }
 }
 
 fn main(rt: HostRuntime) -> ExitCode {
-    ExitCode::from(run(&rt))
+    let (Ok(status) | Err(status)) = run(&rt);
+    ExitCode::from(status)
 }
