@@ -1,36 +1,11 @@
 //! Each task over time, as bars: what the drawing above the lines is made of.
 
-use crate::room::add_tasks;
-use crate::shot::TaskShot;
-use klp_types::{MAX_TASKS, PatchId};
+use crate::shot::{Look, TaskShot};
+use klp_types::{MAX_TASKS, PatchId, Transition};
 use std::alloc::{AllocError, Global};
 
-/// What a task runs for a while.
-#[derive(Clone, Copy, PartialEq, Eq)]
-pub(crate) enum Shade {
-    /// It isn't there.
-    None,
-    /// No patch moves.
-    Rest,
-    /// It doesn't run the patch that moves.
-    Old,
-    /// It runs that patch.
-    New,
-}
-
-#[derive(Clone, Copy, PartialEq, Eq)]
-pub(crate) struct Look {
-    pub shade: Shade,
-    pub is_holding: bool,
-}
-
-const NOTHING: Look = Look {
-    shade: Shade::None,
-    is_holding: false,
-};
-
 /// What happens to a transition.
-#[derive(Clone, Copy, PartialEq, Eq)]
+#[derive(Clone, Copy)]
 pub(crate) enum Sign {
     Starts,
     Turns,
@@ -56,35 +31,30 @@ pub(crate) struct Bar {
     pub look: Look,
 }
 
-/// A bar that goes on.
+/// What a task looks like since a column, if it is there.
 #[derive(Clone, Copy)]
 struct Open {
     from: u64,
-    look: Look,
+    look: Option<Look>,
 }
 
-/// There is a column for each line in which a bar changes, or a transition does.
+/// There is a column for each line in which a bar changes, or a transition does. A want of memory is kept until the end.
 #[derive(Drop)]
 pub(crate) struct Bars {
     /// The lines of the columns.
     pub columns: Vec<u64>,
     pub bars: Vec<Bar>,
+    /// The tasks that have a bar.
+    pub tasks: Vec<u64>,
     pub marks: Vec<Mark>,
     open: Vec<Open>,
+    is_short: bool,
 }
 
-fn look_of(shot: &Option<TaskShot>) -> Look {
-    let Some(shot) = *shot else {
-        return NOTHING;
-    };
-    let shade = match shot.state {
-        0 => Shade::Old,
-        1 => Shade::New,
-        _ => Shade::Rest,
-    };
-    Look {
-        shade,
-        is_holding: shot.is_holding,
+fn look_of(shot: &Option<TaskShot>) -> Option<Look> {
+    match shot {
+        Some(shot) => Some(shot.look),
+        None => None,
     }
 }
 
@@ -93,8 +63,10 @@ impl Bars {
         Bars {
             columns: Vec::new(alloc),
             bars: Vec::new(alloc),
+            tasks: Vec::new(alloc),
             marks: Vec::new(alloc),
             open: Vec::new(alloc),
+            is_short: false,
         }
     }
 
@@ -102,72 +74,78 @@ impl Bars {
     pub(crate) fn open(&mut self) -> Result<(), AllocError> {
         let nothing = Open {
             from: 0,
-            look: NOTHING,
+            look: None,
         };
-        add_tasks(&mut self.open, nothing)
+        self.open.resize(MAX_TASKS, nothing)
     }
 
-    /// Whether a bar changes.
-    fn changes(&self, shots: &[Option<TaskShot>]) -> bool {
-        for (open, shot) in self.open.iter().zip(shots) {
-            if open.look != look_of(shot) {
-                return true;
-            }
+    fn add(&mut self, bar: Bar) {
+        if !self.tasks.contains(&bar.task) {
+            self.is_short |= self.tasks.push(bar.task).is_err();
         }
-        false
+        self.is_short |= self.bars.push(bar).is_err();
     }
 
-    /// Ends the bar of a task at a column, and begins another.
-    fn turn(&mut self, number: usize, column: u64, look: Look) -> Result<(), AllocError> {
-        if number >= self.open.len() {
-            return Ok(());
+    /// Ends the bar of a task at a column, and begins another, where its look changes. Answers whether it does.
+    fn turn(&mut self, number: usize, column: u64, look: Option<Look>) -> bool {
+        if number >= self.open.len() || self.open[number].look == look {
+            return false;
         }
-        let open = self.open[number];
-        if open.look == look {
-            return Ok(());
-        }
-        if open.look != NOTHING {
-            self.bars.push(Bar {
-                task: number as u64,
-                from: open.from,
-                to: column,
-                look: open.look,
-            })?;
-        }
+        let Open { from, look: before } = self.open[number];
         self.open[number] = Open { from: column, look };
-        Ok(())
+        if let Some(look) = before {
+            let task = number as u64;
+            let to = column;
+            self.add(Bar {
+                task,
+                from,
+                to,
+                look,
+            });
+        }
+        true
     }
 
-    /// Sees the tasks after a line.
+    /// Marks what happened to a transition. Answers whether something did.
+    fn mark(&mut self, column: u64, turn: &Option<(Sign, Transition)>) -> bool {
+        let Some((sign, moving)) = *turn else {
+            return false;
+        };
+        let patch = moving.patch;
+        let mark = Mark {
+            column,
+            sign,
+            patch,
+        };
+        self.is_short |= self.marks.push(mark).is_err();
+        true
+    }
+
+    /// Sees the tasks after a line, and what happened to a transition.
     pub(crate) fn see(
         &mut self,
         line: u64,
-        sign: Option<(Sign, PatchId)>,
+        turn: &Option<(Sign, Transition)>,
         shots: &[Option<TaskShot>],
-    ) -> Result<(), AllocError> {
-        if sign.is_none() && !self.changes(shots) {
-            return Ok(());
-        }
+    ) {
         let column = self.columns.len() as u64;
-        self.columns.push(line)?;
-        if let Some((sign, patch)) = sign {
-            self.marks.push(Mark {
-                column,
-                sign,
-                patch,
-            })?;
-        }
+        let mut is_changed = self.mark(column, turn);
         for (number, shot) in shots.iter().enumerate() {
-            self.turn(number, column, look_of(shot))?;
+            is_changed |= self.turn(number, column, look_of(shot));
         }
-        Ok(())
+        if is_changed {
+            self.is_short |= self.columns.push(line).is_err();
+        }
     }
 
     /// Ends all bars.
     pub(crate) fn close(&mut self) -> Result<(), AllocError> {
         let column = self.columns.len() as u64;
         for number in 0..MAX_TASKS {
-            self.turn(number, column, NOTHING)?;
+            self.turn(number, column, None);
+        }
+        if self.is_short {
+            return Err(AllocError);
         }
         Ok(())
     }

@@ -1,10 +1,12 @@
 //! What a row shows at a click: a card for each patch, task and site.
 
-use crate::names::{add_entry, add_patch, add_site, add_version};
+use crate::change::Change;
+use crate::names::{add_entry, add_site, add_version, patch_name};
 use crate::sheet::Sheet;
-use crate::shot::{PatchShot, TaskShot};
+use crate::sheet::Value::{Markup, Name, Number};
+use crate::shot::{PatchShot, Shade, TaskShot};
 use klp_core::Manager;
-use klp_types::{Entry, Mode, ObjId, PatchId, Site, Transition, Version};
+use klp_types::{Entry, Mode, ObjId, Site, Version};
 
 /// How many hexadecimal digits an entry site has.
 const DIGITS: usize = 10;
@@ -12,50 +14,57 @@ const DIGITS: usize = 10;
 /// The instruction that a call through a pointer lands on, in front of an entry site.
 const ENDBR64: [u8; 4] = [0xf3, 0x0f, 0x1e, 0xfa];
 
-/// A patch that is installed.
-pub(crate) fn add_patch_card(sheet: &mut Sheet, manager: &Manager, shot: &PatchShot) {
-    if shot.is_moving {
-        sheet.markup("<div class=\"card moves\"><b>");
-    } else {
-        sheet.markup("<div class=card><b>");
-    }
-    add_patch(sheet, manager, shot.patch);
-    match (shot.is_moving, shot.is_enabled) {
-        (true, true) => sheet.markup("</b> moves in</div>"),
-        (true, false) => sheet.markup("</b> moves out</div>"),
-        (false, true) => sheet.markup("</b> is enabled</div>"),
-        (false, false) => sheet.markup("</b> is disabled</div>"),
-    }
+/// What is said of a patch or a module.
+pub(crate) fn add_card(sheet: &mut Sheet, class: &'static str, name: &[u8], what: &'static str) {
+    sheet.fill(
+        "<div class={}><b>{}</b> {}</div>",
+        &[Markup(class), Name(name), Markup(what)],
+    );
 }
 
-/// A patch that was installed before the line.
-pub(crate) fn add_gone_card(sheet: &mut Sheet, manager: &Manager, patch: PatchId) {
-    sheet.markup("<div class=card><b>");
-    add_patch(sheet, manager, patch);
-    sheet.markup("</b> is gone</div>");
+/// A patch that is installed.
+pub(crate) fn add_patch_card(sheet: &mut Sheet, manager: &Manager, shot: &PatchShot) {
+    let (class, what) = match (shot.is_moving, shot.is_enabled) {
+        (true, true) => ("\"card moves\"", "moves in"),
+        (true, false) => ("\"card moves\"", "moves out"),
+        (false, true) => ("card", "is enabled"),
+        (false, false) => ("card", "is disabled"),
+    };
+    add_card(sheet, class, patch_name(manager, shot.patch), what);
 }
 
 fn class_of(shot: &TaskShot) -> &'static str {
-    match (shot.state, shot.is_holding) {
-        (1, true) => "<div class=\"card new hold\"><b>task ",
-        (1, false) => "<div class=\"card new\"><b>task ",
-        (0, true) => "<div class=\"card old hold\"><b>task ",
-        (0, false) => "<div class=\"card old\"><b>task ",
-        _ => "<div class=card><b>task ",
+    match (shot.look.shade, shot.look.is_holding) {
+        (Shade::New, true) => "\"card new hold\"",
+        (Shade::New, false) => "\"card new\"",
+        (Shade::Old, true) => "\"card old hold\"",
+        (Shade::Old, false) => "\"card old\"",
+        (Shade::Rest, _) => "card",
     }
 }
 
 fn mode_of(shot: &TaskShot) -> &'static str {
     match shot.mode {
-        Mode::User => "</b> is in user space",
-        Mode::Kernel => "</b> runs in the kernel",
-        Mode::Asleep => "</b> sleeps",
+        Mode::User => "is in user space",
+        Mode::Kernel => "runs in the kernel",
+        Mode::Asleep => "sleeps",
     }
 }
 
-/// When a task switches that isn't at the target.
-fn wait_of(shot: &TaskShot) -> &'static str {
-    if shot.is_holding {
+/// Whether a task is at the target of the transition that goes on, and else when it switches.
+fn progress_of(shot: &TaskShot, change: &Change<'_>) -> &'static str {
+    let Some(moving) = change.moving else {
+        return "";
+    };
+    let target = if moving.target {
+        Shade::New
+    } else {
+        Shade::Old
+    };
+    if shot.look.shade == target {
+        return "<p>is at the target</p>";
+    }
+    if shot.look.is_holding {
         return "<p class=holds>holds the transition up</p>";
     }
     match shot.mode {
@@ -65,41 +74,21 @@ fn wait_of(shot: &TaskShot) -> &'static str {
     }
 }
 
-fn add_progress(sheet: &mut Sheet, shot: &TaskShot, moving: &Option<Transition>) {
-    let Some(moving) = *moving else {
-        return;
+fn add_frame(sheet: &mut Sheet, manager: &Manager, version: Version, change: &Change<'_>) {
+    let (opening, why) = match change.moving {
+        Some(moving) if change.blocked.contains(&version) => (
+            "<li class=blocks>",
+            if moving.target {
+                " <span class=why>blocks: the patch changes it</span>"
+            } else {
+                " <span class=why>blocks: it leaves with the patch</span>"
+            },
+        ),
+        _ => ("<li>", ""),
     };
-    if shot.state == i8::from(moving.target) {
-        sheet.markup("<p>is at the target</p>");
-    } else {
-        sheet.markup(wait_of(shot));
-    }
-}
-
-fn add_frame(
-    sheet: &mut Sheet,
-    manager: &Manager,
-    version: Version,
-    blocked: &[Version],
-    moving: &Option<Transition>,
-) {
-    let Some(moving) = *moving else {
-        sheet.markup("<li>");
-        add_version(sheet, manager, version);
-        return;
-    };
-    if !blocked.contains(&version) {
-        sheet.markup("<li>");
-        add_version(sheet, manager, version);
-        return;
-    }
-    sheet.markup("<li class=blocks>");
+    sheet.markup(opening);
     add_version(sheet, manager, version);
-    if moving.target {
-        sheet.markup(" <span class=why>blocks: the patch changes it</span>");
-    } else {
-        sheet.markup(" <span class=why>blocks: it leaves with the patch</span>");
-    }
+    sheet.markup(why);
 }
 
 /// A task that changed, or holds the transition up. Its functions stand outermost first.
@@ -108,29 +97,34 @@ pub(crate) fn add_task_card(
     manager: &Manager,
     number: u64,
     shot: &TaskShot,
-    blocked: &[Version],
-    moving: &Option<Transition>,
+    change: &Change<'_>,
 ) {
-    sheet.markup(class_of(shot));
-    sheet.number(number);
-    sheet.markup(mode_of(shot));
+    sheet.fill(
+        "<div class={}><b>task {}</b> {}",
+        &[
+            Markup(class_of(shot)),
+            Number(number),
+            Markup(mode_of(shot)),
+        ],
+    );
     let frames = shot.frames.as_slice();
     if !frames.is_empty() {
         sheet.markup(" in<ul class=m>");
         for version in frames {
-            add_frame(sheet, manager, *version, blocked, moving);
+            add_frame(sheet, manager, *version, change);
         }
         sheet.markup("</ul>");
     }
-    add_progress(sheet, shot, moving);
+    sheet.markup(progress_of(shot, change));
     sheet.markup("</div>");
 }
 
 /// A task that was there before the line.
 pub(crate) fn add_ended_card(sheet: &mut Sheet, number: u64) {
-    sheet.markup("<div class=card><b>task ");
-    sheet.number(number);
-    sheet.markup("</b> has ended</div>");
+    sheet.fill(
+        "<div class=card><b>task {}</b> has ended</div>",
+        &[Number(number)],
+    );
 }
 
 /// The five bytes of an entry site, which may stand behind an ENDBR64.
@@ -167,9 +161,7 @@ fn add_bytes(sheet: &mut Sheet, manager: &Manager, site: Site) {
         return;
     };
     if let Some(digits) = entry_bytes(body) {
-        sheet.markup("<p>entry site: <span class=m>");
-        sheet.text(&digits);
-        sheet.markup("</span></p>");
+        sheet.fill("<p>entry site: {}</p>", &[Name(&digits)]);
     }
 }
 
@@ -177,14 +169,12 @@ fn add_bytes(sheet: &mut Sheet, manager: &Manager, site: Site) {
 pub(crate) fn add_site_card(sheet: &mut Sheet, manager: &Manager, site: Site, entries: &[Entry]) {
     sheet.markup("<div class=card><b class=m>");
     add_site(sheet, manager, site);
-    sheet.markup("</b>");
     if entries.is_empty() {
-        sheet.markup("<p>no entry: the function as it was built</p>");
+        sheet.markup("</b><p>no entry: the function as it was built</p>");
     } else {
-        sheet.markup("<p>entries, newest first:</p><ol class=m>");
+        sheet.markup("</b><p>entries, newest first:</p><ol class=m>");
         for entry in entries {
-            sheet.markup("<li>");
-            add_entry(sheet, manager, *entry);
+            add_entry(sheet, manager, entry);
         }
         sheet.markup("</ol>");
     }

@@ -1,19 +1,19 @@
 //! What a page tells of a run beside its lines: sentences, bars, and at each line what changed.
 
 use crate::bars::{Bars, Sign};
-use crate::cards::{add_ended_card, add_gone_card, add_patch_card, add_site_card, add_task_card};
+use crate::cards::{add_card, add_ended_card, add_patch_card, add_site_card, add_task_card};
+use crate::change::{Change, module_of, refused_patch, sentence_of, turn_of};
 use crate::drawing::add_drawing;
-use crate::names::add_object;
+use crate::names::{object_name, patch_name};
 use crate::part::Part;
-use crate::room::add_tasks;
 use crate::sheet::Sheet;
+use crate::sheet::Value::{Markup, Name, Number};
 use crate::shot::{PatchShot, TaskShot, patch_shots, task_shot};
 use crate::story::Story;
 use crate::style::{FOOT, HEAD, STYLE};
 use arrayvec::ArrayVec;
 use klp_console::event_of;
 use klp_core::Manager;
-use klp_model::Event;
 use klp_types::{Entry, MAX_PATCHES, MAX_TASKS, PatchId, Site, TaskId, Transition, Version};
 use std::alloc::{AllocError, Global};
 
@@ -43,17 +43,7 @@ pub struct Chronicle {
     story: Story,
 }
 
-/// What a line changed, and what no task may be inside of now when it switches.
-#[derive(Clone, Copy)]
-struct Change<'a> {
-    event: Option<Event>,
-    moving: Option<Transition>,
-    blocked: &'a [Version],
-    sign: Option<(Sign, PatchId)>,
-}
-
 /// How much a line changed.
-#[derive(Clone, Copy, PartialEq, Eq)]
 enum Extent {
     Nothing,
     /// Tasks or sites.
@@ -62,112 +52,13 @@ enum Extent {
     Patches,
 }
 
-/// The patch of a transition that is, or was.
-fn patch_of(before: &Option<Transition>, after: &Option<Transition>) -> Option<PatchId> {
-    match (*before, *after) {
-        (_, Some(moving)) => Some(moving.patch),
-        (Some(moving), None) => Some(moving.patch),
-        (None, None) => None,
+impl Told {
+    fn of(before: Sheet, rest: Sheet) -> Result<Told, AllocError> {
+        Ok(Told {
+            before: before.into_parts()?,
+            rest: rest.into_parts()?,
+        })
     }
-}
-
-/// What becomes of a transition from one line to the next. Without an event something was taken back.
-fn sign_of(
-    before: &Option<Transition>,
-    after: &Option<Transition>,
-    event: &Option<Event>,
-) -> Option<(Sign, PatchId)> {
-    let patch = patch_of(before, after)?;
-    let is_forced = matches!(*event, Some(Event::Force(_)));
-    if *before == *after {
-        return if is_forced {
-            Some((Sign::Forced, patch))
-        } else {
-            None
-        };
-    }
-    if event.is_none() {
-        return Some((Sign::Back, patch));
-    }
-    match (before.is_some(), after.is_some()) {
-        (false, _) => Some((Sign::Starts, patch)),
-        (true, false) => Some((Sign::Ends, patch)),
-        (true, true) => Some((Sign::Turns, patch)),
-    }
-}
-
-/// The sentence of what becomes of a transition, if there is one.
-fn sentence_of(
-    sign: Sign,
-    before: &Option<Transition>,
-    after: &Option<Transition>,
-) -> Option<&'static str> {
-    let into = match (*before, *after) {
-        (_, Some(moving)) => moving.target,
-        (Some(moving), None) => moving.target,
-        (None, None) => true,
-    };
-    match (sign, into) {
-        (Sign::Starts, true) => Some(" begins to move in."),
-        (Sign::Starts, false) => Some(" begins to move out."),
-        (Sign::Turns, true) => Some(" is turned round: it moves in."),
-        (Sign::Turns, false) => Some(" is turned round: it moves out."),
-        (Sign::Forced, _) => Some(" is forced: from here on nothing is promised of consistency."),
-        (Sign::Ends, true) => Some(" is enabled: each task runs its functions."),
-        (Sign::Ends, false) => Some(" has left: its functions are as before."),
-        (Sign::Back, _) => None,
-    }
-}
-
-/// Whether a patch that is gone was replaced: it left by an event, and another patch moved.
-fn is_replaced(change: &Change<'_>, patch: PatchId) -> bool {
-    match change.sign {
-        Some((Sign::Ends, moved)) => moved != patch,
-        _ => false,
-    }
-}
-
-fn has_patch(shots: &[PatchShot], patch: PatchId) -> bool {
-    for shot in shots {
-        if shot.patch == patch {
-            return true;
-        }
-    }
-    false
-}
-
-/// The blocked function that a task is inside of, the innermost one.
-fn blocked_frame(shot: &TaskShot, blocked: &[Version]) -> Option<Version> {
-    let mut found = None;
-    for frame in shot.frames.as_slice() {
-        if blocked.contains(frame) {
-            found = Some(*frame);
-        }
-    }
-    found
-}
-
-/// The module that came or went, if one did.
-fn add_module(sheet: &mut Sheet, manager: &Manager, change: &Change<'_>) -> bool {
-    let (Some(Event::Coming(object)) | Some(Event::Going(object))) = change.event else {
-        return false;
-    };
-    sheet.markup("<div class=card><b>");
-    add_object(sheet, manager, object);
-    if manager.modules().is_loaded(object) {
-        sheet.markup("</b> is loaded</div>");
-    } else {
-        sheet.markup("</b> isn't loaded</div>");
-    }
-    true
-}
-
-fn add_opening(sheet: &mut Sheet, opening: &'static str, line: u64, number: &'static str) {
-    sheet.markup(opening);
-    sheet.number(line);
-    sheet.markup(number);
-    sheet.number(line);
-    sheet.markup("</span>");
 }
 
 impl Chronicle {
@@ -189,7 +80,7 @@ impl Chronicle {
 
     /// Takes the room for each task and each site.
     pub fn open(&mut self, manager: &Manager) -> Result<(), AllocError> {
-        add_tasks(&mut self.tasks, None)?;
+        self.tasks.resize(MAX_TASKS, None)?;
         for _site in 0..manager.sites() {
             self.stacks.push(ArrayVec::new())?;
         }
@@ -213,12 +104,12 @@ impl Chronicle {
         if manager.mark() == self.mark {
             return self.quiet_row(alloc, answer);
         }
-        let change = self.change_of(manager, line, blocked);
-        let mut cards = Sheet::new(alloc);
-        match self.tell_change(alloc, manager, &mut cards, &change, holders)? {
+        let change = self.change_of(manager, line, blocked, holders);
+        let mut rest = Sheet::new(alloc);
+        match self.tell_change(alloc, manager, &mut rest, &change)? {
             Extent::Nothing => self.quiet_row(alloc, answer),
-            Extent::Tasks => self.row(alloc, &mut cards, "<details class=row id=line-"),
-            Extent::Patches => self.row(alloc, &mut cards, "<details class=row open id=line-"),
+            Extent::Tasks => self.row(alloc, rest, ""),
+            Extent::Patches => self.row(alloc, rest, " open"),
         }
     }
 
@@ -228,6 +119,7 @@ impl Chronicle {
         manager: &Manager,
         line: &[u8],
         blocked: &'a [Version],
+        holders: &'a [TaskId],
     ) -> Change<'a> {
         let mark = manager.mark();
         let event = if mark > self.mark {
@@ -235,13 +127,17 @@ impl Chronicle {
         } else {
             None
         };
-        self.mark = mark;
         let moving = manager.moving();
+        let turn = turn_of(&self.moving, &moving, &event);
+        self.mark = mark;
+        self.moving = moving;
         Change {
+            line: self.line,
             event,
+            turn,
             moving,
             blocked,
-            sign: sign_of(&self.moving, &moving, &event),
+            holders,
         }
     }
 
@@ -250,79 +146,102 @@ impl Chronicle {
         &mut self,
         alloc: Global,
         manager: &Manager,
-        cards: &mut Sheet,
+        rest: &mut Sheet,
         change: &Change<'_>,
-        holders: &[TaskId],
     ) -> Result<Extent, AllocError> {
-        self.tell_event(manager, change);
-        let modules = add_module(cards, manager, change);
-        let patches = self.tell_patches(alloc, manager, cards, change)?;
-        let tasks = self.tell_tasks(manager, cards, change, holders);
-        let sites = self.tell_sites(manager, cards);
-        self.bars
-            .see(self.line, change.sign, self.tasks.as_slice())?;
-        self.moving = change.moving;
-        if change.event.is_none() && (patches || tasks || sites) {
-            self.story.tell_line(self.line, "events are taken back.");
+        rest.markup("</summary><div class=now>");
+        let modules = self.tell_module(manager, rest, change);
+        self.tell_turn(manager, change);
+        let patches = self.tell_patches(alloc, manager, rest, change)?;
+        let others = self.tell_tasks(manager, rest, change) | self.tell_sites(manager, rest);
+        rest.markup("</div></details>\n");
+        self.bars.see(change.line, &change.turn, &self.tasks);
+        let is_changed = modules | patches | others;
+        if is_changed {
+            self.story.tell_back(change);
         }
-        if patches {
-            Ok(Extent::Patches)
-        } else if tasks || sites || modules {
-            Ok(Extent::Tasks)
-        } else {
-            Ok(Extent::Nothing)
-        }
+        Ok(extent_of(patches, is_changed))
     }
 
     /// A row in which nothing changed.
     fn quiet_row(&mut self, alloc: Global, answer: &[u8]) -> Result<Told, AllocError> {
-        let mut before = Sheet::new(alloc);
-        if self.quiet == PLAIN_ROWS {
-            before.markup(
-                "<details class=more><summary>more lines: no patch, task, site or module changes</summary>",
-            );
-        }
-        self.quiet = self.quiet.saturating_add(1);
-        let opening = if answer.starts_with(b"error ") {
-            "<div class=\"row no\" id=line-"
+        let fold = if self.quiet == PLAIN_ROWS {
+            "<details class=more><summary>more lines: no patch, task, site or module changes</summary>"
         } else {
-            "<div class=row id=line-"
+            ""
         };
-        add_opening(&mut before, opening, self.line, "><span class=n>");
+        self.quiet = self.quiet.saturating_add(1);
+        let class = if answer.starts_with(b"error ") {
+            "\"row no\""
+        } else {
+            "row"
+        };
+        let line = Number(self.line);
+        let mut before = Sheet::new(alloc);
+        before.fill(
+            "{}<div class={} id=line-{}><span class=n>{}</span>",
+            &[Markup(fold), Markup(class), line, line],
+        );
         let mut rest = Sheet::new(alloc);
         rest.markup("</div>\n");
-        Ok(Told {
-            before: before.into_parts()?,
-            rest: rest.into_parts()?,
-        })
+        Told::of(before, rest)
     }
 
     /// Ends the fold of rows in which nothing changed.
-    fn end_fold(&mut self, sheet: &mut Sheet) {
-        if self.quiet > PLAIN_ROWS {
-            sheet.markup("</details>\n");
-        }
+    fn end_fold(&mut self) -> &'static str {
+        let is_folded = self.quiet > PLAIN_ROWS;
         self.quiet = 0;
+        if is_folded { "</details>\n" } else { "" }
     }
 
     /// A row that opens, with its cards.
-    fn row(
-        &mut self,
-        alloc: Global,
-        cards: &mut Sheet,
-        opening: &'static str,
-    ) -> Result<Told, AllocError> {
+    fn row(&mut self, alloc: Global, rest: Sheet, open: &'static str) -> Result<Told, AllocError> {
+        let fold = self.end_fold();
+        let line = Number(self.line);
         let mut before = Sheet::new(alloc);
-        self.end_fold(&mut before);
-        add_opening(&mut before, opening, self.line, "><summary><span class=n>");
-        let mut rest = Sheet::new(alloc);
-        rest.markup("</summary><div class=now>");
-        rest.append(cards);
-        rest.markup("</div></details>\n");
-        Ok(Told {
-            before: before.into_parts()?,
-            rest: rest.into_parts()?,
-        })
+        before.fill(
+            "{}<details class=row{} id=line-{}><summary><span class=n>{}</span>",
+            &[Markup(fold), Markup(open), line, line],
+        );
+        Told::of(before, rest)
+    }
+
+    /// The module that came or went, if one did.
+    fn tell_module(&mut self, manager: &Manager, sheet: &mut Sheet, change: &Change<'_>) -> bool {
+        let Some((object, sentence)) = module_of(manager, &change.event) else {
+            return false;
+        };
+        let name = object_name(manager, object);
+        let what = if manager.modules().is_loaded(object) {
+            "is loaded"
+        } else {
+            "isn't loaded"
+        };
+        add_card(sheet, "card", name, what);
+        self.story.tell(change.line, sentence, &[Name(name)]);
+        true
+    }
+
+    fn tell_patch(&mut self, manager: &Manager, patch: PatchId, sentence: &'static str) {
+        let name = Name(patch_name(manager, patch));
+        self.story.tell(self.line, sentence, &[name]);
+    }
+
+    /// The sentences of what an event did to a patch.
+    fn tell_turn(&mut self, manager: &Manager, change: &Change<'_>) {
+        if let Some(patch) = refused_patch(manager, &change.event) {
+            let sentence = "{} isn't installed: a pre-patch callback refused.";
+            self.tell_patch(manager, patch, sentence);
+        }
+        let Some((sign, moving)) = change.turn else {
+            return;
+        };
+        if matches!(sign, Sign::Starts) {
+            self.transitions = self.transitions.saturating_add(1);
+        }
+        if let Some(sentence) = sentence_of(sign, moving.target) {
+            self.tell_patch(manager, moving.patch, sentence);
+        }
     }
 
     /// The patches, where one of them changed.
@@ -330,74 +249,41 @@ impl Chronicle {
         &mut self,
         alloc: Global,
         manager: &Manager,
-        cards: &mut Sheet,
+        sheet: &mut Sheet,
         change: &Change<'_>,
     ) -> Result<bool, AllocError> {
         let shots = patch_shots(alloc, manager)?;
-        if shots.as_slice() == self.patches.as_slice() {
-            return Ok(false);
-        }
-        for shot in &shots {
-            add_patch_card(cards, manager, shot);
-        }
-        for shot in &self.patches {
-            if !has_patch(shots.as_slice(), shot.patch) {
-                add_gone_card(cards, manager, shot.patch);
-                if is_replaced(change, shot.patch) {
-                    let what = " is replaced, and has left.";
-                    self.story.tell(manager, self.line, shot.patch, what);
-                }
+        let is_changed = shots.as_slice() != self.patches.as_slice();
+        if is_changed {
+            for shot in &shots {
+                add_patch_card(sheet, manager, shot);
             }
+            self.tell_gone(manager, sheet, change);
         }
         self.patches = shots;
-        Ok(true)
+        Ok(is_changed)
     }
 
-    /// The sentences of what an event did.
-    fn tell_event(&mut self, manager: &Manager, change: &Change<'_>) {
-        let line = self.line;
-        match change.event {
-            Some(Event::Coming(object)) => {
-                let what = if manager.modules().is_loaded(object) {
-                    " is loaded."
-                } else {
-                    " isn't loaded: a pre-patch callback refused."
-                };
-                self.story.tell_object(manager, line, object, what);
-            }
-            Some(Event::Going(object)) => {
-                self.story
-                    .tell_object(manager, line, object, " is unloaded.");
-            }
-            Some(Event::Enable(patch)) if manager.enabled(patch).is_none() => {
-                let what = " isn't installed: a pre-patch callback refused.";
-                self.story.tell(manager, line, patch, what);
-            }
-            _ => {}
-        }
-        if let Some((sign, patch)) = change.sign {
-            if sign == Sign::Starts {
-                self.transitions = self.transitions.saturating_add(1);
-            }
-            if let Some(what) = sentence_of(sign, &self.moving, &change.moving) {
-                self.story.tell(manager, line, patch, what);
+    /// The patches that were installed before the line.
+    fn tell_gone(&mut self, manager: &Manager, sheet: &mut Sheet, change: &Change<'_>) {
+        for shot in &self.patches {
+            if manager.enabled(shot.patch).is_none() {
+                let name = patch_name(manager, shot.patch);
+                add_card(sheet, "card", name, "is gone");
+                if change.is_replaced(shot.patch) {
+                    let sentence = "{} is replaced, and has left.";
+                    self.story.tell(change.line, sentence, &[Name(name)]);
+                }
             }
         }
     }
 
     /// The tasks that changed or hold the transition up. Answers whether one changed.
-    fn tell_tasks(
-        &mut self,
-        manager: &Manager,
-        cards: &mut Sheet,
-        change: &Change<'_>,
-        holders: &[TaskId],
-    ) -> bool {
+    fn tell_tasks(&mut self, manager: &Manager, sheet: &mut Sheet, change: &Change<'_>) -> bool {
         let mut is_changed = false;
         for number in 0..MAX_TASKS {
             let task = TaskId(number as u8);
-            let shot = task_shot(manager, holders, task);
-            is_changed |= self.tell_task(manager, cards, change, task, shot);
+            is_changed |= self.tell_task(manager, sheet, change, task);
         }
         is_changed
     }
@@ -405,65 +291,42 @@ impl Chronicle {
     fn tell_task(
         &mut self,
         manager: &Manager,
-        cards: &mut Sheet,
+        sheet: &mut Sheet,
         change: &Change<'_>,
         task: TaskId,
-        shot: Option<TaskShot>,
     ) -> bool {
         let number = usize::from(task.0);
         if number >= self.tasks.len() {
             return false;
         }
-        let before = self.tasks[number];
+        let shot = task_shot(manager, change.holders, task);
+        let is_changed = self.tasks[number] != shot;
         self.tasks[number] = shot;
-        let blocked = change.blocked;
-        match (before, shot) {
-            (None, None) => return false,
-            (Some(_), None) => add_ended_card(cards, u64::from(task.0)),
-            (_, Some(ref shot)) => {
-                if before == Some(*shot) && !shot.is_holding {
-                    return false;
+        match shot {
+            Some(ref shot) => {
+                if is_changed || shot.look.is_holding {
+                    add_task_card(sheet, manager, u64::from(task.0), shot, change);
                 }
-                add_task_card(
-                    cards,
-                    manager,
-                    u64::from(task.0),
-                    shot,
-                    blocked,
-                    &change.moving,
-                );
             }
-        }
-        self.tell_hold(manager, change, task, shot);
-        before != shot
-    }
-
-    fn tell_hold(
-        &mut self,
-        manager: &Manager,
-        change: &Change<'_>,
-        task: TaskId,
-        shot: Option<TaskShot>,
-    ) {
-        let mut holds = None;
-        if let Some(moving) = change.moving {
-            if let Some(ref shot) = shot {
-                if shot.is_holding {
-                    holds = Some((moving, blocked_frame(shot, change.blocked)));
+            None => {
+                if is_changed {
+                    add_ended_card(sheet, u64::from(task.0));
                 }
             }
         }
-        self.story.see(manager, self.line, task, holds);
+        let hold = change.hold_of(&shot);
+        self.story.see(manager, change.line, task, &hold);
+        is_changed
     }
 
     /// The sites whose function stack changed. Answers whether there is one.
-    fn tell_sites(&mut self, manager: &Manager, cards: &mut Sheet) -> bool {
+    fn tell_sites(&mut self, manager: &Manager, sheet: &mut Sheet) -> bool {
         let mut is_changed = false;
         for number in 0..self.stacks.len().min(65_535) {
             let site = Site(number as u16);
             let entries = manager.stack(site);
             if entries.as_slice() != self.stacks[number].as_slice() {
-                add_site_card(cards, manager, site, entries.as_slice());
+                add_site_card(sheet, manager, site, entries.as_slice());
                 self.stacks[number] = entries;
                 is_changed = true;
             }
@@ -475,13 +338,8 @@ impl Chronicle {
     pub fn head(&mut self, alloc: Global, manager: &Manager) -> Result<Vec<Part>, AllocError> {
         self.bars.close()?;
         let mut head = Sheet::new(alloc);
-        head.markup(HEAD);
-        add_title(&mut head, self);
-        head.markup(STYLE);
-        head.markup("<h1>");
-        add_title(&mut head, self);
-        head.markup("</h1><ul class=story>");
-        head.append(self.story.end(manager, self.line));
+        self.add_title(&mut head);
+        self.story.end(manager, self.line, &mut head);
         head.markup("</ul><h2>The run</h2>");
         add_drawing(&mut head, manager, &self.bars);
         head.markup("<h2>Line by line</h2>\n");
@@ -491,22 +349,41 @@ impl Chronicle {
     /// What stands below them.
     pub fn foot(&mut self, alloc: Global) -> Result<Vec<Part>, AllocError> {
         let mut foot = Sheet::new(alloc);
-        self.end_fold(&mut foot);
+        foot.markup(self.end_fold());
         foot.markup(FOOT);
         foot.into_parts()
     }
-}
 
-fn add_count(sheet: &mut Sheet, count: u64, one: &'static str, many: &'static str) {
-    sheet.number(count);
-    sheet.markup(if count == 1 { one } else { many });
-}
-
-/// How much happened, and whether a transition still goes on.
-fn add_title(sheet: &mut Sheet, chronicle: &Chronicle) {
-    add_count(sheet, chronicle.line, " line, ", " lines, ");
-    add_count(sheet, chronicle.transitions, " transition", " transitions");
-    if chronicle.moving.is_some() {
-        sheet.markup(", one still under way");
+    /// How much happened, and whether a transition still goes on: in the title of the page, and above its story.
+    fn add_title(&self, head: &mut Sheet) {
+        let title = [
+            Number(self.line),
+            Markup(plural(self.line)),
+            Number(self.transitions),
+            Markup(plural(self.transitions)),
+            Markup(match self.moving {
+                Some(_) => ", one still under way",
+                None => "",
+            }),
+        ];
+        head.markup(HEAD);
+        head.fill("{} line{}, {} transition{}{}", &title);
+        head.markup(STYLE);
+        head.fill(
+            "<h1>{} line{}, {} transition{}{}</h1><ul class=story>",
+            &title,
+        );
     }
+}
+
+fn extent_of(patches: bool, others: bool) -> Extent {
+    match (patches, others) {
+        (true, _) => Extent::Patches,
+        (false, true) => Extent::Tasks,
+        (false, false) => Extent::Nothing,
+    }
+}
+
+fn plural(count: u64) -> &'static str {
+    if count == 1 { "" } else { "s" }
 }

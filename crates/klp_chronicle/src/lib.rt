@@ -9,11 +9,11 @@
 
 mod bars;
 mod cards;
+mod change;
 mod chronicle;
 mod drawing;
 mod names;
 mod part;
-mod room;
 mod sheet;
 mod shot;
 mod story;

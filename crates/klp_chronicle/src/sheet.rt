@@ -2,7 +2,16 @@
 
 use crate::part::Part;
 use std::alloc::{AllocError, Global};
-use std::mem;
+
+/// What stands at a gap of a template. What comes from the run is no `Markup`.
+#[derive(Clone, Copy)]
+pub(crate) enum Value<'a> {
+    Markup(&'static str),
+    Number(u64),
+    Text(&'a [u8]),
+    /// A text that is the name of something, which a page sets apart.
+    Name(&'a [u8]),
+}
 
 /// Pieces in order. A want of memory is kept, so whoever adds ten pieces asks once, at the end.
 #[derive(Drop)]
@@ -25,38 +34,46 @@ impl Sheet {
         }
     }
 
-    pub(crate) fn markup(&mut self, markup: &'static str) {
-        self.add(Part::Markup(markup));
-    }
-
-    pub(crate) fn number(&mut self, number: u64) {
-        self.add(Part::Number(number));
-    }
-
-    pub(crate) fn text(&mut self, text: &[u8]) {
-        let alloc = *self.parts.allocator();
-        match Vec::from_slice(alloc, text) {
+    fn add_text(&mut self, text: &[u8]) {
+        match Vec::from_slice(*self.parts.allocator(), text) {
             Ok(text) => self.add(Part::Text(text)),
             Err(_) => self.is_short = true,
         }
     }
 
-    /// An attribute whose value is a number.
-    pub(crate) fn attribute(&mut self, name: &'static str, number: u64) {
-        self.markup(name);
-        self.number(number);
-        self.markup("\"");
+    fn add_value(&mut self, value: &Value<'_>) {
+        match *value {
+            Value::Markup(markup) => self.markup(markup),
+            Value::Number(number) => self.add(Part::Number(number)),
+            Value::Text(text) => self.add_text(text),
+            Value::Name(name) => {
+                self.markup("<span class=m>");
+                self.add_text(name);
+                self.markup("</span>");
+            }
+        }
+    }
+
+    pub(crate) fn markup(&mut self, markup: &'static str) {
+        self.add(Part::Markup(markup));
+    }
+
+    /// Adds a template with a value at each of its gaps, which are written `{}`.
+    pub(crate) fn fill(&mut self, template: &'static str, values: &[Value<'_>]) {
+        let mut rest = template;
+        for value in values {
+            let (markup, behind) = rest.split_once("{}").unwrap_or((rest, ""));
+            self.markup(markup);
+            self.add_value(value);
+            rest = behind;
+        }
+        self.markup(rest);
     }
 
     /// Takes all pieces of another sheet.
     pub(crate) fn append(&mut self, other: &mut Sheet) {
-        let alloc = *self.parts.allocator();
-        if other.is_short {
+        if other.is_short || self.parts.append(&mut other.parts).is_err() {
             self.is_short = true;
-        }
-        let parts = mem::replace(&mut other.parts, Vec::new(alloc));
-        for part in parts {
-            self.add(part);
         }
     }
 

@@ -4,14 +4,31 @@ use klp_core::Manager;
 use klp_types::{Frames, Mode, PatchId, TaskId};
 use std::alloc::{AllocError, Global};
 
+/// What a task runs.
+#[derive(Clone, Copy, PartialEq, Eq)]
+pub(crate) enum Shade {
+    /// No patch moves.
+    Rest,
+    /// It doesn't run the patch that moves.
+    Old,
+    /// It runs that patch.
+    New,
+}
+
+/// What a task's bar shows.
+#[derive(Clone, Copy, PartialEq, Eq)]
+pub(crate) struct Look {
+    pub shade: Shade,
+    pub is_holding: bool,
+}
+
 /// A task as it is after a line.
 #[derive(Clone, Copy, PartialEq, Eq)]
 pub(crate) struct TaskShot {
     pub mode: Mode,
-    pub state: i8,
+    pub look: Look,
     /// What it sleeps inside of.
     pub frames: Frames,
-    pub is_holding: bool,
 }
 
 /// An installed patch as it is after a line.
@@ -22,24 +39,19 @@ pub(crate) struct PatchShot {
     pub is_enabled: bool,
 }
 
-fn has(tasks: &[TaskId], task: TaskId) -> bool {
-    for own in tasks {
-        if *own == task {
-            return true;
-        }
-    }
-    false
-}
-
 /// A task, if it is there.
 pub(crate) fn task_shot(manager: &Manager, holders: &[TaskId], task: TaskId) -> Option<TaskShot> {
     let mode = manager.mode(task)?;
-    let state = manager.patch_state(task)?;
+    let shade = match manager.patch_state(task)? {
+        0 => Shade::Old,
+        1 => Shade::New,
+        _ => Shade::Rest,
+    };
+    let is_holding = holders.contains(&task);
     Some(TaskShot {
         mode,
-        state,
+        look: Look { shade, is_holding },
         frames: manager.frames(task),
-        is_holding: has(holders, task),
     })
 }
 

@@ -1,21 +1,22 @@
 //! What happened, in sentences: whoever reads only these knows who held what up.
 
-use crate::names::{add_object, add_patch, add_version};
-use crate::room::add_tasks;
-use crate::sheet::Sheet;
+use crate::change::Change;
+use crate::names::{add_version, patch_name};
+use crate::sheet::Value::{Name, Number};
+use crate::sheet::{Sheet, Value};
 use klp_core::Manager;
-use klp_types::{MAX_TASKS, ObjId, PatchId, TaskId, Transition, Version};
+use klp_types::{MAX_TASKS, PatchId, TaskId, Version};
 use std::alloc::{AllocError, Global};
 
 /// How many sentences a page has at most.
 const MAX_SENTENCES: u64 = 100;
 
-/// A task that holds a transition up.
+/// A task that holds a transition up since a line, and the function that it is inside of.
 #[derive(Clone, Copy)]
-struct Hold {
-    from: u64,
-    patch: PatchId,
-    frame: Option<Version>,
+pub(crate) struct Hold {
+    pub from: u64,
+    pub patch: PatchId,
+    pub frame: Option<Version>,
 }
 
 #[derive(Drop)]
@@ -23,13 +24,6 @@ pub(crate) struct Story {
     sheet: Sheet,
     sentences: u64,
     holds: Vec<Option<Hold>>,
-}
-
-/// A link to a line.
-fn add_link(sheet: &mut Sheet, line: u64) {
-    sheet.markup("<a href=\"#line-");
-    sheet.number(line);
-    sheet.markup("\">");
 }
 
 impl Story {
@@ -43,7 +37,7 @@ impl Story {
 
     /// Takes the room for what each task does.
     pub(crate) fn open(&mut self) -> Result<(), AllocError> {
-        add_tasks(&mut self.holds, None)
+        self.holds.resize(MAX_TASKS, None)
     }
 
     /// Begins a sentence, unless there are enough.
@@ -52,80 +46,39 @@ impl Story {
         self.sentences <= MAX_SENTENCES
     }
 
-    /// A sentence of a line and a patch.
-    pub(crate) fn tell(
-        &mut self,
-        manager: &Manager,
-        line: u64,
-        patch: PatchId,
-        what: &'static str,
-    ) {
+    /// A sentence of a line.
+    pub(crate) fn tell(&mut self, line: u64, sentence: &'static str, values: &[Value<'_>]) {
         if !self.begin() {
             return;
         }
-        self.line(line);
-        add_patch(&mut self.sheet, manager, patch);
-        self.sheet.markup(what);
+        let sheet = &mut self.sheet;
+        sheet.fill(
+            "<li><a href=\"#line-{}\">Line {}</a>: ",
+            &[Number(line), Number(line)],
+        );
+        sheet.fill(sentence, values);
     }
 
-    /// A sentence of a line and an object.
-    pub(crate) fn tell_object(
-        &mut self,
-        manager: &Manager,
-        line: u64,
-        object: ObjId,
-        what: &'static str,
-    ) {
-        if !self.begin() {
-            return;
+    /// The sentence of a change without an event.
+    pub(crate) fn tell_back(&mut self, change: &Change<'_>) {
+        if change.event.is_none() {
+            self.tell(change.line, "events are taken back.", &[]);
         }
-        self.line(line);
-        add_object(&mut self.sheet, manager, object);
-        self.sheet.markup(what);
-    }
-
-    /// A sentence of a line alone.
-    pub(crate) fn tell_line(&mut self, line: u64, what: &'static str) {
-        if !self.begin() {
-            return;
-        }
-        self.line(line);
-        self.sheet.markup(what);
-    }
-
-    fn line(&mut self, line: u64) {
-        self.sheet.markup("<li>");
-        add_link(&mut self.sheet, line);
-        self.sheet.markup("Line ");
-        self.sheet.number(line);
-        self.sheet.markup("</a>: ");
     }
 
     /// Sees whether a task holds the transition up after a line, and by which function.
-    pub(crate) fn see(
-        &mut self,
-        manager: &Manager,
-        line: u64,
-        task: TaskId,
-        holds: Option<(Transition, Option<Version>)>,
-    ) {
+    pub(crate) fn see(&mut self, manager: &Manager, line: u64, task: TaskId, hold: &Option<Hold>) {
         let number = usize::from(task.0);
         if number >= self.holds.len() {
             return;
         }
-        match (self.holds[number], holds) {
-            (None, Some((moving, frame))) => {
-                self.holds[number] = Some(Hold {
-                    from: line,
-                    patch: moving.patch,
-                    frame,
-                });
-            }
-            (Some(hold), None) => {
-                self.holds[number] = None;
-                self.held(manager, task, &hold, line.saturating_sub(1));
-            }
-            _ => {}
+        let before = self.holds[number];
+        if before.is_some() == hold.is_some() {
+            return;
+        }
+        self.holds[number] = *hold;
+        if let Some(ref before) = before {
+            self.held(manager, task, before, line.saturating_sub(1));
         }
     }
 
@@ -135,17 +88,16 @@ impl Story {
             return;
         }
         let sheet = &mut self.sheet;
-        sheet.markup("<li class=holds>");
-        add_link(sheet, hold.from);
-        sheet.markup("Lines ");
-        sheet.number(hold.from);
-        sheet.markup(" to ");
-        sheet.number(to);
-        sheet.markup("</a>: task ");
-        sheet.number(u64::from(task.0));
-        sheet.markup(" holds ");
-        add_patch(sheet, manager, hold.patch);
-        sheet.markup(" up");
+        sheet.fill(
+            "<li class=holds><a href=\"#line-{}\">Lines {} to {}</a>: task {} holds {} up",
+            &[
+                Number(hold.from),
+                Number(hold.from),
+                Number(to),
+                Number(u64::from(task.0)),
+                Name(patch_name(manager, hold.patch)),
+            ],
+        );
         if let Some(frame) = hold.frame {
             sheet.markup(", asleep in <span class=m>");
             add_version(sheet, manager, frame);
@@ -154,18 +106,19 @@ impl Story {
         sheet.markup(".");
     }
 
-    /// All sentences, after the last line.
-    pub(crate) fn end(&mut self, manager: &Manager, line: u64) -> &mut Sheet {
+    /// Gives all sentences to a page, after the last line.
+    pub(crate) fn end(&mut self, manager: &Manager, line: u64, page: &mut Sheet) {
         for number in 0..MAX_TASKS {
-            self.see(manager, line.saturating_add(1), TaskId(number as u8), None);
+            let task = TaskId(number as u8);
+            self.see(manager, line.saturating_add(1), task, &None);
         }
+        page.append(&mut self.sheet);
         let unsaid = self.sentences.saturating_sub(MAX_SENTENCES);
         if unsaid > 0 {
-            self.sheet.markup("<li>and ");
-            self.sheet.number(unsaid);
-            self.sheet
-                .markup(" sentences more, which the lines below tell.");
+            page.fill(
+                "<li>and {} sentences more, which the lines below tell.",
+                &[Number(unsaid)],
+            );
         }
-        &mut self.sheet
     }
 }
