@@ -1,30 +1,38 @@
 //! Measures what an event costs, and what the program costs as a whole.
 
-use crate::Fault;
-use crate::events::catalog;
-use crate::measured::{SCENES, Scene};
-use crate::whole::{TIMES, Whole, Work};
+use crate::case::Case;
+use crate::measured::{Measured, SCENES, Way};
+use crate::whole::{Work, shortest};
 use klp_catalog::Catalog;
 use klp_core::Manager;
 use klp_program::{boot, close};
 use klp_watch::{NotHonest, watch};
 use std::alloc::Global;
-use std::fs;
 use std::rt::{Clock, Files};
 use std::time::Instant;
+use std::{fs, io};
 
-/// The catalog over which the console is measured, and what it serves.
-const SMALL: &str = "k.catalog";
+/// A kernel of as many functions as there may be, of eight bytes each, and as many patches as there may be, each with
+/// as many functions as it may have: four of them cover the kernel.
+const LARGE: &str = "bench.catalog";
 
-const SCRIPT: &str = "measured.script";
+/// The example that the console is measured with, and how often its script stands in the input.
+const SMALL: &str = "measured k";
 
-// A manager over a text that has no callbacks.
-fn booted(alloc: Global, text: &str) -> Result<Manager, Fault> {
-    let plan = Catalog::read(alloc, text.as_bytes()).map_err(klp_program::Fault::from)?;
+const TIMES: usize = 512;
+
+// A manager over a text that has no fault and no callbacks.
+fn booted(alloc: Global, text: &[u8]) -> Option<Manager> {
+    let Ok(plan) = Catalog::read(alloc, text) else {
+        return None;
+    };
     if plan.script(0).is_some() {
-        return Err(Fault::Script);
+        return None;
     }
-    Ok(boot(alloc, plan, Vec::new(alloc))?)
+    match boot(alloc, plan, Vec::new(alloc)) {
+        Ok(manager) => Some(manager),
+        Err(_) => None,
+    }
 }
 
 // All items of a trace count as accepted where it is honest, else none.
@@ -39,29 +47,32 @@ fn counted(ended: Result<(), NotHonest>, items: usize) -> (u64, u64) {
 // events are taken, and those of some lists are then taken back, which alone is measured; the journal has
 // room for one slice. The round is left in one place while it holds the manager: each further way out would
 // be proved with all that is known of it.
-fn round<R: Clock>(rt: &R, alloc: Global, text: &str, scene: &mut Scene) -> Result<(), Fault> {
-    let mut manager = booted(alloc, text)?;
+fn round<R: Clock>(
+    rt: &R,
+    alloc: Global,
+    text: &[u8],
+    way: Way,
+    lists: &mut [Measured],
+) -> io::Result<()> {
+    let Some(mut manager) = booted(alloc, text) else {
+        return Err(io::Error::other("no manager is booted"));
+    };
     let mut ended = Ok(());
-    for list in &mut scene.lists {
+    for list in lists {
         for _ in 0..list.slices {
             manager.seal();
             let mut start = Instant::now(rt);
-            let counts = if list.items.is_empty() {
-                manager.run(&list.events)
-            } else {
-                counted(watch(&mut manager, &list.items), list.items.len())
+            let counts = match way {
+                Way::Watched => counted(watch(&mut manager, &list.items), list.items.len()),
+                _ => manager.run(&list.events),
             };
-            if list.is_taken_back {
+            if let Way::TakenBack = way {
                 start = Instant::now(rt);
                 let _ = manager.rewind(0);
             }
-            ended = list.add(counts, start, Instant::now(rt));
-            if ended.is_err() {
-                break;
-            }
-        }
-        if ended.is_err() {
-            break;
+            let end = Instant::now(rt);
+            list.count(counts);
+            ended = ended.and(list.shortest.add(start, end));
         }
     }
     close(manager);
@@ -72,19 +83,19 @@ fn round<R: Clock>(rt: &R, alloc: Global, text: &str, scene: &mut Scene) -> Resu
 fn measure_scene<R: Clock + Print>(
     rt: &R,
     alloc: Global,
-    text: &str,
+    text: &[u8],
     rounds: u32,
-    scene: &mut Scene,
-) -> Result<(), Fault> {
+    way: Way,
+    lists: &mut [Measured],
+) -> io::Result<()> {
     for _ in 0..rounds {
-        round(rt, alloc, text, scene)?;
+        round(rt, alloc, text, way, lists)?;
     }
-    for list in &scene.lists {
-        if rounds > 1 {
-            println!(rt; "{list} best {} ns", list.best())?;
-        } else {
-            println!(rt; "{list}")?;
-        }
+    for list in lists {
+        println!(rt;
+            "{}: accepted {} refused {}{}",
+            list.name, list.accepted, list.refused, list.shortest
+        )?;
     }
     Ok(())
 }
@@ -93,74 +104,58 @@ fn measure_scene<R: Clock + Print>(
 fn measure_events<R: Clock + Print>(
     rt: &R,
     alloc: Global,
-    text: &str,
+    text: &[u8],
     rounds: u32,
-) -> Result<(), Fault> {
-    for rows in SCENES {
-        let mut scene = Scene::new(alloc, rows)?;
-        measure_scene(rt, alloc, text, rounds, &mut scene)?;
+) -> io::Result<()> {
+    for scene in &SCENES {
+        let mut lists = scene.lists(alloc, rounds)?;
+        measure_scene(rt, alloc, text, rounds, scene.way, &mut lists)?;
     }
     Ok(())
 }
 
-// What one piece of work costs.
-fn measure_whole<R: Clock + Print>(
+// What events cost over this catalog, and to read it.
+fn measure_large<R: Clock + Print>(
     rt: &R,
     alloc: Global,
+    catalog: &[u8],
     rounds: u32,
-    whole: &mut Whole,
-) -> Result<(), Fault> {
-    for _ in 0..rounds {
-        whole.round(rt, alloc)?;
-    }
-    if rounds > 1 {
-        println!(rt; "{whole}: best {} ns", whole.best())?;
-    } else {
-        println!(rt; "{whole}")?;
-    }
-    Ok(())
+) -> io::Result<()> {
+    measure_events(rt, alloc, catalog, rounds)?;
+    let (read, _) = shortest(rt, alloc, rounds, Work::Read(catalog))?;
+    println!(rt; "a catalog of {} bytes is read{read}", catalog.len())
 }
 
-// What the program costs as a whole, with this large catalog, a small one and a script.
-fn measure_program<R: Clock + Print>(
+// What it costs to boot a manager over this catalog, and to serve this input by it.
+fn measure_small<R: Clock + Print>(
     rt: &R,
     alloc: Global,
-    [large, small, script]: [&[u8]; 3],
+    catalog: &[u8],
+    input: &[u8],
     rounds: u32,
-) -> Result<(), Fault> {
-    for work in [Work::Read, Work::Boot, Work::Serve] {
-        let mut whole = match work {
-            Work::Read => Whole::new(alloc, work, large, b"", 0)?,
-            Work::Boot => Whole::new(alloc, work, small, b"", 0)?,
-            Work::Serve => Whole::new(alloc, work, small, script, TIMES)?,
-        };
-        measure_whole(rt, alloc, rounds, &mut whole)?;
-    }
-    Ok(())
+) -> io::Result<()> {
+    let (boot, _) = shortest(rt, alloc, rounds, Work::Serve(catalog, b""))?;
+    let bytes = catalog.len();
+    println!(rt; "a manager is booted over a catalog of {bytes} bytes{boot}")?;
+    let (serve, answers) = shortest(rt, alloc, rounds, Work::Serve(catalog, input))?;
+    let lines = input.iter().filter(|byte| **byte == b'\n').count();
+    println!(rt; "{lines} lines are answered by {answers} bytes{serve}")
 }
 
-// Measures over the catalogs, which are borrowed: each way out would drop them.
-fn measure_both<R: Clock + Print>(
-    rt: &R,
-    alloc: Global,
-    large: &str,
-    small: &[u8],
-    script: &[u8],
-    rounds: u32,
-) -> Result<(), Fault> {
-    measure_events(rt, alloc, large, rounds)?;
-    measure_program(rt, alloc, [large.as_bytes(), small, script], rounds)
+fn run_large<R: Clock + Files + Print + AllocGlobal>(rt: &R, rounds: u32) -> io::Result<()> {
+    let catalog = fs::read(rt, LARGE)?;
+    measure_large(rt, rt.alloc(), &catalog, rounds)
+}
+
+fn run_small<R: Clock + Files + Print + AllocGlobal>(rt: &R, rounds: u32) -> io::Result<()> {
+    let case = Case::read(rt, SMALL, "script")?;
+    let input = case.input.repeat(rt.alloc(), TIMES)?;
+    measure_small(rt, rt.alloc(), &case.catalog, &input, rounds)
 }
 
 /// Measures so many rounds. Each figure is a line: what was accepted, refused and answered, and behind it the
 /// shortest time, which is told only of several rounds.
-pub(crate) fn run<R: Clock + Files + Print + AllocGlobal>(
-    rt: &R,
-    alloc: Global,
-    rounds: u32,
-) -> Result<(), Fault> {
-    let large = catalog(alloc)?;
-    let small = fs::read(rt, SMALL)?;
-    let script = fs::read(rt, SCRIPT)?;
-    measure_both(rt, alloc, large.as_str(), &small, &script, rounds)
+pub(crate) fn run<R: Clock + Files + Print + AllocGlobal>(rt: &R, rounds: u32) -> io::Result<()> {
+    run_large(rt, rounds)?;
+    run_small(rt, rounds)
 }

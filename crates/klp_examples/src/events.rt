@@ -1,209 +1,260 @@
-//! The events that are measured.
+//! The events that are measured: lists of a few steps, which are taken turn after turn.
 
 use klp_model::{Event, Seen};
 use klp_types::{
-    Frames, MAX_FRAMES, MAX_TASKS, PatchId, ShadowKey, ShadowValue, Site, TaskId, Version,
+    Frames, MAX_FRAMES, MAX_PATCHES, MAX_TASKS, PatchId, ShadowKey, ShadowValue, Site, TaskId,
+    Version,
 };
 use std::alloc::{AllocError, Global};
-use std::ops::Range;
 
-const HANDLER: u64 = 0xffff_ffff_8100_0000;
+/// A patch, and a function that it doesn't change.
+const FIRST: PatchId = PatchId(0);
 
-const SITES: u16 = 256;
-
-const PATCHES: u8 = 16;
-
-const FUNCTIONS: u16 = 64;
+const UNCHANGED: u16 = 64;
 
 /// How many shadow variables are there while some come and go.
-pub(crate) const FEW: u64 = 10;
+const FEW: u64 = 10;
 
-pub(crate) const MANY: u64 = 500;
+const MANY: u64 = 500;
 
 /// How often something comes and goes in a slice.
 const PAIRS: u64 = 16;
 
-/// How many tasks enter the kernel and leave it.
-const TASKS: u8 = 8;
+/// As many patches and tasks as there may be, and the tasks that enter the kernel and leave it.
+const ALL_PATCHES: u64 = MAX_PATCHES as u64;
 
-/// How often one task enters the kernel and leaves it.
-const TURNS: u64 = 2_047;
+const ALL_TASKS: u64 = MAX_TASKS as u64;
 
-fn add_symbol(alloc: Global, text: &mut String, site: u16) -> Result<(), AllocError> {
-    let address = HANDLER + 0x1000 + u64::from(site) * 16;
-    let line = format!(in alloc; "symbol f{site} {address:x} 0000000000000000\n")?;
-    text.push_str(line.as_str())
-}
+const TASKS: u64 = 8;
 
-fn add_function(alloc: Global, text: &mut String, site: u16) -> Result<(), AllocError> {
-    let line = format!(in alloc; "func .klp.sym.vmlinux.f{site},0 n{site} ffffffffc0000000\n")?;
-    text.push_str(line.as_str())
-}
-
-fn add_patch(alloc: Global, text: &mut String, patch: u8) -> Result<(), AllocError> {
-    let line = format!(in alloc; "patch p{patch}\ntarget vmlinux\n")?;
-    text.push_str(line.as_str())?;
-    let first = u16::from(patch % 4) * FUNCTIONS;
-    for site in first..first + FUNCTIONS {
-        add_function(alloc, text, site)?;
-    }
-    Ok(())
-}
-
-fn add_all(alloc: Global, text: &mut String) -> Result<(), AllocError> {
-    for site in 0..SITES {
-        add_symbol(alloc, text, site)?;
-    }
-    for patch in 0..PATCHES {
-        add_patch(alloc, text, patch)?;
-    }
-    Ok(())
-}
-
-/// A kernel of as many functions as there may be, of eight bytes each, and as many patches as there
-/// may be, each with as many functions as it may have: four of them cover the kernel.
-pub(crate) fn catalog(alloc: Global) -> Result<String, AllocError> {
-    let mut text = format!(in alloc; "handler {HANDLER:x}\nobject vmlinux\n")?;
-    add_all(alloc, &mut text)?;
-    Ok(text)
-}
-
-/// Lists of events.
+/// What happens in a turn, which goes by its number.
 #[derive(Clone, Copy)]
-pub(crate) enum Events {
-    /// Each patch is enabled and its transition completed.
-    Enabled,
-    /// Where all patches are installed, each of these is refused.
-    Refused,
-    /// The shadow variables of these numbers are added, from the first up to the second.
-    Added(u64, u64),
-    /// A shadow variable between the others comes and goes.
-    Pairs,
-    /// Tasks begin.
-    Begun,
-    /// They enter the kernel and leave it in turn.
-    Entered,
-    /// A task begins, and enters the kernel and leaves it in turn: one event less than the journal takes.
-    Turns,
-    /// Tasks begin, enter the kernel, leave it and end in turn.
-    Lives,
-    /// A patch is enabled, disabled and gone again.
-    Cycle,
-    /// As many tasks as there may be fall asleep, and beside them the first patch comes and goes, and
-    /// shadow variables do.
-    Mixed,
-    /// As many tasks as there may be fall asleep inside of many functions, the innermost of this site.
-    Asleep(u16),
-    /// The transition of the first patch starts.
-    Started,
-    /// The transition is tried again and again.
-    Polls,
+pub(crate) enum Step {
+    /// The patch of this number is enabled, or is refused where there is none.
+    Enable,
+    /// The first patch is enabled, and disabled.
+    EnableFirst,
+    DisableFirst,
+    /// The transition is tried.
+    Poll,
+    /// The task of this number begins, enters the kernel, leaves it and ends.
+    NewTask,
+    EnterKernel,
+    ExitToUser,
+    EndTask,
+    /// It falls asleep inside of as many functions as there may be, the innermost of this site.
+    Sleep(u16),
+    /// The shadow variable of this number is added, and freed.
+    Add,
+    Free,
+    /// A shadow variable between the first ones comes, and goes.
+    Come,
+    Go,
 }
 
-impl Events {
-    pub(crate) fn list(self, alloc: Global) -> Result<Vec<Event>, AllocError> {
-        match self {
-            Events::Enabled => enabled(alloc),
-            Events::Refused => refused(alloc),
-            Events::Added(first, end) => added(alloc, first..end),
-            Events::Pairs => pairs(alloc),
-            Events::Begun => begun(alloc),
-            Events::Entered => entered(alloc),
-            Events::Turns => turns(alloc),
-            Events::Lives => lives(alloc),
-            Events::Cycle => cycle(alloc),
-            Events::Mixed => mixed(alloc),
-            Events::Asleep(site) => asleep(alloc, Version::Original(Site(site))),
-            Events::Started => started(alloc),
-            Events::Polls => polls(alloc),
-        }
+/// Turns with these numbers, from the first up to the second, so many times over.
+#[derive(Clone, Copy)]
+pub(crate) struct Turns {
+    times: u64,
+    numbers: (u64, u64),
+    steps: &'static [Step],
+}
+
+/// Each patch is enabled and its transition completed.
+pub(crate) const ENABLED: [Turns; 1] = [Turns {
+    times: 1,
+    numbers: (0, ALL_PATCHES),
+    steps: &[Step::Enable, Step::Poll],
+}];
+
+/// Where all patches are installed, each of these is refused.
+pub(crate) const REFUSED: [Turns; 1] = [Turns {
+    times: 1,
+    numbers: (0, 32),
+    steps: &[Step::Enable, Step::Poll],
+}];
+
+pub(crate) const FEW_ADDED: [Turns; 1] = [Turns {
+    times: 1,
+    numbers: (0, FEW),
+    steps: &[Step::Add],
+}];
+
+pub(crate) const MANY_ADDED: [Turns; 1] = [Turns {
+    times: 1,
+    numbers: (FEW, MANY),
+    steps: &[Step::Add],
+}];
+
+/// A shadow variable between the others comes and goes.
+pub(crate) const COMING_AND_GOING: [Turns; 1] = [Turns {
+    times: 1,
+    numbers: (0, PAIRS),
+    steps: &[Step::Come, Step::Go],
+}];
+
+/// Eight tasks begin.
+pub(crate) const BEGUN: [Turns; 1] = [Turns {
+    times: 1,
+    numbers: (0, TASKS),
+    steps: &[Step::NewTask],
+}];
+
+/// They enter the kernel and leave it in turn.
+pub(crate) const ENTERED: [Turns; 1] = [Turns {
+    times: PAIRS,
+    numbers: (0, TASKS),
+    steps: &[Step::EnterKernel, Step::ExitToUser],
+}];
+
+/// A task begins, and enters the kernel and leaves it in turn: one event less than the journal takes.
+pub(crate) const OF_ONE_TASK: [Turns; 2] = [
+    Turns {
+        times: 1,
+        numbers: (0, 1),
+        steps: &[Step::NewTask],
+    },
+    Turns {
+        times: 2047,
+        numbers: (0, 1),
+        steps: &[Step::EnterKernel, Step::ExitToUser],
+    },
+];
+
+/// Eight tasks begin, enter the kernel, leave it and end in turn.
+pub(crate) const LIVES: [Turns; 1] = [Turns {
+    times: PAIRS,
+    numbers: (0, TASKS),
+    steps: &[
+        Step::NewTask,
+        Step::EnterKernel,
+        Step::ExitToUser,
+        Step::EndTask,
+    ],
+}];
+
+/// A patch is enabled, disabled and gone again.
+pub(crate) const CYCLE: [Turns; 1] = [Turns {
+    times: PAIRS,
+    numbers: (0, 1),
+    steps: &[
+        Step::EnableFirst,
+        Step::Poll,
+        Step::DisableFirst,
+        Step::Poll,
+    ],
+}];
+
+/// As many tasks as there may be fall asleep, and beside them the first patch comes and goes, and shadow variables do.
+pub(crate) const MIXED: [Turns; 2] = [
+    Turns {
+        times: 1,
+        numbers: (0, ALL_TASKS),
+        steps: &[Step::NewTask, Step::EnterKernel, Step::Sleep(UNCHANGED)],
+    },
+    Turns {
+        times: 1,
+        numbers: (0, PAIRS),
+        steps: &[
+            Step::EnableFirst,
+            Step::Add,
+            Step::Poll,
+            Step::DisableFirst,
+            Step::Free,
+            Step::Poll,
+        ],
+    },
+];
+
+/// As many tasks as there may be fall asleep inside of a function that the first patch changes.
+pub(crate) const ASLEEP: [Turns; 1] = [Turns {
+    times: 1,
+    numbers: (0, ALL_TASKS),
+    steps: &[Step::NewTask, Step::EnterKernel, Step::Sleep(0)],
+}];
+
+/// The same inside of others.
+pub(crate) const ASLEEP_ELSEWHERE: [Turns; 1] = [Turns {
+    times: 1,
+    numbers: (0, ALL_TASKS),
+    steps: &[Step::NewTask, Step::EnterKernel, Step::Sleep(100)],
+}];
+
+/// The transition of the first patch starts.
+pub(crate) const STARTED: [Turns; 1] = [Turns {
+    times: 1,
+    numbers: (0, 1),
+    steps: &[Step::EnableFirst],
+}];
+
+/// The transition is tried again and again.
+pub(crate) const POLLS: [Turns; 1] = [Turns {
+    times: PAIRS,
+    numbers: (0, 1),
+    steps: &[Step::Poll],
+}];
+
+/// As many frames as there may be: the innermost is of this function, the others are of functions that the first patch
+/// doesn't change.
+fn frames(innermost: u16) -> Frames {
+    let mut frames = Frames::new();
+    for _ in 1..MAX_FRAMES {
+        frames.push(Version::Original(Site(UNCHANGED)));
     }
+    frames.push(Version::Original(Site(innermost)));
+    frames
 }
 
-fn enabled(alloc: Global) -> Result<Vec<Event>, AllocError> {
-    let mut events = Vec::new(alloc);
-    for patch in 0..PATCHES {
-        events.push(Event::Enable(PatchId(patch)))?;
-        events.push(Event::Poll)?;
-    }
-    Ok(events)
-}
-
-fn refused(alloc: Global) -> Result<Vec<Event>, AllocError> {
-    let mut events = Vec::new(alloc);
-    for patch in 0..32 {
-        events.push(Event::Enable(PatchId(patch)))?;
-        events.push(Event::Poll)?;
-    }
-    Ok(events)
-}
-
-fn added(alloc: Global, numbers: Range<u64>) -> Result<Vec<Event>, AllocError> {
-    let mut events = Vec::new(alloc);
-    for obj in numbers {
-        let key = ShadowKey { obj, id: 1 };
-        events.push(Event::ShadowAlloc(key, ShadowValue::of(obj)))?;
-    }
-    Ok(events)
-}
-
-fn pairs(alloc: Global) -> Result<Vec<Event>, AllocError> {
-    let mut events = Vec::new(alloc);
-    for pair in 0..PAIRS {
-        let key = ShadowKey {
-            obj: pair % FEW,
+impl Step {
+    /// The event of the turn with this number.
+    fn event(self, number: u64) -> Event {
+        let patch = PatchId((number % 256) as u8);
+        let task = TaskId((number % 256) as u8);
+        let added = ShadowKey { obj: number, id: 1 };
+        let between = ShadowKey {
+            obj: number % FEW,
             id: 2,
         };
-        events.push(Event::ShadowAlloc(key, ShadowValue::of(pair)))?;
-        events.push(Event::ShadowFree(key))?;
-    }
-    Ok(events)
-}
-
-fn begun(alloc: Global) -> Result<Vec<Event>, AllocError> {
-    let mut events = Vec::new(alloc);
-    for task in 0..TASKS {
-        events.push(Event::NewTask(TaskId(task)))?;
-    }
-    Ok(events)
-}
-
-fn entered(alloc: Global) -> Result<Vec<Event>, AllocError> {
-    let mut events = Vec::new(alloc);
-    for _ in 0..PAIRS {
-        for task in 0..TASKS {
-            events.push(Event::EnterKernel(TaskId(task)))?;
-            events.push(Event::ExitToUser(TaskId(task)))?;
+        match self {
+            Step::Enable => Event::Enable(patch),
+            Step::EnableFirst => Event::Enable(FIRST),
+            Step::DisableFirst => Event::SetEnabled(FIRST, false),
+            Step::Poll => Event::Poll,
+            Step::NewTask => Event::NewTask(task),
+            Step::EnterKernel => Event::EnterKernel(task),
+            Step::ExitToUser => Event::ExitToUser(task),
+            Step::EndTask => Event::EndTask(task),
+            Step::Sleep(site) => Event::Sleep(task, frames(site)),
+            Step::Add => Event::ShadowAlloc(added, ShadowValue::of(number)),
+            Step::Free => Event::ShadowFree(added),
+            Step::Come => Event::ShadowAlloc(between, ShadowValue::of(number)),
+            Step::Go => Event::ShadowFree(between),
         }
     }
-    Ok(events)
 }
 
-fn turns(alloc: Global) -> Result<Vec<Event>, AllocError> {
-    let mut events = Vec::new(alloc);
-    events.push(Event::NewTask(TaskId(0)))?;
-    for _ in 0..TURNS {
-        events.push(Event::EnterKernel(TaskId(0)))?;
-        events.push(Event::ExitToUser(TaskId(0)))?;
-    }
-    Ok(events)
-}
-
-fn lives(alloc: Global) -> Result<Vec<Event>, AllocError> {
-    let mut events = Vec::new(alloc);
-    for _ in 0..PAIRS {
-        for task in 0..TASKS {
-            events.push(Event::NewTask(TaskId(task)))?;
-            events.push(Event::EnterKernel(TaskId(task)))?;
-            events.push(Event::ExitToUser(TaskId(task)))?;
-            events.push(Event::EndTask(TaskId(task)))?;
+/// Puts the events of such turns behind the others.
+fn take(events: &mut Vec<Event>, turns: Turns) -> Result<(), AllocError> {
+    for _ in 0..turns.times {
+        for number in turns.numbers.0..turns.numbers.1 {
+            for step in turns.steps {
+                events.push(step.event(number))?;
+            }
         }
     }
+    Ok(())
+}
+
+/// The events of a list.
+pub(crate) fn events_of(alloc: Global, list: &[Turns]) -> Result<Vec<Event>, AllocError> {
+    let mut events = Vec::new(alloc);
+    for turns in list {
+        take(&mut events, *turns)?;
+    }
     Ok(events)
 }
 
-/// The events as the items of a trace, in which each task that enters the kernel calls a function there and
-/// returns.
+/// The events as the items of a trace, in which each task that enters the kernel calls a function there and returns.
 pub(crate) fn trace_of(alloc: Global, events: &[Event]) -> Result<Vec<Seen>, AllocError> {
     let mut items = Vec::new(alloc);
     for event in events {
@@ -214,65 +265,4 @@ pub(crate) fn trace_of(alloc: Global, events: &[Event]) -> Result<Vec<Seen>, All
         }
     }
     Ok(items)
-}
-
-fn cycle(alloc: Global) -> Result<Vec<Event>, AllocError> {
-    let mut events = Vec::new(alloc);
-    for _ in 0..PAIRS {
-        events.push(Event::Enable(PatchId(0)))?;
-        events.push(Event::Poll)?;
-        events.push(Event::SetEnabled(PatchId(0), false))?;
-        events.push(Event::Poll)?;
-    }
-    Ok(events)
-}
-
-fn mixed(alloc: Global) -> Result<Vec<Event>, AllocError> {
-    let mut events = asleep(alloc, Version::Original(Site(FUNCTIONS)))?;
-    for obj in 0..PAIRS {
-        let key = ShadowKey { obj, id: 1 };
-        events.push(Event::Enable(PatchId(0)))?;
-        events.push(Event::ShadowAlloc(key, ShadowValue::of(obj)))?;
-        events.push(Event::Poll)?;
-        events.push(Event::SetEnabled(PatchId(0), false))?;
-        events.push(Event::ShadowFree(key))?;
-        events.push(Event::Poll)?;
-    }
-    Ok(events)
-}
-
-/// As many frames as there may be: the innermost is this function, the others are of functions that the
-/// first patch doesn't change.
-fn frames(innermost: Version) -> Frames {
-    let mut frames = Frames::new();
-    for _ in 1..MAX_FRAMES {
-        frames.push(Version::Original(Site(FUNCTIONS)));
-    }
-    frames.push(innermost);
-    frames
-}
-
-fn asleep(alloc: Global, innermost: Version) -> Result<Vec<Event>, AllocError> {
-    let frames = frames(innermost);
-    let mut events = Vec::new(alloc);
-    for task in 0..MAX_TASKS as u8 {
-        events.push(Event::NewTask(TaskId(task)))?;
-        events.push(Event::EnterKernel(TaskId(task)))?;
-        events.push(Event::Sleep(TaskId(task), frames))?;
-    }
-    Ok(events)
-}
-
-fn started(alloc: Global) -> Result<Vec<Event>, AllocError> {
-    let mut events = Vec::new(alloc);
-    events.push(Event::Enable(PatchId(0)))?;
-    Ok(events)
-}
-
-fn polls(alloc: Global) -> Result<Vec<Event>, AllocError> {
-    let mut events = Vec::new(alloc);
-    for _ in 0..PAIRS {
-        events.push(Event::Poll)?;
-    }
-    Ok(events)
 }

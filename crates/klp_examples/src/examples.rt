@@ -1,194 +1,124 @@
-//! Serves each example: its script over its catalog has to print its output, and nothing else, however
-//! few bytes a read gives and a write takes, and where no memory is left once a manager is booted. At once it takes
-//! five seconds at most.
+//! Runs each example. A script over its catalog has to print its output, and nothing else, however few bytes a read
+//! gives and a write takes, and where no memory is left once a manager is booted. At once it takes five seconds at
+//! most. A trace over its catalog has to be answered as is written.
 
+use crate::case::Case;
 use crate::few::Few;
-use crate::hoard::Hoard;
+use crate::starved;
 use crate::tally::Tally;
-use crate::{Fault, starved};
-use klp_program::{catalog_in, console};
+use klp_program::{console, watch_trace};
 use std::alloc::Global;
-use std::fs;
+use std::io;
 use std::rt::{Clock, Files};
 use std::time::Instant;
-
-/// The examples, a line each: the name of the script and the output, `NAME.script` and `NAME.output`,
-/// and the name of the catalog where that is another, as `CATALOG.catalog`. Lines that begin with `#` say
-/// what the next ones show.
-const INDEX: &str = "index";
 
 /// How many seconds an example takes at most.
 const SECONDS: u64 = 5;
 
-/// What stands for the catalog that is served where no file is named.
-const BUILT_IN: &str = "-";
-
-// What a run answers: its status, and what it writes.
-#[derive(Drop)]
-struct Outcome {
-    status: u8,
-    out: Vec<u8>,
-    err: Vec<u8>,
-}
-
-// How an input and an output are cut.
+/// How an example is run.
 #[derive(Clone, Copy)]
-struct Cut {
-    name: &'static str,
-    // How many bytes a read gives at most, and a write takes.
-    read: usize,
-    written: usize,
+pub(crate) enum Way {
+    /// A script at once, in five seconds at most.
+    AtOnce,
+    /// A script, of which a read gives so many bytes at most, and a write takes so many.
+    Cut(usize, usize),
+    /// A script, where no memory is left once a manager is booted.
+    Starved,
+    /// A trace.
+    Watched,
 }
 
-/// All at once, read byte by byte, written byte by byte, and both in small pieces.
-const CUTS: [Cut; 5] = [
-    Cut {
-        name: "whole",
-        read: usize::MAX,
-        written: usize::MAX,
-    },
-    Cut {
-        name: "read byte by byte",
-        read: 1,
-        written: usize::MAX,
-    },
-    Cut {
-        name: "written byte by byte",
-        read: usize::MAX,
-        written: 1,
-    },
-    Cut {
-        name: "three bytes at a time",
-        read: 3,
-        written: 3,
-    },
-    Cut {
-        name: "eight bytes at a time",
-        read: 8,
-        written: 8,
-    },
+/// All ways in which a script is run, each with what is told where it doesn't hold.
+pub(crate) const WAYS_OF_SCRIPTS: [(Way, &str); 6] = [
+    (Way::AtOnce, "differs, or takes more than five seconds"),
+    (Way::Cut(1, usize::MAX), "differs, read byte by byte"),
+    (Way::Cut(usize::MAX, 1), "differs, written byte by byte"),
+    (Way::Cut(3, 3), "differs, three bytes at a time"),
+    (Way::Cut(8, 8), "differs, eight bytes at a time"),
+    (Way::Starved, "differs, without memory"),
 ];
 
-// A run of the script over the catalog.
-fn served(alloc: Global, catalog: &[u8], script: &[u8], cut: Cut) -> Outcome {
-    let mut input = Few::new(script, cut.read);
-    let mut out = Few::new(Vec::new(alloc), cut.written);
+pub(crate) const WAYS_OF_TRACES: [(Way, &str); 1] = [(Way::Watched, "differs")];
+
+/// Whether the script prints its output, cut so.
+fn is_served(alloc: Global, case: &Case, read: usize, written: usize) -> bool {
+    let mut input = Few::new(case.input.as_slice(), read);
+    let mut out = Vec::new(alloc);
     let mut err = Vec::new(alloc);
-    let status = console(alloc, catalog, &mut input, &mut out, &mut err);
-    Outcome {
-        status,
-        out: out.into_inner(),
-        err,
+    let mut few = Few::new(&mut out, written);
+    let status = console(alloc, &case.catalog, &mut input, &mut few, &mut err);
+    case.is_met(status, &out, &err)
+}
+
+/// Whether it does so at once, in time.
+fn is_quick<R: Clock>(rt: &R, alloc: Global, case: &Case) -> io::Result<bool> {
+    let start = Instant::now(rt)?;
+    let is_served = is_served(alloc, case, usize::MAX, usize::MAX);
+    let passed = Instant::now(rt)?.saturating_duration_since(start);
+    Ok(is_served && passed.as_secs() < SECONDS)
+}
+
+/// Whether the trace is answered so, and there is no fault.
+fn is_watched(alloc: Global, case: &Case) -> bool {
+    let mut out = Vec::new(alloc);
+    let mut err = Vec::new(alloc);
+    let status = watch_trace(alloc, &case.catalog, &case.input, &mut out, &mut err);
+    case.is_met(status, &out, &err)
+}
+
+/// Whether the example holds, run in this way.
+fn holds<R: Clock>(rt: &R, alloc: Global, case: &Case, way: Way) -> io::Result<bool> {
+    match way {
+        Way::AtOnce => is_quick(rt, alloc, case),
+        Way::Cut(read, written) => Ok(is_served(alloc, case, read, written)),
+        Way::Starved => Ok(starved::is_served(alloc, case)?),
+        Way::Watched => Ok(is_watched(alloc, case)),
     }
 }
 
-// The catalog of this name.
-fn catalog_of<R: Files + AllocGlobal>(rt: &R, name: &str) -> Result<Vec<u8>, Fault> {
-    let path = match name {
-        BUILT_IN => None,
-        _ => Some(format!(in rt.alloc(); "{name}.catalog")?),
-    };
-    Ok(catalog_in(rt, path)?)
-}
-
-// A file of an example.
-fn file_of<R: Files + AllocGlobal>(rt: &R, name: &str, ending: &str) -> Result<Vec<u8>, Fault> {
-    Ok(fs::read(rt, format!(in rt.alloc(); "{name}.{ending}")?.as_str())?)
-}
-
-// What is served, and what it is to print.
-#[derive(Drop)]
-struct Example {
-    catalog: Vec<u8>,
-    script: Vec<u8>,
-    output: Vec<u8>,
-}
-
-fn example_of<R: Files + AllocGlobal>(rt: &R, name: &str, catalog: &str) -> Result<Example, Fault> {
-    let catalog = catalog_of(rt, catalog)?;
-    let script = file_of(rt, name, "script")?;
-    let output = file_of(rt, name, "output")?;
-    Ok(Example {
-        catalog,
-        script,
-        output,
-    })
-}
-
-// Whether the example prints what it is to print, cut so.
-fn holds_cut(alloc: Global, example: &Example, cut: Cut) -> bool {
-    let ran = served(alloc, &example.catalog, &example.script, cut);
-    ran.status == 0 && ran.out == example.output && ran.err.is_empty()
-}
-
-// Whether the example is served in five seconds.
-fn is_quick<R: Clock + AllocGlobal>(rt: &R, example: &Example) -> Result<bool, Fault> {
-    let start = Instant::now(rt)?;
-    let _ = holds_cut(rt.alloc(), example, CUTS[0]);
-    Ok(Instant::now(rt)?.saturating_duration_since(start).as_secs() < SECONDS)
-}
-
-// Whether the example prints what it is to print where no memory is left once a manager is booted.
-fn holds_starved(alloc: Global, example: &Example) -> Result<bool, Fault> {
-    Ok(starved::holds(alloc, &example.catalog, &example.script, &example.output)?)
-}
-
-// Whether the example prints what it is to print, however it is cut. Each cut with which it doesn't is
-// told. The example is borrowed, since each way out would drop it.
+/// Whether the example holds in all of these ways. Each in which it doesn't is told. The example is borrowed, since
+/// each way out would drop it.
 fn holds_all<R: Clock + Print + AllocGlobal>(
     rt: &R,
-    title: &str,
-    example: &Example,
-) -> Result<bool, Fault> {
+    line: &str,
+    case: &Case,
+    ways: &[(Way, &str)],
+) -> io::Result<bool> {
     let mut all = true;
-    if !is_quick(rt, example)? {
-        all = false;
-        println!(rt; "{title}: takes more than five seconds")?;
-    }
-    if !holds_starved(rt.alloc(), example)? {
-        all = false;
-        println!(rt; "{title}, without memory: differs")?;
-    }
-    for cut in CUTS {
-        if !holds_cut(rt.alloc(), example, cut) {
+    for (way, fault) in ways {
+        if !holds(rt, rt.alloc(), case, *way)? {
             all = false;
-            println!(rt; "{title}, {}: differs", cut.name)?;
+            println!(rt; "{line}: {fault}")?;
         }
     }
     Ok(all)
 }
 
-// Whether the example of this line of the index holds: a script, and a catalog where that has another name.
-fn holds<R: Clock + Files + Print + AllocGlobal>(rt: &R, line: &str) -> Result<bool, Fault> {
-    let (script, catalog) = line.split_once(' ').unwrap_or((line, line));
-    let example = example_of(rt, script, catalog)?;
-    holds_all(rt, line, &example)
+/// The same of the example of this line.
+fn holds_line<R: Clock + Files + Print + AllocGlobal>(
+    rt: &R,
+    line: &str,
+    ending: &str,
+    ways: &[(Way, &str)],
+) -> io::Result<bool> {
+    let case = Case::read(rt, line, ending)?;
+    holds_all(rt, line, &case, ways)
 }
 
-// Counts the examples of the index that hold.
-fn count_all<R: Clock + Files + Print + AllocGlobal>(
+/// Counts the examples of an index that hold, which has a line for each: the name of the input and the output, as
+/// `NAME.script` or `NAME.trace` and `NAME.output`, and that of the catalog where it is another, as `CATALOG.catalog`.
+/// Lines that begin with `#` say what the next ones show.
+pub(crate) fn run<R: Clock + Files + Print + AllocGlobal>(
     rt: &R,
     index: &str,
+    ending: &str,
+    ways: &[(Way, &str)],
     tally: &mut Tally,
-) -> Result<(), Fault> {
-    for line in index.lines().filter(|line| !line.starts_with('#')) {
-        let holds = holds(rt, line)?;
-        tally.counts(holds);
+) -> io::Result<()> {
+    for line in index.lines() {
+        if !line.starts_with('#') {
+            tally.count(holds_line(rt, line, ending, ways)?);
+        }
     }
     Ok(())
-}
-
-fn run_scripts<R: Clock + Files + Print + AllocGlobal>(rt: &R) -> Result<Tally, Fault> {
-    let _besieged = Hoard::siege(rt.alloc())?;
-    let mut tally = Tally::new();
-    let index = fs::read_to_string(rt, INDEX)?;
-    count_all(rt, index.as_str(), &mut tally)?;
-    Ok(tally)
-}
-
-/// Whether all of them hold. How many do and don't is told.
-pub(crate) fn run<R: Clock + Files + Print + AllocGlobal>(rt: &R) -> Result<bool, Fault> {
-    let Tally { held, differing } = run_scripts(rt)?;
-    println!(rt; "{held} scripts print what is written, {differing} don't")?;
-    Ok(differing == 0)
 }

@@ -13,11 +13,6 @@ impl<S> Few<S> {
     pub(crate) fn new(stream: S, most: usize) -> Self {
         Few { stream, most }
     }
-
-    pub(crate) fn into_inner(self) -> S {
-        let Few { stream, most: _ } = self;
-        stream
-    }
 }
 
 impl<S: Read> Read for Few<S> {

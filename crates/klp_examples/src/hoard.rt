@@ -1,6 +1,7 @@
 //! All memory that a process may have, taken, so that each allocation is refused until it is let go.
 
 use std::alloc::{AllocError, Global};
+use std::ops::Range;
 
 /// The largest block that is tried: half of all that a process can address.
 const LARGEST: usize = 1 << 46;
@@ -24,9 +25,8 @@ pub(crate) struct Hoard {
 impl Hoard {
     /// Room for so many blocks.
     fn new(alloc: Global, most: usize) -> Result<Hoard, AllocError> {
-        Ok(Hoard {
-            blocks: Vec::with_capacity(alloc, most)?,
-        })
+        let blocks = Vec::with_capacity(alloc, most)?;
+        Ok(Hoard { blocks })
     }
 
     /// No block yet, and room for as many as a siege may leave.
@@ -37,10 +37,10 @@ impl Hoard {
     /// All memory but for some 64 megabytes, so that these can be taken and let go again and again.
     pub(crate) fn siege(alloc: Global) -> Result<Hoard, AllocError> {
         let mut hoard = Hoard::new(alloc, MOST)?;
-        let spare: Vec<u8> = Vec::with_capacity(alloc, SPARE)?;
-        hoard.take_large(alloc);
+        let spare: Result<Vec<u8>, AllocError> = Vec::with_capacity(alloc, SPARE);
+        hoard.take_halves(alloc, LARGEST, SPARE.ilog2()..LARGEST.ilog2());
         drop(spare);
-        let kept: Vec<u8> = Vec::with_capacity(alloc, KEPT)?;
+        let kept: Result<Vec<u8>, AllocError> = Vec::with_capacity(alloc, KEPT);
         drop(kept);
         Ok(hoard)
     }
@@ -57,10 +57,10 @@ impl Hoard {
         }
     }
 
-    /// Takes blocks that are larger than what a siege leaves, by half each time.
-    fn take_large(&mut self, alloc: Global) {
-        let mut size = LARGEST;
-        for _ in SPARE.ilog2()..LARGEST.ilog2() {
+    /// Takes blocks of this size, and then of half of it each time, once for each of these powers of two.
+    fn take_halves(&mut self, alloc: Global, largest: usize, powers: Range<u32>) {
+        let mut size = largest;
+        for _ in powers {
             self.take(alloc, size);
             size /= 2;
         }
@@ -68,11 +68,7 @@ impl Hoard {
 
     /// Takes all that there is, large blocks first, and at last those of each size that an allocator keeps apart.
     pub(crate) fn take_all(&mut self, alloc: Global) {
-        let mut size = SPARE;
-        for _ in 0..SPARE.ilog2() {
-            self.take(alloc, size);
-            size /= 2;
-        }
+        self.take_halves(alloc, SPARE, 0..SPARE.ilog2());
         for words in (1..=u8::MAX).rev() {
             self.take(alloc, 8 * usize::from(words));
         }

@@ -1,11 +1,12 @@
 //! What is measured: lists of events that a manager takes, slice after slice.
 
-use crate::Fault;
-use crate::events::{Events, FEW, MANY, trace_of};
+use crate::events::{
+    ASLEEP, ASLEEP_ELSEWHERE, BEGUN, COMING_AND_GOING, CYCLE, ENABLED, ENTERED, FEW_ADDED, LIVES,
+    MANY_ADDED, MIXED, OF_ONE_TASK, POLLS, REFUSED, STARTED, Turns, events_of, trace_of,
+};
+use crate::time::Shortest;
 use klp_model::{Event, Seen};
 use std::alloc::{AllocError, Global};
-use std::time::Instant;
-use std::{fmt, io};
 
 /// How often a list is taken that leaves everything as it was.
 const SLICES: u64 = 64;
@@ -15,51 +16,58 @@ const SLICES_TAKEN_BACK: u64 = 4;
 
 /// A list that is measured: its name, how often a round takes it, and its events.
 #[derive(Clone, Copy)]
-pub(crate) struct Row {
+struct Row {
     name: &'static str,
     slices: u64,
-    events: Events,
+    events: &'static [Turns],
 }
 
-/// The lists that one manager takes, in order; whether they are taken back each time, which alone is measured
-/// then; and whether they are watched, with calls and returns.
+/// How lists are taken: as they are; watched, with calls and returns; or so that they are taken back each time, which
+/// alone is measured then.
 #[derive(Clone, Copy)]
-pub(crate) struct Rows {
+pub(crate) enum Way {
+    Taken,
+    Watched,
+    TakenBack,
+}
+
+/// The lists that one manager takes, in order, and how.
+#[derive(Clone, Copy)]
+pub(crate) struct Scene {
     rows: &'static [Row],
-    is_taken_back: bool,
-    is_watched: bool,
+    pub(crate) way: Way,
 }
 
 const PATCHES_AND_VARIABLES: [Row; 6] = [
     Row {
         name: "enable and poll",
         slices: 1,
-        events: Events::Enabled,
+        events: &ENABLED,
     },
     Row {
         name: "the same again",
         slices: 1,
-        events: Events::Refused,
+        events: &REFUSED,
     },
     Row {
         name: "10 shadow variables",
         slices: 1,
-        events: Events::Added(0, FEW),
+        events: &FEW_ADDED,
     },
     Row {
         name: "one more comes and goes among 10",
         slices: SLICES,
-        events: Events::Pairs,
+        events: &COMING_AND_GOING,
     },
     Row {
         name: "490 more shadow variables",
         slices: 1,
-        events: Events::Added(FEW, MANY),
+        events: &MANY_ADDED,
     },
     Row {
         name: "one more comes and goes among 500",
         slices: SLICES,
-        events: Events::Pairs,
+        events: &COMING_AND_GOING,
     },
 ];
 
@@ -67,17 +75,17 @@ const CYCLES: [Row; 3] = [
     Row {
         name: "enable, poll, disable, poll",
         slices: SLICES,
-        events: Events::Cycle,
+        events: &CYCLE,
     },
     Row {
         name: "8 tasks begin",
         slices: 1,
-        events: Events::Begun,
+        events: &BEGUN,
     },
     Row {
         name: "they enter and exit",
         slices: SLICES,
-        events: Events::Entered,
+        events: &ENTERED,
     },
 ];
 
@@ -86,17 +94,17 @@ const HELD: [Row; 3] = [
     Row {
         name: "64 tasks fall asleep in patched functions",
         slices: 1,
-        events: Events::Asleep(0),
+        events: &ASLEEP,
     },
     Row {
         name: "a transition starts",
         slices: 1,
-        events: Events::Started,
+        events: &STARTED,
     },
     Row {
         name: "a poll that they hold up",
         slices: SLICES,
-        events: Events::Polls,
+        events: &POLLS,
     },
 ];
 
@@ -105,169 +113,120 @@ const NOT_HELD: [Row; 2] = [
     Row {
         name: "64 tasks fall asleep in other functions",
         slices: 1,
-        events: Events::Asleep(100),
+        events: &ASLEEP_ELSEWHERE,
     },
     Row {
         name: "enable, poll, disable, poll beside them",
         slices: SLICES,
-        events: Events::Cycle,
+        events: &CYCLE,
     },
 ];
 
-const TAKEN_BACK: [Row; 3] = [
+const BACK: [Row; 3] = [
     Row {
         name: "task events taken back",
         slices: SLICES_TAKEN_BACK,
-        events: Events::Turns,
+        events: &OF_ONE_TASK,
     },
     Row {
         name: "enable, poll, disable, poll taken back",
         slices: SLICES_TAKEN_BACK,
-        events: Events::Cycle,
+        events: &CYCLE,
     },
     Row {
         name: "sleepers, a patch and variables taken back",
         slices: SLICES_TAKEN_BACK,
-        events: Events::Mixed,
+        events: &MIXED,
     },
 ];
 
-const LIVES: [Row; 1] = [Row {
+const TASKS: [Row; 1] = [Row {
     name: "8 tasks begin, enter, exit and end",
     slices: SLICES,
-    events: Events::Lives,
+    events: &LIVES,
 }];
 
-const WATCHED: [Row; 1] = [Row {
+const WATCHED_TASKS: [Row; 1] = [Row {
     name: "they also call and return, and are watched",
     slices: SLICES,
-    events: Events::Lives,
+    events: &LIVES,
 }];
 
 /// What is measured, each with a manager of its own.
-pub(crate) const SCENES: [Rows; 7] = [
-    Rows {
+pub(crate) const SCENES: [Scene; 7] = [
+    Scene {
         rows: &PATCHES_AND_VARIABLES,
-        is_taken_back: false,
-        is_watched: false,
+        way: Way::Taken,
     },
-    Rows {
+    Scene {
         rows: &CYCLES,
-        is_taken_back: false,
-        is_watched: false,
+        way: Way::Taken,
     },
-    Rows {
+    Scene {
         rows: &HELD,
-        is_taken_back: false,
-        is_watched: false,
+        way: Way::Taken,
     },
-    Rows {
+    Scene {
         rows: &NOT_HELD,
-        is_taken_back: false,
-        is_watched: false,
+        way: Way::Taken,
     },
-    Rows {
-        rows: &TAKEN_BACK,
-        is_taken_back: true,
-        is_watched: false,
+    Scene {
+        rows: &BACK,
+        way: Way::TakenBack,
     },
-    Rows {
-        rows: &LIVES,
-        is_taken_back: false,
-        is_watched: false,
+    Scene {
+        rows: &TASKS,
+        way: Way::Taken,
     },
-    Rows {
-        rows: &WATCHED,
-        is_taken_back: false,
-        is_watched: true,
+    Scene {
+        rows: &WATCHED_TASKS,
+        way: Way::Watched,
     },
 ];
 
 /// A list of events, and what taking it came to.
 #[derive(Drop)]
 pub(crate) struct Measured {
-    name: &'static str,
+    pub(crate) name: &'static str,
     pub(crate) events: Vec<Event>,
-    /// What is watched; empty where it isn't.
+    /// The same where it is watched.
     pub(crate) items: Vec<Seen>,
     /// How often a round takes it.
     pub(crate) slices: u64,
-    /// Whether the events are taken back in each slice, and only that is measured.
-    pub(crate) is_taken_back: bool,
-    accepted: u64,
-    refused: u64,
-    best: u128,
+    pub(crate) accepted: u64,
+    pub(crate) refused: u64,
+    pub(crate) shortest: Shortest,
 }
 
 impl Measured {
-    fn new(row: &Row, is_taken_back: bool, events: Vec<Event>, items: Vec<Seen>) -> Self {
-        Self {
+    fn new(alloc: Global, row: &Row, rounds: u32) -> Result<Self, AllocError> {
+        let events = events_of(alloc, row.events)?;
+        let items = trace_of(alloc, &events)?;
+        Ok(Self {
             name: row.name,
             events,
             items,
             slices: row.slices,
-            is_taken_back,
             accepted: 0,
             refused: 0,
-            best: u128::MAX,
-        }
+            shortest: Shortest::of(rounds),
+        })
     }
 
-    /// Counts what a slice came to, between these two moments.
-    pub(crate) fn add(
-        &mut self,
-        (accepted, refused): (u64, u64),
-        start: io::Result<Instant>,
-        end: io::Result<Instant>,
-    ) -> Result<(), Fault> {
-        let passed = end?.saturating_duration_since(start?);
+    /// Counts what a slice came to.
+    pub(crate) fn count(&mut self, (accepted, refused): (u64, u64)) {
         self.accepted = self.accepted.saturating_add(accepted);
         self.refused = self.refused.saturating_add(refused);
-        self.best = self.best.min(passed.as_nanos());
-        Ok(())
     }
-
-    /// The nanoseconds of the shortest slice.
-    pub(crate) fn best(&self) -> u128 {
-        self.best
-    }
-}
-
-impl fmt::Display for Measured {
-    fn fmt<W: fmt::Write>(&self, f: &mut fmt::Formatter<W>) -> fmt::Result {
-        let Measured {
-            name,
-            accepted,
-            refused,
-            ..
-        } = self;
-        write!(f, "{name}: accepted {accepted} refused {refused}")
-    }
-}
-
-/// What is watched of a list, which is all of it or nothing.
-fn items_of(alloc: Global, events: &[Event], is_watched: bool) -> Result<Vec<Seen>, AllocError> {
-    if is_watched {
-        trace_of(alloc, events)
-    } else {
-        Ok(Vec::new(alloc))
-    }
-}
-
-/// Lists that one manager takes, in order.
-#[derive(Drop)]
-pub(crate) struct Scene {
-    pub(crate) lists: Vec<Measured>,
 }
 
 impl Scene {
-    pub(crate) fn new(alloc: Global, scene: Rows) -> Result<Self, AllocError> {
+    /// The lists, of which so many rounds are measured.
+    pub(crate) fn lists(&self, alloc: Global, rounds: u32) -> Result<Vec<Measured>, AllocError> {
         let mut lists = Vec::new(alloc);
-        for row in scene.rows {
-            let events = row.events.list(alloc)?;
-            let items = items_of(alloc, &events, scene.is_watched)?;
-            lists.push(Measured::new(row, scene.is_taken_back, events, items))?;
+        for row in self.rows {
+            lists.push(Measured::new(alloc, row, rounds)?)?;
         }
-        Ok(Scene { lists })
+        Ok(lists)
     }
 }

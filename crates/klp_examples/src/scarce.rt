@@ -1,64 +1,89 @@
 //! Want of memory before a manager is booted: catalogs over which so little memory is left, from none to enough.
 //! Then each allocation that needs more than there was before is refused in its turn.
 
-use crate::Fault;
 use crate::hoard::Hoard;
 use crate::refused::{CATALOG_MARK, CATALOGS};
+use crate::starved::Room;
 use crate::tally::Tally;
 use klp_program::console;
 use std::alloc::{AllocError, Global};
-use std::fs;
 use std::rt::Files;
+use std::{fs, io};
 
 /// How much memory is left at most, which is more than is taken over the largest catalog.
 const SPAN: usize = 10_752 * 1024;
 
-/// Over a catalog that is refused so much is left, and so often.
-const FAULTY_STEP: usize = 256;
-
-const FAULTY_TIMES: u16 = 128;
-
-/// How many bytes there is room for that are answered, and that are written to standard error.
-const ROOM: usize = 256;
-
 /// What is read of the console's input.
 const INPUT: &[u8] = b"mark\n";
-
-/// A catalog, and how much is left of memory: so many times so many bytes more each time, one after another.
-#[derive(Clone, Copy)]
-struct Scarcity {
-    catalog: &'static str,
-    steps: [(u16, usize); 2],
-}
 
 /// The least that memory grows by is 16 bytes. Over the small catalog that is tried for all that is read of its text
 /// and all tables of names, and then by 4,096 bytes, less than any table of a manager has. Over the largest it is
 /// tried by 128 bytes for its first lines, and then by 20 kilobytes, as long as trying each time would take minutes.
-const SCARCITIES: [Scarcity; 2] = [
-    Scarcity {
-        catalog: "k1.catalog",
-        steps: [(1024, 16), (2044, 4096)],
-    },
-    Scarcity {
-        catalog: "largest.catalog",
-        steps: [(256, 128), (510, 20480)],
-    },
+/// So many times so many bytes more are left each time, one after another.
+const SCARCITIES: [(&str, [(u16, usize); 2]); 2] = [
+    ("k1.catalog", [(1024, 16), (2044, 4096)]),
+    ("largest.catalog", [(256, 128), (510, 20480)]),
 ];
+
+/// Over a catalog that is refused.
+const FAULTY_STEPS: [(u16, usize); 1] = [(128, 256)];
+
+// What a run came to.
+#[derive(Clone, Copy)]
+enum Ended {
+    // There was memory enough.
+    Enough,
+    // Want of memory was told, for a line or by itself.
+    Line,
+    Other,
+    // None of these.
+    Differing,
+}
+
+// What the runs over a catalog came to.
+#[derive(Clone, Copy)]
+struct Seen {
+    lines: bool,
+    others: bool,
+    // Whether there was enough at last.
+    is_enough: bool,
+}
+
+impl Seen {
+    // Counts what one amount of memory came to.
+    fn add(&mut self, ended: Ended, tally: &mut Tally) {
+        self.is_enough = false;
+        let holds = match ended {
+            Ended::Enough => {
+                self.is_enough = true;
+                true
+            }
+            Ended::Line => {
+                self.lines = true;
+                true
+            }
+            Ended::Other => {
+                self.others = true;
+                true
+            }
+            Ended::Differing => false,
+        };
+        tally.count(holds);
+    }
+}
 
 // What memory is taken from while little of it is left.
 #[derive(Drop)]
 struct Siege {
     alloc: Global,
-    // All other memory.
-    hoard: Hoard,
-    // Small blocks, which an allocator keeps apart once they are let go. They are let go before all others, so that
-    // it keeps these, and puts the others together again.
-    few: Hoard,
     // One piece that is in nobody's hands but while the console runs. It is taken again before the small blocks are,
     // while all else is free, so that nothing comes to lie in its midst.
     span: Option<Vec<u8>>,
-    out: Vec<u8>,
-    err: Vec<u8>,
+    // Small blocks, which an allocator keeps apart once they are let go. They are let go before all others, so that
+    // it keeps these, and puts the others together again.
+    few: Hoard,
+    // All other memory, and what is written.
+    room: Room,
 }
 
 impl Siege {
@@ -66,113 +91,99 @@ impl Siege {
         let span = Vec::with_capacity(alloc, SPAN)?;
         let mut few = Hoard::small(alloc)?;
         few.take_few(alloc);
+        let room = Room::new(alloc, 0)?;
         Ok(Siege {
             alloc,
-            hoard: Hoard::small(alloc)?,
-            few,
             span: Some(span),
-            out: Vec::with_capacity(alloc, ROOM)?,
-            err: Vec::with_capacity(alloc, ROOM)?,
+            few,
+            room,
         })
     }
 
     // Runs the console over a catalog where so many bytes of memory are left, in one piece. The answer is the exit
     // status and how much of the input isn't read. All memory that was taken is there again afterwards.
     fn run(&mut self, catalog: &[u8], left: usize) -> Result<(u8, usize), AllocError> {
-        self.out.clear();
-        self.err.clear();
+        self.room.out.clear();
+        self.room.err.clear();
         let mut input = INPUT;
-        self.hoard.take_all(self.alloc);
+        self.room.hoard.take_all(self.alloc);
         self.span = None;
         let rest: Vec<u8> = Vec::with_capacity(self.alloc, SPAN.saturating_sub(left))?;
         let status = console(
             self.alloc,
             catalog,
             &mut input,
-            &mut self.out,
-            &mut self.err,
+            &mut self.room.out,
+            &mut self.room.err,
         );
         drop(rest);
-        self.hoard.take_all(self.alloc);
+        self.room.hoard.take_all(self.alloc);
         self.few.clear();
-        self.hoard.clear();
+        self.room.hoard.clear();
         self.span = Some(Vec::with_capacity(self.alloc, SPAN)?);
         self.few.take_few(self.alloc);
         Ok((status, input.len()))
-    }
-
-    // Whether a fault was told, and nothing was read and written.
-    fn is_told(&self, (status, unread): (u8, usize)) -> bool {
-        status == 1 && unread == INPUT.len() && self.out.is_empty()
-    }
-
-    // Whether this is the fault.
-    fn is_fault(&self, ended: (u8, usize), fault: &str) -> bool {
-        self.is_told(ended) && self.err.strip_suffix(b"\n") == Some(fault.as_bytes())
-    }
-
-    // Whether want of memory was told, by itself or for a line.
-    fn is_refused(&self, ended: (u8, usize)) -> bool {
-        let told = match self.err.strip_prefix(b"klpsim: ") {
-            Some(told) => told,
-            None => return false,
-        };
-        let is_told = match told.strip_suffix(b"NoMemory\n") {
-            Some(line) => line.is_empty() || (line.starts_with(b"line ") && line.ends_with(b": ")),
-            None => false,
-        };
-        is_told && self.is_told(ended)
     }
 
     // Whether there was memory enough, and the input was answered.
     fn is_answered(&self, (status, unread): (u8, usize)) -> bool {
         status == 0
             && unread == 0
-            && self.err.is_empty()
-            && self.out.as_slice() == b"0\n".as_slice()
+            && self.room.err.is_empty()
+            && self.room.out.as_slice() == b"0\n".as_slice()
+    }
+
+    // What was told, if nothing was read and written, and else nothing.
+    fn told(&self, (status, unread): (u8, usize)) -> &[u8] {
+        if status == 1 && unread == INPUT.len() && self.room.out.is_empty() {
+            &self.room.err
+        } else {
+            b""
+        }
+    }
+
+    // What a run came to over a catalog that has this fault, or none.
+    fn ended(&self, ran: (u8, usize), fault: Option<&str>) -> Ended {
+        let told = self.told(ran).strip_prefix(b"klpsim: ").unwrap_or(b"");
+        match told.strip_suffix(b"NoMemory\n") {
+            Some(b"") => Ended::Other,
+            Some(line) if line.starts_with(b"line ") && line.ends_with(b": ") => Ended::Line,
+            _ => self.ended_with_enough(ran, fault),
+        }
+    }
+
+    fn ended_with_enough(&self, ran: (u8, usize), fault: Option<&str>) -> Ended {
+        let is_enough = match fault {
+            Some(fault) => self.told(ran).strip_suffix(b"\n") == Some(fault.as_bytes()),
+            None => self.is_answered(ran),
+        };
+        if is_enough {
+            Ended::Enough
+        } else {
+            Ended::Differing
+        }
     }
 }
 
-// How often want of memory was told for a line, and by itself, and how often there was enough.
-#[derive(Clone, Copy)]
-struct Seen {
-    lines: u64,
-    others: u64,
-    answered: u64,
-}
-
-// Counts what one amount of memory comes to.
-fn count(siege: &Siege, ended: (u8, usize), seen: &mut Seen, tally: &mut Tally) {
-    let is_answered = siege.is_answered(ended);
-    let is_refused = siege.is_refused(ended);
-    if is_answered {
-        seen.answered = seen.answered.saturating_add(1);
-    } else if siege.err.starts_with(b"klpsim: line ") {
-        seen.lines = seen.lines.saturating_add(1);
-    } else {
-        seen.others = seen.others.saturating_add(1);
-    }
-    tally.counts(is_answered || is_refused);
-}
-
-// Tries all amounts of memory over a catalog.
-fn count_all(
+// Tries all amounts of memory over a catalog that has this fault, or none.
+fn try_all(
     siege: &mut Siege,
     catalog: &[u8],
-    steps: [(u16, usize); 2],
+    fault: Option<&str>,
+    steps: &[(u16, usize)],
     tally: &mut Tally,
 ) -> Result<Seen, AllocError> {
     let mut seen = Seen {
-        lines: 0,
-        others: 0,
-        answered: 0,
+        lines: false,
+        others: false,
+        is_enough: false,
     };
     let mut left = 0usize;
     for (times, more) in steps {
-        for _ in 0..times {
-            let ended = siege.run(catalog, left)?;
-            count(siege, ended, &mut seen, tally);
-            left = left.saturating_add(more);
+        for _ in 0..*times {
+            let ran = siege.run(catalog, left)?;
+            seen.add(siege.ended(ran, fault), tally);
+            left = left.saturating_add(*more);
         }
     }
     Ok(seen)
@@ -183,63 +194,55 @@ fn count_all(
 fn try_catalog<R: Files + AllocGlobal>(
     rt: &R,
     siege: &mut Siege,
-    scarcity: Scarcity,
+    name: &str,
+    steps: &[(u16, usize)],
     tally: &mut Tally,
-) -> Result<bool, Fault> {
-    let catalog = fs::read(rt, scarcity.catalog)?;
-    let seen = count_all(siege, &catalog, scarcity.steps, tally)?;
-    Ok(seen.lines > 0 && seen.others > 0 && seen.answered > 0)
-}
-
-// Tries amounts of memory over a catalog with this fault. It is told once there is enough.
-fn count_faulty(
-    siege: &mut Siege,
-    catalog: &[u8],
-    fault: &str,
-    tally: &mut Tally,
-) -> Result<bool, AllocError> {
-    let mut is_told = false;
-    for times in 0..FAULTY_TIMES {
-        let ended = siege.run(catalog, usize::from(times) * FAULTY_STEP)?;
-        is_told = siege.is_fault(ended, fault);
-        tally.counts(is_told || siege.is_refused(ended));
-    }
-    Ok(is_told)
+) -> io::Result<bool> {
+    let catalog = fs::read(rt, name)?;
+    let seen = try_all(siege, &catalog, None, steps, tally)?;
+    Ok(seen.lines && seen.others && seen.is_enough)
 }
 
 // Tries the catalogs of a text that are refused. Each is told its own fault, or want of memory.
-fn count_cases(siege: &mut Siege, text: &str, tally: &mut Tally) -> Result<bool, AllocError> {
+fn try_faulty(siege: &mut Siege, text: &str, tally: &mut Tally) -> Result<bool, AllocError> {
     let mut all = true;
     for case in text.split(CATALOG_MARK).skip(1) {
         let (fault, catalog) = case.split_once('\n').unwrap_or((case, ""));
-        all = count_faulty(siege, catalog.as_bytes(), fault, tally)? && all;
+        let seen = try_all(siege, catalog.as_bytes(), Some(fault), &FAULTY_STEPS, tally)?;
+        all = seen.is_enough && all;
     }
     Ok(all)
 }
 
-fn try_faulty<R: Files + AllocGlobal>(
+// Tries the catalogs that are refused, out of their file.
+fn try_refused<R: Files + AllocGlobal>(
     rt: &R,
     siege: &mut Siege,
     tally: &mut Tally,
-) -> Result<bool, Fault> {
+) -> io::Result<bool> {
     let text = fs::read_to_string(rt, CATALOGS)?;
-    Ok(count_cases(siege, text.as_str(), tally)?)
+    Ok(try_faulty(siege, text.as_str(), tally)?)
+}
+
+fn run_siege<R: Files + Print + AllocGlobal>(rt: &R, siege: &mut Siege) -> io::Result<bool> {
+    let mut tally = Tally::new();
+    let mut all = true;
+    for (name, steps) in &SCARCITIES {
+        all = try_catalog(rt, siege, name, steps, &mut tally)? && all;
+    }
+    all = try_refused(rt, siege, &mut tally)? && all;
+    let hold = "times too little memory is told or there is enough";
+    Ok(tally.tell(rt, hold, "times not")? && all)
+}
+
+fn run_besieged<R: Files + Print + AllocGlobal>(rt: &R) -> io::Result<bool> {
+    let mut siege = Siege::new(rt.alloc())?;
+    run_siege(rt, &mut siege)
 }
 
 /// Whether want of memory is told, or else nothing, whatever is left of memory. How many amounts of it were tried is
 /// told.
-pub(crate) fn run<R: Files + Print + AllocGlobal>(rt: &R) -> Result<bool, Fault> {
+pub(crate) fn run<R: Files + Print + AllocGlobal>(rt: &R) -> io::Result<bool> {
     let _besieged = Hoard::siege(rt.alloc())?;
-    let mut siege = Siege::new(rt.alloc())?;
-    let mut tally = Tally::new();
-    let mut all = true;
-    for scarcity in SCARCITIES {
-        all = try_catalog(rt, &mut siege, scarcity, &mut tally)? && all;
-    }
-    all = try_faulty(rt, &mut siege, &mut tally)? && all;
-    println!(rt;
-        "{} times too little memory is told or there is enough, {} times not",
-        tally.held, tally.differing
-    )?;
-    Ok(all && tally.differing == 0)
+    run_besieged(rt)
 }

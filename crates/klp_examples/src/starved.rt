@@ -1,14 +1,33 @@
 //! Want of memory once a manager is booted: all memory is taken when its input is read first, and each script is
 //! answered as ever, since no call of a manager takes memory after boot.
 
+use crate::case::Case;
 use crate::hoard::Hoard;
 use klp_program::console;
 use std::alloc::{AllocError, Global};
 use std::io;
 use std::io::Read;
 
-/// How many bytes there is room for that are written to standard error.
+/// How many bytes there is room for that are written to standard error, and beside what has to be printed.
 const ROOM: usize = 256;
+
+/// What has its room before all other memory is taken.
+#[derive(Drop)]
+pub(crate) struct Room {
+    pub(crate) hoard: Hoard,
+    pub(crate) out: Vec<u8>,
+    pub(crate) err: Vec<u8>,
+}
+
+impl Room {
+    /// Room for so many bytes that are answered, and some more.
+    pub(crate) fn new(alloc: Global, answers: usize) -> Result<Room, AllocError> {
+        let hoard = Hoard::small(alloc)?;
+        let out = Vec::with_capacity(alloc, answers.saturating_add(ROOM))?;
+        let err = Vec::with_capacity(alloc, ROOM)?;
+        Ok(Room { hoard, out, err })
+    }
+}
 
 // A script behind whose first read no memory is left.
 #[derive(Drop)]
@@ -30,22 +49,19 @@ impl Read for Starving<'_> {
     }
 }
 
-/// Whether the script over the catalog prints this output, and nothing else, where no memory is left once a manager
-/// is booted. What is printed has its room before.
-pub(crate) fn holds(
-    alloc: Global,
-    catalog: &[u8],
-    script: &[u8],
-    output: &[u8],
-) -> Result<bool, AllocError> {
-    let mut out: Vec<u8> = Vec::with_capacity(alloc, output.len().saturating_add(ROOM))?;
-    let mut err: Vec<u8> = Vec::with_capacity(alloc, ROOM)?;
+/// Whether the script prints its output, and nothing else, where no memory is left once a manager is booted.
+pub(crate) fn is_served(alloc: Global, case: &Case) -> Result<bool, AllocError> {
+    let Room {
+        hoard,
+        mut out,
+        mut err,
+    } = Room::new(alloc, case.output_len())?;
     let mut input = Starving {
-        script,
+        script: &case.input,
         alloc,
-        hoard: Hoard::small(alloc)?,
+        hoard,
         is_starved: false,
     };
-    let status = console(alloc, catalog, &mut input, &mut out, &mut err);
-    Ok(input.is_starved && status == 0 && out.as_slice() == output && err.is_empty())
+    let status = console(alloc, &case.catalog, &mut input, &mut out, &mut err);
+    Ok(input.is_starved && case.is_met(status, &out, &err))
 }

@@ -1,10 +1,12 @@
 //! How many cases hold.
 
+use std::io;
+
 /// How many cases hold, and how many don't.
 #[derive(Clone, Copy)]
 pub(crate) struct Tally {
-    pub(crate) held: u64,
-    pub(crate) differing: u64,
+    held: u64,
+    differing: u64,
 }
 
 impl Tally {
@@ -15,13 +17,32 @@ impl Tally {
         }
     }
 
-    /// Counts a case, and answers whether it holds.
-    pub(crate) fn counts(&mut self, holds: bool) -> bool {
+    /// Counts a case.
+    pub(crate) fn count(&mut self, holds: bool) {
         if holds {
             self.held = self.held.saturating_add(1);
         } else {
             self.differing = self.differing.saturating_add(1);
         }
-        holds
+    }
+
+    /// Counts a case, and tells it if it doesn't hold.
+    pub(crate) fn tell_case<R: Print>(
+        &mut self,
+        rt: &R,
+        case: &str,
+        holds: bool,
+    ) -> io::Result<()> {
+        self.count(holds);
+        if holds {
+            return Ok(());
+        }
+        println!(rt; "differs: {case}")
+    }
+
+    /// Tells how many hold and how many don't, and answers whether all do.
+    pub(crate) fn tell<R: Print>(self, rt: &R, hold: &str, differ: &str) -> io::Result<bool> {
+        println!(rt; "{} {hold}, {} {differ}", self.held, self.differing)?;
+        Ok(self.differing == 0)
     }
 }

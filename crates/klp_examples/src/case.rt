@@ -1,0 +1,63 @@
+//! An example: what is served or watched over a catalog, and what has to be answered.
+
+use klp_program::catalog_in;
+use std::rt::Files;
+use std::{fs, io};
+
+/// What stands for the catalog that is served where no file is named.
+const BUILT_IN: &str = "-";
+
+/// A catalog, what is put in over it, and what has to be written.
+#[derive(Drop)]
+pub(crate) struct Case {
+    pub(crate) catalog: Vec<u8>,
+    pub(crate) input: Vec<u8>,
+    output: Vec<u8>,
+}
+
+/// The catalog of this name.
+fn catalog_of<R: Files + AllocGlobal>(rt: &R, name: &str) -> io::Result<Vec<u8>> {
+    let path = match name {
+        BUILT_IN => None,
+        _ => Some(format!(in rt.alloc(); "{name}.catalog")?),
+    };
+    match catalog_in(rt, path) {
+        Ok(catalog) => Ok(catalog),
+        Err(_) => Err(io::Error::other("a catalog can't be read")),
+    }
+}
+
+/// The file of this name and ending.
+fn file_of<R: Files + AllocGlobal>(rt: &R, name: &str, ending: &str) -> io::Result<Vec<u8>> {
+    let path = format!(in rt.alloc(); "{name}.{ending}")?;
+    fs::read(rt, path.as_str())
+}
+
+impl Case {
+    /// The example of a line: its name and that of its catalog, or one name for both. Its input has this ending.
+    pub(crate) fn read<R: Files + AllocGlobal>(
+        rt: &R,
+        line: &str,
+        ending: &str,
+    ) -> io::Result<Case> {
+        let (name, catalog) = line.split_once(' ').unwrap_or((line, line));
+        let catalog = catalog_of(rt, catalog)?;
+        let input = file_of(rt, name, ending)?;
+        let output = file_of(rt, name, "output")?;
+        Ok(Case {
+            catalog,
+            input,
+            output,
+        })
+    }
+
+    /// Whether a run ended with what has to be written, and nothing else.
+    pub(crate) fn is_met(&self, status: u8, out: &[u8], err: &[u8]) -> bool {
+        status == 0 && out == self.output.as_slice() && err.is_empty()
+    }
+
+    /// How many bytes have to be written.
+    pub(crate) fn output_len(&self) -> usize {
+        self.output.len()
+    }
+}

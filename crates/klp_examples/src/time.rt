@@ -1,0 +1,42 @@
+//! The shortest time that something took.
+
+use std::time::Instant;
+use std::{fmt, io};
+
+/// The nanoseconds of the shortest of some rounds. It is told where there were several, behind what was done.
+#[derive(Clone, Copy)]
+pub(crate) struct Shortest {
+    nanoseconds: u128,
+    is_told: bool,
+}
+
+impl Shortest {
+    /// Of so many rounds, none of which was done yet.
+    pub(crate) fn of(rounds: u32) -> Self {
+        Self {
+            nanoseconds: u128::MAX,
+            is_told: rounds > 1,
+        }
+    }
+
+    /// Counts what was done between these two moments.
+    pub(crate) fn add(
+        &mut self,
+        start: io::Result<Instant>,
+        end: io::Result<Instant>,
+    ) -> io::Result<()> {
+        let passed = end?.saturating_duration_since(start?);
+        self.nanoseconds = self.nanoseconds.min(passed.as_nanos());
+        Ok(())
+    }
+}
+
+impl fmt::Display for Shortest {
+    fn fmt<W: fmt::Write>(&self, f: &mut fmt::Formatter<W>) -> fmt::Result {
+        if self.is_told {
+            write!(f, ", best {} ns", self.nanoseconds)
+        } else {
+            Ok(())
+        }
+    }
+}
