@@ -5,9 +5,9 @@ ghost use Rattle.klp_types.specs.declared.limits.TheConstants.{MAX_TASKS};
 use crate::gates::Slow;
 use crate::names::{FIRST, NOWHERE, PATCH, PATCHED, SECOND};
 use crate::outcomes::{Detail, show_outcomes};
-use crate::pairs::{attached, seat_of};
+use crate::pairs::{attached, seat_of, show_cause};
 use crossbeam_utils::rule::Protocol;
-use klp_bodies::{Gate, Step, TaskBody};
+use klp_bodies::{BodyCause, Gate, Outcome, Step, TaskBody};
 use klp_core::Machine;
 use klp_live::{Live, Published, Seat, Start, View};
 use klp_model::Event;
@@ -17,36 +17,16 @@ use std::io;
 use std::sync::Wait;
 use std::sync::atomic::{AtomicU64, Ordering};
 
-/// What both tasks do, one after the other, how often a gate refuses that both share, and what is shown of it.
+/// What the first task does, and then the second; how often a gate refuses that both share, where it is told how often it
+/// was asked; and how much is shown of that.
 #[derive(Clone, Copy)]
-struct Bodies<'a> {
-    steps: (&'a [Step], &'a [Step]),
-    refuses: u64,
-    detail: Detail,
-    /// Whether it is told how often the gate was asked.
-    is_counted: bool,
-}
+struct Bodies<'a>(&'a [Step], &'a [Step], Option<u64>, Detail);
 
-impl<'a> Bodies<'a> {
-    /// Of both tasks, with how often the gate was asked.
-    fn counted(first: &'a [Step], second: &'a [Step], refuses: u64, detail: Detail) -> Bodies<'a> {
-        Bodies {
-            steps: (first, second),
-            refuses,
-            detail,
-            is_counted: true,
-        }
-    }
-
-    /// Of the first task alone.
-    fn alone(first: &'a [Step], detail: Detail) -> Bodies<'a> {
-        Bodies {
-            steps: (first, &[]),
-            refuses: 0,
-            detail,
-            is_counted: false,
-        }
-    }
+/// What became of a body: what its steps came to, and why it has stopped, if it has.
+#[derive(Drop)]
+struct Ended {
+    outcomes: Vec<Outcome>,
+    cause: Option<BodyCause>,
 }
 
 /// No more steps than any body of the tests has.
@@ -54,6 +34,31 @@ fn few(steps: &[Step]) -> &[Step]
     ensures { length result.now < 2 ^ 32 }
 {
     steps.get(..100).unwrap_or(steps)
+}
+
+/// Takes a seat for a task, does its steps, and gives the seat back.
+fn run_body<S: Start + Protocol<Published, View>, G: Gate + Drop, M: Machine + Drop, R: Wait>(
+    rt: &R,
+    alloc: Global,
+    live: &Live<S, M, &R>,
+    seat: Seat<S>,
+    task: TaskId,
+    gate: G,
+    steps: &[Step],
+) -> (Seat<S>, Ended)
+    requires { task < MAX_TASKS }
+{
+    let mut outcomes = Vec::new(alloc);
+    let body = TaskBody::new(attached(live, seat, task), gate);
+    let ended = body.run(rt, alloc, live, few(steps), &mut outcomes);
+    let (seat, cause) = seat_of(ended);
+    (seat, Ended { outcomes, cause })
+}
+
+/// What became of a body with so many steps.
+fn show_ended<R: Print>(rt: &R, steps: usize, ended: &Ended, detail: Detail) -> io::Result<()> {
+    show_outcomes(rt, steps, &ended.outcomes, detail)?;
+    show_cause(rt, ended.cause)
 }
 
 /// Takes a seat for a task, does its steps, shows what they come to, and gives the seat back.
@@ -74,12 +79,8 @@ fn show_body<
 ) -> (Seat<S>, io::Result<()>)
     requires { task < MAX_TASKS }
 {
-    let pass = attached(live, seat, task);
-    let mut outcomes = Vec::new(alloc);
-    let ended = TaskBody::new(pass, gate).run(rt, alloc, live, few(steps), &mut outcomes);
-    let told = show_outcomes(rt, steps.len(), outcomes.as_slice(), detail);
-    let (seat, fault) = seat_of(rt, ended);
-    (seat, told.and(fault))
+    let (seat, ended) = run_body(rt, alloc, live, seat, task, gate, steps);
+    (seat, show_ended(rt, steps.len(), &ended, detail))
 }
 
 /// The body of the first task, and then that of the second.
@@ -104,30 +105,32 @@ pub(crate) fn show_both<
 
 /// The first task enables a patch, which it runs once it was outside of the kernel.
 fn enables() -> [Step; 5] {
-    [
+    const ALL: [Step; 5] = [
         Step::Submit(Event::Enable(PATCH)),
         Step::Call(PATCHED),
         Step::Submit(Event::EnterKernel(FIRST)),
         Step::Submit(Event::ExitToUser(FIRST)),
         Step::Call(PATCHED),
-    ]
+    ];
+    ALL
 }
 
 /// The second task hears nothing of that, and runs the original, as it wasn't outside; it can't enable the patch again;
 /// and once it was outside it runs the patch.
 fn hears_nothing() -> [Step; 5] {
-    [
+    const ALL: [Step; 5] = [
         Step::Call(PATCHED),
         Step::Submit(Event::Enable(PATCH)),
         Step::Submit(Event::EnterKernel(SECOND)),
         Step::Submit(Event::ExitToUser(SECOND)),
         Step::Call(PATCHED),
-    ]
+    ];
+    ALL
 }
 
 /// A task falls asleep inside of what it entered and hasn't returned from, and wakes up.
 fn naps() -> [Step; 13] {
-    [
+    const ALL: [Step; 13] = [
         Step::Return,
         Step::Nap,
         Step::Submit(Event::EnterKernel(FIRST)),
@@ -141,7 +144,8 @@ fn naps() -> [Step; 13] {
         Step::Nap,
         Step::Submit(Event::Wake(FIRST)),
         Step::Submit(Event::ExitToUser(FIRST)),
-    ]
+    ];
+    ALL
 }
 
 /// Calls until no more versions are kept, and returns from all of them and once more.
@@ -162,10 +166,11 @@ fn show_counted<S: Start + Protocol<Published, View>, M: Machine + Drop, R: Wait
     seats: (Seat<S>, Seat<S>),
     bodies: &Bodies<'_>,
 ) -> ((Seat<S>, Seat<S>), io::Result<()>) {
+    let Bodies(first, second, refuses, detail) = *bodies;
     let asked = AtomicU64::new(0);
     let gate = Slow {
         asked: &asked,
-        refuses: bodies.refuses,
+        refuses: refuses.unwrap_or(0),
     };
     let (seats, told) = show_both(
         rt,
@@ -173,14 +178,15 @@ fn show_counted<S: Start + Protocol<Published, View>, M: Machine + Drop, R: Wait
         live,
         seats,
         (gate, gate),
-        bodies.steps,
-        bodies.detail,
+        (first, second),
+        detail,
     );
-    (seats, told.and(show_asked(rt, bodies, &asked)))
+    (seats, told.and(show_asked(rt, refuses, &asked)))
 }
 
-fn show_asked<R: Print>(rt: &R, bodies: &Bodies<'_>, asked: &AtomicU64) -> io::Result<()> {
-    if !bodies.is_counted {
+/// How often the gate was asked, where that is told.
+fn show_asked<R: Print>(rt: &R, refuses: Option<u64>, asked: &AtomicU64) -> io::Result<()> {
+    if refuses.is_none() {
         return Ok(());
     }
     println!(rt; "asked {}", asked.load(Ordering::SeqCst))
@@ -211,15 +217,15 @@ pub(crate) fn show_bodies<S: Start + Protocol<Published, View>, M: Machine + Dro
     live: &Live<S, M, &R>,
     seats: (Seat<S>, Seat<S>),
 ) -> ((Seat<S>, Seat<S>), io::Result<()>) {
-    let (first, second) = (enables(), hears_nothing());
-    let (nap, deep) = (naps(), goes_deep());
+    let (enables, hears_nothing) = (enables(), hears_nothing());
+    let (naps, deep) = (naps(), goes_deep());
     let returns = [Step::Return; 2];
     let all = [
-        Bodies::counted(&first, &second, 0, Detail::All),
-        Bodies::alone(&nap, Detail::All),
-        Bodies::alone(&deep, Detail::Kinds),
-        Bodies::counted(&returns, &[], 999_999, Detail::Kinds),
-        Bodies::counted(&returns, &[], 1_000_000, Detail::Kinds),
+        Bodies(&enables, &hears_nothing, Some(0), Detail::All),
+        Bodies(&naps, &[], None, Detail::All),
+        Bodies(&deep, &[], None, Detail::Kinds),
+        Bodies(&returns, &[], Some(999_999), Detail::Kinds),
+        Bodies(&returns, &[], Some(1_000_000), Detail::Kinds),
     ];
     show_each(rt, alloc, live, seats, &all)
 }

@@ -1,14 +1,14 @@
 //! A book over a machine, which is handed back. The owner of a machine picks the start.
-ghost use Rattle.std.specs.Prelude.{◌≡◌, ◌<◌, ◌≤◌, [], IfErr};
+ghost use Rattle.std.specs.Prelude.{◌≡◌, ◌<◌, ◌≤◌, []};
 ghost use Rattle.klp_live.specs.Opening.{IsFresh};
 ghost use Rattle.klp_live.specs.Shown.{RuleIs};
 
 use crate::entries::{self, Crowd};
 use crate::measure::{self, Times};
-use crate::shows::Shows;
+use crate::shows::{Shown, Shows, empty};
 use crate::turns;
 use crossbeam_utils::rule::Protocol;
-use klp_live::{Book, Opened, Published, Seat, Start, StartFault, View};
+use klp_live::{Book, Opened, Published, Seat, Start, StartCause, StartFault, View};
 use std::alloc::Global;
 use std::io;
 use std::marker::Brand;
@@ -74,6 +74,7 @@ fn used<
     }
 }
 
+/// Opens a book for that.
 fn opened<
     S: Start + Protocol<Published, View> + Send,
     M: Shows + Drop,
@@ -86,29 +87,31 @@ fn opened<
     machine: M,
     places: usize,
     how: Use<'_>,
-) -> Result<(M, io::Result<()>), StartFault<M>>
+) -> (M, Result<io::Result<()>, StartCause>)
     requires name { blank.name ≡ S.name }
     requires parts { (blank.parts ≡ S.parts) × (blank.parts ≡ places) }
     requires book { opened.seen.book ≡ S.book }
     requires rule { RuleIs S.holds S.first S.setting S.base S.book }
     requires fresh { IsFresh S.setting S.base (M.journaled machine) }
     requires places { (0 < places) × (places ≤ 64) }
-    ensures { IfErr result (λ fault. fault.manager ≡ machine) }
 {
-    let (book, seats) = Book::<S, M, &R>::pair(rt, alloc, blank, opened, machine, places)?;
-    Ok(used(rt, alloc, book, seats, how))
+    match Book::<S, M, &R>::pair(rt, alloc, blank, opened, machine, places) {
+        Ok((book, seats)) => {
+            let (machine, told) = used(rt, alloc, book, seats, how);
+            (machine, Ok(told))
+        }
+        Err(StartFault { manager, cause }) => (manager, Err(cause)),
+    }
 }
 
-/// A book over a machine from which nothing is to be taken back. Where there is no memory for it, the machine is as it
-/// was.
-pub(crate) fn over<M: Shows + Drop, R: Threads + Wait + Clock + Print + Sync>(
+/// A book over a machine from which nothing is to be taken back.
+fn over<M: Shows + Drop, R: Threads + Wait + Clock + Print + Sync>(
     rt: &R,
     alloc: Global,
     machine: M,
     how: Use<'_>,
-) -> Result<(M, io::Result<()>), StartFault<M>>
+) -> (M, Result<io::Result<()>, StartCause>)
     requires { (M.journaled machine).groups ≡ [] }
-    ensures { IfErr result (λ fault. fault.manager ≡ machine) }
 {
     let places = how.places();
     opened::<Brand, M, R>(
@@ -120,4 +123,22 @@ pub(crate) fn over<M: Shows + Drop, R: Threads + Wait + Clock + Print + Sync>(
         places,
         how,
     )
+}
+
+/// A book over a machine from which all is taken back first. What came of it is told, or why there is no book. Where
+/// there is no memory for it, the machine is as it was.
+pub(crate) fn booked<M: Shows + Drop, R: Threads + Wait + Clock + Print + Sync>(
+    rt: &R,
+    alloc: Global,
+    machine: M,
+    how: Use<'_>,
+) -> (M, Result<io::Result<()>, StartCause>) {
+    let mut machine = machine;
+    empty(&mut machine);
+    let before = Shown::of(&machine);
+    let (machine, told) = over(rt, alloc, machine, how);
+    if told.is_err() && Shown::of(&machine) != before {
+        let _ = println!(rt; "another manager");
+    }
+    (machine, told)
 }

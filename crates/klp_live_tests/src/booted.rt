@@ -1,10 +1,8 @@
-//! The catalogs that managers are booted over, and why one isn't.
+//! The catalogs that managers are booted over, and why the tests end early.
 ghost use Rattle.std.specs.Prelude.{◌<◌};
 
-use klp_catalog::TextFault;
 use std::alloc::{AllocError, Global};
 use std::io;
-use thiserror::Error;
 
 /// Two patches of the kernel and of a module, and one that replaces them.
 pub(crate) const CATALOG: &[u8] = b"\
@@ -38,19 +36,23 @@ target vmlinux
 func .klp.sym.vmlinux.f,0 f_p ffffffffc0001000
 ";
 
-#[derive(Debug, Drop, Error)]
+/// Why the tests end before their last line.
+#[derive(Clone, Copy, Debug)]
 pub(crate) enum Fault {
-    #[error("NoMemory")]
-    Memory(#[from(alloc)] AllocError),
-    #[error(transparent)]
-    Text(#[from] TextFault),
-    /// The tests make no callbacks.
-    #[error("Callbacks")]
-    Callbacks,
-    #[error(transparent)]
-    Boot(#[from] klp_program::Fault),
-    #[error("Io")]
-    Io(#[from] io::Error),
+    Boot(klp_program::Fault),
+    Io(io::Error),
+}
+
+impl From<klp_program::Fault> for Fault {
+    fn from(fault: klp_program::Fault) -> Fault {
+        Fault::Boot(fault)
+    }
+}
+
+impl From<io::Error> for Fault {
+    fn from(error: io::Error) -> Fault {
+        Fault::Io(error)
+    }
 }
 
 fn add_symbol(alloc: Global, text: &mut String, site: u64) -> Result<(), AllocError>
@@ -79,7 +81,7 @@ fn add_lines(alloc: Global, text: &mut String) -> Result<(), AllocError> {
 }
 
 /// A catalog of 256 sites, with a patch of 64 functions.
-pub(crate) fn large(alloc: Global) -> Result<String, AllocError> {
+pub(crate) fn large(alloc: Global) -> io::Result<String> {
     let mut text = String::new(alloc);
     add_lines(alloc, &mut text)?;
     Ok(text)

@@ -1,7 +1,7 @@
 //! What an entry costs, alone and beside others while one thread submits, and what a look at the same table costs under
 //! a read lock.
-use crate::books::Use;
-use crate::measure::{Seated, Takes, booked, since, turn};
+use crate::books::{Use, booked};
+use crate::measure::{Seated, Takes, since, turn};
 use crate::names::{FIRST, PATCH, PATCHED};
 use crate::shows::{Shows, apply, empty};
 use crossbeam_utils::rule::Protocol;
@@ -83,8 +83,7 @@ impl<M: Machine, R: Wait> Takes<R> for Writes<'_, M> {
 }
 
 fn write<M: Machine, R: Wait>(rt: &R, table: &RwLock<Table>, machine: &mut M, event: Event) {
-    let _standing = machine.mark();
-    if machine.apply(event).is_err() {
+    if !apply(machine, event) {
         // The journal is full, and room is made: the task and the patch stay.
         empty(machine);
         begin(machine);
@@ -93,6 +92,13 @@ fn write<M: Machine, R: Wait>(rt: &R, table: &RwLock<Table>, machine: &mut M, ev
     let state = machine.patch_state(FIRST);
     let mut table = table.write(rt);
     table.states[usize::from(FIRST.0)] = state;
+}
+
+/// The table of a machine.
+fn table_of<M: Machine>(machine: &M) -> Table {
+    let mut table = Table::empty();
+    table.fill(machine);
+    table
 }
 
 /// The task comes, and the patch is enabled.
@@ -224,17 +230,14 @@ fn locked<M: Machine, R: Threads + Wait + Clock + Sync>(
     best: &mut Crowd,
 ) {
     begin(machine);
-    let mut table = Table::empty();
-    table.fill(machine);
-    let table = RwLock::new(table);
+    let table = RwLock::new(table_of(machine));
     let mut writes = Writes {
         table: &table,
         machine,
     };
     if let Ok(readers) = Vec::from_array(alloc, [ByLock { table: &table }; LOOKERS]) {
-        best.lock = best
-            .lock
-            .min(look_by(rt, best.threads, readers, &mut writes));
+        let took = look_by(rt, best.threads, readers, &mut writes);
+        best.lock = best.lock.min(took);
     }
 }
 

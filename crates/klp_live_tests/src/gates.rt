@@ -25,13 +25,38 @@ impl Gate for Open {
 /// time.
 #[derive(Drop)]
 pub(crate) struct Meeting<'a> {
-    pub(crate) own: &'a AtomicBool,
-    pub(crate) other: &'a AtomicBool,
-    pub(crate) met: AtomicBool,
+    own: &'a AtomicBool,
+    other: &'a AtomicBool,
+    met: AtomicBool,
+}
+
+/// The flags of two tasks that meet.
+#[derive(Drop)]
+pub(crate) struct Flags {
+    first: AtomicBool,
+    second: AtomicBool,
+}
+
+impl Flags {
+    /// Neither is raised.
+    pub(crate) fn new() -> Flags {
+        Flags {
+            first: AtomicBool::new(false),
+            second: AtomicBool::new(false),
+        }
+    }
+
+    /// The gate of each task.
+    pub(crate) fn gates(&self) -> (Meeting<'_>, Meeting<'_>) {
+        (
+            Meeting::new(&self.first, &self.second),
+            Meeting::new(&self.second, &self.first),
+        )
+    }
 }
 
 impl<'a> Meeting<'a> {
-    pub(crate) fn new(own: &'a AtomicBool, other: &'a AtomicBool) -> Meeting<'a> {
+    fn new(own: &'a AtomicBool, other: &'a AtomicBool) -> Meeting<'a> {
         Meeting {
             own,
             other,

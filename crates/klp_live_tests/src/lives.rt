@@ -1,21 +1,21 @@
 //! Has two tasks run the steps of each file, over its catalog, as the program `klpsim` does: what is written has to be as
 //! it stands there, however the two threads come to run.
 
-use crate::booted::Fault;
 use klp_live_program::live;
 use std::alloc::Global;
-use std::fs;
 use std::rt::Files;
 use std::sync::Wait;
 use std::thread::Threads;
+use std::{fs, io};
 
 /// The files, a line each: the name of the steps and of what is written, `NAME.steps` and `NAME.output`, and that of the
 /// catalog, `CATALOG.catalog`. Lines that begin with `#` say what the next ones show.
 const INDEX: &str = "lives";
 
 /// A file of two tasks.
-fn file_of<R: Files + AllocGlobal>(rt: &R, name: &str, ending: &str) -> Result<Vec<u8>, Fault> {
-    Ok(fs::read(rt, format!(in rt.alloc(); "{name}.{ending}")?.as_str())?)
+fn file_of<R: Files + AllocGlobal>(rt: &R, name: &str, ending: &str) -> io::Result<Vec<u8>> {
+    let name = format!(in rt.alloc(); "{name}.{ending}")?;
+    fs::read(rt, name.as_str())
 }
 
 /// Whether this is what is written: on standard output, or on standard error where there is a fault.
@@ -35,10 +35,7 @@ fn is_written<R: Threads + Wait + Sync>(
 }
 
 /// Whether the steps of this line of the index come to what is written.
-fn holds<R: Threads + Wait + Sync + Files + AllocGlobal>(
-    rt: &R,
-    line: &str,
-) -> Result<bool, Fault> {
+fn holds<R: Threads + Wait + Sync + Files + AllocGlobal>(rt: &R, line: &str) -> io::Result<bool> {
     let (name, catalog) = line.split_once(' ').unwrap_or((line, line));
     let catalog = file_of(rt, catalog, "catalog")?;
     let steps = file_of(rt, name, "steps")?;
@@ -50,7 +47,7 @@ fn holds<R: Threads + Wait + Sync + Files + AllocGlobal>(
 fn tell<R: Threads + Wait + Sync + Files + Print + AllocGlobal>(
     rt: &R,
     line: &str,
-) -> Result<(), Fault> {
+) -> io::Result<()> {
     if line.starts_with('#') {
         return Ok(());
     }
@@ -59,14 +56,13 @@ fn tell<R: Threads + Wait + Sync + Files + Print + AllocGlobal>(
     } else {
         "differs"
     };
-    println!(rt; "{line}: {told}")?;
-    Ok(())
+    println!(rt; "{line}: {told}")
 }
 
 /// Tells of each line of the index whether it holds.
 pub(crate) fn run<R: Threads + Wait + Sync + Files + Print + AllocGlobal>(
     rt: &R,
-) -> Result<(), Fault> {
+) -> io::Result<()> {
     let index = fs::read_to_string(rt, INDEX)?;
     for line in index.as_str().lines() {
         tell(rt, line)?;

@@ -39,7 +39,7 @@ use crate::passes::Story;
 use crate::runs::Work;
 use std::alloc::Global;
 use std::env;
-use std::rt::Clock;
+use std::rt::{Clock, Files};
 use std::sync::Wait;
 use std::thread::Threads;
 
@@ -73,16 +73,31 @@ fn measured<R: Threads + Wait + Clock + Print + Sync>(
     managed(rt, alloc, SMALL, Work::Rates(rounds))
 }
 
-fn main(rt: HostRuntime) -> Result<(), Fault> {
-    let alloc = rt.alloc();
-    if let Some(word) = env::args(&rt)?.nth(1) {
-        if word.as_str() == "book" {
-            return run_book(&rt, alloc);
-        }
-        return measured(&rt, alloc, word.as_str().parse::<u64>().unwrap_or(1));
+/// What the program's word says: the tests of the book, or so many rounds that are measured.
+fn run_word<R: Threads + Wait + Clock + Print + Sync>(
+    rt: &R,
+    alloc: Global,
+    word: &str,
+) -> Result<(), Fault> {
+    if word == "book" {
+        return run_book(rt, alloc);
     }
-    run_book(&rt, alloc)?;
-    show_turns(&rt)?;
-    managed(&rt, alloc, SMALL, Work::Bodies)?;
-    lives::run(&rt)
+    measured(rt, alloc, word.parse::<u64>().unwrap_or(1))
+}
+
+/// All tests.
+fn run_all<R: Threads + Wait + Clock + Print + Files + AllocGlobal + Sync>(
+    rt: &R,
+) -> Result<(), Fault> {
+    run_book(rt, rt.alloc())?;
+    show_turns(rt)?;
+    managed(rt, rt.alloc(), SMALL, Work::Bodies)?;
+    Ok(lives::run(rt)?)
+}
+
+fn main(rt: HostRuntime) -> Result<(), Fault> {
+    match env::args(&rt)?.nth(1) {
+        Some(word) => run_word(&rt, rt.alloc(), word.as_str()),
+        None => run_all(&rt),
+    }
 }

@@ -1,13 +1,11 @@
 //! What an event costs that is admitted, beside what it costs where it is only applied.
-ghost use Rattle.std.specs.Prelude.{◌≡◌, []};
-
-use crate::books::{Use, over};
+use crate::books::{Use, booked};
 use crate::entries::{Crowd, crowds, tell_crowd};
 use crate::names::{FIRST, PATCH};
 use crate::shows::{Shows, apply, empty};
 use crossbeam_utils::rule::Protocol;
 use klp_core::Machine;
-use klp_live::{Book, Published, Seat, Start, StartFault, View};
+use klp_live::{Book, Published, Seat, Start, View};
 use klp_model::Event;
 use std::alloc::Global;
 use std::io;
@@ -145,25 +143,19 @@ struct Figures {
     crowds: [Crowd; 4],
 }
 
-/// Opens a book for a round. It counts for nothing where there is no memory for that.
-pub(crate) fn booked<M: Shows + Drop, R: Threads + Wait + Clock + Print + Sync>(
-    rt: &R,
-    alloc: Global,
-    machine: M,
-    how: Use<'_>,
-) -> (M, io::Result<()>) {
-    let mut machine = machine;
-    empty(&mut machine);
-    match over(rt, alloc, machine, how) {
-        Ok(pair) => pair,
-        Err(fault) => {
-            let StartFault { manager, cause: _ } = fault;
-            (manager, Ok(()))
+impl Figures {
+    /// Before the first round.
+    fn new() -> Figures {
+        Figures {
+            applied: Times::NONE,
+            admitted: Times::NONE,
+            crowds: [Crowd::of(0), Crowd::of(1), Crowd::of(2), Crowd::of(4)],
         }
     }
 }
 
-/// One round: all events are applied, and admitted, and functions are entered.
+/// One round: all events are applied, and admitted, and functions are entered. It counts for nothing where there is no
+/// memory for a book.
 fn round<M: Shows + Drop, R: Threads + Wait + Clock + Print + Sync>(
     rt: &R,
     alloc: Global,
@@ -178,7 +170,7 @@ fn round<M: Shows + Drop, R: Threads + Wait + Clock + Print + Sync>(
     let applied = take_all(rt, &mut alone, &mut best.applied);
     let (machine, admitted) = booked(rt, alloc, machine, Use::Events(&mut best.admitted));
     let machine = crowds(rt, alloc, machine, &mut best.crowds);
-    (machine, applied.and(admitted))
+    (machine, applied.and(admitted.unwrap_or(Ok(()))))
 }
 
 fn tell<R: Print>(rt: &R, best: &Figures) -> io::Result<()> {
@@ -188,13 +180,12 @@ fn tell<R: Print>(rt: &R, best: &Figures) -> io::Result<()> {
         crowds,
     } = best;
     println!(rt;
-        "a task event: applied {} ns, admitted {} ns",
+        "a task event: applied {} ns, admitted {} ns\n\
+        an Enable of 64 functions: applied {} ns, admitted {} ns",
         applied.tasks / (2 * TURNS),
-        admitted.tasks / (2 * TURNS)
-    )?;
-    println!(rt;
-        "an Enable of 64 functions: applied {} ns, admitted {} ns",
-        applied.enable, admitted.enable
+        admitted.tasks / (2 * TURNS),
+        applied.enable,
+        admitted.enable
     )?;
     for crowd in crowds {
         tell_crowd(rt, crowd)?;
@@ -210,11 +201,7 @@ pub(crate) fn rounds_of<M: Shows + Drop, R: Threads + Wait + Clock + Print + Syn
     rounds: u64,
 ) -> io::Result<()> {
     let mut machine = machine;
-    let mut best = Figures {
-        applied: Times::NONE,
-        admitted: Times::NONE,
-        crowds: [Crowd::of(0), Crowd::of(1), Crowd::of(2), Crowd::of(4)],
-    };
+    let mut best = Figures::new();
     let mut ended = Ok(());
     for _round in 0..rounds {
         let (same, took) = round(rt, alloc, machine, &mut best);

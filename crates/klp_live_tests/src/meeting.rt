@@ -1,6 +1,6 @@
 //! Two bodies that pass their gates only where both are inside at one time.
 use crate::bodies::show_both;
-use crate::gates::Meeting;
+use crate::gates::Flags;
 use crate::names::{FIRST, SECOND};
 use crate::outcomes::Detail;
 use crate::pairs::{Ran, Steps, run_pair};
@@ -14,7 +14,6 @@ use std::alloc::{AllocError, Global};
 use std::io;
 use std::rt::Clock;
 use std::sync::Wait;
-use std::sync::atomic::AtomicBool;
 use std::thread::Threads;
 
 /// How often the two meet.
@@ -45,12 +44,8 @@ fn meet<
     live: &Live<S, M, &R>,
     seats: (Seat<S>, Seat<S>),
 ) -> ((Seat<S>, Seat<S>), io::Result<Ran>) {
-    let raised = (AtomicBool::new(false), AtomicBool::new(false));
-    let gates = (
-        Meeting::new(&raised.0, &raised.1),
-        Meeting::new(&raised.1, &raised.0),
-    );
-    run_pair(rt, alloc, live, seats, gates, turns(alloc))
+    let flags = Flags::new();
+    run_pair(rt, alloc, live, seats, flags.gates(), turns(alloc))
 }
 
 /// The two meet again and again. They have met where both have ended.
@@ -82,18 +77,14 @@ pub(crate) fn show_apart<S: Start + Protocol<Published, View>, M: Machine + Drop
     live: &Live<S, M, &R>,
     seats: (Seat<S>, Seat<S>),
 ) -> ((Seat<S>, Seat<S>), io::Result<()>) {
-    let raised = (AtomicBool::new(false), AtomicBool::new(false));
-    let gates = (
-        Meeting::new(&raised.0, &raised.1),
-        Meeting::new(&raised.1, &raised.0),
-    );
+    let flags = Flags::new();
     let steps = (turn(FIRST), turn(SECOND));
     show_both(
         rt,
         alloc,
         live,
         seats,
-        gates,
+        flags.gates(),
         (&steps.0, &steps.1),
         Detail::Kinds,
     )
@@ -101,9 +92,8 @@ pub(crate) fn show_apart<S: Start + Protocol<Published, View>, M: Machine + Drop
 
 /// The gates asked by turns in one thread: the one that was asked first never lets its task in.
 pub(crate) fn show_turns<R: Print>(rt: &R) -> io::Result<()> {
-    let raised = (AtomicBool::new(false), AtomicBool::new(false));
-    let one = Meeting::new(&raised.0, &raised.1);
-    let two = Meeting::new(&raised.1, &raised.0);
+    let flags = Flags::new();
+    let (one, two) = flags.gates();
     let asked = [
         one.before(FIRST, 1),
         two.before(SECOND, 1),

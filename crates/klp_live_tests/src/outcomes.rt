@@ -1,18 +1,34 @@
 //! What is printed of events and of what steps come to.
 use klp_bodies::{Accepted, Outcome, What};
-use klp_live::{LiveRefusal, Receipt, Start};
+use klp_live::{EnterFault, LiveRefusal, Receipt, Start};
 use klp_model::Reply;
 use klp_types::Target;
 use std::io;
 
-/// The number and the reply of an event, or why it isn't admitted.
-pub(crate) fn show_told<S: Start, R: Print>(
-    rt: &R,
-    told: &Result<Receipt<S>, LiveRefusal>,
-) -> io::Result<()> {
+/// The number and the reply of an event, or why it isn't admitted: as plain data, of which the prover has less to carry
+/// than of a receipt.
+pub(crate) type Told = Result<(u64, Reply), LiveRefusal>;
+
+/// What an event was told.
+pub(crate) fn told_of<S: Start>(told: Result<Receipt<S>, LiveRefusal>) -> Told {
     match told {
-        Ok(receipt) => println!(rt; "{} {:?}", receipt.number(), receipt.reply()),
+        Ok(receipt) => Ok((receipt.number(), receipt.reply())),
+        Err(refusal) => Err(refusal),
+    }
+}
+
+pub(crate) fn show_told<R: Print>(rt: &R, told: &Told) -> io::Result<()> {
+    match told {
+        Ok((number, reply)) => println!(rt; "{number} {reply:?}"),
         Err(refusal) => println!(rt; "{refusal:?}"),
+    }
+}
+
+/// What a call of a pass runs, or why it runs nothing.
+pub(crate) fn show_found<R: Print>(rt: &R, found: &Result<Target, EnterFault>) -> io::Result<()> {
+    match found {
+        Ok(Target { version, address }) => println!(rt; "{version:?} {address:x}"),
+        Err(fault) => println!(rt; "{fault:?}"),
     }
 }
 
@@ -67,8 +83,7 @@ fn show_outcome<R: Print>(rt: &R, outcome: &Outcome) -> io::Result<()> {
             println!(rt; "{known}: {version:?} {address:x}")
         }
         What::NoEntry(fault) => println!(rt; "{known}: {fault:?}"),
-        What::Returned => println!(rt; "{known}: returned"),
-        What::Deep => println!(rt; "{known}: deep"),
+        What::Returned | What::Deep => println!(rt; "{known}: {}", kind(&outcome.what)),
     }
 }
 

@@ -1,7 +1,7 @@
 //! The one owner of a manager: it boots one, and hands it on to what is generic over it and so sees no box.
 use crate::booted::Fault;
 use crate::runs::{Work, do_work};
-use klp_catalog::Catalog;
+use klp_catalog::{AssembleFault, Catalog};
 use klp_core::Manager;
 use klp_program::boot;
 use std::alloc::Global;
@@ -10,13 +10,13 @@ use std::rt::Clock;
 use std::sync::Wait;
 use std::thread::Threads;
 
-/// Boots a manager over a catalog without callbacks.
-fn booted(alloc: Global, text: &[u8]) -> Result<Manager, Fault> {
+/// Boots a manager over a catalog without callbacks: the tests make none.
+fn booted(alloc: Global, text: &[u8]) -> Result<Manager, klp_program::Fault> {
     let plan = Catalog::read(alloc, text)?;
     if let Some(_script) = plan.script(0) {
-        return Err(Fault::Callbacks);
+        return Err(klp_program::Fault::Assemble(AssembleFault::WrongCallbacks));
     }
-    Ok(boot(alloc, plan, Vec::new(alloc))?)
+    boot(alloc, plan, Vec::new(alloc))
 }
 
 /// Does something with a manager, which may cross threads.

@@ -7,7 +7,7 @@ ghost use Rattle.klp_bodies.specs.Jobs.{body_of};
 use crate::measure::since;
 use crate::names::{FIRST, SECOND};
 use crossbeam_utils::rule::Protocol;
-use klp_bodies::{BodyFault, Gate, Job, Step, TaskBody, run_two};
+use klp_bodies::{BodyCause, BodyFault, Gate, Job, Step, TaskBody, run_two};
 use klp_core::Machine;
 use klp_live::{Live, Published, Seat, Start, TaskPass, View};
 use klp_types::TaskId;
@@ -60,14 +60,21 @@ fn job_of<S: Start + Protocol<Published, View>, G: Gate + Drop, M: Machine + Dro
     Job::new(alloc, TaskBody::new(pass, gate), steps)
 }
 
-/// The seat of a body that has ended, whose fault is shown.
-pub(crate) fn seat_of<S: Start + Protocol<Published, View>, R: Print>(
-    rt: &R,
+/// The seat of a body that has ended, and why it has stopped, if it has.
+pub(crate) fn seat_of<S: Start + Protocol<Published, View>>(
     ended: Result<TaskPass<S>, BodyFault<S>>,
-) -> (Seat<S>, io::Result<()>) {
+) -> (Seat<S>, Option<BodyCause>) {
     match ended {
-        Ok(pass) => (pass.detach(), Ok(())),
-        Err(BodyFault { pass, cause }) => (pass.detach(), println!(rt; "{cause:?}")),
+        Ok(pass) => (pass.detach(), None),
+        Err(BodyFault { pass, cause }) => (pass.detach(), Some(cause)),
+    }
+}
+
+/// Why a body has stopped, if it has.
+pub(crate) fn show_cause<R: Print>(rt: &R, cause: Option<BodyCause>) -> io::Result<()> {
+    match cause {
+        Some(cause) => println!(rt; "{cause:?}"),
+        None => Ok(()),
     }
 }
 
@@ -100,6 +107,28 @@ fn run_timed<
     since(rt, start?)
 }
 
+/// The seat of a job, and why its body has stopped, if it has.
+fn end_of<S: Start + Protocol<Published, View>, G: Gate + Drop>(
+    job: Job<S, G>,
+) -> (Seat<S>, Option<BodyCause>) {
+    let (ended, _outcomes) = job.end();
+    seat_of(ended)
+}
+
+/// Shows why each of two jobs has stopped, if it has, and tells what they came to.
+fn show_ran<R: Print>(
+    rt: &R,
+    causes: (Option<BodyCause>, Option<BodyCause>),
+    took: io::Result<u64>,
+) -> io::Result<Ran> {
+    show_cause(rt, causes.0)?;
+    show_cause(rt, causes.1)?;
+    Ok(Ran {
+        have_ended: causes.0.is_none() && causes.1.is_none(),
+        took: took.unwrap_or(u64::MAX),
+    })
+}
+
 /// The seats of two jobs, and what came of them.
 fn ends_of<S: Start + Protocol<Published, View>, G: Gate + Drop, R: Print>(
     rt: &R,
@@ -107,15 +136,9 @@ fn ends_of<S: Start + Protocol<Published, View>, G: Gate + Drop, R: Print>(
     two: Job<S, G>,
     took: io::Result<u64>,
 ) -> ((Seat<S>, Seat<S>), io::Result<Ran>) {
-    let (first, _outcomes) = one.end();
-    let (second, _outcomes) = two.end();
-    let ran = Ran {
-        have_ended: first.is_ok() && second.is_ok(),
-        took: took.unwrap_or(u64::MAX),
-    };
-    let (first, told) = seat_of(rt, first);
-    let (second, heard) = seat_of(rt, second);
-    ((first, second), told.and(heard).and(Ok(ran)))
+    let (first, cause) = end_of(one);
+    let (second, other) = end_of(two);
+    ((first, second), show_ran(rt, (cause, other), took))
 }
 
 /// Both tasks do their steps, where there is memory for them, in threads of their own.

@@ -1,12 +1,15 @@
 //! Passes of two tasks at one start: what each is told, and what its calls run.
+ghost use Rattle.std.specs.Prelude.{◌<◌};
+ghost use Rattle.klp_types.specs.declared.limits.TheConstants.{MAX_TASKS};
+
 use crate::names::{FIRST, LATER, NOWHERE, PATCH, PATCHED, SECOND};
-use crate::outcomes::show_told;
+use crate::outcomes::{Told, show_found, show_told, told_of};
 use crate::pairs::attached;
 use crossbeam_utils::rule::Protocol;
 use klp_core::Machine;
 use klp_live::{Live, Published, Seat, Start, TaskPass, View};
 use klp_model::Event;
-use klp_types::{Site, Target};
+use klp_types::{Site, TaskId};
 use std::alloc::Global;
 use std::io;
 use std::sync::Wait;
@@ -45,7 +48,7 @@ enum Turn {
 /// The first task enables a patch, which it runs once it was outside of the kernel. The second hears of that, and runs
 /// the original still, since it wasn't outside.
 fn heard() -> [Turn; 7] {
-    [
+    const ALL: [Turn; 7] = [
         Turn::First(Act::Tell(Event::Enable(PATCH))),
         Turn::First(Act::Enter(PATCHED)),
         Turn::First(Act::Submit(Event::EnterKernel(FIRST))),
@@ -53,12 +56,13 @@ fn heard() -> [Turn; 7] {
         Turn::First(Act::Enter(PATCHED)),
         Turn::Second(Act::Enter(PATCHED)),
         Turn::Second(Act::Submit(Event::Enable(PATCH))),
-    ]
+    ];
+    ALL
 }
 
 /// The first task's events switch the second one, which sees that without being told.
 fn unheard() -> [Turn; 8] {
-    [
+    const ALL: [Turn; 8] = [
         Turn::First(Act::Submit(Event::Enable(PATCH))),
         Turn::First(Act::Submit(Event::EnterKernel(SECOND))),
         Turn::First(Act::Submit(Event::ExitToUser(SECOND))),
@@ -67,19 +71,38 @@ fn unheard() -> [Turn; 8] {
         Turn::First(Act::Submit(Event::EnterKernel(SECOND))),
         Turn::First(Act::Submit(Event::ExitToUser(SECOND))),
         Turn::Second(Act::Enter(PATCHED)),
-    ]
+    ];
+    ALL
 }
 
 /// A task that isn't there enters nothing, before it comes and after it has ended.
 fn absent() -> [Turn; 6] {
-    [
+    const ALL: [Turn; 6] = [
         Turn::First(Act::Enter(PATCHED)),
         Turn::First(Act::Enter(NOWHERE)),
         Turn::First(Act::Submit(Event::NewTask(LATER))),
         Turn::First(Act::Enter(PATCHED)),
         Turn::First(Act::Submit(Event::EndTask(LATER))),
         Turn::First(Act::Enter(PATCHED)),
-    ]
+    ];
+    ALL
+}
+
+/// Submits an event, of which the other pass hears if it is to.
+fn submitted<S: Start + Protocol<Published, View>, M: Machine + Drop, R: Wait>(
+    rt: &R,
+    alloc: Global,
+    live: &Live<S, M, &R>,
+    pass: &mut TaskPass<S>,
+    other: &mut TaskPass<S>,
+    event: Event,
+    is_heard: bool,
+) -> Told {
+    let told = pass.submit(rt, alloc, live, event);
+    if is_heard && let Ok(receipt) = &told {
+        other.hear(receipt);
+    }
+    told_of(told)
 }
 
 /// A pass does something, and what comes of it is shown.
@@ -91,27 +114,16 @@ fn show_act<S: Start + Protocol<Published, View>, M: Machine + Drop, R: Wait + P
     other: &mut TaskPass<S>,
     act: Act,
 ) -> io::Result<()> {
-    let (event, is_heard) = match act {
-        Act::Enter(site) => return show_entry(rt, pass, site),
-        Act::Submit(event) => (event, false),
-        Act::Tell(event) => (event, true),
-    };
-    let told = pass.submit(rt, alloc, live, event);
-    if is_heard && let Ok(receipt) = &told {
-        other.hear(receipt);
-    }
-    show_told(rt, &told)
-}
-
-/// Enters a function, and shows what runs.
-fn show_entry<S: Start + Protocol<Published, View>, R: Print>(
-    rt: &R,
-    pass: &mut TaskPass<S>,
-    site: Site,
-) -> io::Result<()> {
-    match pass.enter(site) {
-        Ok(Target { version, address }) => println!(rt; "{version:?} {address:x}"),
-        Err(fault) => println!(rt; "{fault:?}"),
+    match act {
+        Act::Enter(site) => show_found(rt, &pass.enter(site)),
+        Act::Submit(event) => {
+            let told = submitted(rt, alloc, live, pass, other, event, false);
+            show_told(rt, &told)
+        }
+        Act::Tell(event) => {
+            let told = submitted(rt, alloc, live, pass, other, event, true);
+            show_told(rt, &told)
+        }
     }
 }
 
@@ -132,6 +144,33 @@ fn show_turns<S: Start + Protocol<Published, View>, M: Machine + Drop, R: Wait +
     Ok(())
 }
 
+/// What the passes do of this story.
+fn show_story<S: Start + Protocol<Published, View>, M: Machine + Drop, R: Wait + Print>(
+    rt: &R,
+    alloc: Global,
+    live: &Live<S, M, &R>,
+    first: &mut TaskPass<S>,
+    second: &mut TaskPass<S>,
+    story: Story,
+) -> io::Result<()> {
+    match story {
+        Story::Heard => show_turns(rt, alloc, live, first, second, &heard()),
+        Story::Unheard => show_turns(rt, alloc, live, first, second, &unheard()),
+        Story::Absent => show_turns(rt, alloc, live, first, second, &absent()),
+        Story::Idle => Ok(()),
+    }
+}
+
+/// The task that takes the first seat.
+fn first_of(story: Story) -> TaskId
+    ensures { result < MAX_TASKS }
+{
+    match story {
+        Story::Absent => LATER,
+        _ => FIRST,
+    }
+}
+
 /// Two tasks take the two seats, and hand them back.
 pub(crate) fn passed<S: Start + Protocol<Published, View>, M: Machine + Drop, R: Wait + Print>(
     rt: &R,
@@ -140,16 +179,8 @@ pub(crate) fn passed<S: Start + Protocol<Published, View>, M: Machine + Drop, R:
     seats: (Seat<S>, Seat<S>),
     story: Story,
 ) -> ((Seat<S>, Seat<S>), io::Result<()>) {
-    let mut first = match story {
-        Story::Absent => attached(live, seats.0, LATER),
-        _ => attached(live, seats.0, FIRST),
-    };
+    let mut first = attached(live, seats.0, first_of(story));
     let mut second = attached(live, seats.1, SECOND);
-    let told = match story {
-        Story::Heard => show_turns(rt, alloc, live, &mut first, &mut second, &heard()),
-        Story::Unheard => show_turns(rt, alloc, live, &mut first, &mut second, &unheard()),
-        Story::Absent => show_turns(rt, alloc, live, &mut first, &mut second, &absent()),
-        Story::Idle => Ok(()),
-    };
+    let told = show_story(rt, alloc, live, &mut first, &mut second, story);
     ((first.detach(), second.detach()), told)
 }

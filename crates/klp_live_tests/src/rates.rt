@@ -123,13 +123,10 @@ fn again<M: Shows + Drop + Send, R: Threads + Wait + Print + Clock + Sync>(
     alloc: Global,
     machine: M,
     best: &mut Best,
-) -> (Option<M>, io::Result<()>) {
+) -> (Result<M, &'static str>, io::Result<()>) {
     let mut machine = machine;
     empty(&mut machine);
-    match started(rt, alloc, machine, 2, Run::Round(best)) {
-        Ok(ended) => ended,
-        Err(_) => (None, Ok(())),
-    }
+    started(rt, alloc, machine, 2, Run::Round(best))
 }
 
 /// So many rounds over a machine with two tasks, and what they came to.
@@ -147,8 +144,8 @@ pub(crate) fn rounds_of<M: Shows + Drop + Send, R: Threads + Wait + Print + Cloc
         let (same, ran) = again(rt, alloc, machine, &mut best);
         ended = ended.and(ran);
         match same {
-            Some(same) => machine = same,
-            None => return println!(rt; "no end"),
+            Ok(same) => machine = same,
+            Err(missing) => return println!(rt; "{missing}"),
         }
     }
     ended.and(tell(rt, &best))
@@ -162,15 +159,11 @@ fn rate(count: u64, took: u64) -> u128 {
 fn tell<R: Print>(rt: &R, best: &Best) -> io::Result<()> {
     let [submit, enter, beside] = best.0;
     println!(rt;
-        "both submit: {} events a second",
-        rate(2 * EVENTS, submit.took)
-    )?;
-    println!(rt;
-        "both enter: {} entries a second",
-        rate(2 * ENTRIES, enter.took)
-    )?;
-    println!(rt;
-        "one submits, one enters: {} events and {} entries a second",
+        "both submit: {} events a second\n\
+        both enter: {} entries a second\n\
+        one submits, one enters: {} events and {} entries a second",
+        rate(2 * EVENTS, submit.took),
+        rate(2 * ENTRIES, enter.took),
         rate(EVENTS, beside.took),
         rate(ENTRIES, beside.took)
     )

@@ -7,11 +7,8 @@ use klp_core::{Machine, Manager};
 use klp_model::Event;
 use klp_types::{PatchId, Site, SiteRow, Target, TaskId};
 
-/// How many sites the image of the book's tests has.
-pub(crate) const SITES: u16 = 3;
-
 /// What stands, what is installed, and what tasks there are.
-#[derive(Drop, PartialEq)]
+#[derive(Clone, Copy, PartialEq)]
 pub(crate) struct Shown {
     mark: u32,
     moving: Option<PatchId>,
@@ -59,10 +56,10 @@ impl Shows for Manager {
     }
 }
 
-/// Has a machine take an event, whatever it answers.
-pub(crate) fn apply<M: Machine>(machine: &mut M, event: Event) {
+/// Has a machine take an event, and tells whether it did.
+pub(crate) fn apply<M: Machine>(machine: &mut M, event: Event) -> bool {
     let _standing = machine.mark();
-    let _ = machine.apply(event);
+    machine.apply(event).is_ok()
 }
 
 /// Two tasks come, and nothing is to be taken back any more.

@@ -10,7 +10,7 @@ use crate::rates::{self, Best};
 use crate::shows::{Shown, Shows, prepare};
 use crossbeam_utils::rule::Protocol;
 use klp_core::Machine;
-use klp_live::{Live, Opened, Published, Seat, Start, StartFault, View};
+use klp_live::{Live, Opened, Published, Seat, Start, View};
 use std::alloc::Global;
 use std::io;
 use std::marker::Brand;
@@ -64,8 +64,28 @@ fn both_run<
     }
 }
 
-/// Two of the seats run, where there are two, and are put back. There is room for them: so none of the pushes fails, or
-/// the start wouldn't end.
+/// Takes the last two seats, where there are two.
+fn take_two<S: Start + Protocol<Published, View>>(
+    seats: &mut Vec<Seat<S>>,
+) -> Option<(Seat<S>, Seat<S>)> {
+    if seats.len() < 2 {
+        return None;
+    }
+    let second = seats.pop()?;
+    let first = seats.pop()?;
+    Some((first, second))
+}
+
+/// Puts two seats back. There is room for them: so none of the pushes fails, or the start wouldn't end.
+fn put_back<S: Start + Protocol<Published, View>>(
+    seats: &mut Vec<Seat<S>>,
+    two: (Seat<S>, Seat<S>),
+) {
+    let _ = seats.push(two.0);
+    let _ = seats.push(two.1);
+}
+
+/// Two of the seats run, where there are two.
 fn all_run<
     S: Start + Protocol<Published, View> + Send + Sync,
     M: Machine + Drop + Send,
@@ -77,19 +97,16 @@ fn all_run<
     seats: &mut Vec<Seat<S>>,
     run: Run<'_>,
 ) -> io::Result<()> {
-    let Some(second) = seats.pop() else {
+    let Some(two) = take_two(seats) else {
         return Ok(());
     };
-    let Some(first) = seats.pop() else {
-        return Ok(seats.push(second)?);
-    };
-    let ((first, second), told) = both_run(rt, alloc, live, (first, second), run);
-    let _ = seats.push(first);
-    let _ = seats.push(second);
+    let (two, told) = both_run(rt, alloc, live, two, run);
+    put_back(seats, two);
     told
 }
 
-/// Starts, has the seats run, and ends. There is no machine where a seat is missing then.
+/// Starts, has the seats run, and ends. There is no machine where there was no memory for a start, or a seat is missing in
+/// the end: which of them is told in its place.
 fn opened<
     S: Start + Protocol<Published, View> + Send + Sync,
     M: Machine + Drop + Send,
@@ -102,7 +119,7 @@ fn opened<
     machine: M,
     places: usize,
     run: Run<'_>,
-) -> Result<(Option<M>, io::Result<()>), StartFault<M>>
+) -> (Result<M, &'static str>, io::Result<()>)
     requires name { blank.name ≡ S.name }
     requires parts { (blank.parts ≡ S.parts) × (blank.parts ≡ places) × (places ≡ S.places) }
     requires book { opened.seen.book ≡ S.book }
@@ -110,9 +127,14 @@ fn opened<
     requires fresh { IsFresh S.setting S.base (M.journaled machine) }
     requires places { (0 < places) × (places ≤ 64) }
 {
-    let (live, mut seats) = Live::<S, M, &R>::start(rt, alloc, blank, opened, machine, places)?;
-    let told = all_run(rt, alloc, &live, &mut seats, run);
-    Ok((live.close(rt, seats).ok(), told))
+    match Live::<S, M, &R>::start(rt, alloc, blank, opened, machine, places) {
+        Ok((live, seats)) => {
+            let mut seats = seats;
+            let told = all_run(rt, alloc, &live, &mut seats, run);
+            (live.close(rt, seats).ok().ok_or("no end"), told)
+        }
+        Err(_) => (Err("no start"), Ok(())),
+    }
 }
 
 /// A start over a machine from which nothing is to be taken back, with 1 to 64 seats.
@@ -122,7 +144,7 @@ pub(crate) fn started<M: Machine + Drop + Send, R: Threads + Wait + Print + Cloc
     machine: M,
     places: usize,
     run: Run<'_>,
-) -> Result<(Option<M>, io::Result<()>), StartFault<M>>
+) -> (Result<M, &'static str>, io::Result<()>)
     requires { (M.journaled machine).groups ≡ [] }
 {
     let places = places.clamp(1, 64);
@@ -138,16 +160,9 @@ pub(crate) fn started<M: Machine + Drop + Send, R: Threads + Wait + Print + Cloc
 }
 
 /// Takes all back, and tells how much that was and whether the machine is as it was before its start.
-fn show_end<M: Shows + Drop, R: Print>(
-    rt: &R,
-    machine: Option<M>,
-    before: &Shown,
-) -> io::Result<()> {
-    let Some(mut machine) = machine else {
-        return println!(rt; "no end");
-    };
+fn show_end<M: Machine, R: Print>(rt: &R, machine: &mut M, before: &Shown) -> io::Result<()> {
     let standing = machine.mark();
-    let is_back = machine.rewind(0).is_ok() && Shown::of(&machine) == *before;
+    let is_back = machine.rewind(0).is_ok() && Shown::of(machine) == *before;
     println!(rt; "{standing} standing, taken back: {is_back}")
 }
 
@@ -162,8 +177,13 @@ pub(crate) fn show_start<M: Shows + Drop + Send, R: Threads + Wait + Print + Clo
     let mut machine = machine;
     prepare(&mut machine);
     let before = Shown::of(&machine);
-    match started(rt, alloc, machine, places, run) {
-        Ok((machine, told)) => told.and(show_end(rt, machine, &before)),
-        Err(_) => println!(rt; "no start"),
-    }
+    let (machine, told) = started(rt, alloc, machine, places, run);
+    let ended = match machine {
+        Ok(machine) => {
+            let mut machine = machine;
+            show_end(rt, &mut machine, &before)
+        }
+        Err(missing) => println!(rt; "{missing}"),
+    };
+    told.and(ended)
 }

@@ -1,12 +1,10 @@
 //! Two seats at the book of a manager: what each of their events is answered, and what calls run after it.
-ghost use Rattle.std.specs.Prelude.{◌≡◌, []};
-
-use crate::books::{Use, over};
+use crate::books::{Use, booked};
 use crate::names::{FIRST, SECOND};
-use crate::outcomes::show_told;
-use crate::shows::{SITES, Shown, Shows, empty};
+use crate::outcomes::{Told, show_told, told_of};
+use crate::shows::{Shown, Shows};
 use crossbeam_utils::rule::Protocol;
-use klp_live::{Book, LiveRefusal, Published, Receipt, Seat, Start, StartFault, View};
+use klp_live::{Book, LiveRefusal, Published, Seat, Start, View};
 use klp_model::Event;
 use klp_types::{ObjId, PatchId, ShadowKey, ShadowValue, Site, TaskId};
 use std::alloc::Global;
@@ -19,9 +17,9 @@ use std::thread::Threads;
 #[derive(Clone, Copy)]
 struct Turn(usize, Event);
 
-/// Each kind of event, most of them by both seats in turn.
-fn turns() -> [Turn; 24] {
-    [
+/// Each kind of event of patches, modules and tasks, most of them by both seats in turn.
+fn first_turns() -> [Turn; 21] {
+    const ALL: [Turn; 21] = [
         Turn(0, Event::NewTask(FIRST)),
         Turn(1, Event::NewTask(SECOND)),
         Turn(0, Event::Enable(PatchId(0))),
@@ -43,68 +41,139 @@ fn turns() -> [Turn; 24] {
         Turn(0, Event::EndTask(TaskId(3))),
         Turn(0, Event::Force(PatchId(2))),
         Turn(1, Event::Poll),
-        Turn(
-            0,
-            Event::ShadowAlloc(ShadowKey { obj: 1, id: 9 }, ShadowValue::of(5)),
-        ),
-        Turn(1, Event::ShadowFree(ShadowKey { obj: 1, id: 9 })),
+    ];
+    ALL
+}
+
+/// The shadow variable that comes and goes.
+const SHADOW: ShadowKey = ShadowKey { obj: 1, id: 9 };
+
+/// The same of shadow variables, and a module goes. A value is made by a call, so it stands in no constant.
+fn last_turns() -> [Turn; 3] {
+    [
+        Turn(0, Event::ShadowAlloc(SHADOW, ShadowValue::of(5))),
+        Turn(1, Event::ShadowFree(SHADOW)),
         Turn(0, Event::Going(ObjId(1))),
     ]
 }
 
-fn lacks_memory<S: Start>(told: &Result<Receipt<S>, LiveRefusal>) -> bool {
-    matches!(told, Err(LiveRefusal::NoMemory))
+/// How many sites the image has.
+const SITES: u16 = 3;
+
+/// What stays where an event isn't taken: the machine, and how many rows there are, and are known by a seat.
+#[derive(Clone, Copy, PartialEq)]
+struct Standing {
+    shown: Shown,
+    rows: u64,
+    known: u64,
 }
 
-/// Admits an event. Where memory is refused, nothing has changed, and the event is admitted then.
-fn admitted<S: Start + Protocol<Published, View>, M: Shows + Drop, R: Wait + Print>(
+impl Standing {
+    fn of<S: Start + Protocol<Published, View>, M: Shows + Drop, R: Wait>(
+        book: &Book<S, M, &R>,
+        seat: &Seat<S>,
+    ) -> Standing {
+        Standing {
+            shown: Shown::of(book.machine()),
+            rows: book.rows(),
+            known: seat.rows(),
+        }
+    }
+}
+
+/// Admits an event, and tells its row.
+fn admitted<S: Start + Protocol<Published, View>, M: Shows + Drop, R: Wait>(
     rt: &R,
     alloc: Global,
     book: &mut Book<S, M, &R>,
     seat: &mut Seat<S>,
-    event: &Event,
-) -> Result<Receipt<S>, LiveRefusal> {
-    let shown = Shown::of(book.machine());
-    let rows = book.rows();
-    let known = seat.rows();
-    let first = book.admit(rt, alloc, seat, *event);
-    if !lacks_memory(&first) {
-        return first;
-    }
-    if Shown::of(book.machine()) != shown || book.rows() != rows || seat.rows() != known {
-        let _ = println!(rt; "not as before");
-    }
-    book.admit(rt, alloc, seat, *event)
+    event: Event,
+) -> Told {
+    told_of(book.admit(rt, alloc, seat, event))
 }
 
-/// Whether a call at each site runs what the manager itself picks.
-fn runs_what_is_picked<S: Start + Protocol<Published, View>, M: Shows>(
-    machine: &M,
-    seat: &mut Seat<S>,
-    task: TaskId,
-) -> bool {
-    let mut same = true;
-    for site in 0..SITES {
-        let site = Site(site);
-        same = same && seat.enter(task, site).ok() == machine.picked(task, site);
-    }
-    same
-}
-
-/// Admits an event by a seat, and tells its row.
+/// The same again where memory is refused. Nothing has changed then.
 fn taken<S: Start + Protocol<Published, View>, M: Shows + Drop, R: Wait + Print>(
     rt: &R,
     alloc: Global,
     book: &mut Book<S, M, &R>,
     seat: &mut Seat<S>,
     event: Event,
+) -> Told {
+    let before = Standing::of(book, seat);
+    let told = admitted(rt, alloc, book, seat, event);
+    if !matches!(told, Err(LiveRefusal::NoMemory)) {
+        return told;
+    }
+    if Standing::of(book, seat) != before {
+        let _ = println!(rt; "not as before");
+    }
+    admitted(rt, alloc, book, seat, event)
+}
+
+/// Whether a call runs what the manager itself picks.
+fn is_picked<S: Start + Protocol<Published, View>, M: Shows>(
+    machine: &M,
+    seat: &mut Seat<S>,
+    task: TaskId,
+    site: Site,
+) -> bool {
+    seat.enter(task, site).ok() == machine.picked(task, site)
+}
+
+/// Whether all calls of both tasks do.
+fn all_picked<S: Start + Protocol<Published, View>, M: Shows>(
+    machine: &M,
+    seat: &mut Seat<S>,
+) -> bool {
+    let mut all = true;
+    for site in 0..SITES {
+        let site = Site(site);
+        all = all
+            && is_picked(machine, seat, FIRST, site)
+            && is_picked(machine, seat, SECOND, site);
+    }
+    all
+}
+
+/// Takes an event by a seat, shows its row, and whether calls run what is picked then.
+fn show_turn<S: Start + Protocol<Published, View>, M: Shows + Drop, R: Wait + Print>(
+    rt: &R,
+    alloc: Global,
+    book: &mut Book<S, M, &R>,
+    seat: &mut Seat<S>,
+    event: Event,
 ) -> io::Result<()> {
-    let told = admitted(rt, alloc, book, seat, &event);
-    show_told(rt, &told)?;
-    let same = runs_what_is_picked(book.machine(), seat, FIRST)
-        && runs_what_is_picked(book.machine(), seat, SECOND);
-    if !same {
-        println!(rt; "another version")?;
+    show_told(rt, &taken(rt, alloc, book, seat, event))?;
+    if all_picked(book.machine(), seat) {
+        return Ok(());
+    }
+    println!(rt; "another version")
+}
+
+fn show_turns<S: Start + Protocol<Published, View>, M: Shows + Drop, R: Wait + Print>(
+    rt: &R,
+    alloc: Global,
+    book: &mut Book<S, M, &R>,
+    seats: &mut [Seat<S>],
+    turns: &[Turn],
+) -> io::Result<()> {
+    for Turn(place, event) in turns {
+        if let Some(seat) = seats.get_mut(*place) {
+            show_turn(rt, alloc, book, seat, *event)?;
+        }
+    }
+    Ok(())
+}
+
+/// How many of the rows each seat knows.
+fn show_rows<S: Start + Protocol<Published, View>, R: Print>(
+    rt: &R,
+    seats: &[Seat<S>],
+    rows: u64,
+) -> io::Result<()> {
+    for seat in seats {
+        println!(rt; "{} of {rows}", seat.rows())?;
     }
     Ok(())
 }
@@ -116,39 +185,24 @@ pub(crate) fn all_taken<S: Start + Protocol<Published, View>, M: Shows + Drop, R
     book: &mut Book<S, M, &R>,
     seats: &mut [Seat<S>],
 ) -> io::Result<()> {
-    for Turn(place, event) in turns() {
-        if let Some(seat) = seats.get_mut(place) {
-            taken(rt, alloc, book, seat, event)?;
-        }
-    }
-    for seat in seats.iter() {
-        println!(rt; "{} of {}", seat.rows(), book.rows())?;
-    }
-    Ok(())
+    show_turns(rt, alloc, book, seats, &first_turns())?;
+    show_turns(rt, alloc, book, seats, &last_turns())?;
+    show_rows(rt, seats, book.rows())
 }
 
-/// Opens a book over the machine. Where memory is refused for that, the machine is as it was, and a book is opened over
-/// it then.
+/// Opens a book over the machine for that, and once more where memory is refused.
 pub(crate) fn twice<M: Shows + Drop, R: Threads + Wait + Clock + Print + Sync>(
     rt: &R,
     alloc: Global,
     machine: M,
 ) -> io::Result<()> {
-    let mut machine = machine;
-    empty(&mut machine);
-    let before = Shown::of(&machine);
-    let told = match over(rt, alloc, machine, Use::Turns) {
-        Ok(told) => Ok(told),
-        Err(fault) => {
-            let StartFault { manager, cause: _ } = fault;
-            if Shown::of(&manager) != before {
-                let _ = println!(rt; "another manager");
-            }
-            over(rt, alloc, manager, Use::Turns)
-        }
-    };
+    let (machine, told) = booked(rt, alloc, machine, Use::Turns);
+    if let Ok(told) = told {
+        return told;
+    }
+    let (_machine, told) = booked(rt, alloc, machine, Use::Turns);
     match told {
-        Ok((_machine, ended)) => ended,
-        Err(fault) => println!(rt; "{:?}", fault.cause),
+        Ok(told) => told,
+        Err(cause) => println!(rt; "{cause:?}"),
     }
 }

@@ -1,5 +1,5 @@
 -- There is no first script, so there is none, and no callback is wanted.
-use Rattle.std.proofs.Common.{◌≡◌, [], option_map, refl, ap, sym, ◌∙◌}
+use Rattle.std.proofs.Common.{[], option_map, refl, ap, sym, ◌∙◌}
 use Rattle.klp_catalog_text.specs.Scripts.{scripts_of}
 use Rattle.klp_program.specs.Booted.{never_ran}
 use Rattle.klp_program.proofs.ServeLemmas.{all_made}
