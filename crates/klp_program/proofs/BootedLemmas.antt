@@ -1,5 +1,5 @@
 -- The manager that is booted step by step is that of the plan.
-use Rattle.std.proofs.Common.{◌≡◌, ◌⊎◌, ℕ, List, [], ◌∷◌, length, map, false, Some, None, Result, Ok, Err, refl, sym, ap, subst, ◌∙◌, inl, inr}
+use Rattle.std.proofs.Common.{◌≡◌, ◌⊎◌, ℕ, List, [], ◌∷◌, length, map, None, Result, Ok, Err, refl, sym, ap, subst, ◌∙◌, inl, inr}
 use Rattle.std.proofs.lemmas.List.{length-map}
 use Rattle.klp_types.specs.Image.{Object, Symbol}
 use Rattle.klp_types.specs.Script.{Script}
@@ -13,7 +13,7 @@ use Rattle.klp_catalog_text.specs.Plan.{Plan}
 use Rattle.klp_catalog_text.specs.Scripts.{scripts_of}
 use Rattle.klp_catalog.specs.declared.assemble.AssembleFault.{AssembleFault}
 use Rattle.klp_catalog.specs.Assembled.{without_scripts, scripts_told, counts_told, IsAssembleFault}
-use Rattle.klp_catalog.specs.Catalog.{Catalog, some_same_site, patches_of}
+use Rattle.klp_catalog.specs.Catalog.{Catalog, patches_of}
 use Rattle.klp_catalog.specs.Runs.{HasCounts}
 use Rattle.klp_core.specs.declared.fault.BootFault.{BootFault}
 use Rattle.klp_core.specs.declared.fault.BootFault.TheVariants as boot
@@ -24,7 +24,7 @@ use Rattle.klp_manager_state.specs.Managed.{setting_of}
 use Rattle.std.specs.Result.{IsErrAnd, IfErr}
 use Rattle.klp_program.specs.declared.fault.Fault.{Fault}
 use Rattle.klp_program.specs.declared.fault.Fault.TheVariants as faults
-use Rattle.klp_program.specs.Booted.{IsBootedOver, IsBootFault, IsImageFault, never_ran}
+use Rattle.klp_program.specs.Booted.{IsBootedOver, IsBootFault, never_ran}
 
 -- callbacks that never ran tell the scripts that they were made of
 pub scripts_made : (scripts : List Script) → scripts_told (map never_ran scripts) ≡ scripts
@@ -54,22 +54,6 @@ booted_over plan after callbacks image modules catalog manager rest given made n
       base = subst (λ (m : Journaled). m.base ≡ m.managed.state) (sym booted) refl;
       groups = ap (λ (m : Journaled). m.groups) booted;
     }
-
--- the patches of a plan that is booted have no two functions for one site
-pub apart_over : (plan after : Plan) (modules : ModuleTable) → after ≡ record plan { objects = [] } → modules ≡ names.opening plan.objects
-    → some_same_site modules.names after.patches ≡ false → some_same_site (names.names_of plan.objects) plan.patches ≡ false
-apart_over plan after modules rest numbered distinct = sym (λ i. some_same_site (numbered i).names (rest i).patches) ∙ distinct
-
--- a fault of the image is one of the plan
-pub image_faulty : (plan : Plan) (fault : Fault) → IsImageFault plan fault → IsBootFault plan fault
-image_faulty plan faults.CannotRead is = absurd is
-image_faulty plan faults.NoMemory is = tt
-image_faulty plan (faults.Text fault) is = absurd is
-image_faulty plan (faults.Image fault) is = is
-image_faulty plan (faults.Assemble fault) is = absurd is
-image_faulty plan (faults.Boot fault) is = absurd is
-image_faulty plan (faults.Serve fault) is = absurd is
-image_faulty plan (faults.Trace fault) is = absurd is
 
 -- a fault of the catalog is one of the plan
 pub assemble_faulty : (plan after : Plan) (callbacks : List Told) (modules : ModuleTable) (fault : AssembleFault)

@@ -1,5 +1,5 @@
-use Rattle.std.proofs.Common.{ℕ, List, Option, inr, subst}
-use Rattle.klp_program.specs.Runs.{Exits, IsServed}
+use Rattle.std.proofs.Common.{ℕ, List, inr, subst}
+use Rattle.klp_program.specs.Runs.{IsServed}
 use Rattle.klpsim.proofs.serve.Goals as goal
 
 pub returns-in-Ok : goal.returns-in-Ok

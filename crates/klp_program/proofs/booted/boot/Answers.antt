@@ -4,7 +4,7 @@ use Rattle.klp_text.specs.TextImage.{TextImage}
 use Rattle.klp_modules.specs.Names.{ModuleTable, names_of_object, opening}
 use Rattle.klp_catalog_text.specs.Plan.{Plan}
 use Rattle.klp_catalog_text.specs.Within.{AreTargetsWithin}
-use Rattle.klp_program.proofs.BootedLemmas.{booted_over, apart_over, assemble_faulty, boot_faulty, told_of_fault}
+use Rattle.klp_program.proofs.BootedLemmas.{booted_over, assemble_faulty, boot_faulty, told_of_fault}
 use Rattle.klp_program.specs.declared.fault.Fault.TheVariants.{Assemble, Boot}
 use Rattle.klp_program.proofs.booted.boot.Goals as goal
 
