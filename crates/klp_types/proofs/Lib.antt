@@ -4,3 +4,5 @@ pub mod SiteLemmas
 pub mod PaddedLemmas
 pub mod KeyLemmas
 pub mod ScriptLemmas
+pub mod UndoesLemmas
+pub mod FindsLemmas

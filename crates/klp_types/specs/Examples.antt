@@ -1,10 +1,15 @@
 -- A small kernel with patches, over which the definitions are computed.
 use Rattle.std.specs.Prelude.{ℕ, ℤ, pos, negsuc, true, false, List, [], ◌∷◌, ◌==◌, map, Some, if◌then◌else◌}
 use Rattle.std.specs.List.{enumerate_from}
+use Rattle.std.specs.FinMap as finite
 use Rattle.klp_types.specs.declared.callback.Which.{Which}
 use Rattle.klp_types.specs.declared.callback.Which.TheVariants.{Pre, Post, PreUn, PostUn}
+use Rattle.klp_types.specs.declared.edit.Edit.{Edit}
+use Rattle.klp_types.specs.declared.shadow.ShadowKey.{ShadowKey}
+use Rattle.klp_types.specs.Compatible.{SystemState}
 use Rattle.klp_types.specs.Image.{Symbol, Image}
 use Rattle.klp_types.specs.Script.{Script}
+use Rattle.klp_types.specs.World.{Installed, World}
 use Rattle.klp_types.specs.Setting.{Callback, PatchObject, Patch, Setting, objects_of}
 use Rattle.klp_types.specs.Callbacks.{Call}
 
@@ -85,3 +90,52 @@ objects_refusing_in object = enumerate_from 0 (objects_of (refusing_in object) 0
 -- which callbacks run: of which of the patch's objects, and of which kind
 abbrev pub ran : List Call → List (ℕ × Which)
 ran calls = map {B = ℕ × Which} (λ (call : Call). (call.place, call.which)) calls
+
+-- an object of which only this callback is there
+abbrev pub object_calling : Which → ℤ → PatchObject
+object_calling which status = record { object = 0; functions = []; callbacks = record { which = which; script = answering status } ∷ [] }
+
+abbrev pub object_without_callbacks : PatchObject
+object_without_callbacks = record { object = 0; functions = []; callbacks = [] }
+
+-- a script that makes these edits and succeeds
+abbrev pub editing : List Edit → Script
+editing edits = record { edits = edits; status = pos 0 }
+
+abbrev pub refusing : List Edit → Script
+refusing edits = record { edits = edits; status = pos 1 }
+
+abbrev pub call_by : ℕ → List Edit → Call
+call_by patch edits = record { patch = patch; place = 9; which = Pre; script = editing edits }
+
+abbrev pub key_of : ℕ → ℕ → ShadowKey
+key_of obj id = record { obj = obj; id = id }
+
+-- the patches 4, 5, 6 and 3 are installed, oldest first: all but 6 name the state 7, and 5 and 6 name the state 8
+abbrev pub patch_4 : Installed
+patch_4 = record { patch = 4; values = (7, 40) ∷ [] }
+
+abbrev pub patch_5 : Installed
+patch_5 = record { patch = 5; values = (7, 50) ∷ (8, 58) ∷ [] }
+
+abbrev pub patch_6 : Installed
+patch_6 = record { patch = 6; values = (8, 68) ∷ [] }
+
+abbrev pub patch_3 : ℕ → Installed
+patch_3 value = record { patch = 3; values = (7, value) ∷ [] }
+
+abbrev pub world_of : List Installed → World
+world_of installed = record { installed = installed; shadow = finite.empty }
+
+abbrev pub four_installed : World
+four_installed = world_of (patch_4 ∷ patch_5 ∷ patch_6 ∷ patch_3 30 ∷ [])
+
+abbrev pub state_of : ℕ → ℕ → SystemState
+state_of id version = record { id = id; version = version }
+
+-- a patch that names no state, and a cumulative one that names 7 and 9
+abbrev pub naming_kernel : Setting
+naming_kernel = record {
+  image = kernel;
+  patches = record { replace = false; objects = []; states = [] } ∷ record { replace = true; objects = []; states = state_of 7 1 ∷ state_of 9 2 ∷ [] } ∷ [];
+}

@@ -1,13 +1,27 @@
 //! Worked examples of the definitions, by computation. A function here does nothing: its contract is the
 //! example, so a definition that comes to something else isn't proved.
-ghost use Rattle.std.specs.Prelude.{◌≡◌, pos, true, false, List, [], ◌∷◌, ◌++◌, Some, None};
-ghost use Rattle.klp_types.specs.declared.callback.Which.TheVariants.{Pre, Post, PostUn};
+ghost use Rattle.std.specs.Prelude.{◌≡◌, ℕ, pos, negsuc, Bool, true, false, List, [], ◌∷◌, ◌++◌, Some, None, Ok, Err};
+ghost use Rattle.std.specs.declared.cmp.Ordering.TheVariants.{Less, Greater};
+ghost use Rattle.klp_types.specs.declared.callback.Which.TheVariants.{Pre, Post, PreUn, PostUn};
+ghost use Rattle.klp_types.specs.declared.edit.Edit.TheVariants.{Alloc, Free, FreeAll, SetData, TakePrev};
+ghost use Rattle.klp_types.specs.declared.record.Record.TheVariants.{NothingMoving};
+ghost use Rattle.klp_types.specs.declared.task.Mode.TheVariants.{Asleep};
 ghost use Rattle.klp_types.specs.declared.version.Version.TheVariants.{Original, New};
 ghost use Rattle.klp_types.specs.Entries.{entries_from};
 ghost use Rattle.klp_types.specs.Pick.{entries_for, newest_version, target_of};
-ghost use Rattle.klp_types.specs.Callbacks.{calls_of, enable_calls, end_of};
-ghost use Rattle.klp_types.specs.Bytes.{entry_offset, patched, resting};
-ghost use Rattle.klp_types.specs.Examples.{patched_kernel, tracked, tracked_kernel, objects_refusing_in, ran};
+ghost use Rattle.klp_types.specs.Callbacks.{calls_of, enable_calls, end_of, refuses, allocs_of, after_calls};
+ghost use Rattle.klp_types.specs.Bytes.{entry_offset, can_reach, call, patched, resting};
+ghost use Rattle.klp_types.specs.Compatible.{is_compatible};
+ghost use Rattle.klp_types.specs.FirstOf.{first_of, unless};
+ghost use Rattle.klp_types.specs.Finds.{Finds};
+ghost use Rattle.klp_types.specs.Frames.{frames_of};
+ghost use Rattle.klp_types.specs.Image.{object_of};
+ghost use Rattle.klp_types.specs.PatchStates.{IsPatchState};
+ghost use Rattle.klp_types.specs.Records.{spare_of};
+ghost use Rattle.klp_types.specs.Script.{alloc_count, edited_at, edits_made, effect, touches, Undoes};
+ghost use Rattle.klp_types.specs.Setting.{named_states, state_ids, function_for, replaces};
+ghost use Rattle.klp_types.specs.World.{key_cmp, number_of, state_value, previous_value, with_patch, without_patch, with_variable};
+ghost use Rattle.klp_types.specs.Examples.{kernel, patched_kernel, tracked, tracked_kernel, objects_refusing_in, ran, object_calling, object_without_callbacks, editing, refusing, call_by, key_of, patch_4, patch_5, patch_6, patch_3, world_of, four_installed, state_of, naming_kernel};
 
 /// A cumulative patch puts a nop on a site for which it has no function and an older patch has one, because
 /// it takes the older one's function back; and nothing where no older patch has one.
@@ -35,6 +49,15 @@ pub fn tasks_pass_over_the_moving_entry()
     ensures nop { newest_version 1
         (entries_for (Some (record { patch = 1; target = true })) (pos 1) (entries_from patched_kernel 1 (1 ∷ 0 ∷ [])))
         ≡ Original 1 }
+    ensures another_moves { newest_version 0
+        (entries_for (Some (record { patch = 0; target = true })) (pos 0) (entries_from patched_kernel 0 (1 ∷ 0 ∷ [])))
+        ≡ New 1 0 }
+    ensures nothing_moves { newest_version 0 (entries_for None (pos 0) (entries_from patched_kernel 0 (1 ∷ 0 ∷ [])))
+        ≡ New 1 0 }
+    ensures at_rest { newest_version 0
+        (entries_for (Some (record { patch = 1; target = true })) (negsuc 0) (entries_from patched_kernel 0 (1 ∷ 0 ∷ [])))
+        ≡ New 1 0 }
+    ensures no_entry { newest_version 1 [] ≡ Original 1 }
 {}
 
 /// A new function begins at its own address, an original behind its entry site, so that it doesn't call the
@@ -77,4 +100,181 @@ pub fn transitions_end_with_the_callbacks_of_their_target()
     ensures patched { ran (calls_of 0 (end_of true) (objects_refusing_in 3)) ≡ (0, Post) ∷ (1, Post) ∷ (2, Post) ∷ [] }
     ensures withdrawn { ran (calls_of 0 (end_of false) (objects_refusing_in 3))
         ≡ (0, PostUn) ∷ (1, PostUn) ∷ (2, PostUn) ∷ [] }
+{}
+
+/// The callbacks that run are those of the kind, where the object has one. An object without pre-patch
+/// refuses nothing, and only pre-patch's status counts: any but 0 refuses, whatever its sign.
+pub fn callbacks_run_where_they_are()
+    ensures pre_unpatch { ran (calls_of 0 PreUn (objects_refusing_in 3)) ≡ (0, PreUn) ∷ (1, PreUn) ∷ (2, PreUn) ∷ [] }
+    ensures of_the_patch { calls_of 6 Post ((2, object_calling Post (pos 0)) ∷ [])
+        ≡ record { patch = 6; place = 2; which = Post; script = editing [] } ∷ [] }
+    ensures passed_over { ran (enable_calls 0 ((0, object_without_callbacks) ∷ (1, object_calling Pre (pos 0)) ∷ []))
+        ≡ (1, Pre) ∷ [] }
+    ensures without { refuses (0, object_without_callbacks) ≡ false }
+    ensures success { refuses (0, object_calling Pre (pos 0)) ≡ false }
+    ensures above_0 { refuses (0, object_calling Pre (pos 1)) ≡ true }
+    ensures below_0 { refuses (0, object_calling Pre (negsuc 15)) ≡ true }
+    ensures other_kind { refuses (0, object_calling Post (negsuc 15)) ≡ false }
+{}
+
+/// Callbacks change the world one after another, each for its own patch, and there has to be room for what
+/// all of them add.
+pub fn callbacks_run_one_after_another()
+    ensures last { (after_calls four_installed (call_by 3 (SetData 7 1 ∷ []) ∷ call_by 3 (SetData 7 2 ∷ []) ∷ [])).installed
+        ≡ patch_4 ∷ patch_5 ∷ patch_6 ∷ patch_3 2 ∷ [] }
+    ensures each { (after_calls four_installed (call_by 3 (TakePrev 7 ∷ []) ∷ call_by 6 (SetData 8 68 ∷ []) ∷ [])).installed
+        ≡ patch_4 ∷ patch_5 ∷ patch_6 ∷ patch_3 50 ∷ [] }
+    ensures room { allocs_of
+        (call_by 3 (Alloc (key_of 1 2) [] ∷ Free (key_of 1 2) ∷ Alloc (key_of 1 3) [] ∷ [])
+        ∷ call_by 3 (Alloc (key_of 1 2) [] ∷ []) ∷ []) ≡ 3 }
+{}
+
+/// A call reaches as far as a signed number of 32 bits says, from the instruction behind it: 2^31 - 1 bytes
+/// forward and 2^31 back, and no byte further.
+pub fn calls_reach_32_bits_far()
+    ensures forward { can_reach 0xffff_ffff_8100_0000 0xffff_ffff_00ff_fffc ≡ true }
+    ensures farthest { call 0xffff_ffff_8100_0000 0xffff_ffff_00ff_fffc ≡ 0xe8 ∷ 0xff ∷ 0xff ∷ 0xff ∷ 0x7f ∷ [] }
+    ensures too_far { can_reach 0xffff_ffff_8100_0000 0xffff_ffff_00ff_fffb ≡ false }
+    ensures back { can_reach 0x1000 0x8000_0ffb ≡ true }
+    ensures farthest_back { call 0x1000 0x8000_0ffb ≡ 0xe8 ∷ 0x00 ∷ 0x00 ∷ 0x00 ∷ 0x80 ∷ [] }
+    ensures too_far_back { can_reach 0x1000 0x8000_0ffc ≡ false }
+{}
+
+/// A patch is compatible where it names each state of each installed patch with the same version or a
+/// higher one. A state that it doesn't name it leaves alone, unless it replaces the patch that has it.
+pub fn patches_are_compatible_by_their_states()
+    ensures same { is_compatible true (state_of 7 2 ∷ []) ((state_of 7 2 ∷ []) ∷ []) ≡ true }
+    ensures higher { is_compatible false (state_of 7 3 ∷ []) ((state_of 7 2 ∷ []) ∷ []) ≡ true }
+    ensures lower { is_compatible false (state_of 7 1 ∷ []) ((state_of 7 2 ∷ []) ∷ []) ≡ false }
+    ensures lacking { is_compatible false (state_of 8 1 ∷ []) ((state_of 7 2 ∷ []) ∷ []) ≡ true }
+    ensures replacing { is_compatible true (state_of 8 1 ∷ []) ((state_of 7 2 ∷ []) ∷ []) ≡ false }
+    ensures each_patch { is_compatible false (state_of 7 2 ∷ []) ((state_of 7 2 ∷ []) ∷ (state_of 7 3 ∷ []) ∷ []) ≡ false }
+    ensures each_state { is_compatible false (state_of 7 2 ∷ state_of 8 1 ∷ []) ((state_of 7 2 ∷ state_of 8 2 ∷ []) ∷ []) ≡ false }
+{}
+
+/// The previous state is that of the newest patch which was installed before this one and names it: not
+/// this one's own, nor that of an older patch or of one behind it.
+pub fn the_previous_state_is_of_the_newest_patch_before()
+    ensures newest { previous_value four_installed 3 7 ≡ Some 50 }
+    ensures behind { previous_value four_installed 5 7 ≡ Some 40 }
+    ensures not_its_own { previous_value four_installed 6 7 ≡ Some 50 }
+    ensures oldest { previous_value four_installed 4 7 ≡ None }
+    ensures not_named { previous_value four_installed 3 9 ≡ None }
+    ensures own { state_value four_installed 3 7 ≡ Some 30 }
+    ensures by_id { state_value four_installed 5 8 ≡ Some 58 }
+    ensures no_state { state_value four_installed 6 7 ≡ None }
+    ensures no_patch { state_value four_installed 2 7 ≡ None }
+{}
+
+/// A patch is put last with its states at 0, and takes them along when it leaves: the others stay, newer
+/// ones too.
+pub fn states_come_at_0_and_go_with_their_patch()
+    ensures last { (with_patch (world_of (patch_4 ∷ [])) 2 (7 ∷ 9 ∷ [])).installed
+        ≡ patch_4 ∷ record { patch = 2; values = (7, 0) ∷ (9, 0) ∷ [] } ∷ [] }
+    ensures leaves { (without_patch four_installed 5).installed ≡ patch_4 ∷ patch_6 ∷ patch_3 30 ∷ [] }
+    ensures away { (without_patch four_installed 2).installed ≡ four_installed.installed }
+{}
+
+/// A script sets states of its own patch alone, and only those that the patch names. To take over what no
+/// older patch has changes nothing.
+pub fn scripts_set_states_of_their_patch()
+    ensures set { (effect 3 four_installed (editing (TakePrev 7 ∷ SetData 7 1 ∷ []))).installed
+        ≡ patch_4 ∷ patch_5 ∷ patch_6 ∷ patch_3 1 ∷ [] }
+    ensures taken { (effect 3 four_installed (editing (SetData 7 1 ∷ TakePrev 7 ∷ []))).installed
+        ≡ patch_4 ∷ patch_5 ∷ patch_6 ∷ patch_3 50 ∷ [] }
+    ensures one { (effect 5 four_installed (editing (SetData 8 1 ∷ []))).installed
+        ≡ patch_4 ∷ record { patch = 5; values = (7, 50) ∷ (8, 1) ∷ [] } ∷ patch_6 ∷ patch_3 30 ∷ [] }
+    ensures not_named { (effect 3 four_installed (editing (SetData 8 1 ∷ TakePrev 8 ∷ []))).installed
+        ≡ four_installed.installed }
+    ensures nothing_before { (effect 4 four_installed (editing (TakePrev 7 ∷ []))).installed ≡ four_installed.installed }
+    ensures refused { (effect 3 four_installed (refusing (SetData 7 1 ∷ []))).installed ≡ four_installed.installed }
+{}
+
+/// An edit adds a shadow variable only where it isn't there, and removes those that it names. To remove
+/// one counts nothing against those that are added, and a script that refuses makes no edit.
+pub fn scripts_change_the_variables_that_they_name()
+    ensures added { edited_at (key_of 1 2) None (Alloc (key_of 1 2) (5 ∷ [])) ≡ Some (5 ∷ []) }
+    ensures kept { edited_at (key_of 1 2) (Some (4 ∷ [])) (Alloc (key_of 1 2) (5 ∷ [])) ≡ Some (4 ∷ []) }
+    ensures of_another_parent { edited_at (key_of 1 2) None (Alloc (key_of 3 2) (5 ∷ [])) ≡ None }
+    ensures of_an_id { edited_at (key_of 1 2) (Some (4 ∷ [])) (FreeAll 2) ≡ None }
+    ensures of_another_id { edited_at (key_of 1 2) (Some (4 ∷ [])) (FreeAll 1) ≡ Some (4 ∷ []) }
+    ensures adding { alloc_count
+        (Alloc (key_of 1 2) [] ∷ Free (key_of 1 2) ∷ FreeAll 2 ∷ SetData 7 1 ∷ TakePrev 7 ∷ Alloc (key_of 1 2) [] ∷ []) ≡ 2 }
+    ensures touched { touches (editing (SetData 7 1 ∷ Free (key_of 1 2) ∷ [])) (key_of 1 2) ≡ true }
+    ensures of_one_parent { touches (editing (Free (key_of 3 2) ∷ [])) (key_of 1 2) ≡ false }
+    ensures states { touches (editing (SetData 2 1 ∷ TakePrev 2 ∷ [])) (key_of 1 2) ≡ false }
+    ensures untouched { touches (refusing (Free (key_of 1 2) ∷ [])) (key_of 1 2) ≡ false }
+    ensures refused { edits_made (refusing (Free (key_of 1 2) ∷ [])) ≡ [] }
+{}
+
+/// Keys go by the parent object first, and then by the id. Only eight bytes are a number.
+pub fn keys_go_by_their_parent_first()
+    ensures parent { key_cmp (key_of 1 9) (key_of 2 3) ≡ Less }
+    ensures id { key_cmp (key_of 2 9) (key_of 2 3) ≡ Greater }
+    ensures seven { number_of (1 ∷ 0 ∷ 0 ∷ 0 ∷ 0 ∷ 0 ∷ 0 ∷ []) ≡ None }
+    ensures nine { number_of (1 ∷ 0 ∷ 0 ∷ 0 ∷ 0 ∷ 0 ∷ 0 ∷ 0 ∷ 0 ∷ []) ≡ None }
+{}
+
+/// Sites are counted over all objects in order, and each lies in the object whose symbol it is. A function
+/// whose symbol isn't there stands in for none.
+pub fn sites_lie_in_their_objects()
+    ensures last_of_the_kernel { object_of kernel.objects 1 ≡ Some 0 }
+    ensures first_of_the_module { object_of kernel.objects 2 ≡ Some 1 }
+    ensures none { object_of kernel.objects 3 ≡ None }
+    ensures function { function_for
+        (record { site = None; address = 1 } ∷ record { site = Some 1; address = 2 } ∷ record { site = Some 0; address = 3 } ∷ []) 0
+        ≡ Some 2 }
+{}
+
+/// What is looked at first decides, and an outcome stands where there is no reason against it.
+pub fn the_first_reason_decides()
+    ensures first { first_of {R = ℕ} ((false, 1) ∷ (true, 2) ∷ (true, 3) ∷ []) ≡ Some 2 }
+    ensures none { first_of {R = ℕ} ((false, 1) ∷ []) ≡ None }
+    ensures refused { unless {A = ℕ} {R = ℕ} (Some 1) 2 ≡ Err 1 }
+    ensures done { unless {A = ℕ} {R = ℕ} None 2 ≡ Ok 2 }
+{}
+
+/// A script undoes another where each variable that one of them touches is what it was before both, and
+/// so not at a world where the first finds a variable that the second removes.
+pub fn a_script_undoes_another_where_all_is_as_before()
+    ensures undone { Undoes 0 (editing (Free (key_of 1 2) ∷ [])) (editing (Alloc (key_of 1 2) [] ∷ [])) (world_of []) }
+    ensures there_before { Undoes 0 (editing (Free (key_of 1 2) ∷ [])) (editing (Alloc (key_of 1 2) [] ∷ []))
+        (with_variable (world_of []) (key_of 1 2) (5 ∷ [])) → ⊥ }
+    ensures of_the_first { Undoes 0 (editing []) (editing (Alloc (key_of 1 2) [] ∷ [])) (world_of []) → ⊥ }
+    ensures of_the_second { Undoes 0 (editing (Free (key_of 1 2) ∷ [])) (editing [])
+        (with_variable (world_of []) (key_of 1 2) (5 ∷ [])) → ⊥ }
+{}
+
+/// What is found has the property and nothing else has it; where nothing is found, nothing has it.
+pub fn what_is_found_is_all_there_is()
+    ensures has { (has : ℕ → Bool) (x : ℕ) → Finds (λ n. has n ≡ true) (Some x) → has x ≡ true }
+    ensures alone { (has : ℕ → Bool) (x y : ℕ) → Finds (λ n. has n ≡ true) (Some x) → has y ≡ true → y ≡ x }
+    ensures none { (has : ℕ → Bool) (y : ℕ) → Finds (λ n. has n ≡ true) None → has y ≡ true → ⊥ }
+{}
+
+/// What a patch of the catalog names and does; a patch that isn't there names nothing and replaces nothing.
+pub fn patches_are_what_the_catalog_tells()
+    ensures states { named_states naming_kernel 1 ≡ state_of 7 1 ∷ state_of 9 2 ∷ [] }
+    ensures ids { state_ids naming_kernel 1 ≡ 7 ∷ 9 ∷ [] }
+    ensures no_states { state_ids naming_kernel 2 ≡ [] }
+    ensures replacing { replaces naming_kernel 1 ≡ true }
+    ensures living_beside { replaces naming_kernel 0 ≡ false }
+    ensures no_patch { replaces naming_kernel 2 ≡ false }
+{}
+
+/// A task's state is -1, 0 or 1, and a task that isn't there is inside of nothing.
+pub fn tasks_have_one_of_three_states()
+    ensures at_rest { IsPatchState (negsuc 0) }
+    ensures unpatched { IsPatchState (pos 0) }
+    ensures patched { IsPatchState (pos 1) }
+    ensures above { IsPatchState (pos 2) → ⊥ }
+    ensures below { IsPatchState (negsuc 1) → ⊥ }
+    ensures frames { frames_of (Some (record { state = pos 0; mode = Asleep; frames = Original 0 ∷ New 1 2 ∷ [] }))
+        ≡ Original 0 ∷ New 1 2 ∷ [] }
+    ensures nobody { frames_of None ≡ [] }
+{}
+
+/// Records of the event that is under way take room, and those of earlier events none.
+pub fn records_of_one_event_take_room()
+    ensures { spare_of (record { noted = NothingMoving ∷ NothingMoving ∷ []; room = 5; older = NothingMoving ∷ [] }) ≡ 3 }
 {}
