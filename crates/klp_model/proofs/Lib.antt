@@ -37,3 +37,4 @@ pub mod RefusingLemmas
 pub mod AcceptedLemmas
 pub mod StageLemmas
 pub mod LostLemmas
+pub mod ShadowReplyLemmas

@@ -1,5 +1,5 @@
 -- A small kernel with patches and tasks, and states of it, over which the definitions are computed.
-use Rattle.std.specs.Prelude.{ℕ, ℤ, pos, Bool, true, false, List, [], ◌∷◌, map, replicate, Option, Some}
+use Rattle.std.specs.Prelude.{ℕ, ℤ, pos, Bool, true, false, List, [], ◌∷◌, map, replicate, Option, Some, None}
 use Rattle.std.specs.Int.{w64, to_le_bytes}
 use Rattle.std.specs.FinMap as finite
 use Rattle.klp_types.specs.declared.callback.Which.{Which}
@@ -121,13 +121,39 @@ with_states patches moving = record {
   tasks = [];
 }
 
--- a patch whose callback of a kind for the module may add more variables than there is room for
-abbrev pub crowded : Which → Setting
-crowded which = record {
+-- a patch whose callback of a kind for the module may add so many variables
+abbrev pub crowded_by : ℕ → Which → Setting
+crowded_by count which = record {
   image = kernel;
   patches = record {
     replace = false;
-    objects = record { object = 1; functions = []; callbacks = making which (replicate 513 (Alloc (record { obj = 1; id = 1 }) (to_le_bytes w64 0))) ∷ [] } ∷ [];
+    objects = record { object = 1; functions = []; callbacks = making which (replicate count (Alloc (record { obj = 1; id = 1 }) (to_le_bytes w64 0))) ∷ [] } ∷ [];
     states = [];
   } ∷ [];
 }
+
+-- more than there is room for
+abbrev pub crowded : Which → Setting
+crowded which = crowded_by 513 which
+
+-- a patch that names state 7, and a cumulative one that doesn't, whose function names no symbol of the kernel or of the
+-- module, and whose pre-patch may add more variables than there is room for
+abbrev pub faulty : ℕ → Setting
+faulty object = record {
+  image = kernel;
+  patches =
+      record { replace = false; objects = []; states = state_7 ∷ [] }
+      ∷ record {
+        replace = true;
+        objects = record {
+          object = object;
+          functions = record { site = None; address = 0 } ∷ [];
+          callbacks = making Pre (replicate 513 (Alloc (record { obj = 1; id = 1 }) (to_le_bytes w64 0))) ∷ [];
+        } ∷ [];
+        states = [];
+      } ∷ [];
+}
+
+-- a task, and no other
+abbrev pub alone : Option Task → Tasks
+alone task = task ∷ replicate 63 None

@@ -1,24 +1,26 @@
 //! Worked examples of the definitions, by computation. A function here does nothing: its contract is the
 //! example. They are here and not in tests, since a test proves no definition (docs/DECISIONS.md, "Tests
 //! above what they test").
-ghost use Rattle.std.specs.Prelude.{◌≡◌, pos, negsuc, true, false, [], ◌∷◌, Some, None};
+ghost use Rattle.std.specs.Prelude.{◌≡◌, pos, negsuc, true, false, [], ◌∷◌, replicate, Some, None};
 ghost use Rattle.klp_types.specs.declared.callback.Which.TheVariants.{Pre, Post, PreUn, PostUn};
 ghost use Rattle.klp_types.specs.declared.version.Version.TheVariants.{Original, New};
 ghost use Rattle.klp_types.specs.World.{state_value};
-ghost use Rattle.klp_types.specs.Examples.{ran, refusing_in};
-ghost use Rattle.klp_model.specs.declared.event.Event.TheVariants.{Enable, SetEnabled, Force, Poll, Coming, Going, NewTask, Fork, EndTask, EnterKernel, ExitToUser, Sleep, Wake};
+ghost use Rattle.klp_types.specs.Examples.{key_of, ran, refusing_in};
+ghost use Rattle.klp_model.specs.declared.event.Event.TheVariants.{Enable, SetEnabled, Force, Poll, Coming, Going, NewTask, Fork, EndTask, EnterKernel, ExitToUser, Sleep, Wake, ShadowAlloc, ShadowGetOrAlloc, ShadowFree, ShadowFreeAll};
 ghost use Rattle.klp_model.specs.declared.event.Reply.TheVariants.{Done, Started, Reversed, Pending, Completed, PreFailed, Woken};
-ghost use Rattle.klp_model.specs.declared.event.Refusal.TheVariants.{NoPatch, Busy, AlreadyThere, Pinned, Incompatible, NoModule, InUse, NoTask, TaskThere, WrongMode, BadFrame, Full, NotMoving, NotFound, SameValue};
-ghost use Rattle.klp_model.specs.State.{State, installed_patches};
+ghost use Rattle.klp_model.specs.declared.event.Refusal.TheVariants.{NoPatch, Busy, AlreadyThere, Pinned, Incompatible, NoSymbol, NoModule, InUse, NoTask, TaskThere, WrongMode, BadFrame, Full, NotMoving, NotFound, SameValue};
+ghost use Rattle.klp_model.specs.State.{State, is_loaded, installed_patches};
 ghost use Rattle.klp_model.specs.Entries.{entries_of, is_hooked};
 ghost use Rattle.klp_model.specs.Bytes.{text_of};
 ghost use Rattle.klp_model.specs.Pick.{pick};
 ghost use Rattle.klp_model.specs.Rows.{row_of};
 ghost use Rattle.klp_model.specs.Blocked.{blocked};
 ghost use Rattle.klp_model.specs.EventCalls.{calls};
-ghost use Rattle.klp_model.specs.Refusals.{refusal};
+ghost use Rattle.klp_model.specs.Opening.{opening_state};
+ghost use Rattle.klp_model.specs.ShadowStep.{concerns};
+ghost use Rattle.klp_model.specs.Refusals.{enabled_value, refusal};
 ghost use Rattle.klp_model.specs.Step.{accepted};
-ghost use Rattle.klp_model.specs.Examples.{small_kernel, module_kernel, taking_over, lacking, crowded, move_of, state_with, with_state, with_states, in_user, in_kernel, asleep_in, ran_by};
+ghost use Rattle.klp_model.specs.Examples.{small_kernel, module_kernel, taking_over, lacking, crowded, crowded_by, faulty, alone, move_of, state_with, with_state, with_states, in_user, in_kernel, asleep_in, ran_by};
 
 /// A transition that is reversed runs nothing, towards either target, and the states of tasks stay: what
 /// was set up is still there, and each task goes back from where it is.
@@ -185,6 +187,13 @@ pub fn a_row_tells_the_two_newest_entries()
           top = 0xffff_ffff_8100_2005;
           below = 0xffff_ffff_8100_2005;
         }) }
+    ensures of_three { row_of small_kernel (state_with true (0 ∷ 2 ∷ 1 ∷ []) (move_of 2 true) []) 0
+        ≡ Some (record {
+          word = record { top = Some (record { patch = 1; func = Some 0 }); below = Some (record { patch = 2; func = Some 0 }); moves = false };
+          original = 0xffff_ffff_8100_1005;
+          top = 0;
+          below = 0;
+        }) }
     ensures unloaded { row_of small_kernel (state_with false (0 ∷ []) None []) 2 ≡ None }
     ensures hooked { is_hooked small_kernel (state_with true (0 ∷ []) None []) 1 ≡ true }
     ensures not_hooked { is_hooked small_kernel (state_with true (2 ∷ []) None []) 1 ≡ false }
@@ -196,6 +205,8 @@ pub fn a_row_tells_the_two_newest_entries()
 pub fn a_module_comes_patch_by_patch()
     ensures still { ran_by (calls small_kernel (state_with false (0 ∷ []) None []) (Coming 1))
         ≡ (0, Pre) ∷ (0, Post) ∷ [] }
+    ensures its_object { ran (calls small_kernel (state_with false (0 ∷ []) None []) (Coming 1))
+        ≡ (1, Pre) ∷ (1, Post) ∷ [] }
     ensures moving { ran_by (calls small_kernel (state_with false (0 ∷ []) (move_of 0 true) []) (Coming 1))
         ≡ (0, Pre) ∷ [] }
     ensures refused { ran_by (calls small_kernel (state_with false (0 ∷ 3 ∷ []) None []) (Coming 1))
@@ -261,6 +272,9 @@ pub fn tasks_come_and_go()
     ensures outside { accepted small_kernel (state_with true (0 ∷ []) (move_of 0 false) (in_kernel (pos 1) ∷ []))
         (ExitToUser 0)
         ≡ (Done, state_with true (0 ∷ []) (move_of 0 false) (in_user (pos 0) ∷ [])) }
+    ensures outside_at_rest { accepted small_kernel (state_with true (0 ∷ []) None (in_kernel (negsuc 0) ∷ []))
+        (ExitToUser 0)
+        ≡ (Done, state_with true (0 ∷ []) None (in_user (negsuc 0) ∷ [])) }
     ensures asleep { accepted small_kernel (state_with true [] None (in_kernel (negsuc 0) ∷ []))
         (Sleep 0 (Original 0 ∷ Original 1 ∷ []))
         ≡ (Done, state_with true [] None (asleep_in (negsuc 0) (Original 0 ∷ Original 1 ∷ []) ∷ [])) }
@@ -340,4 +354,125 @@ pub fn modules_and_tasks_are_refused()
     ensures wakes_twice { refusal small_kernel (state_with true [] None (in_kernel (negsuc 0) ∷ [])) (Wake 0)
         ≡ Some WrongMode }
     ensures no_task { refusal small_kernel (state_with true [] None (None ∷ [])) (Wake 0) ≡ Some NoTask }
+{}
+
+/// A manager begins with `vmlinux` loaded, and with no module, patch, pin, task and shadow variable.
+pub fn a_manager_begins_with_nothing_installed()
+    ensures { opening_state small_kernel ≡ state_with false [] None (replicate 64 None) }
+{}
+
+/// An enabling puts the patch last, and every task at 0, since none runs it yet. A module that comes or goes
+/// changes its own flag.
+pub fn an_enabling_starts_with_no_task_at_the_patch()
+    ensures enabled { accepted small_kernel
+        (state_with true (0 ∷ []) None (in_kernel (negsuc 0) ∷ asleep_in (negsuc 0) [] ∷ None ∷ [])) (Enable 2)
+        ≡ (Started, state_with true (0 ∷ 2 ∷ []) (move_of 2 true) (in_kernel (pos 0) ∷ asleep_in (pos 0) [] ∷ None ∷ [])) }
+    ensures come { accepted small_kernel (state_with false (0 ∷ []) None []) (Coming 1)
+        ≡ (Done, state_with true (0 ∷ []) None []) }
+    ensures gone { accepted small_kernel (state_with true (0 ∷ []) None []) (Going 1)
+        ≡ (Done, state_with false (0 ∷ []) None []) }
+    ensures no_object { is_loaded (state_with true [] None []) 2 ≡ false }
+{}
+
+/// The `enabled` file reads 0 only where the patch itself moves out.
+pub fn a_patch_reads_enabled_until_it_moves_out()
+    ensures still { enabled_value (state_with true (0 ∷ []) None []) 0 ≡ true }
+    ensures coming_in { enabled_value (state_with true (0 ∷ []) (move_of 0 true) []) 0 ≡ true }
+    ensures moving_out { enabled_value (state_with true (0 ∷ []) (move_of 0 false) []) 0 ≡ false }
+    ensures another { enabled_value (state_with true (0 ∷ 2 ∷ []) (move_of 2 false) []) 0 ≡ true }
+{}
+
+/// Where several reasons hold against an event, the one that is asked for first is reported.
+pub fn earlier_reasons_come_first()
+    ensures busy { refusal (faulty 0)
+        (record (with_states (with_state 0 5 ∷ []) (move_of 0 true)) { pinned = false ∷ true ∷ [] }) (Enable 1) ≡ Some Busy }
+    ensures pinned { refusal (faulty 0)
+        (record (with_states (with_state 0 5 ∷ []) None) { pinned = false ∷ true ∷ [] }) (Enable 1) ≡ Some Pinned }
+    ensures incompatible { refusal (faulty 0) (with_states (with_state 0 5 ∷ []) None) (Enable 1) ≡ Some Incompatible }
+    ensures no_symbol { refusal (faulty 0) (with_states [] None) (Enable 1) ≡ Some NoSymbol }
+    ensures later_symbol { refusal (faulty 1) (with_states [] None) (Enable 1) ≡ None }
+    ensures of_the_module { refusal (faulty 1) (state_with false (1 ∷ []) None []) (Coming 1) ≡ Some NoSymbol }
+    ensures module_there { refusal (faulty 1) (state_with true (1 ∷ []) None []) (Coming 1) ≡ Some AlreadyThere }
+    ensures not_in_the_catalog { refusal small_kernel (state_with true [] None []) (SetEnabled 4 true) ≡ Some NoPatch }
+    ensures nothing_forced { refusal small_kernel (state_with true [] None []) (Force 4) ≡ Some NoPatch }
+    ensures not_installed { refusal small_kernel (state_with true [] None []) (Force 0) ≡ Some NotFound }
+    ensures same { refusal small_kernel (state_with true (0 ∷ []) (move_of 0 false) []) (SetEnabled 0 false)
+        ≡ Some SameValue }
+    ensures sleeper_first { refusal (crowded PostUn)
+        (state_with true (0 ∷ []) None (asleep_in (negsuc 0) (Original 2 ∷ []) ∷ [])) (Going 1) ≡ Some InUse }
+    ensures vmlinux { refusal small_kernel (state_with true [] None (asleep_in (negsuc 0) (Original 0 ∷ []) ∷ [])) (Going 0)
+        ≡ Some NoModule }
+    ensures no_parent { refusal small_kernel (state_with true [] None (None ∷ in_user (negsuc 0) ∷ [])) (Fork 0 1)
+        ≡ Some NoTask }
+    ensures beyond { refusal small_kernel (state_with true [] None (in_user (negsuc 0) ∷ [])) (Fork 0 64) ≡ Some NoTask }
+    ensures child_there { refusal small_kernel
+        (state_with true [] None (in_user (negsuc 0) ∷ in_user (negsuc 0) ∷ [])) (Fork 0 1) ≡ Some TaskThere }
+    ensures nobody_ends { refusal small_kernel (state_with true [] None (None ∷ [])) (EndTask 0) ≡ Some NoTask }
+    ensures nobody_enters { refusal small_kernel (state_with true [] None (None ∷ [])) (EnterKernel 0) ≡ Some NoTask }
+    ensures nobody_exits { refusal small_kernel (state_with true [] None (None ∷ [])) (ExitToUser 0) ≡ Some NoTask }
+    ensures nobody_sleeps { refusal small_kernel (state_with true [] None (None ∷ [])) (Sleep 0 (Original 3 ∷ []))
+        ≡ Some NoTask }
+    ensures sleeps_twice { refusal small_kernel (state_with true [] None (asleep_in (negsuc 0) [] ∷ [])) (Sleep 0 [])
+        ≡ Some WrongMode }
+    ensures enters_asleep { refusal small_kernel (state_with true [] None (asleep_in (negsuc 0) [] ∷ [])) (EnterKernel 0)
+        ≡ Some WrongMode }
+    ensures exits_asleep { refusal small_kernel (state_with true [] None (asleep_in (negsuc 0) [] ∷ [])) (ExitToUser 0)
+        ≡ Some WrongMode }
+    ensures wakes_outside { refusal small_kernel (state_with true [] None (in_user (negsuc 0) ∷ [])) (Wake 0)
+        ≡ Some WrongMode }
+{}
+
+/// What nothing is said against is accepted: a task ends in the kernel too, and a sleeper may be inside of
+/// functions of objects and patches that aren't there.
+pub fn what_no_reason_is_against_is_accepted()
+    ensures ends { refusal small_kernel (state_with true [] None (in_kernel (negsuc 0) ∷ [])) (EndTask 0) ≡ None }
+    ensures ends_outside { refusal small_kernel (state_with true [] None (in_user (negsuc 0) ∷ [])) (EndTask 0) ≡ None }
+    ensures last_number { refusal small_kernel (state_with true [] None (replicate 64 None)) (NewTask 63) ≡ None }
+    ensures forks { refusal small_kernel (state_with true [] None (in_kernel (negsuc 0) ∷ None ∷ [])) (Fork 0 1) ≡ None }
+    ensures enters { refusal small_kernel (state_with true [] None (in_user (negsuc 0) ∷ [])) (EnterKernel 0) ≡ None }
+    ensures exits { refusal small_kernel (state_with true [] None (in_kernel (negsuc 0) ∷ [])) (ExitToUser 0) ≡ None }
+    ensures wakes { refusal small_kernel (state_with true [] None (asleep_in (negsuc 0) [] ∷ [])) (Wake 0) ≡ None }
+    ensures sleeps { refusal small_kernel (state_with false [] None (in_kernel (negsuc 0) ∷ []))
+        (Sleep 0 (Original 2 ∷ New 0 2 ∷ [])) ≡ None }
+    ensures forced { refusal small_kernel (state_with true (0 ∷ []) (move_of 0 false) []) (Force 0) ≡ None }
+    ensures freed { refusal small_kernel (state_with true [] None []) (ShadowFree (key_of 1 2)) ≡ None }
+    ensures all_freed { refusal small_kernel (state_with true [] None []) (ShadowFreeAll 2) ≡ None }
+    ensures enabled { refusal small_kernel (state_with true (0 ∷ []) None []) (Enable 3) ≡ None }
+    ensures reversed { refusal small_kernel (state_with true (0 ∷ []) (move_of 0 false) []) (SetEnabled 0 true) ≡ None }
+    ensures disabled { refusal small_kernel (state_with true (0 ∷ []) None []) (SetEnabled 0 false) ≡ None }
+    ensures polled { refusal small_kernel (state_with true (0 ∷ []) (move_of 0 false) []) Poll ≡ None }
+    ensures comes { refusal small_kernel (state_with false (0 ∷ []) None []) (Coming 1) ≡ None }
+    ensures goes { refusal small_kernel
+        (state_with true (0 ∷ []) None (asleep_in (negsuc 0) (Original 1 ∷ New 0 1 ∷ []) ∷ [])) (Going 1) ≡ None }
+{}
+
+/// Room is asked for as many variables as there may be and no more, of the callbacks that may run: not of
+/// those of a patch that moves when a module comes or goes, and not at a reversal.
+pub fn the_last_place_may_be_taken()
+    ensures enabling { refusal (crowded_by 512 Pre) (state_with true [] None []) (Enable 0) ≡ None }
+    ensures unloaded { refusal (crowded Pre) (state_with false [] None []) (Enable 0) ≡ None }
+    ensures disabling { refusal (crowded PreUn) (state_with true (0 ∷ []) None []) (SetEnabled 0 false) ≡ Some Full }
+    ensures reversing { refusal (crowded PreUn) (state_with true (0 ∷ []) (move_of 0 true) []) (SetEnabled 0 false) ≡ None }
+    ensures coming { refusal (crowded_by 512 PreUn) (state_with false (0 ∷ []) None []) (Coming 1) ≡ None }
+    ensures coming_pre { refusal (crowded Pre) (state_with false (0 ∷ []) None []) (Coming 1) ≡ Some Full }
+    ensures coming_post { refusal (crowded Post) (state_with false (0 ∷ []) None []) (Coming 1) ≡ Some Full }
+    ensures coming_post_unpatch { refusal (crowded PostUn) (state_with false (0 ∷ []) (move_of 0 true) []) (Coming 1) ≡ Some Full }
+    ensures coming_while_moving { refusal (crowded Post) (state_with false (0 ∷ []) (move_of 0 true) []) (Coming 1) ≡ None }
+    ensures going { refusal (crowded PostUn) (state_with true (0 ∷ []) (move_of 0 true) []) (Going 1) ≡ Some Full }
+    ensures going_pre_unpatch { refusal (crowded PreUn) (state_with true (0 ∷ []) None []) (Going 1) ≡ Some Full }
+    ensures going_while_moving { refusal (crowded PreUn) (state_with true (0 ∷ []) (move_of 0 true) []) (Going 1) ≡ None }
+    ensures completing { refusal (crowded PostUn) (state_with true (0 ∷ []) (move_of 0 true) []) Poll ≡ None }
+{}
+
+/// A shadow event concerns the variables that it names, and no other event any.
+pub fn shadow_events_concern_what_they_name()
+    ensures added { concerns (ShadowAlloc (key_of 1 2) []) (key_of 1 2) ≡ true }
+    ensures another { concerns (ShadowAlloc (key_of 1 2) []) (key_of 3 2) ≡ false }
+    ensures got { concerns (ShadowGetOrAlloc (key_of 1 2) []) (key_of 1 2) ≡ true }
+    ensures another_got { concerns (ShadowGetOrAlloc (key_of 1 2) []) (key_of 3 2) ≡ false }
+    ensures freed { concerns (ShadowFree (key_of 1 2)) (key_of 1 2) ≡ true }
+    ensures another_freed { concerns (ShadowFree (key_of 1 2)) (key_of 3 2) ≡ false }
+    ensures of_the_id { concerns (ShadowFreeAll 2) (key_of 1 2) ≡ true }
+    ensures of_another_id { concerns (ShadowFreeAll 1) (key_of 1 2) ≡ false }
+    ensures none { concerns Poll (key_of 1 2) ≡ false }
 {}

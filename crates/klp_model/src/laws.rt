@@ -2,11 +2,12 @@
 //! it keeps the definitions honest, and a crate above may rely on it. A lemma that a crate above needs is a
 //! law here too, since only what a public contract says can be cited there (docs/DECISIONS.md, "Lemmas of
 //! other crates").
-ghost use Rattle.std.specs.Prelude.{◌≡◌, ℕ, ◌+◌, ◌≤◌, ℤ, pos, Bool, true, false, not, ◌==◌, ◌&&◌, List, [], ◌∷◌, ◌++◌, map, reverse, filter, Some, None, is_some, is_none, option_map, Ok};
+ghost use Rattle.std.specs.Prelude.{◌≡◌, ℕ, ◌+◌, ◌-◌, ◌≤◌, nat_le, if◌then◌else◌, ℤ, pos, Bool, true, false, not, ◌==◌, ◌&&◌, List, [], ◌∷◌, ◌++◌, map, reverse, filter, Some, None, is_some, is_none, option_map, Ok};
 ghost use Rattle.std.specs.List.{count_by, list_any};
+ghost use Rattle.std.specs.FinMap as finite;
 ghost use Rattle.klp_types.specs.declared.shadow.ShadowKey.{ShadowKey};
 ghost use Rattle.klp_types.specs.Setting.{Setting, replaces, state_ids};
-ghost use Rattle.klp_types.specs.World.{Installed, variable, state_value, installed_before, without_patch};
+ghost use Rattle.klp_types.specs.World.{Installed, ShadowValue, variable, state_value, installed_before, without_patch};
 ghost use Rattle.klp_types.specs.declared.version.Version.{Version as AnyVersion};
 ghost use Rattle.klp_types.specs.declared.version.Entry.{Entry};
 ghost use Rattle.klp_types.specs.declared.version.Transition.{Transition};
@@ -17,9 +18,13 @@ ghost use Rattle.klp_types.specs.Pick.{moves, is_unpatched, target_of};
 ghost use Rattle.klp_types.specs.Callbacks.{after_calls};
 ghost use Rattle.klp_model.specs.declared.event.Event.{Event as AnyEvent};
 ghost use Rattle.klp_types.specs.FirstOf.{first_of};
+ghost use Rattle.klp_types.specs.Script.{is_key};
+ghost use Rattle.klp_model.specs.declared.event.Event.TheVariants.{ShadowAlloc, ShadowGetOrAlloc, ShadowFree, ShadowFreeAll};
+ghost use Rattle.klp_model.specs.declared.event.Reply.TheVariants.{Value, Freed};
+ghost use Rattle.klp_model.specs.declared.event.Refusal.TheVariants.{Exists, Full};
 ghost use Rattle.klp_model.specs.declared.event.Reply.{Reply as AnyReply};
 ghost use Rattle.klp_model.specs.declared.event.Refusal.{Refusal};
-ghost use Rattle.klp_model.specs.Refusals.{accepts, NoneHolds};
+ghost use Rattle.klp_model.specs.Refusals.{refusal, accepts, NoneHolds};
 ghost use Rattle.klp_model.specs.State.{State, is_loaded, installed_patches, is_installed, with_world};
 ghost use Rattle.klp_model.specs.Task.{Tasks};
 ghost use Rattle.klp_model.specs.Blocked.{switched, lags};
@@ -30,7 +35,7 @@ ghost use Rattle.klp_model.specs.Versions.{version_in, others};
 ghost use Rattle.klp_model.specs.EventCalls.{calls};
 ghost use Rattle.klp_model.specs.ShadowStep.{shadow_changed};
 ghost use Rattle.klp_model.specs.Completing.{without_older};
-ghost use Rattle.klp_model.specs.Step.{accepted};
+ghost use Rattle.klp_model.specs.Step.{accepted, step};
 ghost use Rattle.klp_model.specs.Run.{answer, next, run, answers};
 ghost use Rattle.klp_model.specs.Legal.{History, IsLegal, state_after_history, history_of};
 ghost use Rattle.klp_model.specs.Allowed.{is_one_of, Allowed};
@@ -216,4 +221,40 @@ pub fn runs_go_on_where_they_end()
     ensures answered { (setting : Setting) (state : State) (first second : List AnyEvent)
         → answers setting state (first ++ second) ≡ answers setting state first ++ answers setting
         (run setting state first) second }
+{}
+
+/// A shadow event goes by whether its variable is there. What is there is found by those that ask for it
+/// and in the way of those that add it, what isn't there takes room, and to remove it removes nothing.
+pub fn shadow_events_go_by_what_is_there()
+    ensures exists { (setting : Setting) (state : State) (key : ShadowKey) (value old : ShadowValue)
+        → variable state.world key ≡ Some old → refusal setting state (ShadowAlloc key value) ≡ Some Exists }
+    ensures room { (setting : Setting) (state : State) (key : ShadowKey) (value : ShadowValue)
+        → variable state.world key ≡ None
+        → refusal setting state (ShadowAlloc key value) ≡ (if nat_le 512 (finite.len state.world.shadow) then Some Full else None) }
+    ensures added { (setting : Setting) (state : State) (key : ShadowKey) (value : ShadowValue)
+        → variable (accepted setting state (ShadowAlloc key value)).1.world key ≡ Some value }
+    ensures found { (setting : Setting) (state : State) (key : ShadowKey) (value old : ShadowValue)
+        → variable state.world key ≡ Some old
+        → step setting state (ShadowGetOrAlloc key value) ≡ Ok (Value old, state) }
+    ensures room_to_add { (setting : Setting) (state : State) (key : ShadowKey) (value : ShadowValue)
+        → variable state.world key ≡ None
+        → refusal setting state (ShadowGetOrAlloc key value) ≡ (if nat_le 512 (finite.len state.world.shadow) then Some Full else None) }
+    ensures got { (setting : Setting) (state : State) (key : ShadowKey) (value : ShadowValue)
+        → variable state.world key ≡ None
+        → accepted setting state (ShadowGetOrAlloc key value) ≡ (Value value, (accepted setting state (ShadowAlloc key value)).1) }
+    ensures one { (setting : Setting) (state : State) (key : ShadowKey) (old : ShadowValue)
+        → variable state.world key ≡ Some old → (accepted setting state (ShadowFree key)).0 ≡ Freed 1 }
+    ensures none { (setting : Setting) (state : State) (key : ShadowKey)
+        → variable state.world key ≡ None → (accepted setting state (ShadowFree key)).0 ≡ Freed 0 }
+    ensures gone { (setting : Setting) (state : State) (key : ShadowKey)
+        → variable (accepted setting state (ShadowFree key)).1.world key ≡ None }
+    ensures all { (setting : Setting) (state : State) (id : ℕ) (key : ShadowKey)
+        → variable (accepted setting state (ShadowFreeAll id)).1.world key ≡ (if id == key.id then None else variable state.world key) }
+    ensures count { (setting : Setting) (state : State) (id : ℕ)
+        → (accepted setting state (ShadowFreeAll id)).0
+        ≡ Freed (finite.len state.world.shadow - finite.len (accepted setting state (ShadowFreeAll id)).1.world.shadow) }
+    ensures others { (setting : Setting) (state : State) (own key : ShadowKey) (value : ShadowValue) → is_key own key ≡ false
+        → (variable (accepted setting state (ShadowAlloc own value)).1.world key ≡ variable state.world key)
+        × (variable (accepted setting state (ShadowGetOrAlloc own value)).1.world key ≡ variable state.world key)
+        × (variable (accepted setting state (ShadowFree own)).1.world key ≡ variable state.world key) }
 {}
