@@ -38,3 +38,5 @@ pub mod AcceptedLemmas
 pub mod StageLemmas
 pub mod LostLemmas
 pub mod ShadowReplyLemmas
+pub mod AllowedExamples
+pub mod InconsistentExamples

@@ -41,7 +41,7 @@ on setting w next_ item items end e honest rest = record {
 done : (setting : Setting) (w : Watched) → Leads setting w [] w
 done setting w = record { honest = tt; ends = refl }
 
-all_open : (cases : List (Bool × Refusal)) → NoneHolds cases → is_none (first_of cases) ≡ true
+pub all_open : (cases : List (Bool × Refusal)) → NoneHolds cases → is_none (first_of cases) ≡ true
 all_open [] open_ = refl
 all_open (case ∷ cases) open_ = ap (λ b. is_none (if b then Some case.1 else first_of cases)) open_.0 ∙ all_open cases open_.1
 

@@ -97,3 +97,23 @@ stray_run = Happens (Enable 0) ∷ Happens (Coming 1) ∷ Happens (NewTask 1) �
 -- the module goes from under a task that runs in its original function
 abbrev pub under_a_task : Watched
 under_a_task = watched (state_of true [] None (one_task Kernel (negsuc 0) [])) (inside 2 (Original 2))
+
+-- task 1 is inside of these versions at the sites 0 and 1
+abbrev pub inside_both : Version → Version → Stacks
+inside_both outer inner = with_frames no_frames 1 (record { site = 0; version = outer } ∷ record { site = 1; version = inner } ∷ [])
+
+-- task 1 in the kernel, while the patch moves in
+abbrev pub moving_in : ℤ → Stacks → Watched
+moving_in state stacks = watched (state_of false (0 ∷ []) towards_1 (one_task Kernel state [])) stacks
+
+-- nothing is installed
+abbrev pub unpatched : Mode → Stacks → Watched
+unpatched mode stacks = watched (state_of false [] None (one_task mode (negsuc 0) [])) stacks
+
+-- the second function that the second patch has for `vmlinux` is the module's
+abbrev pub stray_behind : Setting
+stray_behind = record stray_kernel {
+  patches =
+      record { replace = false; objects = for_object 0 (function_for 0 ∷ []) ∷ []; states = [] }
+      ∷ record { replace = false; objects = for_object 1 (function_for 2 ∷ []) ∷ for_object 0 (function_for 1 ∷ function_for 2 ∷ []) ∷ []; states = [] } ∷ [];
+}

@@ -4,17 +4,17 @@
 ghost use Rattle.std.specs.Prelude.{◌≡◌, ℕ, pos, negsuc, true, false, List, [], ◌∷◌, ◌++◌, Some, None};
 ghost use Rattle.klp_types.specs.declared.version.Version.TheVariants.{Original, New};
 ghost use Rattle.klp_types.specs.Setting.{Setting};
-ghost use Rattle.klp_model.specs.declared.event.Event.TheVariants.{Going, ExitToUser, Sleep};
+ghost use Rattle.klp_model.specs.declared.event.Event.TheVariants.{Going, EndTask, ExitToUser, Sleep};
 ghost use Rattle.klp_types.specs.declared.task.Mode.TheVariants.{Kernel, User, Asleep};
 ghost use Rattle.klp_model.specs.State.{State};
 ghost use Rattle.klp_model.specs.Run.{run};
 ghost use Rattle.klp_model.specs.Blocked.{blocked, is_held};
 ghost use Rattle.klp_model.specs.declared.seen.Seen.{Seen};
-ghost use Rattle.klp_model.specs.declared.seen.Seen.TheVariants.{Event as Happens, Call as Calls};
+ghost use Rattle.klp_model.specs.declared.seen.Seen.TheVariants.{Event as Happens, Call as Calls, Return as Returns};
 ghost use Rattle.klp_model.specs.Observed.{IsHonestItem, IsHonestRun, Watched, events_of, seen_run, seen_from};
 ghost use Rattle.klp_model.specs.InPlace.{IsInPlace};
 ghost use Rattle.klp_model.specs.Consistent.{version_now, AllCurrent, NoneLeft, NoneMixed, AllNamed};
-ghost use Rattle.klp_model.specs.ObservedExamples.{kernel, stray_kernel, one_task, state_of, towards_1, no_frames, inside, watched, start, in_original, late, sleeper_run, stray_run, under_a_task};
+ghost use Rattle.klp_model.specs.ObservedExamples.{kernel, stray_kernel, one_task, state_of, towards_1, no_frames, inside, watched, start, in_original, late, sleeper_run, stray_run, under_a_task, inside_both, moving_in, unpatched, stray_behind};
 
 /// At every moment of an honest observed run each frame of each task is the version that the task would run
 /// at that site now. This is the consistency model in one sentence: no task is in old code while its calls
@@ -81,6 +81,22 @@ pub fn these_are_dishonest()
     ensures exit { IsHonestItem kernel late (Happens (ExitToUser 1)) → ⊥ }
     ensures going { IsHonestItem kernel under_a_task (Happens (Going 1)) → ⊥ }
     ensures call { IsHonestItem kernel (watched start no_frames) (Calls 1 0) → ⊥ }
+    ensures end { IsHonestItem kernel (unpatched Kernel (inside 0 (Original 0))) (Happens (EndTask 1)) → ⊥ }
+    ensures unloaded { IsHonestItem kernel (unpatched Kernel no_frames) (Calls 1 2) → ⊥ }
+    ensures outside { IsHonestItem kernel (unpatched User no_frames) (Calls 1 0) → ⊥ }
+    ensures no_frame { IsHonestItem kernel (unpatched Kernel no_frames) (Returns 1) → ⊥ }
+    ensures returns_outside { IsHonestItem kernel (unpatched User (inside 0 (Original 0))) (Returns 1) → ⊥ }
+    ensures inside_at_the_start { IsHonestRun kernel (unpatched User no_frames).state [] → ⊥ }
+{}
+
+/// What the laws of consistency exclude: a frame counts whatever is outside of it.
+pub fn these_are_inconsistent()
+    ensures old { AllCurrent kernel (moving_in (pos 1) (inside_both (New 0 0) (Original 1))) → ⊥ }
+    ensures left { NoneLeft kernel (unpatched Kernel (inside_both (Original 0) (New 0 1))) → ⊥ }
+    ensures of_the_patch { NoneMixed kernel (moving_in (pos 0) (inside_both (Original 0) (New 0 1))) → ⊥ }
+    ensures below_the_patch { NoneMixed kernel (moving_in (pos 1) (inside_both (New 0 0) (Original 1))) → ⊥ }
+    ensures misnamed { AllNamed kernel (unpatched Kernel (inside_both (Original 0) (Original 2))) → ⊥ }
+    ensures out_of_place { IsInPlace stray_behind → ⊥ }
 {}
 
 /// Where a function is of another object than its site, an honest run leaves a task in a function that no

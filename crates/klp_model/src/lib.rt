@@ -29,6 +29,7 @@
 //! task events leave; refusals in their order; and what is lost where a premise of the round trip fails.
 #![tactic(auto)]
 
+pub mod allowed_examples;
 pub mod consistency;
 mod event;
 pub mod examples;
