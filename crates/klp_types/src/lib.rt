@@ -11,9 +11,10 @@
 //! site, and whose it is. Of the text: how a function reads by which sites are hooked, and that sites go
 //! object by object. Of scripts: that an edit changes each shadow variable by itself, which variables,
 //! system states and patches a script leaves, how few variables it adds, and which scripts may change
-//! places. Also what each limit is. `examples` has five over a small kernel: nops, the version of the newest
-//! entry, where versions begin, which callbacks run where an object refuses, and which at the end of a
-//! transition.
+//! places. Also what each limit is. `examples` has what definitions come to over a small kernel: nops, the
+//! version of the newest entry, where versions begin and how far a call reaches; which callbacks run, what
+//! they do to states and variables, and which status refuses; the previous state, and which patches may live
+//! beside which. A body and its clause cite the same definition, so these say apart from both what it means.
 //!
 //! The code is small. [`Frames`] has at most 32 versions: `push` puts one last, or leaves a full list as it is.
 //! [`ShadowValue`] has 0 to 64 bytes, and takes no more.
