@@ -40,3 +40,4 @@ pub mod LostLemmas
 pub mod ShadowReplyLemmas
 pub mod AllowedExamples
 pub mod InconsistentExamples
+pub mod UnfairExamples

@@ -26,7 +26,9 @@
 //!
 //! `examples` and `round_trip_examples` have what the definitions come to over a small kernel: callbacks at
 //! a reversal, at a refusal, and when a module comes and goes; who is held back, pinned and replaced; what
-//! task events leave; refusals in their order; and what is lost where a premise of the round trip fails.
+//! task events leave; what an event is refused for, reason by reason, and what is accepted; and what is lost
+//! where a premise of the round trip fails. `allowed_examples` has states that are allowed, and for each part
+//! of what that asks a state that isn't.
 #![tactic(auto)]
 
 pub mod allowed_examples;

@@ -1,15 +1,17 @@
 //! Worked examples, by computation: that there are fair companies, so that the laws don't hold of nothing,
 //! and what is lost where a premise fails. A function here does nothing: its contract is the example.
-ghost use Rattle.std.specs.Prelude.{◌≡◌, true, false, [], ◌∷◌, find, is_some, Some, None};
+ghost use Rattle.std.specs.Prelude.{◌≡◌, pos, true, false, [], ◌∷◌, find, is_some, Some, None};
 ghost use Rattle.klp_types.specs.World.{variable};
-ghost use Rattle.klp_model.specs.declared.event.Event.TheVariants.{Enable, ShadowAlloc};
-ghost use Rattle.klp_model.specs.State.{State, is_installed};
+ghost use Rattle.klp_model.specs.declared.event.Event.TheVariants.{Enable, SetEnabled, Force, Poll, Coming, Going, ShadowAlloc, ShadowFree};
+ghost use Rattle.klp_model.specs.State.{State, is_installed, with_world};
 ghost use Rattle.klp_model.specs.ShadowStep.{shadow_changed, shadow_changes, concerns};
 ghost use Rattle.klp_types.specs.Callbacks.{refuses};
 ghost use Rattle.klp_model.specs.Callbacks.{loaded_objects};
 ghost use Rattle.klp_model.specs.Run.{run};
 ghost use Rattle.klp_model.specs.Allowed.{Allowed};
-ghost use Rattle.klp_model.specs.Company.{taking_part, company_keys, EachUndoes, IsFairCompany};
+ghost use Rattle.klp_model.specs.Company.{taking_part, company_keys, EachUndoes, drops_older, IsOfCompany, IsFairEvent, IsFairStart, IsFairCompany};
+ghost use Rattle.klp_model.specs.Examples.{small_kernel, move_of, in_kernel, state_with, with_state, with_states};
+ghost use Rattle.klp_model.specs.Footprint.{SameFootprint};
 ghost use Rattle.klp_model.specs.RoundTripExamples.{key_of, value_of, adding, bare, with_a_sleeper, every_stage, own_variable_first, refusing_behind, both_loaded, sharing, with_five, there_and_back};
 
 /// A cumulative patch is enabled, held by a sleeper, turned round twice, complete, disabled, waited for and
@@ -50,4 +52,39 @@ pub fn a_refused_patch_is_a_fair_company()
     ensures fair { IsFairCompany refusing_behind 0 both_loaded (Enable 0 ∷ []) }
     ensures refuses { is_some (find refuses (loaded_objects refusing_behind both_loaded 0)) ≡ true }
     ensures gone { is_installed (run refusing_behind both_loaded (Enable 0 ∷ [])) 0 ≡ false }
+{}
+
+/// What a footprint shows of two states: which modules are loaded, which patches are installed in which
+/// order and with which values, which are pinned, and what the variables are.
+pub fn a_footprint_shows_each_trace()
+    ensures module { SameFootprint small_kernel (λ key. false) (state_with true [] None []) (state_with false [] None []) → ⊥ }
+    ensures order { SameFootprint small_kernel (λ key. false) (state_with true (0 ∷ 2 ∷ []) None [])
+        (state_with true (2 ∷ 0 ∷ []) None []) → ⊥ }
+    ensures value { SameFootprint small_kernel (λ key. false) (with_states (with_state 0 5 ∷ []) None)
+        (with_states (with_state 0 6 ∷ []) None) → ⊥ }
+    ensures pin { SameFootprint small_kernel (λ key. false)
+        (record (state_with true [] None []) { pinned = true ∷ false ∷ false ∷ false ∷ [] }) (state_with true [] None []) → ⊥ }
+    ensures variable { SameFootprint adding (λ key. true)
+        (with_world bare (shadow_changed bare.world (ShadowAlloc (key_of 1 9) (value_of 77)))) bare → ⊥ }
+{}
+
+/// What isn't fair to a patch: events of other patches and of modules, a force, a change of a variable of
+/// its callbacks, what is refused, and that older patches leave. Nor does it begin where something moves, or
+/// where the patch is there.
+pub fn these_companies_are_unfair()
+    ensures another { IsOfCompany 0 (λ key. false) (Enable 1) → ⊥ }
+    ensures another_disabled { IsOfCompany 0 (λ key. false) (SetEnabled 1 false) → ⊥ }
+    ensures forced { IsOfCompany 0 (λ key. false) (Force 0) → ⊥ }
+    ensures comes { IsOfCompany 0 (λ key. false) (Coming 1) → ⊥ }
+    ensures goes { IsOfCompany 0 (λ key. false) (Going 1) → ⊥ }
+    ensures own_variable { IsOfCompany 0 (company_keys adding bare 0) (ShadowFree (key_of 1 9)) → ⊥ }
+    ensures refused { IsFairEvent adding 0 (λ key. false) bare Poll → ⊥ }
+    ensures starts_moving { IsFairStart small_kernel 2 (state_with true (0 ∷ []) (move_of 0 true) []) → ⊥ }
+    ensures starts_installed { IsFairStart small_kernel 0 (state_with true (0 ∷ []) None []) → ⊥ }
+    ensures drops { drops_older small_kernel (state_with true (0 ∷ 1 ∷ []) (move_of 1 true) []) Poll ≡ true }
+    ensures oldest { drops_older small_kernel (state_with true (1 ∷ 2 ∷ []) (move_of 1 true) []) Poll ≡ false }
+    ensures withdrawn { drops_older small_kernel (state_with true (0 ∷ 1 ∷ []) (move_of 1 false) []) Poll ≡ false }
+    ensures beside { drops_older small_kernel (state_with true (0 ∷ 2 ∷ []) (move_of 2 true) []) Poll ≡ false }
+    ensures pending { drops_older small_kernel (state_with true (0 ∷ 1 ∷ []) (move_of 1 true) (in_kernel (pos 0) ∷ [])) Poll
+        ≡ false }
 {}

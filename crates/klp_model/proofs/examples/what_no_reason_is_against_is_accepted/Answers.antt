@@ -1,4 +1,4 @@
-use Rattle.std.proofs.Common.{refl}
+use Rattle.std.proofs.Common.{rules, refl}
 use Rattle.std.specs.FinMap as finite
 use Rattle.klp_types.specs.World.{key_cmp, ShadowValue}
 use Rattle.klp_model.proofs.examples.what_no_reason_is_against_is_accepted.Goals as goal
@@ -20,3 +20,6 @@ returns-clause-comes c = rw (finite.len-empty key_cmp ShadowValue) refl
 
 pub returns-clause-goes : goal.returns-clause-goes
 returns-clause-goes c = rw (finite.len-empty key_cmp ShadowValue) refl
+
+pub returns-clause-ends : goal.returns-clause-ends
+returns-clause-ends c = search rules
