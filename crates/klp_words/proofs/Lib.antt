@@ -3,3 +3,4 @@ pub mod WordLemmas
 pub mod NumberLemmas
 pub mod NameLemmas
 pub mod ValueLemmas
+pub mod ValueExamples
