@@ -8,3 +8,4 @@ pub mod DraftLemmas
 pub mod ScriptLemmas
 pub mod TextLemmas
 pub mod ValueLemmas
+pub mod TextExamples

@@ -12,3 +12,4 @@ pub mod Draft
 pub mod Within
 pub mod Kept
 pub mod Text
+pub mod Examples

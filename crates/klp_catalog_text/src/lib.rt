@@ -11,11 +11,13 @@
 //! [`Plan::handler`], `take_objects`, `into_patches` and `script` are what the text says, in its order. The
 //! patches of a plan keep to the limits (`specs/Limits`), and no patch names an object, a kind of callback
 //! for one object, or a state id twice. A plan's targets are objects of the plan. `laws` says that each
-//! script can be written as words that are read as it.
+//! script can be written as words that are read as it, and `examples` what texts and lines say, and which
+//! fault each has.
 #![tactic(auto)]
 
 mod draft;
 mod edit;
+pub mod examples;
 mod fault;
 mod items;
 pub mod laws;
