@@ -11,6 +11,9 @@ ghost use Rattle.klp_world.specs.Undo.{undone, is_of_world, TellChanges};
 
 use klp_types::MAX_VARIABLES;
 
+/// Scripts that touch no common shadow variable, in either order.
+pub use klp_types::laws::scripts_apart_commute;
+
 /// How many records a script logs: at most one for each edit, one more for each edit that adds a shadow
 /// variable, and one for each shadow variable that is gone afterwards. The last is because a removal of an
 /// id logs each variable that it takes out.
