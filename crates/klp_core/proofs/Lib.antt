@@ -8,3 +8,4 @@ pub mod JournalLemmas
 pub mod RunLemmas
 pub mod WithdrawalLemmas
 pub mod Sends
+pub mod FullLemmas

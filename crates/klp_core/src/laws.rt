@@ -1,12 +1,18 @@
 //! What is proved of what a manager keeps. A function here does nothing: its contract is the law.
-ghost use Rattle.std.specs.Prelude.{◌≡◌, List, [], ◌∷◌, ◌++◌};
+ghost use Rattle.std.specs.Prelude.{◌≡◌, ◌↔◌, true, false, is_ok, Err, List, [], ◌∷◌, ◌++◌};
+ghost use Rattle.klp_types.specs.Setting.{Setting};
 ghost use Rattle.klp_model.specs.declared.event.Event.{Event};
+ghost use Rattle.klp_model.specs.declared.event.Refusal.TheVariants.{JournalFull};
+ghost use Rattle.klp_model.specs.Run.{answer};
+ghost use Rattle.klp_model.specs.State.{State};
+ghost use Rattle.klp_journal.specs.Journal.{Group, has_room};
 ghost use Rattle.klp_model.specs.InPlace.{IsInPlace};
 ghost use Rattle.klp_modules.specs.Names.{names_of};
 ghost use Rattle.klp_manager_state.specs.Managed.{Managed, setting_of};
 ghost use Rattle.klp_manager_state.specs.Events.{after_event};
 ghost use Rattle.klp_core.specs.Events.{after_events};
 ghost use Rattle.klp_core.specs.Journaled.{Journaled, Stands};
+ghost use Rattle.klp_core.specs.Taking.{answer_in};
 ghost use Rattle.klp_core.specs.Withdrawal.{GoesOn, LeavesNoTrace};
 
 use klp_model::round_trip::{gone_at_the_end, only_shadow_events_outside};
@@ -41,3 +47,11 @@ pub fn events_go_on_where_they_end()
 {
     klp_catalog::laws::runs_add_up();
 }
+
+/// The journal is told as full exactly where it has no room and nothing else refuses the event: no rule of the
+/// events refuses one so.
+pub fn the_journal_alone_is_full()
+    ensures { (setting : Setting) (state : State) (groups : List Group) (event : Event)
+        → (answer_in setting state groups event ≡ Err JournalFull)
+        ↔ ((is_ok (answer setting state event) ≡ true) × (has_room groups ≡ false)) }
+{}
