@@ -1,5 +1,5 @@
 -- Rows that are set one after the other.
-use Rattle.std.proofs.Common.{◌≡◌, ℕ, suc, ◌+◌, ◌<◌, ◌≤◌, ◌==◌, ◌||◌, Bool, true, false, List, [], ◌∷◌, ◌++◌, length, Option, Some, None, is_some, option_map, slice_get, slice_set, slice_index_or, refl, sym, ap, subst, ◌∙◌, arith, ⊎_elim, if◌then◌else◌}
+use Rattle.std.proofs.Common.{◌≡◌, ℕ, suc, ◌+◌, ◌<◌, ◌≤◌, ◌==◌, ◌||◌, Bool, true, false, List, [], ◌∷◌, ◌++◌, length, Option, Some, None, is_some, option_map, slice_get, slice_set, slice_index_or, refl, sym, ap, subst, ◌∙◌, arith, ⊎_elim, if◌then◌else◌, length-append}
 use Rattle.std.specs.Option.{option_and_then}
 use Rattle.std.proofs.lemmas.Bool.{eq-eqb, eqb-true, both_ways}
 use Rattle.std.proofs.lemmas.List.{get_or-set_same, get_or-set_other, length-set, append-nil}
@@ -82,6 +82,7 @@ rows_last setting state (first ∷ rest) site row are is = (are.0, rows_last set
 pub record AreFirst (setting : Setting) (state : State) (functions : List Function) (number : ℕ) (list : List NewRow) : Type 0 where
   pub right : AreRowsOf setting state list
   pub all : (site k : ℕ) → k < number → site_at functions k ≡ Some site → is_listed site list ≡ true
+  pub few : length list ≤ number
 
 -- and of one more
 pub one_more : (setting : Setting) (state : State) (functions : List Function) (number : ℕ) (list : List NewRow) → AreFirst setting state functions number list
@@ -96,11 +97,13 @@ one_more setting state functions number list are = by (site_at functions number)
       right = subst (AreRowsOf setting state) (sym (append-nil list)) are.right;
       all = λ site k lt found. ⊎_elim (λ (h : k < number). ap (is_listed site) (append-nil list) ∙ are.all site k h found)
           (λ (h : number ≤ k). let e : k ≡ number = omega arith in absurd (cc (sym is ∙ ap (site_at functions) (sym e) ∙ found))) (below k number);
+      few = omega (arith, are.few, ap length (append-nil list));
     }
     by (Some own) is = record {
       right = rows_last setting state list own (row_of setting state own) are.right refl;
       all = λ site k lt found. ⊎_elim (λ (h : k < number). listed_still list (own, row_of setting state own) site (are.all site k h found))
           (λ (h : number ≤ k). subst (λ s. is_listed s (list ++ (own, row_of setting state own) ∷ []) ≡ true) (same own site k is h lt found) (listed_last list own (row_of setting state own))) (below k number);
+      few = omega (arith, are.few, length-append list ((own, row_of setting state own) ∷ []));
     }
 
 -- all of them: each site that is patched

@@ -1,8 +1,9 @@
 -- What an event of a task leaves of the table: all but the state of that task.
-use Rattle.std.proofs.Common.{◌≡◌, ◌≢◌, ℕ, ◌<◌, ◌≤◌, List, length, Option, None, Some, option_map, slice_index_or, slice_set, Bool, true, false, ◌||◌, is_some, refl, ap, sym, ◌∙◌, arith, subst, ◌⊎◌, inl, inr, ⊎_elim, Result, Ok, Err}
+use Rattle.std.proofs.Common.{◌≡◌, ◌≢◌, ℕ, ◌<◌, ◌≤◌, List, [], ◌∷◌, ◌++◌, take, length, Option, None, Some, option_map, slice_index_or, slice_set, Bool, true, false, ◌||◌, is_some, refl, ap, sym, ◌∙◌, arith, subst, ◌⊎◌, inl, inr, ⊎_elim, Result, Ok, Err}
+use Rattle.std.specs.Prelude.{◌↔◌, is_ok}
 use Rattle.std.proofs.lemmas.Bool.{both_ways}
 use Rattle.std.proofs.Math.Bool.{or-false}
-use Rattle.std.proofs.lemmas.List.{get_or-set_same, get_or-set_other, length-set}
+use Rattle.std.proofs.lemmas.List.{get_or-set_same, get_or-set_other, length-set, take-append-le, take_all}
 use Rattle.klp_types.specs.declared.task.Task.{Task}
 use Rattle.klp_types.specs.FirstOf.{unless}
 use Rattle.klp_types.specs.Setting.{Setting, replaces}
@@ -33,10 +34,13 @@ use Rattle.klp_live.proofs.Staying.{next_stays}
 use Rattle.klp_live.proofs.Tables.{below, or_past, no_row}
 use Rattle.klp_manager_state.specs.Managed.{Managed, setting_of}
 use Rattle.klp_model.specs.Legal.{History, state_after_history}
-use Rattle.klp_core.specs.Journaled.{Journaled, Stands}
-use Rattle.klp_core.specs.Taking.{Appends, IsTaken, unless_full}
-use Rattle.klp_journal.specs.Journal.{has_room}
-use Rattle.klp_live.specs.Admitting.{IsManagerOf}
+use Rattle.klp_manager_state.specs.Events.{after_event}
+use Rattle.klp_core.specs.Journaled.{Journaled, Stands, history_in}
+use Rattle.klp_core.specs.Rewinding.{IsRewound}
+use Rattle.klp_model.specs.declared.event.Refusal.TheVariants.{JournalFull}
+use Rattle.klp_core.specs.Taking.{Appends, IsTaken, answer_in, unless_full}
+use Rattle.klp_journal.specs.Journal.{Group, has_room}
+use Rattle.klp_live.specs.Admitting.{IsManagerOf, FindsNoRoom}
 
 -- where an accepted event leads a manager of a list
 pub leads : (setting : Setting) (base : State) (before after : Journaled) (list : History) (event : Event) (reply : Reply) → IsManagerOf setting base before list → Stands before
@@ -57,6 +61,52 @@ answered setting base before after list event reply of stands taken =
     let stood : before.managed.state ≡ state_after_history setting base list = rw (← of.setting_is, ← of.base_is, ← of.groups) stands.state in
     let own = accepts reply (has_room before.groups) (answer (setting_of before.managed) before.managed.state event) taken.answered in
     subst (λ (s : State). answer setting s event ≡ Ok reply) stood (subst (λ (s : Setting). answer s before.managed.state event ≡ Ok reply) of.setting_is own)
+
+reply_of : (own : Result Reply Refusal) → is_ok own ≡ true → (reply : Reply) × (own ≡ Ok reply)
+reply_of (Ok reply) e = (reply, refl)
+reply_of (Err refusal) e = absurd (cc e)
+
+-- an event that is told of a full journal would be accepted in the state of the list, and there is no room in the journal of its events
+pub finds_no_room : (setting : Setting) (base : State) (before after : Journaled) (list : History) (event : Event) (refusal : Refusal) → IsManagerOf setting base before list → Stands before
+    → ((s : Setting) (state : State) (groups : List Group) (e : Event) → (answer_in s state groups e ≡ Err JournalFull) ↔ ((is_ok (answer s state e) ≡ true) × (has_room groups ≡ false)))
+    → IsTaken before after event (Err refusal) → refusal ≡ JournalFull → FindsNoRoom setting base list event
+finds_no_room setting base before after list event refusal of stands alone taken full =
+    let stood : before.managed.state ≡ state_after_history setting base list = rw (← of.setting_is, ← of.base_is, ← of.groups) stands.state in
+    let told : answer_in (setting_of before.managed) before.managed.state before.groups event ≡ Err JournalFull = sym taken.answered ∙ ap Err full in
+    let both = (alone (setting_of before.managed) before.managed.state before.groups event).0 told in
+    let own = reply_of (answer (setting_of before.managed) before.managed.state event) both.0 in record {
+      reply = own.0;
+      accepted = subst (λ (s : State). answer setting s event ≡ Ok own.0) stood (subst (λ (s : Setting). answer s before.managed.state event ≡ Ok own.0) of.setting_is own.1);
+      groups = before.groups;
+      events = of.groups;
+      small = stands.small;
+      full = both.1;
+    }
+
+-- an accepted event was taken back: all is as before but that its callbacks were counted
+pub record IsBack (before after : Journaled) (event : Event) : Type 0 where
+  pub ran : after.managed.catalog ≡ (after_event before.managed event).catalog
+  pub state : after.managed.state ≡ before.managed.state
+  pub image : after.managed.image ≡ before.managed.image
+  pub base : after.base ≡ before.base
+  pub groups : after.groups ≡ before.groups
+
+take_front : {A : Type 0} (xs ys : List A) (n : ℕ) → n ≡ length xs → take n (xs ++ ys) ≡ xs
+take_front xs ys n e = take-append-le n xs ys (omega (arith, e)) ∙ take_all n xs (omega (arith, e))
+
+pub taken_back : (before accepted after : Journaled) (event : Event) (reply : Reply) (mark : ℕ) → Stands before → mark ≡ length before.groups → IsTaken before accepted event (Ok reply)
+    → setting_of accepted.managed ≡ setting_of before.managed → IsRewound accepted after mark → IsBack before after event
+taken_back before accepted after event reply mark stands all taken setting back =
+    let on = taken.accepted in
+    let left : take mark accepted.groups ≡ before.groups = ap (take mark) on.groups ∙ take_front before.groups (on.group ∷ []) mark all in record {
+      ran = back.catalog ∙ ap (λ (m : Managed). m.catalog) on.left;
+      state = back.state ∙ ap (λ s. state_after_history s accepted.base (history_in (take mark accepted.groups))) setting
+          ∙ ap (λ b. state_after_history (setting_of before.managed) b (history_in (take mark accepted.groups))) on.base
+          ∙ ap (λ gs. state_after_history (setting_of before.managed) before.base (history_in gs)) left ∙ sym stands.state;
+      image = back.image ∙ ap (λ (m : Managed). m.image) on.left;
+      base = back.base ∙ on.base;
+      groups = back.groups ∙ left;
+    }
 
 module _ (setting : Setting) where
   -- the rows are the same, and the states of all tasks but one

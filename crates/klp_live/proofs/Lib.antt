@@ -8,3 +8,5 @@ pub mod Adding
 pub mod Rises
 pub mod Picking
 pub mod Appending
+pub mod Full
+pub mod Outcomes

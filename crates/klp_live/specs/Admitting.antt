@@ -1,16 +1,20 @@
 -- What the book keeps, and what becomes of an event.
-use Rattle.std.specs.Prelude.{◌≡◌, ◌≢◌, ◌+◌, [], ◌∷◌, ◌++◌, length, Ok, Err}
+use Rattle.std.specs.Prelude.{◌≡◌, ◌≢◌, ◌+◌, false, List, [], ◌∷◌, ◌++◌, length, Ok, Err}
+use Rattle.std.specs.List.{All}
 use mathlib.Core.List.{IsPrefix}
 use Rattle.logbook.specs.Pages.{Book}
 use Rattle.klp_types.specs.Setting.{Setting}
 use Rattle.klp_model.specs.State.{State}
 use Rattle.klp_model.specs.declared.event.Event.{Event}
+use Rattle.klp_model.specs.declared.event.Reply.{Reply}
 use Rattle.klp_model.specs.declared.event.Refusal.{Refusal}
 use Rattle.klp_model.specs.declared.event.Refusal.TheVariants.{JournalFull}
 use Rattle.klp_model.specs.Legal.{History, IsLegal, state_after_history}
 use Rattle.klp_model.specs.Run.{answer}
+use Rattle.klp_journal.specs.Journal.{Group, has_room}
+use Rattle.klp_manager_state.specs.Events.{after_event}
 use Rattle.klp_manager_state.specs.Managed.{setting_of}
-use Rattle.klp_core.specs.Journaled.{Journaled, history_in}
+use Rattle.klp_core.specs.Journaled.{Journaled, IsSmall, history_in}
 use Rattle.klp_core.specs.Taking.{IsTaken}
 use Rattle.klp_live.specs.Boards.{OnBoard}
 use Rattle.klp_live.specs.Shown.{IsTable}
@@ -49,19 +53,34 @@ pub record IsAdmitted (setting : Setting) (base : State) (event : Event) (old ne
   pub knows : after.list ≡ new.list
   pub counts : after.accepted ≡ before.accepted + 1
 
+-- the machine would accept the event, and there is no room in a journal of these events: some records, as many as events leave at most,
+-- would fill it
+pub record FindsNoRoom (setting : Setting) (base : State) (list : History) (event : Event) : Type 0 where
+  pub reply : Reply
+  pub accepted : answer setting (state_after_history setting base list) event ≡ Ok reply
+  pub groups : List Group
+  pub events : history_in groups ≡ list
+  pub small : All IsSmall groups
+  pub full : has_room groups ≡ false
+
 -- refused: nothing has changed but that the seat knows the list
 pub record IsTurnedAway (setting : Setting) (base : State) (event : Event) (old new : Booked) (before after : Knows) (refusal : Refusal) : Type 0 where
   pub legal : IsLegal setting base new.list
   pub taken : IsTaken old.manager new.manager event (Err refusal)
   pub answered : refusal ≢ JournalFull → answer setting (state_after_history setting base old.list) event ≡ Err refusal
+  pub full : refusal ≡ JournalFull → FindsNoRoom setting base old.list event
   pub same : new ≡ old
   pub knew : IsPrefix before.list old.list
   pub knows : after.list ≡ old.list
   pub counts : after.accepted ≡ before.accepted
 
--- taken back, since there was no memory to publish it: nothing has changed, but that callbacks may have run
-pub record IsTakenBack (setting : Setting) (base : State) (old new : Booked) (before after : Knows) : Type 0 where
+-- taken back, since there was no memory to publish it: the manager accepted the event, and its callbacks ran once, so their counts
+-- have grown; nothing else has changed
+pub record IsTakenBack (setting : Setting) (base : State) (event : Event) (old new : Booked) (before after : Knows) : Type 0 where
   pub legal : IsLegal setting base new.list
+  pub reply : Reply
+  pub accepted : answer setting (state_after_history setting base old.list) event ≡ Ok reply
+  pub ran : new.manager.managed.catalog ≡ (after_event old.manager.managed event).catalog
   pub list : new.list ≡ old.list
   pub state : new.manager.managed.state ≡ old.manager.managed.state
   pub image : new.manager.managed.image ≡ old.manager.managed.image
@@ -72,4 +91,4 @@ pub record IsTakenBack (setting : Setting) (base : State) (old new : Booked) (be
 
 abbrev pub IsRefused : Setting → State → Event → Booked → Booked → Knows → Knows → LiveRefusal → Type 0
 IsRefused setting base event old new before after (Refused refusal) = IsTurnedAway setting base event old new before after refusal
-IsRefused setting base event old new before after NoMemory = IsTakenBack setting base old new before after
+IsRefused setting base event old new before after NoMemory = IsTakenBack setting base event old new before after

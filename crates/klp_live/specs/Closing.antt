@@ -10,7 +10,7 @@ use Rattle.klp_model.specs.declared.event.Refusal.TheVariants.{JournalFull}
 use Rattle.klp_model.specs.Legal.{History, IsLegal, state_after_history}
 use Rattle.klp_model.specs.Run.{answer}
 use Rattle.klp_core.specs.Journaled.{Journaled}
-use Rattle.klp_live.specs.Admitting.{IsManagerOf}
+use Rattle.klp_live.specs.Admitting.{IsManagerOf, FindsNoRoom}
 use Rattle.klp_live.specs.Seats.{Knows, Told}
 use Rattle.klp_live.specs.declared.refusal.LiveRefusal.{LiveRefusal}
 use Rattle.klp_live.specs.declared.refusal.LiveRefusal.TheVariants.{Refused, NoMemory}
@@ -33,6 +33,7 @@ pub record IsTurnedBack (setting : Setting) (base : State) (event : Event) (befo
   pub legal : IsLegal setting base after.list
   pub knew : IsPrefix before.list after.list
   pub answered : refusal ≢ JournalFull → answer setting (state_after_history setting base after.list) event ≡ Err refusal
+  pub full : refusal ≡ JournalFull → FindsNoRoom setting base after.list event
   pub counts : after.accepted ≡ before.accepted
 
 -- what was submitted came to this

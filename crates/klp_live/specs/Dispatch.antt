@@ -1,5 +1,6 @@
 -- The dispatch table: what a call of a hooked function needs, for each site and for each task.
 use Rattle.std.specs.Prelude.{◌≡◌, ℕ, ℤ, Bool, true, false, Option, Some, None, option_map, length, slice_index_or, slice_set}
+use Rattle.klp_types.specs.declared.limits.TheConstants.{MAX_SITES}
 use Rattle.klp_types.specs.declared.row.SiteRow.{SiteRow}
 use Rattle.klp_types.specs.declared.task.Task.{Task}
 use Rattle.klp_types.specs.Setting.{Setting}
@@ -37,6 +38,13 @@ changed table Same = table
 changed table (OfTask task state) = record table { states = slice_set table.states task state }
 changed table (Moved moved) = record { rows = with_rows table.rows moved.rows.items; states = moved.states }
 changed table (All all) = all.value
+
+-- how many rows of sites a change sets
+abbrev pub rows_in : Change → ℕ
+rows_in Same = 0
+rows_in (OfTask task state) = 0
+rows_in (Moved moved) = length moved.rows.items
+rows_in (All all) = MAX_SITES
 
 -- the one task that an event may change, where it changes nothing else
 abbrev pub task_of : Event → Option ℕ

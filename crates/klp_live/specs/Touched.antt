@@ -1,7 +1,8 @@
 -- Which rows of a table an event may change.
-use Rattle.std.specs.Prelude.{ℕ, Bool, false, ◌||◌, Option, Some, None}
+use Rattle.std.specs.Prelude.{ℕ, Bool, true, false, ◌||◌, length, Option, Some, None, is_some, if◌then◌else◌}
+use Rattle.klp_types.specs.declared.limits.TheConstants.{MAX_SITES}
 use Rattle.klp_types.specs.Image.{object_of}
-use Rattle.klp_types.specs.Setting.{Setting, replaces, is_at}
+use Rattle.klp_types.specs.Setting.{Setting, functions_of, replaces, is_at}
 use Rattle.klp_types.specs.Entries.{patches_site}
 use Rattle.klp_model.specs.declared.event.Event.{Event}
 use Rattle.klp_model.specs.declared.event.Event.TheVariants.{Enable, SetEnabled, Poll, Coming, Going}
@@ -30,3 +31,12 @@ is_inside setting (Some object) site = is_at (object_of setting.image.objects si
 
 abbrev pub is_touched : Setting → Option ℕ → Event → ℕ → Bool
 is_touched setting moving event site = is_touched_by setting (patch_moved moving event) site || is_inside setting (module_moved event) site
+
+-- how many rows a patch may change that comes, goes or settles: one for each of its functions, and all where it replaces the older ones
+abbrev pub rows_of_patch : Setting → Option ℕ → ℕ
+rows_of_patch setting None = 0
+rows_of_patch setting (Some patch) = if replaces setting patch then MAX_SITES else length (functions_of setting patch)
+
+-- how many rows an event may change, where this patch is in transition before it; a module's may be all
+abbrev pub rows_touched : Setting → Option ℕ → Event → ℕ
+rows_touched setting moving event = if is_some (module_moved event) then MAX_SITES else rows_of_patch setting (patch_moved moving event)

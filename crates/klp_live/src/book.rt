@@ -18,6 +18,7 @@ use crate::refusal::LiveRefusal;
 use crate::seat::{Receipt, Seat};
 use crossbeam_utils::rule::Protocol;
 use klp_core::Machine;
+use klp_core::laws::the_journal_alone_is_full;
 use klp_model::{Event, Refusal};
 use klp_types::PatchId;
 use std::alloc::Global;
@@ -78,6 +79,7 @@ impl<S: Start + Protocol<Published, View>, M: Machine + Drop, R: Wait + Drop> Bo
             (λ told. IsAdmitted S.setting S.base event self.old self.new seat.old seat.new told)
             (λ fault. IsRefused S.setting S.base event self.old self.new seat.old seat.new fault) }
     {
+        the_journal_alone_is_full();
         self.publisher.must_cover(rt, seat);
         let mark = self.machine.mark();
         let moving = self.machine.in_transition();

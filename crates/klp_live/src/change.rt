@@ -2,12 +2,13 @@
 ghost use Rattle.std.specs.Prelude.{◌≡◌, ℕ, ◌<◌, ◌≤◌, ◌++◌, true, false, Some, None, is_some, length, slice_index_or, IfOk, Ok};
 ghost use Rattle.klp_types.specs.declared.limits.TheConstants.{MAX_SITES, MAX_TASKS};
 ghost use Rattle.klp_types.specs.Entries.{patches_site};
+ghost use Rattle.klp_types.specs.Setting.{functions_of};
 ghost use Rattle.klp_model.specs.Rows.{row_of, moving_patch};
 ghost use Rattle.klp_model.specs.Run.{next};
 ghost use Rattle.klp_manager_state.specs.Managed.{setting_of};
-ghost use Rattle.klp_live.specs.Dispatch.{IsDispatch, own_state, changed, Makes, LeadsOn, is_of_variables, task_of as task_in};
+ghost use Rattle.klp_live.specs.Dispatch.{IsDispatch, own_state, changed, Makes, LeadsOn, is_of_variables, rows_in, task_of as task_in};
 ghost use Rattle.klp_live.specs.Listed.{AreRowsOf, is_listed, new_row, with_rows};
-ghost use Rattle.klp_live.specs.Touched.{patch_moved as patch_moved_by, module_moved};
+ghost use Rattle.klp_live.specs.Touched.{patch_moved as patch_moved_by, module_moved, rows_touched};
 
 use crate::table::{Change, Moved, NewRow, Table};
 use klp_core::Machine;
@@ -96,8 +97,9 @@ impl Table {
 
 /// The whole table, at the cost of a look at every site.
 pub fn change_of<M: Machine>(alloc: Global, machine: &M) -> Result<Change, AllocError>
-    ensures { let managed = (M.journaled machine.now).managed in
+    ensures made { let managed = (M.journaled machine.now).managed in
         IfOk result (λ change. Makes (setting_of managed) managed.state change) }
+    ensures rows { IfOk result (λ change. rows_in change ≡ MAX_SITES) }
 {
     let mut all = Box::new(alloc, Table::empty())?;
     all.fill(machine);
@@ -178,6 +180,8 @@ fn rows_of<M: Machine>(
     ensures all { IfOk result (λ rows. (site : ℕ)
         → patches_site (setting_of (M.journaled machine.now).managed) site patch ≡ true
         → is_listed site rows.items ≡ true) }
+    ensures few { IfOk result (λ rows. length rows.items
+        ≤ length (functions_of (setting_of (M.journaled machine.now).managed) patch)) }
 {
     let functions = machine.functions(patch);
     let mut rows = Vec::with_capacity(alloc, functions)?;
@@ -208,8 +212,10 @@ fn change_of_patches<M: Machine>(
     event: &Event,
     moving: Option<PatchId>,
 ) -> Result<Change, AllocError>
-    ensures { let managed = (M.journaled machine.now).managed in
+    ensures leads { let managed = (M.journaled machine.now).managed in
         IfOk result (λ change. LeadsOn (setting_of managed) managed.state moving event.now change) }
+    ensures few { IfOk result (λ change. rows_in change
+        ≤ rows_touched (setting_of (M.journaled machine.now).managed) moving event.now) }
 {
     let _sites = machine.sites();
     if is_of_module(event) {
@@ -230,8 +236,10 @@ pub fn change_after<M: Machine>(
     event: &Event,
     moving: Option<PatchId>,
 ) -> Result<Change, AllocError>
-    ensures { let managed = (M.journaled machine.now).managed in
+    ensures leads { let managed = (M.journaled machine.now).managed in
         IfOk result (λ change. LeadsOn (setting_of managed) managed.state moving event.now change) }
+    ensures few { IfOk result (λ change. rows_in change
+        ≤ rows_touched (setting_of (M.journaled machine.now).managed) moving event.now) }
 {
     if is_of_variables(event) {
         return Ok(Change::Same);

@@ -14,9 +14,8 @@ use std::marker::{Brand, Model, PhantomData};
 use std::sync::Wait;
 use std::sync::ledger::Ledger;
 
-/// Which start it is: its history, what it was started over, and how many seats it has.
+/// Which start it is: its history, and what it was started over. It has as many seats as its ledger has parts.
 pub trait Start: Ledger {
-    ghost use Rattle.std.specs.Prelude.{ℕ};
     ghost use Rattle.logbook.specs.Pages.{Book};
     ghost use Rattle.klp_types.specs.Setting.{Setting};
     ghost use Rattle.klp_model.specs.State.{State};
@@ -26,8 +25,6 @@ pub trait Start: Ledger {
     ghost setting: { Setting };
 
     ghost base: { State };
-
-    ghost places: { ℕ };
 }
 
 impl Start for Brand {
@@ -39,8 +36,6 @@ impl Start for Brand {
     ghost setting = { record { image = record { handler = 0; objects = [] }; patches = [] } };
 
     ghost base = { opening_state (record { image = record { handler = 0; objects = [] }; patches = [] }) };
-
-    ghost places = { 0 };
 }
 
 /// An empty history, which no start has yet.

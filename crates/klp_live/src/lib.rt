@@ -32,7 +32,7 @@ pub use live::{BadTask, CloseFault, Live};
 pub use opening::{StartCause, StartFault};
 pub use pass::{Reads, TaskPass};
 pub use published::{Known, News, Published, View};
-pub use refusal::LiveRefusal;
+pub use refusal::{LiveRefusal, few_events_leave_room};
 pub use rules::{Adopt, Same, Sees};
 pub use seat::{Receipt, Seat};
 pub use table::{Change, Moved, NewRow, Table};

@@ -20,16 +20,25 @@ use klp_core::Machine;
 use klp_model::Event;
 use klp_types::{MAX_TASKS, TaskId};
 use std::alloc::Global;
+use std::marker::PhantomData;
 use std::sync::ledger::{Blank, Share};
 use std::sync::{Mutex, Wait};
+
+/// How many seats a start has: as many as its ledger has parts. It has nothing of the ledger itself, since what has can't
+/// speak of the number.
+#[derive(Drop)]
+struct Places<S: Start> {
+    count: usize,
+    of: PhantomData<S>,
+    ghost counted: { count ≡ S.parts },
+    ghost some: { 0 < count },
+}
 
 /// The book under the one lock that submitting an event takes. To enter a function takes none.
 #[derive(Drop)]
 pub struct Live<S: Start + Protocol<Published, View>, M: Machine + Drop, R: Wait + Drop> {
     book: Mutex<Book<S, M, R>>,
-    places: usize,
-    ghost counted: { places ≡ S.places },
-    ghost some: { 0 < places },
+    places: Places<S>,
 }
 
 /// That no task has this number.
@@ -107,7 +116,7 @@ impl<S: Start + Protocol<Published, View>, M: Machine + Drop, R: Wait + Drop> Li
         places: usize,
     ) -> Result<(Live<S, M, R>, Vec<Seat<S>>), StartFault<M>>
         requires name { blank.name ≡ S.name }
-        requires parts { (blank.parts ≡ S.parts) × (blank.parts ≡ places) × (places ≡ S.places) }
+        requires parts { (blank.parts ≡ S.parts) × (blank.parts ≡ places) }
         requires book { opened.seen.book ≡ S.book }
         requires rule { RuleIs S.holds S.first S.setting S.base S.book }
         requires fresh { IsFresh S.setting S.base (M.journaled machine) }
@@ -120,7 +129,10 @@ impl<S: Start + Protocol<Published, View>, M: Machine + Drop, R: Wait + Drop> Li
             Ok((book, seats)) => Ok((
                 Live {
                     book: Mutex::new(book),
-                    places,
+                    places: Places {
+                        count: places,
+                        of: PhantomData,
+                    },
                 },
                 seats,
             )),
@@ -157,12 +169,11 @@ impl<S: Start + Protocol<Published, View>, M: Machine + Drop, R: Wait + Drop> Li
 
     /// Ends the start and gives the manager back, where all seats are handed in.
     pub fn close<W: Wait>(self, rt: &W, seats: Vec<Seat<S>>) -> Result<M, CloseFault<S, M, R>>
-        requires places { S.places ≡ S.parts }
-        ensures missing { IfErr result (λ fault. (fault.seats ≡ seats) × (vec_len seats ≢ S.places)) }
-        ensures closed { IfOk result (λ machine. (vec_len seats ≡ S.places)
+        ensures missing { IfErr result (λ fault. (fault.seats ≡ seats) × (vec_len seats ≢ S.parts)) }
+        ensures closed { IfOk result (λ machine. (vec_len seats ≡ S.parts)
             × IsClosed S.setting S.base (M.journaled machine) seats.items) }
     {
-        if seats.len() != self.places {
+        if seats.len() != self.places.count {
             return Err(CloseFault { live: self, seats });
         }
         let Live {

@@ -1,9 +1,11 @@
 //! The publisher: the history of what was accepted, and the board that shows its table.
-ghost use Rattle.std.specs.Prelude.{◌≡◌, ◌<◌, ◌^◌, ◌++◌, ◌∷◌, [], length, Ok, MatchBool, MatchOption};
+ghost use Rattle.std.specs.Prelude.{◌≡◌, ◌<◌, ◌≤◌, ◌^◌, ◌++◌, ◌∷◌, [], length, Ok, MatchBool, MatchOption};
 ghost use mathlib.Core.List.{IsPrefix};
 ghost use Rattle.klp_model.specs.Legal.{IsLegal, state_after_history};
 ghost use Rattle.klp_model.specs.Run.{answer};
-ghost use Rattle.klp_live.specs.Dispatch.{IsStep};
+ghost use Rattle.klp_model.specs.Rows.{moving_patch};
+ghost use Rattle.klp_live.specs.Dispatch.{IsStep, rows_in};
+ghost use Rattle.klp_live.specs.Touched.{rows_touched};
 ghost use Rattle.klp_live.specs.Admitting.{IsShown};
 ghost use Rattle.klp_live.specs.Publishing.{IsPublished};
 ghost use Rattle.klp_live.specs.Shown.{RuleIs};
@@ -137,6 +139,9 @@ impl<S: Start + Protocol<Published, View>, R: Wait + Drop> Publisher<S, R> {
         requires room { length self.old < 2 ^ 62 }
         requires answered { answer S.setting (state_after_history S.setting S.base self.old) row.now.0 ≡ Ok row.now.1 }
         requires change { IsStep S.setting (state_after_history S.setting S.base self.old) row.now.0 change }
+        // no more is published than the event may change
+        requires few { rows_in change
+            ≤ rows_touched S.setting (moving_patch (state_after_history S.setting S.base self.old).moving) row.now.0 }
         ensures { MatchOption result
             ((self.new ≡ self.old) × (seat.new ≡ seat.old))
             (λ told. IsPublished S.setting S.base row.now self.old self.new seat.old seat.new told) }

@@ -1,4 +1,11 @@
 //! Why the book takes no event.
+ghost use Rattle.std.specs.Prelude.{◌<◌, length};
+ghost use Rattle.klp_types.specs.Setting.{Setting};
+ghost use Rattle.klp_model.specs.declared.event.Event.{Event};
+ghost use Rattle.klp_model.specs.Legal.{History};
+ghost use Rattle.klp_model.specs.State.{State};
+ghost use Rattle.klp_live.specs.Admitting.{FindsNoRoom};
+
 use klp_model::Refusal;
 
 /// Why an event isn't admitted.
@@ -9,3 +16,10 @@ pub enum LiveRefusal {
     /// There was no memory to publish it, and it was taken back. It may be tried again.
     NoMemory,
 }
+
+/// Three events never fill a journal: so one that is told as full has seen more. A function that does nothing: its
+/// contract is the law.
+pub fn few_events_leave_room()
+    ensures { (setting : Setting) (base : State) (list : History) (event : Event)
+        → FindsNoRoom setting base list event → 3 < length list }
+{}

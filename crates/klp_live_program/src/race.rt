@@ -150,7 +150,7 @@ fn started<
     steps: Steps,
 ) -> Result<(M, Done), LiveFault>
     requires name { blank.name ≡ S.name }
-    requires parts { (blank.parts ≡ S.parts) × (blank.parts ≡ 2) × (S.places ≡ 2) }
+    requires parts { (blank.parts ≡ S.parts) × (blank.parts ≡ 2) }
     requires book { opened.seen.book ≡ S.book }
     requires rule { RuleIs S.holds S.first S.setting S.base S.book }
     requires fresh { IsFresh S.setting S.base (M.journaled machine) }

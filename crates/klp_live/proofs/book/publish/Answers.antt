@@ -12,6 +12,6 @@ publish-requires-clause-change g c table was =
     let state = (g.M.Machine.journaled c.args.machine.now).managed.state in
     let event = c.args.row.now.0 in
     let change = c.in-Ok.change in
-    let leads : LeadsOn setting state c.args.moving event change = subst (λ (s : Setting). LeadsOn s state c.args.moving event change) c.requires.setting c.in-Ok.ensures in
+    let leads : LeadsOn setting state c.args.moving event change = subst (λ (s : Setting). LeadsOn s state c.args.moving event change) c.requires.setting c.in-Ok.ensures.leads in
     subst (λ (s : State). IsDispatch setting s (changed table change)) c.requires.state
     (leads (state_after_history setting g.S.Start.base c.args.publisher.now) table (sym c.requires.moving) c.requires.state was)

@@ -5,8 +5,8 @@ use Rattle.klp_live.specs.declared.table.Change.TheVariants.{Task as OfTask}
 use Rattle.klp_live.proofs.Deltas.{task_changes}
 use Rattle.klp_live.proofs.change.change_after.Goals as goal
 
-pub returns-in-Some : goal.returns-in-Some
-returns-in-Some g c before table was_moving is was =
+pub returns-in-Some-clause-leads : goal.returns-in-Some-clause-leads
+returns-in-Some-clause-leads g c before table was_moving is was =
     let m = (g.M.Machine.journaled c.args.machine.now).managed in
     let of : task_of c.args.event.now ≡ Some c.in-Some.task = search rules in
     subst (λ (x : Option ℤ). IsDispatch (setting_of m) m.state (changed table (OfTask c.in-Some.task x))) (sym c.patch_state.ensures)

@@ -3,8 +3,8 @@ use Rattle.klp_manager_state.specs.Managed.{setting_of}
 use Rattle.klp_live.proofs.Deltas.{moved_leads, patched_if_touched}
 use Rattle.klp_live.proofs.change.change_of_patches.Goals as goal
 
-pub returns-in_ok-rows_of-in-Some-2 : goal.returns-in_ok-rows_of-in-Some-2
-returns-in_ok-rows_of-in-Some-2 g c =
+pub returns-in_ok-rows_of-in-Some-2-clause-leads : goal.returns-in_ok-rows_of-in-Some-2-clause-leads
+returns-in_ok-rows_of-in-Some-2-clause-leads g c =
     let m = (g.M.Machine.journaled c.args.machine.now).managed in
     moved_leads
     (setting_of m)

@@ -7,7 +7,7 @@ abbrev pub ghosts-started-S-Ledger : goal.ghosts-started-S-Ledger
 ghosts-started-S-Ledger g a = record { name = a.blank.name; parts = a.blank.parts }
 
 abbrev pub ghosts-started-S-Start : goal.ghosts-started-S-Start
-ghosts-started-S-Start g a = record { book = a.opened.seen.book; setting = setting_of (g.M.Machine.journaled a.machine).managed; base = (g.M.Machine.journaled a.machine).base; places = 2 }
+ghosts-started-S-Start g a = record { book = a.opened.seen.book; setting = setting_of (g.M.Machine.journaled a.machine).managed; base = (g.M.Machine.journaled a.machine).base }
 
 abbrev pub ghosts-started-S-Protocol : goal.ghosts-started-S-Protocol
 ghosts-started-S-Protocol g a = record { holds = Holds (setting_of (g.M.Machine.journaled a.machine).managed) (g.M.Machine.journaled a.machine).base a.opened.seen.book; first = record { known = [] } }
