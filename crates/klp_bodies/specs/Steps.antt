@@ -14,6 +14,7 @@ use Rattle.klp_model.specs.Run.{answer}
 use Rattle.klp_live.specs.declared.target.EnterFault.{EnterFault}
 use Rattle.klp_live.specs.declared.target.EnterFault.TheVariants.{NoTable}
 use Rattle.klp_live.specs.Found.{entered}
+use Rattle.klp_live.specs.Admitting.{FindsNoRoom}
 use Rattle.klp_live.specs.Seats.{IsLast}
 use Rattle.klp_bodies.specs.declared.step.Accepted.{Accepted}
 use Rattle.klp_bodies.specs.declared.step.Step.{Step}
@@ -45,9 +46,10 @@ pub record IsReceipt (before : ℕ) (seen : History) (event : Event) (accepted :
   pub later : before < accepted.number
   pub stands : IsLast seen event accepted.reply
 
--- what the machine answers in the state that the list leads to, but for a full journal
-abbrev pub IsRefusal : Setting → State → History → Event → Refusal → Type 0
-IsRefusal setting base seen event refusal = refusal ≢ JournalFull → answer setting (state_after_history setting base seen) event ≡ Err refusal
+-- what the machine answers in the state that the list leads to; or the machine would accept it, and a journal of the list has no room
+pub record IsRefusal (setting : Setting) (base : State) (seen : History) (event : Event) (refusal : Refusal) : Type 0 where
+  pub answers : refusal ≢ JournalFull → answer setting (state_after_history setting base seen) event ≡ Err refusal
+  pub full : refusal ≡ JournalFull → FindsNoRoom setting base seen event
 
 abbrev pub IsSubmission : Setting → State → ℕ → History → Event → What → Type 0
 IsSubmission setting base before seen event (Receipt accepted) = IsReceipt before seen event accepted
