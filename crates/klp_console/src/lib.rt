@@ -24,6 +24,7 @@ mod back;
 mod console;
 mod files;
 mod hear;
+pub mod laws;
 mod names;
 mod queries;
 mod refusals;
