@@ -22,6 +22,13 @@ const LOOKS: u64 = 20_000;
 /// How often the one beside has to submit two events meanwhile: a round doesn't count where other programs held it up.
 const TURNS: u64 = 200;
 
+/// How often entries are tried alone, of which the best round counts.
+const ALONE: u64 = 20;
+
+/// How many times as dear as a look under a read lock an entry would be that waits. A thousand turns of a loop are some
+/// twenty times as dear.
+const DEAR: u64 = 10;
+
 /// How many threads look at most.
 const LOOKERS: usize = 4;
 
@@ -255,6 +262,25 @@ pub(crate) fn crowds<M: Shows + Drop, R: Threads + Wait + Clock + Print + Sync>(
         locked(rt, alloc, &mut machine, crowd);
     }
     machine
+}
+
+/// Whether an entry costs as little as what waits for nobody.
+pub(crate) fn show_quick<M: Shows + Drop, R: Threads + Wait + Clock + Print + Sync>(
+    rt: &R,
+    alloc: Global,
+    machine: M,
+) -> io::Result<()> {
+    let mut machine = machine;
+    let mut best = Crowd::of(0);
+    for _round in 0..ALONE {
+        machine = booked(rt, alloc, machine, Use::Entries(&mut best)).0;
+        empty(&mut machine);
+        locked(rt, alloc, &mut machine, &mut best);
+    }
+    println!(rt;
+        "entries wait for nobody: {}",
+        best.seats < best.lock.saturating_mul(DEAR)
+    )
 }
 
 /// The nanoseconds of 1,000 looks, or 0 where no round counted.

@@ -92,6 +92,7 @@ fn run_all<R: Threads + Wait + Clock + Print + Files + AllocGlobal + Sync>(
     run_book(rt, rt.alloc())?;
     show_turns(rt)?;
     managed(rt, rt.alloc(), SMALL, Work::Bodies)?;
+    managed(rt, rt.alloc(), SMALL, Work::Entries)?;
     Ok(lives::run(rt)?)
 }
 

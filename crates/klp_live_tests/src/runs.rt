@@ -2,7 +2,7 @@
 use crate::passes::Story;
 use crate::shows::Shows;
 use crate::starts::{Run, show_start};
-use crate::{measure, rates, turns};
+use crate::{entries, measure, rates, turns};
 use std::alloc::Global;
 use std::io;
 use std::rt::Clock;
@@ -17,6 +17,8 @@ pub(crate) enum Work {
     Passes(usize, Story),
     /// A start with the bodies and jobs of two tasks.
     Bodies,
+    /// Entries, beside looks under a lock.
+    Entries,
     /// Rounds of what an event and an entry cost.
     Costs(u64),
     /// Rounds of what two bodies come to in a second.
@@ -34,6 +36,7 @@ pub(crate) fn do_work<M: Shows + Drop + Send, R: Threads + Wait + Clock + Print 
         Work::Turns => turns::twice(rt, alloc, machine),
         Work::Passes(places, story) => show_start(rt, alloc, machine, places, Run::Passes(story)),
         Work::Bodies => show_start(rt, alloc, machine, 2, Run::Bodies),
+        Work::Entries => entries::show_quick(rt, alloc, machine),
         Work::Costs(rounds) => measure::rounds_of(rt, alloc, machine, rounds),
         Work::Rates(rounds) => rates::rounds_of(rt, alloc, machine, rounds),
     }

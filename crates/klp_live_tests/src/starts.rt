@@ -10,7 +10,7 @@ use crate::rates::{self, Best};
 use crate::shows::{Shown, Shows, prepare};
 use crossbeam_utils::rule::Protocol;
 use klp_core::Machine;
-use klp_live::{Live, Opened, Published, Seat, Start, View};
+use klp_live::{Live, Opened, Published, Seat, Start, StartCause, View};
 use std::alloc::Global;
 use std::io;
 use std::marker::Brand;
@@ -105,6 +105,14 @@ fn all_run<
     told
 }
 
+/// What is told where there is no start. There are as many places as seats, so that one is refused is never told.
+fn why_no_start(cause: StartCause) -> &'static str {
+    match cause {
+        StartCause::NoMemory => "no start",
+        StartCause::NoPlace => "another cause",
+    }
+}
+
 /// Starts, has the seats run, and ends. There is no machine where there was no memory for a start, or a seat is missing in
 /// the end: which of them is told in its place.
 fn opened<
@@ -121,7 +129,7 @@ fn opened<
     run: Run<'_>,
 ) -> (Result<M, &'static str>, io::Result<()>)
     requires name { blank.name ≡ S.name }
-    requires parts { (blank.parts ≡ S.parts) × (blank.parts ≡ places) × (places ≡ S.places) }
+    requires parts { (blank.parts ≡ S.parts) × (blank.parts ≡ places) }
     requires book { opened.seen.book ≡ S.book }
     requires rule { RuleIs S.holds S.first S.setting S.base S.book }
     requires fresh { IsFresh S.setting S.base (M.journaled machine) }
@@ -133,7 +141,7 @@ fn opened<
             let told = all_run(rt, alloc, &live, &mut seats, run);
             (live.close(rt, seats).ok().ok_or("no end"), told)
         }
-        Err(_) => (Err("no start"), Ok(())),
+        Err(fault) => (Err(why_no_start(fault.cause)), Ok(())),
     }
 }
 

@@ -4,7 +4,7 @@ use crate::names::{FIRST, SECOND};
 use crate::outcomes::{Told, show_told, told_of};
 use crate::shows::{Shown, Shows};
 use crossbeam_utils::rule::Protocol;
-use klp_live::{Book, LiveRefusal, Published, Seat, Start, View};
+use klp_live::{Book, LiveRefusal, Published, Seat, Start, StartCause, View};
 use klp_model::Event;
 use klp_types::{ObjId, PatchId, ShadowKey, ShadowValue, Site, TaskId};
 use std::alloc::Global;
@@ -197,8 +197,10 @@ pub(crate) fn twice<M: Shows + Drop, R: Threads + Wait + Clock + Print + Sync>(
     machine: M,
 ) -> io::Result<()> {
     let (machine, told) = booked(rt, alloc, machine, Use::Turns);
-    if let Ok(told) = told {
-        return told;
+    match told {
+        Ok(told) => return told,
+        Err(StartCause::NoMemory) => {}
+        Err(StartCause::NoPlace) => return println!(rt; "another cause"),
     }
     let (_machine, told) = booked(rt, alloc, machine, Use::Turns);
     match told {

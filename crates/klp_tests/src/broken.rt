@@ -1,6 +1,6 @@
 //! Reads and writes that fail: that a stream of std which does is told as one that does is in no clause.
 use klp_program::{CATALOG, console};
-use std::alloc::Global;
+use std::alloc::{AllocError, Global};
 use std::io;
 use std::io::{Read, Write};
 
@@ -52,6 +52,25 @@ fn ends_with(alloc: Global, mut input: Broken, mut out: Broken, printed: &[u8]) 
     let mut err = Vec::new(alloc);
     let status = console(alloc, CATALOG, &mut input, &mut out, &mut err);
     status == 1 && err.as_slice() == printed
+}
+
+/// What the console answers to `mark` and then a line that is too long by a byte, which has no line feed.
+fn long_line(alloc: Global) -> Result<(u8, Vec<u8>, Vec<u8>), AllocError> {
+    let mut input = b"mark\n".to_vec(alloc)?;
+    input.extend_from_slice(&[b'x'; 257])?;
+    let mut out = Vec::new(alloc);
+    let mut err = Vec::new(alloc);
+    let status = console(alloc, CATALOG, &mut input.as_slice(), &mut out, &mut err);
+    Ok((status, out, err))
+}
+
+#[test]
+fn lines_before_one_that_is_too_long_are_answered(rt: HostRuntime) -> Result<(), AllocError> {
+    let (status, out, err) = long_line(rt.alloc())?;
+    let told = out.as_slice() == b"0\n".as_slice()
+        && err.as_slice() == b"klpsim: LineTooLong\n".as_slice();
+    assert!(rt; status == 1 && told);
+    Ok(())
 }
 
 #[test]

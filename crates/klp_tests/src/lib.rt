@@ -1,6 +1,6 @@
 //! Tests of what no contract says and no example shows: what the program's words ask for, the numbers of faults and
 //! refusals and the names that faults print, faults of images and catalogs that no text comes to, reads and writes
-//! that fail, with what stands then, and catalogs that are cut behind each of their bytes, by rules of their own. What a
+//! that fail, with what stands then, what no line of the console shows, and catalogs that are cut behind each of their bytes, by rules of their own. What a
 //! manager does is proved, and what a script shows is an example.
 #![tactic(auto)]
 
@@ -17,8 +17,14 @@ mod image;
 #[cfg(test)]
 mod input;
 #[cfg(test)]
+mod looks;
+#[cfg(test)]
 mod managed;
 #[cfg(test)]
 mod names;
+#[cfg(test)]
+mod resolved;
+#[cfg(test)]
+mod spare;
 #[cfg(test)]
 mod words;

@@ -11,6 +11,7 @@ use klp_catalog_text::Plan;
 use klp_console::{ServeFault, Served};
 use klp_core::Manager;
 use klp_program::{Fault, close, opened};
+use klp_types::PatchId;
 use klp_world::Script;
 use std::alloc::{AllocError, Global};
 
@@ -21,11 +22,12 @@ pub struct Given<'a> {
     pub callbacks: usize,
 }
 
-/// What an input came to, and how many bytes were answered until then.
+/// What an input came to, how many bytes were answered until then, and how many more records the journal had room for.
 #[derive(Clone, Copy)]
 pub struct Look {
     pub ended: Result<Served, ServeFault>,
     pub said: usize,
+    pub free: u32,
 }
 
 /// What a manager answered.
@@ -35,6 +37,8 @@ pub struct Shown {
     pub looks: Vec<Look>,
     /// What was answered to all of them together.
     pub said: Vec<u8>,
+    /// In the end, the values of the states 3 and 4 of the first two patches.
+    pub states: [Option<u64>; 4],
 }
 
 /// The script of this number in the order of the text, or one that does nothing.
@@ -57,6 +61,16 @@ fn booted(alloc: Global, mut plan: Plan, callbacks: Vec<Boxed>) -> Result<Manage
     Ok(Manager::boot(alloc, image, modules, catalog)?)
 }
 
+fn states_of(manager: &Manager) -> [Option<u64>; 4] {
+    let [first, second] = [PatchId(0), PatchId(1)];
+    [
+        manager.state_of(first, 3),
+        manager.state_of(first, 4),
+        manager.state_of(second, 3),
+        manager.state_of(second, 4),
+    ]
+}
+
 /// What a manager answers to these inputs, where nothing is shown yet. There is room for each look.
 fn after(
     booted: Result<Manager, Fault>,
@@ -67,8 +81,10 @@ fn after(
     for input in inputs {
         let ended = serve_input(&mut manager, input, &mut shown.said);
         let said = shown.said.len();
-        let _ = shown.looks.push(Look { ended, said });
+        let free = manager.records_free();
+        let _ = shown.looks.push(Look { ended, said, free });
     }
+    shown.states = states_of(&manager);
     close(manager);
     Ok(shown)
 }
@@ -78,6 +94,7 @@ fn nothing_shown(alloc: Global, looks: usize) -> Result<Shown, AllocError> {
     Ok(Shown {
         looks: Vec::with_capacity(alloc, looks)?,
         said: Vec::new(alloc),
+        states: [None; 4],
     })
 }
 
