@@ -36,11 +36,12 @@ step_with manager line (first ∷ words) =
     if bytes_eq first (codes "call") then call_of manager words
     else if bytes_eq first (codes "return") then alone Return words
     else if bytes_eq first (codes "nap") then alone Nap words
+    else if nat_lt MAX_CONSOLE_LINE (length line) then None
     else option_map Submit (event_of manager line)
 
--- `call SYMBOL`, `return`, `nap`, or a line of the console that asks for an event; it is no longer than such a line may be
+-- `call SYMBOL`, `return`, `nap`, or a line of the console that asks for an event; that one alone is no longer than a line of the console may be
 abbrev pub step_of : Journaled → List ℕ → Option Step
-step_of manager line = if nat_lt MAX_CONSOLE_LINE (length line) then None else step_with manager line (words_between (separates Spaces) line)
+step_of manager line = step_with manager line (words_between (separates Spaces) line)
 
 -- which of the two tasks a word numbers
 abbrev pub half_of : List ℕ → Option Half

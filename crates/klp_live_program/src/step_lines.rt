@@ -75,9 +75,6 @@ fn alone(step: Step, words: &mut Words<'_>) -> Option<Step>
 fn step_of(line: &[u8], manager: &Manager) -> Option<Step>
     ensures { result ≡ step_of manager.now line.now }
 {
-    if line.len() > MAX_CONSOLE_LINE {
-        return None;
-    }
     let mut words = Words::new(line, Separators::Spaces);
     let first = words.next()?;
     if first == b"call".as_slice() {
@@ -86,6 +83,8 @@ fn step_of(line: &[u8], manager: &Manager) -> Option<Step>
         alone(Step::Return, &mut words)
     } else if first == b"nap".as_slice() {
         alone(Step::Nap, &mut words)
+    } else if line.len() > MAX_CONSOLE_LINE {
+        None
     } else {
         let event: Event = event_of(line, manager)?;
         Some(Step::Submit(event))
