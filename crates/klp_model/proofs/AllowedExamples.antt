@@ -101,6 +101,9 @@ lacks_symbol allowed = so allowed.symbols.1.0
 pub moves_at_rest : Allowed small_kernel (state_with true [] None (alone (in_user (pos 1)))) → ⊥
 moves_at_rest allowed = not_so allowed.tasks.0
 
+pub below_rest : Allowed small_kernel (state_with true [] None (alone (in_user (negsuc 1)))) → ⊥
+below_rest allowed = not_so allowed.tasks.0
+
 pub rests_in_transition : Allowed small_kernel (state_with true (0 ∷ []) (move_of 0 true) (alone (in_user (negsuc 0)))) → ⊥
 rests_in_transition allowed = not_so allowed.tasks.0
 

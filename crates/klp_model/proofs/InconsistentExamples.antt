@@ -49,6 +49,12 @@ old_code current = new_for_old (current 1).1.0
 pub left : NoneLeft kernel (unpatched Kernel (inside_both (Original 0) (New 0 1))) → ⊥
 left stand = not_so (stand 1).1.0
 
+pub of_another_patch : NoneLeft kernel (moving_in (pos 1) (inside_both (New 0 0) (New 1 1))) → ⊥
+of_another_patch stand = not_so (stand 1).1.0
+
+pub of_another_function : NoneLeft kernel (moving_in (pos 1) (inside_both (New 0 0) (New 0 0))) → ⊥
+of_another_function stand = not_so (stand 1).1.0
+
 pub of_the_patch : NoneMixed kernel (moving_in (pos 0) (inside_both (Original 0) (New 0 1))) → ⊥
 of_the_patch unmixed = so ((unmixed 1 _ refl _ refl).0 refl).1.0
 

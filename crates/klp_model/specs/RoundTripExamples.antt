@@ -9,7 +9,7 @@ use Rattle.klp_types.specs.declared.callback.Which.{Which}
 use Rattle.klp_types.specs.declared.callback.Which.TheVariants.{Pre, Post, PreUn, PostUn}
 use Rattle.klp_types.specs.World.{ShadowValue}
 use Rattle.klp_types.specs.Image.{Object}
-use Rattle.klp_types.specs.Setting.{Callback, Setting}
+use Rattle.klp_types.specs.Setting.{Callback, PatchObject, Setting}
 use Rattle.klp_model.specs.declared.event.Event.{Event}
 use Rattle.klp_model.specs.declared.event.Event.TheVariants.{Enable, SetEnabled, Poll, EnterKernel, ExitToUser, Wake, ShadowAlloc}
 use Rattle.klp_types.specs.declared.version.Version.{Version}
@@ -119,3 +119,7 @@ both_loaded = record {
   pinned = false ∷ [];
   tasks = [];
 }
+
+-- an object whose callback of a kind removes the variable (1, 9)
+abbrev pub freeing : Which → PatchObject
+freeing which = record { object = 0; functions = []; callbacks = making which (Free (key_of 1 9) ∷ []) ∷ [] }

@@ -32,6 +32,7 @@ pub fn these_states_are_never_reached()
     ensures lacks_symbol { Allowed (faulty 0)
         (record (with_states (installed 0 ∷ installed 1 ∷ []) (move_of 1 true)) { tasks = alone None }) → ⊥ }
     ensures moves_at_rest { Allowed small_kernel (state_with true [] None (alone (in_user (pos 1)))) → ⊥ }
+    ensures below_rest { Allowed small_kernel (state_with true [] None (alone (in_user (negsuc 1)))) → ⊥ }
     ensures rests_in_transition { Allowed small_kernel
         (state_with true (0 ∷ []) (move_of 0 true) (alone (in_user (negsuc 0)))) → ⊥ }
     ensures beyond_the_target { Allowed small_kernel

@@ -4,14 +4,14 @@
 ghost use Rattle.std.specs.Prelude.{◌≡◌, ℕ, pos, negsuc, true, false, List, [], ◌∷◌, ◌++◌, Some, None};
 ghost use Rattle.klp_types.specs.declared.version.Version.TheVariants.{Original, New};
 ghost use Rattle.klp_types.specs.Setting.{Setting};
-ghost use Rattle.klp_model.specs.declared.event.Event.TheVariants.{Going, EndTask, ExitToUser, Sleep};
+ghost use Rattle.klp_model.specs.declared.event.Event.TheVariants.{Going, NewTask, Fork, EndTask, ExitToUser, Sleep};
 ghost use Rattle.klp_types.specs.declared.task.Mode.TheVariants.{Kernel, User, Asleep};
 ghost use Rattle.klp_model.specs.State.{State};
 ghost use Rattle.klp_model.specs.Run.{run};
 ghost use Rattle.klp_model.specs.Blocked.{blocked, is_held};
 ghost use Rattle.klp_model.specs.declared.seen.Seen.{Seen};
 ghost use Rattle.klp_model.specs.declared.seen.Seen.TheVariants.{Event as Happens, Call as Calls, Return as Returns};
-ghost use Rattle.klp_model.specs.Observed.{IsHonestItem, IsHonestRun, Watched, events_of, seen_run, seen_from};
+ghost use Rattle.klp_model.specs.Observed.{IsHonestItem, IsHonestRun, Watched, events_of, seen_next, seen_run, seen_from};
 ghost use Rattle.klp_model.specs.InPlace.{IsInPlace};
 ghost use Rattle.klp_model.specs.Consistent.{version_now, AllCurrent, NoneLeft, NoneMixed, AllNamed};
 ghost use Rattle.klp_model.specs.ObservedExamples.{kernel, stray_kernel, one_task, state_of, towards_1, no_frames, inside, watched, start, in_original, late, sleeper_run, stray_run, under_a_task, inside_both, moving_in, unpatched, stray_behind};
@@ -93,10 +93,27 @@ pub fn these_are_dishonest()
 pub fn these_are_inconsistent()
     ensures old { AllCurrent kernel (moving_in (pos 1) (inside_both (New 0 0) (Original 1))) → ⊥ }
     ensures left { NoneLeft kernel (unpatched Kernel (inside_both (Original 0) (New 0 1))) → ⊥ }
+    ensures of_another_patch { NoneLeft kernel (moving_in (pos 1) (inside_both (New 0 0) (New 1 1))) → ⊥ }
+    ensures of_another_function { NoneLeft kernel (moving_in (pos 1) (inside_both (New 0 0) (New 0 0))) → ⊥ }
     ensures of_the_patch { NoneMixed kernel (moving_in (pos 0) (inside_both (Original 0) (New 0 1))) → ⊥ }
     ensures below_the_patch { NoneMixed kernel (moving_in (pos 1) (inside_both (New 0 0) (Original 1))) → ⊥ }
     ensures misnamed { AllNamed kernel (unpatched Kernel (inside_both (Original 0) (Original 2))) → ⊥ }
     ensures out_of_place { IsInPlace stray_behind → ⊥ }
+{}
+
+/// A call goes on the frames of its task, in the version that it got, and a return takes the innermost off.
+/// A forked child is inside of nothing, and so is a task that begins anew.
+pub fn calls_go_on_the_frames()
+    ensures called { (seen_next kernel (unpatched Kernel (inside 0 (Original 0))) (Calls 1 1)).stacks 1
+        ≡ (inside_both (Original 0) (Original 1)) 1 }
+    ensures not_loaded { (seen_next kernel (unpatched Kernel (inside 0 (Original 0))) (Calls 1 2)).stacks 1
+        ≡ (inside 0 (Original 0)) 1 }
+    ensures returned { (seen_next kernel (unpatched Kernel (inside_both (Original 0) (Original 1))) (Returns 1)).stacks 1
+        ≡ (inside 0 (Original 0)) 1 }
+    ensures forked { (seen_next kernel (unpatched Kernel (inside 0 (Original 0))) (Happens (Fork 1 2))).stacks 2 ≡ [] }
+    ensures parent { (seen_next kernel (unpatched Kernel (inside 0 (Original 0))) (Happens (Fork 1 2))).stacks 1
+        ≡ (inside 0 (Original 0)) 1 }
+    ensures anew { (seen_next kernel (watched start (inside 0 (Original 0))) (Happens (NewTask 1))).stacks 1 ≡ [] }
 {}
 
 /// Where a function is of another object than its site, an honest run leaves a task in a function that no

@@ -15,6 +15,7 @@ ghost use Rattle.klp_model.specs.Bytes.{text_of};
 ghost use Rattle.klp_model.specs.Pick.{pick};
 ghost use Rattle.klp_model.specs.Rows.{row_of};
 ghost use Rattle.klp_model.specs.Blocked.{blocked};
+ghost use Rattle.klp_model.specs.Callbacks.{status_of};
 ghost use Rattle.klp_model.specs.EventCalls.{calls};
 ghost use Rattle.klp_model.specs.Opening.{opening_state};
 ghost use Rattle.klp_model.specs.ShadowStep.{concerns};
@@ -75,6 +76,7 @@ pub fn objects_before_the_one_that_refuses_get_post_unpatch()
         }) (Enable 0))
         ≡ (1, Pre) ∷ (2, Pre) ∷ [] }
     ensures reply { (accepted small_kernel (state_with true [] None []) (Enable 3)).0 ≡ PreFailed 3 1 (negsuc 11) }
+    ensures no_callback { status_of None ≡ pos 0 }
     ensures of_the_patch { ran_by (calls small_kernel (state_with true (0 ∷ []) None []) (Enable 2)) ≡ (2, Pre) ∷ [] }
     ensures next { (accepted small_kernel (state_with true [] None (in_kernel (negsuc 0) ∷ [])) (Enable 3)).1
         ≡ state_with true [] None (in_kernel (negsuc 0) ∷ []) }

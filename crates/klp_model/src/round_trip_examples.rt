@@ -1,6 +1,7 @@
 //! Worked examples, by computation: that there are fair companies, so that the laws don't hold of nothing,
 //! and what is lost where a premise fails. A function here does nothing: its contract is the example.
 ghost use Rattle.std.specs.Prelude.{◌≡◌, pos, true, false, [], ◌∷◌, find, is_some, Some, None};
+ghost use Rattle.klp_types.specs.declared.callback.Which.TheVariants.{Pre, Post, PreUn, PostUn};
 ghost use Rattle.klp_types.specs.World.{variable};
 ghost use Rattle.klp_model.specs.declared.event.Event.TheVariants.{Enable, SetEnabled, Force, Poll, Coming, Going, ShadowAlloc, ShadowFree};
 ghost use Rattle.klp_model.specs.State.{State, is_installed, with_world};
@@ -9,10 +10,10 @@ ghost use Rattle.klp_types.specs.Callbacks.{refuses};
 ghost use Rattle.klp_model.specs.Callbacks.{loaded_objects};
 ghost use Rattle.klp_model.specs.Run.{run};
 ghost use Rattle.klp_model.specs.Allowed.{Allowed};
-ghost use Rattle.klp_model.specs.Company.{taking_part, company_keys, EachUndoes, drops_older, IsOfCompany, IsFairEvent, IsFairStart, IsFairCompany};
+ghost use Rattle.klp_model.specs.Company.{object_touches, taking_part, company_keys, EachUndoes, drops_older, IsOfCompany, IsFairEvent, IsFairStart, IsFairCompany};
 ghost use Rattle.klp_model.specs.Examples.{small_kernel, move_of, in_kernel, state_with, with_state, with_states};
 ghost use Rattle.klp_model.specs.Footprint.{SameFootprint};
-ghost use Rattle.klp_model.specs.RoundTripExamples.{key_of, value_of, adding, bare, with_a_sleeper, every_stage, own_variable_first, refusing_behind, both_loaded, sharing, with_five, there_and_back};
+ghost use Rattle.klp_model.specs.RoundTripExamples.{key_of, value_of, adding, bare, with_a_sleeper, every_stage, own_variable_first, refusing_behind, both_loaded, sharing, with_five, there_and_back, freeing};
 
 /// A cumulative patch is enabled, held by a sleeper, turned round twice, complete, disabled, waited for and
 /// gone, and a variable of somebody else is added between: a fair company, so the laws speak of all of
@@ -52,6 +53,15 @@ pub fn a_refused_patch_is_a_fair_company()
     ensures fair { IsFairCompany refusing_behind 0 both_loaded (Enable 0 ∷ []) }
     ensures refuses { is_some (find refuses (loaded_objects refusing_behind both_loaded 0)) ≡ true }
     ensures gone { is_installed (run refusing_behind both_loaded (Enable 0 ∷ [])) 0 ≡ false }
+{}
+
+/// The variables of an object are those that any of its callbacks touches.
+pub fn variables_of_each_callback_count()
+    ensures pre { object_touches (key_of 1 9) (0, freeing Pre) ≡ true }
+    ensures post { object_touches (key_of 1 9) (0, freeing Post) ≡ true }
+    ensures pre_unpatch { object_touches (key_of 1 9) (0, freeing PreUn) ≡ true }
+    ensures post_unpatch { object_touches (key_of 1 9) (0, freeing PostUn) ≡ true }
+    ensures another { object_touches (key_of 2 9) (0, freeing Pre) ≡ false }
 {}
 
 /// What a footprint shows of two states: which modules are loaded, which patches are installed in which

@@ -1,4 +1,4 @@
-use Rattle.klp_model.proofs.AllowedExamples.{no_kernel, unknown, twice, twice_apart, moves_away, not_replaced, under_another, above_another, lacks_symbol, moves_at_rest, rests_in_transition, beyond_the_target, frames_awake, no_such_frame, second_task, full, objects, rows, flags}
+use Rattle.klp_model.proofs.AllowedExamples.{no_kernel, unknown, twice, twice_apart, moves_away, not_replaced, under_another, above_another, lacks_symbol, moves_at_rest, below_rest, rests_in_transition, beyond_the_target, frames_awake, no_such_frame, second_task, full, objects, rows, flags}
 use Rattle.klp_model.proofs.allowed_examples.these_states_are_never_reached.Goals as goal
 
 pub returns-clause-no_kernel : goal.returns-clause-no_kernel
@@ -57,3 +57,6 @@ returns-clause-rows c = rows
 
 pub returns-clause-flags : goal.returns-clause-flags
 returns-clause-flags c = flags
+
+pub returns-clause-below_rest : goal.returns-clause-below_rest
+returns-clause-below_rest c = below_rest

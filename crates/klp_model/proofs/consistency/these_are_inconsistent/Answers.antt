@@ -1,4 +1,4 @@
-use Rattle.klp_model.proofs.InconsistentExamples.{old_code, left, of_the_patch, below_the_patch, misnamed, out_of_place}
+use Rattle.klp_model.proofs.InconsistentExamples.{old_code, left, of_another_patch, of_another_function, of_the_patch, below_the_patch, misnamed, out_of_place}
 use Rattle.klp_model.proofs.consistency.these_are_inconsistent.Goals as goal
 
 pub returns-clause-old : goal.returns-clause-old
@@ -18,3 +18,9 @@ returns-clause-misnamed c = misnamed
 
 pub returns-clause-out_of_place : goal.returns-clause-out_of_place
 returns-clause-out_of_place c = out_of_place
+
+pub returns-clause-of_another_patch : goal.returns-clause-of_another_patch
+returns-clause-of_another_patch c = of_another_patch
+
+pub returns-clause-of_another_function : goal.returns-clause-of_another_function
+returns-clause-of_another_function c = of_another_function
