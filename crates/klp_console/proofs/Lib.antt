@@ -5,3 +5,4 @@ pub mod HearLemmas
 pub mod WithdrawnLemmas
 pub mod ServeLemmas
 mod LineLemmas
+pub mod AnswerExamples

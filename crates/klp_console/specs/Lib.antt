@@ -8,3 +8,4 @@ pub mod Refusals
 pub mod Names
 pub mod Replies
 pub mod Queries
+pub mod Examples
