@@ -1,6 +1,6 @@
 -- Texts of catalogs with what they say, and plans that are as great as may be.
 use Rattle.std.specs.Prelude.{ℕ, pos, negsuc, true, false, List, [], ◌∷◌, ◌++◌, replicate, codes, Some, None}
-use Rattle.klp_types.specs.declared.callback.Which.TheVariants.{Pre, PostUn}
+use Rattle.klp_types.specs.declared.callback.Which.TheVariants.{Pre, Post, PostUn}
 use Rattle.klp_types.specs.declared.edit.Edit.TheVariants.{Alloc, Free}
 use Rattle.klp_types.specs.Image.{Symbol}
 use Rattle.klp_types.specs.Script.{Script}
@@ -28,7 +28,7 @@ small_plan = record {
 -- a module, a cumulative patch that names a state, callbacks; with comments, empty lines, tabs and returns
 abbrev pub longer_text : List ℕ
 longer_text =
-    codes "# a test\n\nobject vmlinux\r\nsymbol f ffffffff81001000 e80000000090c3\nobject m\n\tsymbol  g\t10 c3\nhandler ffffffff81000000\npatch p replace\nstate 7 2\ntarget m\nfunc .klp.sym.m.g,1 g_p 20\npre 0 alloc:1:9:5 free:2:1\ntarget vmlinux\npostun -16\npatch q"
+    codes "# a test\n\nobject vmlinux\r\nsymbol f ffffffff81001000 e80000000090c3\nobject m\n\tsymbol  g\t10 c3\nhandler ffffffff81000000\npatch p replace\nstate 7 2\ntarget m\nfunc .klp.sym.m.g,1 g_p 20\npre 0 alloc:1:9:5 free:2:1\npost 0\ntarget vmlinux\npostun -16\npatch q"
 
 abbrev pub longer_plan : Plan
 longer_plan = record {
@@ -45,7 +45,7 @@ longer_plan = record {
               callbacks = record {
                 which = Pre;
                 script = record { edits = Alloc (record { obj = 1; id = 9 }) (5 ∷ 0 ∷ 0 ∷ 0 ∷ 0 ∷ 0 ∷ 0 ∷ 0 ∷ []) ∷ Free (record { obj = 2; id = 1 }) ∷ []; status = pos 0 };
-              } ∷ [];
+              } ∷ record { which = Post; script = record { edits = []; status = pos 0 } } ∷ [];
             }
             ∷ record { object = 0; functions = []; callbacks = record { which = PostUn; script = record { edits = []; status = negsuc 15 } } ∷ [] } ∷ [];
         states = record { id = 7; version = 2 } ∷ [];
@@ -70,3 +70,6 @@ draft_of objects symbols =
 
 abbrev pub script_with : ℕ → Script
 script_with count = record { edits = replicate count (Free (record { obj = 1; id = 2 })); status = pos 0 }
+
+abbrev pub another_patch : PlanPatch
+another_patch = record { name = codes "q"; replace = false; targets = []; states = [] }

@@ -9,7 +9,7 @@ ghost use Rattle.klp_catalog_text.specs.Draft.{empty_draft, placed};
 ghost use Rattle.klp_catalog_text.specs.Edits.{edit_of, script_of};
 ghost use Rattle.klp_catalog_text.specs.Lines.{line_of};
 ghost use Rattle.klp_catalog_text.specs.Text.{plan_of};
-ghost use Rattle.klp_catalog_text.specs.Examples.{small_text, small_plan, longer_text, longer_plan, f, f_p, draft_with, patch_with, target_with, draft_of, script_with};
+ghost use Rattle.klp_catalog_text.specs.Examples.{small_text, small_plan, longer_text, longer_plan, f, f_p, draft_with, patch_with, target_with, draft_of, script_with, another_patch};
 
 /// A text says what its lines say, in their order. Comments, empty lines and what separates words say
 /// nothing, and a line may end with a return.
@@ -117,6 +117,10 @@ pub fn once_is_enough()
     ensures another_kind { placed (draft_with (patch_with (target_with [] ∷ []) ∷ [])) (line.Callback Post (script_with 17))
         ≡ Err TooMany }
     ensures state { placed (draft_with (patch_with [] ∷ [])) (line.State (record { id = 7; version = 3 })) ≡ Err Twice }
+    ensures state_of_another_patch { placed (draft_with (patch_with [] ∷ another_patch ∷ [])) (line.State (record { id = 7; version = 3 }))
+        ≡ Ok (draft_with (patch_with [] ∷ record another_patch { states = record { id = 7; version = 3 } ∷ [] } ∷ [])) }
+    ensures target_of_another_patch { placed (draft_with (patch_with (target_with [] ∷ []) ∷ another_patch ∷ [])) (line.Target (codes "vmlinux"))
+        ≡ Ok (draft_with (patch_with (target_with [] ∷ []) ∷ record another_patch { targets = record { object = 0; functions = []; callbacks = [] } ∷ [] } ∷ [])) }
     ensures symbol { placed (draft_with []) (line.Symbol f)
         ≡ Ok (record (draft_with []) { objects = record { name = codes "vmlinux"; symbols = f ∷ f ∷ [] } ∷ [] }) }
 {}

@@ -6,3 +6,4 @@ pub mod WithdrawnLemmas
 pub mod ServeLemmas
 mod LineLemmas
 mod AlikeLemmas
+pub mod AnswerExamples

@@ -9,3 +9,4 @@ pub mod Names
 pub mod Replies
 pub mod Queries
 pub mod Alike
+pub mod Examples

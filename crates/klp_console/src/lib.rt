@@ -14,6 +14,8 @@
 //! line: the files of patches and tasks, the text and the entries of sites, and what callbacks did
 //! (`specs/Queries`); or with its refusal. Nothing here takes memory.
 //!
+//! `examples` has every reply and refusal, and what is shown of a small kernel.
+//!
 //! [`event_of`] and [`site_of`] tell what a line and a word ask for, for those who don't serve it at once
 //! (`specs/Asked`).
 #![tactic(auto)]
@@ -22,6 +24,7 @@ mod answer;
 mod asked;
 mod back;
 mod console;
+pub mod examples;
 mod files;
 mod hear;
 pub mod laws;
