@@ -5,3 +5,4 @@ pub mod InsideLemmas
 pub mod RunLemmas
 pub mod TaskLemmas
 pub mod WatchedLemmas
+pub mod WholeLemmas

@@ -87,7 +87,7 @@ taken_more setting state groups (first ∷ items) (Some (Ok group) ∷ outcomes)
 )
 
 -- a single item is at most one event
-abbrev AtMostOne : List Event → Type 0
+abbrev pub AtMostOne : List Event → Type 0
 AtMostOne [] = Unit {0}
 AtMostOne (event ∷ []) = Unit {0}
 AtMostOne (event ∷ other ∷ events) = ⊥
@@ -105,7 +105,7 @@ one_item (Returns task) (Some (Ok group)) = tt
 abbrev pub GoOn : Type 0
 GoOn = (managed : Managed) (events : List Event) (event : Event) → after_event (after_events managed events) event ≡ after_events managed (events ++ event ∷ [])
 
-left_more : GoOn → (first now after : Managed) (events more : List Event) → AtMostOne more → now ≡ after_events first events → after ≡ after_events now more → after ≡ after_events first (events ++ more)
+pub left_more : GoOn → (first now after : Managed) (events more : List Event) → AtMostOne more → now ≡ after_events first events → after ≡ after_events now more → after ≡ after_events first (events ++ more)
 left_more go first now after events [] few is then = then ∙ is ∙ ap (after_events first) (sym (append-nil events))
 left_more go first now after events (event ∷ []) few is then = then ∙ sym (go now [] event) ∙ ap (λ m. after_event m event) is ∙ go first events event
 left_more go first now after events (event ∷ other ∷ more) few is then = absurd few

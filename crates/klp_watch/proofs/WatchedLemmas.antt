@@ -22,7 +22,7 @@ abbrev pub StaysAllowed : Type 0
 StaysAllowed = (setting : Setting) (state : State) (events : List Event) → Allowed setting state → Allowed setting (run setting state events)
 
 -- the state of a manager is one that events lead to
-allowed_now : StaysAllowed → (manager : Journaled) → Stands manager → Allowed (setting_of manager.managed) manager.managed.state
+pub allowed_now : StaysAllowed → (manager : Journaled) → Stands manager → Allowed (setting_of manager.managed) manager.managed.state
 allowed_now stays manager stands =
     subst (Allowed (setting_of manager.managed)) (sym stands.state)
     (stays (setting_of manager.managed) manager.base (map (λ (p : Event × Reply). p.0) (history_in manager.groups)) stands.allowed)
@@ -49,7 +49,7 @@ none_so_far stays first table stands none nobody = (
 
 -- a list, at one of its items
 
-parted_at : {A : Type 0} (xs : List A) (i : ℕ) (x : A) → i < length xs → x ≡ get_or xs i x → xs ≡ take i xs ++ x ∷ drop (i + 1) xs
+pub parted_at : {A : Type 0} (xs : List A) (i : ℕ) (x : A) → i < length xs → x ≡ get_or xs i x → xs ≡ take i xs ++ x ∷ drop (i + 1) xs
 parted_at xs i x below is =
     sym (take-append-drop i xs) ∙ ap (λ rest. take i xs ++ rest) (drop_more xs i x below ∙ ap (λ y. y ∷ drop (i + 1) xs) (sym is))
 

@@ -47,7 +47,7 @@ pub fn watch(manager: &mut Manager, items: &[Seen]) -> Result<(), NotHonest>
 }
 
 /// Each function of the catalog is in the object whose function it replaces.
-fn functions_stand(manager: &Manager)
+pub(crate) fn functions_stand(manager: &Manager)
     ensures { IsInPlace (setting_of manager.now.managed) }
 {
     klp_core::laws::functions_stand_with_their_objects();
@@ -80,7 +80,7 @@ fn watch_all(manager: &mut Manager, items: &[Seen]) -> Result<(), NotHonest>
 }
 
 /// Whether any task is there. Of the numbers from [`MAX_TASKS`] on none is a task's.
-fn has_task(manager: &Manager) -> bool
+pub(crate) fn has_task(manager: &Manager) -> bool
     ensures there { result ≡ true → (task : ℕ) × (is_there manager.now.managed.state task ≡ true) }
     ensures nobody { result ≡ false → HasNoTask manager.now.managed.state }
 {
@@ -93,7 +93,11 @@ fn has_task(manager: &Manager) -> bool
 }
 
 /// One item, where the tasks are inside of what is kept.
-fn watch_item(manager: &mut Manager, inside: &mut Inside, item: &Seen) -> Result<(), Cause>
+pub(crate) fn watch_item(
+    manager: &mut Manager,
+    inside: &mut Inside,
+    item: &Seen,
+) -> Result<(), Cause>
     ensures done { IfOk result (λ _. (stacks : Stacks) → AreInside inside.old.rows stacks
         → IsDone manager.old manager.new stacks item.now inside.new.rows) }
     ensures told { IfErr result (λ cause. (stacks : Stacks) → AreInside inside.old.rows stacks
