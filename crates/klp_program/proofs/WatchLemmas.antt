@@ -6,7 +6,9 @@ use Rattle.klp_catalog_text.specs.Text.{plan_of}
 use Rattle.klp_model.specs.declared.seen.Seen.{Seen}
 use Rattle.klp_core.specs.Journaled.{Journaled}
 use Rattle.klp_watch.specs.declared.cause.NotHonest.{NotHonest}
-use Rattle.klp_watch.specs.Watching.{AreWatched, IsFault}
+use Rattle.klp_manager_state.specs.Managed.{Managed, setting_of}
+use Rattle.klp_watch.specs.Watching.{IsConsistent}
+use Rattle.klp_watch.specs.Whole.{LeadHonestly, IsFaultOfWhole}
 use Rattle.klp_program.specs.declared.fault.Fault.{Fault}
 use Rattle.klp_program.specs.declared.fault.Fault.TheVariants.{CannotRead, NoMemory, Text, Image, Assemble, Boot, Serve, Trace}
 use Rattle.klp_program.specs.declared.verdict.Verdict.{Verdict}
@@ -15,11 +17,13 @@ use Rattle.klp_program.specs.Booted.{IsBootedOver, IsBootFault}
 use Rattle.klp_program.specs.Watches.{counted, IsFound, WatchesBy, WatchesPlan, Watches}
 
 -- the verdict is what watching came to
-pub found_by : {A : Type 0} (before after : Journaled) (items : List Seen) (ended : Result A NotHonest) (verdict : Verdict)
-    → IfOk ended (λ _. AreWatched before after items) → IfErr ended (λ (fault : NotHonest). IsFault before after items fault.item fault.cause)
+pub found_by : {A : Type 0} (before after : Managed) (items : List Seen) (ended : Result A NotHonest) (verdict : Verdict)
+    → IfOk ended (λ _. LeadHonestly before after items) → IfOk ended (λ _. IsConsistent (setting_of before) before.state items)
+    → IfErr ended (λ (fault : NotHonest). IsFaultOfWhole before after items fault.item fault.cause)
     → MatchResult ended (λ _. verdict ≡ Honest (counted items)) (λ fault. verdict ≡ Dishonest fault) → IsFound before after items verdict
-found_by before after items (Ok value) verdict watched told is = subst (IsFound before after items) (sym is) (watched, refl)
-found_by before after items (Err fault) verdict watched told is = subst (IsFound before after items) (sym is) told
+found_by before after items (Ok value) verdict lead consistent told is =
+    subst (IsFound before after items) (sym is) (record { lead = lead; consistent = consistent; counts_are = refl })
+found_by before after items (Err fault) verdict lead consistent told is = subst (IsFound before after items) (sym is) told
 
 -- what is watched by a booted manager is watched over its plan
 pub watches_plan : (plan : Plan) (booted : Journaled) (trace : List ℕ) (result : Result Verdict Fault)

@@ -1,5 +1,7 @@
+pub mod Asked
 pub mod Booted
 pub mod Kinds
+pub mod Printed
 pub mod Runs
 pub mod Trace
 pub mod Watches

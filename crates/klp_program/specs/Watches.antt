@@ -6,7 +6,9 @@ use Rattle.klp_model.specs.declared.seen.Seen.TheVariants.{Event as Happens, Cal
 use Rattle.klp_catalog_text.specs.Plan.{Plan}
 use Rattle.klp_catalog_text.specs.Text.{plan_of, IsFaultOf}
 use Rattle.klp_core.specs.Journaled.{Journaled}
-use Rattle.klp_watch.specs.Watching.{AreWatched, IsFault}
+use Rattle.klp_manager_state.specs.Managed.{Managed, setting_of}
+use Rattle.klp_watch.specs.Watching.{IsConsistent}
+use Rattle.klp_watch.specs.Whole.{LeadHonestly, IsFaultOfWhole}
 use Rattle.klp_program.specs.declared.fault.Fault.{Fault}
 use Rattle.klp_program.specs.declared.fault.Fault.TheVariants.{NoMemory, Text, Trace}
 use Rattle.klp_program.specs.declared.verdict.Counts.{Counts}
@@ -30,17 +32,23 @@ is_return other = false
 abbrev pub counted : List Seen → Counts
 counted items = record { events = count_by is_event items; calls = count_by is_call items; returns = count_by is_return items }
 
--- the manager was watched over the items
-abbrev pub IsFound : Journaled → Journaled → List Seen → Verdict → Type 0
-IsFound before after items (Honest counts) = AreWatched before after items × (counts ≡ counted items)
-IsFound before after items (Dishonest fault) = IsFault before after items fault.item fault.cause
+-- the items are an honest run to their end, consistent at every moment, and so many are of each kind
+pub record IsHonestBy (before after : Managed) (items : List Seen) (counts : Counts) : Type 0 where
+  pub lead : LeadHonestly before after items
+  pub consistent : IsConsistent (setting_of before) before.state items
+  pub counts_are : counts ≡ counted items
+
+-- the manager was watched over the items, all of them, however many they are
+abbrev pub IsFound : Managed → Managed → List Seen → Verdict → Type 0
+IsFound before after items (Honest counts) = IsHonestBy before after items counts
+IsFound before after items (Dishonest fault) = IsFaultOfWhole before after items fault.item fault.cause
 
 -- it was over those of a trace
 pub record IsVerdict (booted : Journaled) (trace : List ℕ) (verdict : Verdict) : Type 0 where
   pub items : List Seen
   pub items_are : map (item_of booted) (lines trace) ≡ map Some items
-  pub left : Journaled
-  pub found : IsFound booted left items verdict
+  pub left : Managed
+  pub found : IsFound booted.managed left items verdict
 
 abbrev pub WatchesBy : Journaled → List ℕ → Result Verdict Fault → Type 0
 WatchesBy booted trace (Ok verdict) = IsVerdict booted trace verdict

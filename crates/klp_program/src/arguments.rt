@@ -1,4 +1,5 @@
-ghost use Rattle.std.specs.Prelude.{◌≡◌, ◌⊎◌, IfErr};
+ghost use Rattle.std.specs.Prelude.{◌≡◌, ◌⊎◌, [], ◌∷◌, map, string_bytes, Some, None, IfErr, MatchResult};
+ghost use Rattle.klp_program.specs.Asked.{begins_with_dash, two_files};
 
 use crate::fault::Fault;
 use crate::wanted::Words;
@@ -122,6 +123,31 @@ pub fn words<W: Write>(alloc: Global, given: &[String], err: &mut W) -> Result<W
         Ok(words) => Ok(words),
         Err(Some(fault)) => Err(told(fault, err)),
         Err(None) => Err(refused(err)),
+    }
+}
+
+fn begins_with_dash(word: &str) -> bool
+    ensures { result ≡ begins_with_dash word.now }
+{
+    word.as_bytes().first() == Some(&b'-')
+}
+
+/// The two words behind a program's name: its files, in their places. Others are refused on `err`, with their exit status.
+pub fn file_words<'a, W: Write>(
+    name: &str,
+    given: &'a [String],
+    err: &mut W,
+) -> Result<(&'a str, &'a str), u8>
+    ensures { MatchResult result
+        (λ files. two_files (map string_bytes given.now) ≡ Some (files.0.now ∷ files.1.now ∷ []))
+        (λ status. (status ≡ 2) × (two_files (map string_bytes given.now) ≡ None)) }
+{
+    match given {
+        [first, second]
+            if !begins_with_dash(first.as_str()) && !begins_with_dash(second.as_str()) => {
+            Ok((first.as_str(), second.as_str()))
+        }
+        _ => Err(refused_by(name, err)),
     }
 }
 

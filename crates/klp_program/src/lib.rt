@@ -15,7 +15,7 @@ mod verdict;
 mod wanted;
 mod watch;
 
-pub use arguments::{given, refused, refused_by, told, told_by, words};
+pub use arguments::{file_words, given, refused, refused_by, told, told_by, words};
 pub use booted::{boot, opened};
 pub use fault::{Fault, TraceFault};
 pub use file::{bytes_in, bytes_in_both, catalog_in};

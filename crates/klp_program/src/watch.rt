@@ -1,11 +1,14 @@
 //! A manager is booted over a catalog's text, and watched over the items of a trace.
-ghost use Rattle.std.specs.Prelude.{◌≡◌, ◌≤◌, ◌⊎◌, length, IfErr, MatchResult};
+ghost use Rattle.std.specs.Prelude.{◌≡◌, ◌≤◌, [], ◌∷◌, length, map, string_bytes, Some, None, OnOk, MatchResult};
+ghost use Rattle.std.specs.Io.KnownBytes.{Appends};
 ghost use Rattle.klp_catalog_text.specs.Within.{AreTargetsWithin};
-ghost use Rattle.klp_core.specs.Journaled.{Journaled};
+ghost use Rattle.klp_manager_state.specs.Managed.{Managed};
 ghost use Rattle.klp_program.specs.declared.verdict.Verdict.TheVariants.{Honest, Dishonest};
+ghost use Rattle.klp_program.specs.Asked.{two_files};
+ghost use Rattle.klp_program.specs.Printed.{cause_text, verdict_text, verdict_status, Prints};
 ghost use Rattle.klp_program.specs.Watches.{counted, IsFound, WatchesBy, WatchesPlan, Watches};
 
-use crate::arguments::{refused_by, told_by};
+use crate::arguments::{file_words, told_by};
 use crate::booted::boot;
 use crate::fault::Fault;
 use crate::kind::scripted;
@@ -18,12 +21,18 @@ use klp_catalog_text::Plan;
 use klp_console::ServeFault;
 use klp_core::Manager;
 use klp_model::Seen;
-use klp_watch::{NotHonest, watch};
+use klp_watch::{Cause, NotHonest, watch_whole};
 use std::alloc::Global;
+use std::io;
 use std::io::Write;
 
 /// The name that the program gives itself.
 const NAME: &str = "klpwatch";
+
+/// The statuses of a trace that is honest, and of one that isn't.
+const HONEST: u8 = 0;
+
+const DISHONEST: u8 = 3;
 
 fn counted(items: &[Seen]) -> Counts
     ensures { result ≡ counted items.now }
@@ -54,9 +63,9 @@ fn verdict_of(ended: Result<(), NotHonest>, items: &[Seen]) -> Verdict
 
 // The manager goes then, here and where the trace isn't read.
 fn watch_items(mut manager: Manager, items: &[Seen]) -> Verdict
-    ensures { (left : Journaled) × IsFound manager left items.now result }
+    ensures { (left : Managed) × IsFound manager.managed left items.now result }
 {
-    let ended = watch(&mut manager, items);
+    let ended = watch_whole(&mut manager, items);
     close(manager);
     verdict_of(ended, items)
 }
@@ -87,7 +96,8 @@ fn watch_plan(alloc: Global, plan: Plan, trace: &[u8]) -> Result<Verdict, Fault>
     watch_by(alloc, manager, trace)
 }
 
-/// Boots a manager over the catalog's text, and holds the trace against the consistency model by it.
+/// Boots a manager over the catalog's text, and holds the trace against the consistency model by it. The verdict is that
+/// of the whole trace, however long it is: no event is refused for want of room in the journal.
 pub fn watched(alloc: Global, catalog: &[u8], trace: &[u8]) -> Result<Verdict, Fault>
     ensures { Watches catalog.now trace.now result }
 {
@@ -95,21 +105,46 @@ pub fn watched(alloc: Global, catalog: &[u8], trace: &[u8]) -> Result<Verdict, F
     watch_plan(alloc, plan, trace)
 }
 
+fn name_of(cause: Cause) -> &'static str
+    ensures { result.now ≡ cause_text cause }
+{
+    match cause {
+        Cause::NotOpening => "NotOpening",
+        Cause::Frames => "Frames",
+        Cause::FramesLeft => "FramesLeft",
+        Cause::ModuleInUse => "ModuleInUse",
+        Cause::Forced => "Forced",
+        Cause::NoCall => "NoCall",
+        Cause::NoReturn => "NoReturn",
+        Cause::Deep => "Deep",
+    }
+}
+
 /// Writes the verdict as one line.
-fn answer<W: Write>(verdict: Verdict, out: &mut W) -> Result<(), Fault> {
-    let ended = match verdict {
+fn print<W: Write>(verdict: Verdict, out: &mut W) -> io::Result<()>
+    ensures { OnOk result (Appends (W.contents out.old) (W.contents out.new) (verdict_text verdict)) }
+{
+    match verdict {
         Verdict::Honest(counts) => writeln!(
             out,
             "honest {} {} {}",
             counts.events, counts.calls, counts.returns
         ),
-        Verdict::Dishonest(fault) => writeln!(out, "line {}: {}", fault.item, fault.cause),
-    };
-    ended.map_err(|_| Fault::Serve(ServeFault::Write))
+        Verdict::Dishonest(fault) => writeln!(out, "line {}: {}", fault.item, name_of(fault.cause)),
+    }
 }
 
-/// Watches, and writes the verdict to `out`. The answer is the exit status: 0, or 1 where a line on `err` tells
-/// the fault. A trace that isn't honest is answered as one that is.
+fn status_of(verdict: Verdict) -> u8
+    ensures { result ≡ verdict_status verdict }
+{
+    match verdict {
+        Verdict::Honest(_) => HONEST,
+        Verdict::Dishonest(_) => DISHONEST,
+    }
+}
+
+/// Watches, and writes the verdict to `out`. The answer is the exit status: 0 for an honest trace, 3 for one that isn't, or
+/// 1 where a line on `err` tells the fault.
 pub fn watch_trace<W: Write, E: Write>(
     alloc: Global,
     catalog: &[u8],
@@ -117,27 +152,24 @@ pub fn watch_trace<W: Write, E: Write>(
     out: &mut W,
     err: &mut E,
 ) -> u8
-    ensures { (result ≡ 0) ⊎ (result ≡ 1) }
+    ensures { Prints catalog.now trace.now (W.contents out.old) (W.contents out.new) result }
 {
     let verdict = match watched(alloc, catalog, trace) {
         Ok(verdict) => verdict,
         Err(fault) => return told_by(NAME, fault, err),
     };
-    match answer(verdict, out) {
-        Ok(()) => 0,
-        Err(fault) => told_by(NAME, fault, err),
+    match print(verdict, out) {
+        Ok(()) => status_of(verdict),
+        Err(_) => told_by(NAME, Fault::Serve(ServeFault::Write), err),
     }
 }
 
 /// The two words behind the program's name: the files of a catalog and of a trace. Others are refused on
 /// `err`, with their exit status.
 pub fn trace_words<'a, W: Write>(given: &'a [String], err: &mut W) -> Result<(&'a str, &'a str), u8>
-    ensures { IfErr result (λ status. status ≡ 2) }
+    ensures { MatchResult result
+        (λ files. two_files (map string_bytes given.now) ≡ Some (files.0.now ∷ files.1.now ∷ []))
+        (λ status. (status ≡ 2) × (two_files (map string_bytes given.now) ≡ None)) }
 {
-    match given {
-        [catalog, trace] if !catalog.starts_with("-") && !trace.starts_with("-") => {
-            Ok((catalog.as_str(), trace.as_str()))
-        }
-        _ => Err(refused_by(NAME, err)),
-    }
+    file_words(NAME, given, err)
 }

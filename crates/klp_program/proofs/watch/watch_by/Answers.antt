@@ -8,5 +8,5 @@ returns-in-Ok g c = record {
   items = c.in-Ok.items.items;
   items_are = c.in-Ok.ensures.items;
   left = c.watch_items.ensures.0;
-  found = subst (λ (xs : List Seen). IsFound c.args.manager c.watch_items.ensures.0 xs c.watch_items.result) c.deref.ensures.value c.watch_items.ensures.1;
+  found = subst (λ (xs : List Seen). IsFound c.args.manager.managed c.watch_items.ensures.0 xs c.watch_items.result) c.deref.ensures.value c.watch_items.ensures.1;
 }
