@@ -56,6 +56,19 @@ impl Case {
         status == 0 && out == self.output.as_slice() && err.is_empty()
     }
 
+    /// Whether a run ended with a verdict, or with a fault, and with what has to be told behind it: the status is that of
+    /// what was written.
+    pub(crate) fn is_told(&self, status: u8, out: &[u8], err: &[u8]) -> bool {
+        let wanted = if out.is_empty() {
+            1
+        } else if out.starts_with(b"honest ") {
+            0
+        } else {
+            3
+        };
+        status == wanted && self.output.as_slice().strip_prefix(out) == Some(err)
+    }
+
     /// How many bytes have to be written.
     pub(crate) fn output_len(&self) -> usize {
         self.output.len()

@@ -58,12 +58,12 @@ fn is_quick<R: Clock>(rt: &R, alloc: Global, case: &Case) -> io::Result<bool> {
     Ok(is_served && passed.as_secs() < SECONDS)
 }
 
-/// Whether the trace is answered so, and there is no fault.
+/// Whether the trace is answered so, with the status of its verdict.
 fn is_watched(alloc: Global, case: &Case) -> bool {
     let mut out = Vec::new(alloc);
     let mut err = Vec::new(alloc);
     let status = watch_trace(alloc, &case.catalog, &case.input, &mut out, &mut err);
-    case.is_met(status, &out, &err)
+    case.is_told(status, &out, &err)
 }
 
 /// Whether the example holds, run in this way.

@@ -1,5 +1,6 @@
 -- What a page comes to over a catalog's text and a script.
-use Rattle.std.specs.Prelude.{◌≡◌, ℕ, ◌<◌, List, [], ◌∷◌, ◌++◌, length, ◌⊎◌, Ok}
+use Rattle.std.specs.Prelude.{◌≡◌, ℕ, ◌<◌, List, [], ◌∷◌, ◌++◌, length, ◌⊎◌, Option, Result, Ok, Err}
+use Rattle.std.specs.Io.KnownBytes.{Appends}
 use Rattle.klp_types.specs.declared.limits.TheConstants.{MAX_CONSOLE_LINE}
 use Rattle.klp_catalog_text.specs.Plan.{Plan}
 use Rattle.klp_catalog_text.specs.Text.{plan_of}
@@ -65,3 +66,20 @@ abbrev pub IsFaultOf : List ℕ → List ℕ → Fault → Type 0
 IsFaultOf text script NoMemory = Unit {0}
 IsFaultOf text script (Text fault) = catalog.IsFaultOf text fault.line fault.kind
 IsFaultOf text script other = (plan : Plan) × (plan_of text ≡ Ok plan) × IsFaultOver plan script other
+
+-- what a script comes to: its page, or why there is none
+abbrev pub ComesTo : List ℕ → List ℕ → Result (List ℕ) Fault → Type 0
+ComesTo text script (Ok page) = IsPageOf text script page
+ComesTo text script (Err fault) = IsFaultOf text script fault
+
+-- the whole page was written behind what the output had, and the status is 0; or it is 1, since the page could not be written. Where
+-- there is none nothing was written
+abbrev pub IsWritten : Option (List ℕ) → Option (List ℕ) → ℕ → Result (List ℕ) Fault → Type 0
+IsWritten before after status (Ok page) = (Appends before after page × (status ≡ 0)) ⊎ (status ≡ 1)
+IsWritten before after status (Err fault) = (after ≡ before) × (status ≡ 1)
+
+-- a script was shown over a catalog's text, and what it came to was written
+pub record Writes (text script : List ℕ) (before after : Option (List ℕ)) (status : ℕ) : Type 0 where
+  pub ended : Result (List ℕ) Fault
+  pub comes_to : ComesTo text script ended
+  pub written : IsWritten before after status ended

@@ -1,7 +1,8 @@
 //! A manager is booted over a catalog's text, and a script is shown by it.
-ghost use Rattle.std.specs.Prelude.{◌≡◌, ◌⊎◌, length, IfOk, IfErr};
+ghost use Rattle.std.specs.Prelude.{◌≡◌, [], ◌∷◌, length, map, string_bytes, Some, None, IfOk, IfErr, MatchResult};
 ghost use Rattle.klp_catalog_text.specs.Within.{AreTargetsWithin};
-ghost use Rattle.klp_page.specs.Pages.{IsPage, IsScriptFault, IsPageOver, IsFaultOver, IsPageOf, IsFaultOf};
+ghost use Rattle.klp_page.specs.Pages.{IsPage, IsScriptFault, IsPageOver, IsFaultOver, IsPageOf, IsFaultOf, Writes};
+ghost use Rattle.klp_program.specs.Asked.{two_files};
 
 use crate::record::record;
 use crate::row::page_of;
@@ -11,7 +12,7 @@ use klp_catalog_text::Plan;
 use klp_chronicle::Chronicle;
 use klp_console::ServeFault;
 use klp_core::Manager;
-use klp_program::{Fault, boot, close, refused_by, scripted, told_by};
+use klp_program::{Fault, boot, close, file_words, scripted, told_by};
 use std::alloc::Global;
 use std::io::Write;
 
@@ -80,7 +81,7 @@ pub fn write_page<W: Write, E: Write>(
     out: &mut W,
     err: &mut E,
 ) -> u8
-    ensures { (result ≡ 0) ⊎ (result ≡ 1) }
+    ensures { Writes catalog.now script.now (W.contents out.old) (W.contents out.new) result }
 {
     let page = match page_over(alloc, catalog, script) {
         Ok(page) => page,
@@ -95,12 +96,9 @@ pub fn write_page<W: Write, E: Write>(
 /// The two words behind the program's name: the files of a catalog and of a script. Others are refused on `err`,
 /// with their exit status.
 pub fn page_words<'a, W: Write>(given: &'a [String], err: &mut W) -> Result<(&'a str, &'a str), u8>
-    ensures { IfErr result (λ status. status ≡ 2) }
+    ensures { MatchResult result
+        (λ files. two_files (map string_bytes given.now) ≡ Some (files.0.now ∷ files.1.now ∷ []))
+        (λ status. (status ≡ 2) × (two_files (map string_bytes given.now) ≡ None)) }
 {
-    match given {
-        [catalog, script] if !catalog.starts_with("-") && !script.starts_with("-") => {
-            Ok((catalog.as_str(), script.as_str()))
-        }
-        _ => Err(refused_by(NAME, err)),
-    }
+    file_words(NAME, given, err)
 }
