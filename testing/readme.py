@@ -7,13 +7,31 @@ import tempfile
 
 from testing.run import PROGRAMS, SECONDS, TOP
 
+LINK = re.compile(r"\]\(([^)#]+)(?:#([^)]+))?\)")
 BLOCK = re.compile(r"^```sh\n(.*?)^```\n(?:\n*```text\n(.*?)^```\n)?", re.M | re.S)
+
+
+def text(name):
+    with open(f"{TOP}/{name}", encoding="utf-8") as it:
+        return it.read()
 
 
 def blocks():
     """The commands of README.md, each with the answer that stands there."""
-    with open(f"{TOP}/README.md", encoding="utf-8") as it:
-        return BLOCK.findall(it.read())
+    return BLOCK.findall(text("README.md"))
+
+
+def leads(path, heading):
+    """Whether there is such a file, and such a heading in it, if one is named."""
+    if not heading:
+        return os.path.exists(f"{TOP}/{path}")
+    headings = re.findall(r"^#+ (.*)$", text(path), re.M)
+    return heading in [re.sub(r"[^\w -]", "", it.lower()).replace(" ", "-") for it in headings]
+
+
+def lost_links():
+    """The links that lead nowhere."""
+    return [f"{path} {heading}" for path, heading in LINK.findall(text("README.md")) if not leads(path, heading)]
 
 
 def run_block(room, commands, answer):
@@ -35,4 +53,4 @@ def run_all():
 
 
 def cases():
-    return [(f"README.md, {len(blocks())} blocks", run_all)]
+    return [(f"README.md, {len(blocks())} blocks", run_all), ("README.md, links", lost_links)]
