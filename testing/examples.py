@@ -55,8 +55,8 @@ def page(name):
 
 
 def pages():
-    names = sorted(it[:-len(".script")] for it in glob.glob("pages/*.script", root_dir=EXAMPLES))
-    return [(f"{name}.html", functools.partial(page, name)) for name in names]
+    names = sorted(it for it, ending in map(os.path.splitext, os.listdir(f"{EXAMPLES}/pages")) if ending == ".script")
+    return [(f"pages/{name}.html", functools.partial(page, f"pages/{name}")) for name in names]
 
 
 def refused(catalog, said):
