@@ -1,6 +1,6 @@
 -- Two servings of the same lines do the same, as far as the journal has room.
-use Rattle.std.proofs.Common.{◌≡◌, ◌≢◌, ℕ, suc, ◌+◌, ◌-◌, ◌<◌, ◌≤◌, Bool, true, false, List, [], ◌∷◌, ◌++◌, length, map, take, refl, sym, ap, subst, ◌∙◌, arith, ⊎_elim, length-append}
-use Rattle.std.specs.Prelude.{codes, ◌⊎◌, Option, Some, None, Result, Ok, Err, IfOk, OnErr, if◌then◌else◌}
+use Rattle.std.proofs.Common.{◌≡◌, ◌≢◌, ℕ, ◌+◌, ◌-◌, ◌<◌, ◌≤◌, Bool, true, false, List, [], ◌∷◌, ◌++◌, length, take, refl, sym, ap, subst, ◌∙◌, arith, ⊎_elim, length-append}
+use Rattle.std.specs.Prelude.{codes, Option, Some, None, Result, Ok, Err, IfOk, OnErr, if◌then◌else◌}
 use Rattle.std.specs.Fmt.{decimal}
 use Rattle.std.specs.Io.KnownBytes.{Appends}
 use Rattle.std.proofs.lemmas.List.{map-append, take-map, length-map}
@@ -19,7 +19,7 @@ use Rattle.klp_manager_state.specs.Events.{after_event}
 use Rattle.klp_manager_state.specs.Managed.{Managed, setting_of}
 use Rattle.klp_core.specs.Journaled.{Journaled, history_in}
 use Rattle.klp_core.specs.Rewinding.{IsRewound}
-use Rattle.klp_core.specs.Taking.{IsTaken, Appends as AppendsGroup, unless_full}
+use Rattle.klp_core.specs.Taking.{Appends as AppendsGroup, unless_full}
 use Rattle.klp_console_commands.specs.declared.fault.LineFault.{LineFault}
 use Rattle.klp_console_commands.specs.declared.request.Request.{Request}
 use Rattle.klp_console_commands.specs.declared.request.Request.TheVariants.{Take, ForceNothing, Rewind, Seal, See}
@@ -30,10 +30,9 @@ use Rattle.klp_console_commands.specs.Lines.{request_of}
 use Rattle.klp_console.specs.Answered.{Answer, IsAnswered, IsTakenAs, IsRewoundAs, IsDone, IsDoneIf, names_in, replied, seen}
 use Rattle.klp_console.specs.Alike.{AreAlike, NoneIsFull}
 use Rattle.klp_console.specs.Lines.{AreAnswered, texts_of}
-use Rattle.klp_console.specs.Queries.{look_text, force_nothing}
+use Rattle.klp_console.specs.Queries.{look_text}
 use Rattle.klp_console.specs.Refusals.{refusal_text}
 use Rattle.klp_console.specs.Replies.{done_text, answer_text}
-use Rattle.klp_console.specs.Said.{Stops}
 use Rattle.klp_console.specs.Served.{Console, HasWriteFailed}
 
 abbrev pub IsNotFull : Answer → Type 0
@@ -189,6 +188,28 @@ stops_at (first ∷ next ∷ early) last gone whole less =
 first_same : (l c : List ℕ) (ls cs : List (List ℕ)) → IsPrefix (l ∷ ls) (c ∷ cs) → (l ≡ c) × IsPrefix ls cs
 first_same l c ls cs p = (cc (p.1), (p.0, cc (p.1)))
 
+-- the lines behind one that both answered alike, where the same is known of what is left of these
+rest_both : (all : List (List ℕ)) (c d a1 b1 : Journaled) (x y : Answer) (gone : ℕ)
+    → ((lines others : List (List ℕ)) (xs ys : List Answer) (gone : ℕ) → IsPrefix lines all → IsPrefix others all → AreAlike c d → AreAnswered c a1 lines xs → AreAnswered d b1 others ys
+    → NoneIsFull xs → NoneIsFull ys → StopsAt gone xs → StopsAt gone ys → (lines ≡ others) × AreAlike a1 b1)
+    → (lines others : List (List ℕ)) (xs ys : List Answer) → IsPrefix lines all → IsPrefix others all → AreAlike c d → x ≡ y → AreAnswered c a1 lines xs → AreAnswered d b1 others ys
+    → NoneIsFull xs → NoneIsFull ys → StopsAt gone (x ∷ xs) → StopsAt gone (y ∷ ys) → (lines ≡ others) × AreAlike a1 b1
+rest_both all c d a1 b1 x y gone again [] [] [] [] p q alike same one two fits fits_too stops stops_too = (refl, where_same c d a1 b1 alike one two)
+rest_both all c d a1 b1 x y gone again [] (o ∷ others) [] [] p q alike same one two fits fits_too stops stops_too = absurd two
+rest_both all c d a1 b1 x y gone again (l ∷ lines) others [] ys p q alike same one two fits fits_too stops stops_too = absurd one
+rest_both all c d a1 b1 x y gone again [] others (x2 ∷ xs) ys p q alike same one two fits fits_too stops stops_too = absurd one
+rest_both all c d a1 b1 x y gone again [] others [] (y2 ∷ ys) p q alike same one two fits fits_too stops stops_too =
+    let e : length x.text ≡ length y.text = ap (λ (z : Answer). length z.text) same in
+    let less : gone < length x.text = stops in
+    let more : length y.text ≤ gone = stops_too.0 in absurd (omega arith)
+rest_both all c d a1 b1 x y gone again (l ∷ lines) others (x2 ∷ xs) [] p q alike same one two fits fits_too stops stops_too =
+    let e : length x.text ≡ length y.text = ap (λ (z : Answer). length z.text) same in
+    let less : gone < length y.text = stops_too in
+    let more : length x.text ≤ gone = stops.0 in absurd (omega arith)
+rest_both all c d a1 b1 x y gone again (l ∷ lines) others (x2 ∷ xs) (y2 ∷ ys) p q alike same one two fits fits_too stops stops_too =
+    again (l ∷ lines) others (x2 ∷ xs) (y2 ∷ ys) (gone - length x.text) p q alike one two fits fits_too stops.1
+    (subst (λ n. StopsAt (gone - n) (y2 ∷ ys)) (sym (ap (λ (z : Answer). length z.text) same)) stops_too.1)
+
 -- all lines
 lines_both : (all lines others : List (List ℕ)) (xs ys : List Answer) (a b a1 b1 : Journaled) (gone : ℕ) → IsPrefix lines all → IsPrefix others all → AreAlike a b
     → AreAnswered a a1 lines xs → AreAnswered b b1 others ys → NoneIsFull xs → NoneIsFull ys → StopsAt gone xs → StopsAt gone ys → (lines ≡ others) × AreAlike a1 b1
@@ -204,20 +225,11 @@ lines_both (c ∷ all) (line ∷ lines) (other ∷ others) (x ∷ xs) (y ∷ ys)
     let its = first_same other c others all q in
     let same : other ≡ line = its.0 ∙ sym own.0 in
     let both = answered_both a b one.0 two.0 x y alike fits.0 fits_too.0 line one.1 (subst (λ l. IsAnswered b two.0 l y) same two.1) in
-    let rest = by lines others xs ys own.1 its.1 both.1 both.0 one.2 two.2 fits.1 fits_too.1 stops stops_too in
+    let rest =
+    rest_both all one.0 two.0 a1 b1 x y gone
+    (λ lines others xs ys gone. lines_both all lines others xs ys one.0 two.0 a1 b1 gone)
+    lines others xs ys own.1 its.1 both.1 both.0 one.2 two.2 fits.1 fits_too.1 stops stops_too in
     (ap (λ l. l ∷ lines) (sym same) ∙ ap (λ ls. other ∷ ls) rest.0, rest.1)
-  where
-    by : (lines others : List (List ℕ)) (xs ys : List Answer) → IsPrefix lines all → IsPrefix others all → AreAlike one.0 two.0 → x ≡ y
-        → AreAnswered one.0 a1 lines xs → AreAnswered two.0 b1 others ys → NoneIsFull xs → NoneIsFull ys → StopsAt gone (x ∷ xs) → StopsAt gone (y ∷ ys) → (lines ≡ others) × AreAlike a1 b1
-    by [] [] [] [] p q alike same one two fits fits_too stops stops_too = (refl, where_same _ _ a1 b1 alike one two)
-    by [] (o ∷ others) [] [] p q alike same one two fits fits_too stops stops_too = absurd two
-    by (l ∷ lines) others [] ys p q alike same one two fits fits_too stops stops_too = absurd one
-    by [] others (x2 ∷ xs) ys p q alike same one two fits fits_too stops stops_too = absurd one
-    by [] others [] (y2 ∷ ys) p q alike same one two fits fits_too stops stops_too = absurd (let e = ap (λ (z : Answer). length z.text) same in omega (arith, e, stops, stops_too.0))
-    by (l ∷ lines) others (x2 ∷ xs) [] p q alike same one two fits fits_too stops stops_too = absurd (let e = ap (λ (z : Answer). length z.text) same in omega (arith, e, stops.0, stops_too))
-    by (l ∷ lines) others (x2 ∷ xs) (y2 ∷ ys) p q alike same one two fits fits_too stops stops_too =
-        lines_both all (l ∷ lines) others (x2 ∷ xs) (y2 ∷ ys) _ _ a1 b1 (gone - length x.text) p q alike one two fits fits_too stops.1
-        (subst (λ n. StopsAt (gone - n) (y2 ∷ ys)) (sym (ap (λ (z : Answer). length z.text) same)) stops_too.1)
 
 stops_there : (answers : List Answer) (gone rest : List ℕ) (early : List Answer) (last : Answer) → answers ≡ early ++ last ∷ [] → texts_of answers ≡ gone ++ rest
     → 0 < length rest → length (texts_of early) ≤ length gone → StopsAt (length gone) answers

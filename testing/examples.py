@@ -1,0 +1,111 @@
+"""The examples: each script, trace, file of steps and page comes to what is stored, and what is refused is refused so.
+
+Each function gives the cases of one kind: a name, and a call that returns what is wrong, or None.
+"""
+import functools
+import glob
+import os
+import tempfile
+
+from testing.run import EXAMPLES, TOP, fault, read, run
+
+# What klpwatch ends with where a trace isn't honest.
+DISHONEST = (0, 3)
+
+
+def index(name):
+    """The rows of a list of examples: the name of each and of its catalog, which may be the same."""
+    rows = [it.split() for it in read(name).decode().splitlines() if it and not it.startswith("#")]
+    return [(row[0], row[-1]) for row in rows]
+
+
+def script(name, catalog):
+    words = [] if catalog == "-" else [f"{catalog}.catalog"]
+    return fault(run(["klpsim", "console", *words], read(f"{name}.script")), (0, read(f"{name}.output"), ""))
+
+
+def scripts():
+    return [(f"{name}.script", functools.partial(script, name, catalog)) for name, catalog in index("index")]
+
+
+def trace(name, catalog):
+    stored = read(f"{name}.output")
+    came = run(["klpwatch", f"{catalog}.catalog", f"{name}.trace"])
+    statuses = [0] if stored.startswith(b"honest ") else DISHONEST
+    return fault(came, (came[0] if came[0] in statuses else statuses[-1], stored, ""))
+
+
+def traces():
+    return [(f"{name}.trace", functools.partial(trace, name, catalog)) for name, catalog in index("traces")]
+
+
+def steps(name, catalog):
+    stored = read(f"{name}.output")
+    wanted = (1, b"", stored.decode()) if stored.startswith(b"klpsim: ") else (0, stored, "")
+    return fault(run(["klpsim", "live", f"{catalog}.catalog", f"{name}.steps"]), wanted)
+
+
+def lives():
+    return [(f"{name}.steps", functools.partial(steps, name, catalog)) for name, catalog in index("lives")]
+
+
+def page(name):
+    came = run(["klppage", f"{name}.catalog", f"{name}.script"])
+    return fault(came, (0, read(f"{name}.html"), ""))
+
+
+def pages():
+    names = sorted(it for it, ending in map(os.path.splitext, os.listdir(f"{EXAMPLES}/pages")) if ending == ".script")
+    return [(f"pages/{name}.html", functools.partial(page, f"pages/{name}")) for name in names]
+
+
+def refused(catalog, said):
+    """A catalog is refused before anything is answered."""
+    with tempfile.NamedTemporaryFile(suffix=".catalog") as it:
+        it.write(catalog)
+        it.flush()
+        return fault(run(["klpsim", "console", it.name], b"text vmlinux\n"), (1, b"", f"{said}\n"))
+
+
+def refused_catalogs():
+    parts = [it.partition(b"\n") for it in read("refused.catalogs").split(b"\n=== ")[1:]]
+    cases = [(said.decode(), catalog) for said, _, catalog in parts]
+    return [(f"refused.catalogs, {said}", functools.partial(refused, catalog, said)) for said, catalog in cases]
+
+
+def faulty_lines():
+    cases = []
+    for block in read("faulty.lines").decode().split("=== ")[1:]:
+        start, _, rows = block.partition("---\n")
+        start = start.partition("\n")[2]
+        for row in rows.splitlines():
+            kind, _, line = row.partition(" ")
+            if not row.startswith("#"):
+                said = f"klpsim: line {len(start.splitlines()) + 1}: {kind}"
+                cases.append((f"faulty.lines, {row}", functools.partial(refused, f"{start}{line}".encode(), said)))
+    return cases
+
+
+def unreadable(path):
+    return fault(run(["klpsim", "console", path]), (1, b"", "klpsim: CannotRead\n"))
+
+
+def unreadable_paths():
+    paths = read("unreadable.paths").decode().splitlines()
+    return [(f"unreadable.paths, {it}", functools.partial(unreadable, it)) for it in paths]
+
+
+def copy(path):
+    with open(path, "rb") as it:
+        return None if it.read() == read(os.path.basename(path)) else "it isn't what stands in examples/ any more"
+
+
+def copies():
+    """A program is run in its own data/, where a link is refused: so one crate has copies of examples."""
+    paths = sorted(glob.glob(f"{TOP}/crates/klp_live_tests/data/*"))
+    return [(os.path.relpath(it, TOP), functools.partial(copy, it)) for it in paths]
+
+
+def cases():
+    kinds = (scripts, traces, lives, pages, refused_catalogs, faulty_lines, unreadable_paths, copies)
+    return [case for kind in kinds for case in kind()]
