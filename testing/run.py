@@ -7,8 +7,8 @@ EXAMPLES = f"{TOP}/examples"
 PROGRAMS = ("klpsim", "klpwatch", "klppage")
 # What ./klpsim says on standard error of a program that isn't proved, beside what the program says itself.
 DOOR = (": what follows isn't proved;", ": it is compiled first,")
-# A run may compile its program first, beside other compiles.
-SECONDS = 900
+# How long a run may take, and one that compiles first, on a machine that does much else.
+SECONDS, COMPILE_SECONDS = 300, 3600
 
 
 def own(err):
