@@ -2,10 +2,9 @@
 has to be the block of `text` right behind it, or nothing where there is none."""
 import os
 import re
-import subprocess
 import tempfile
 
-from testing.run import PROGRAMS, SECONDS, TOP
+from testing.run import PROGRAMS, TOP, finish, start
 
 LINK = re.compile(r"\]\(([^)#]+)(?:#([^)]+))?\)")
 BLOCK = re.compile(r"^```sh\n(.*?)^```\n(?:\n*```text\n(.*?)^```\n)?", re.M | re.S)
@@ -36,11 +35,10 @@ def lost_links():
 
 def run_block(room, commands, answer):
     """What is wrong with a block, or None."""
-    how = {"stdin": subprocess.DEVNULL, "capture_output": True, "text": True, "errors": "replace"}
-    ran = subprocess.run(["bash", "-euo", "pipefail", "-c", commands], cwd=room, timeout=SECONDS, check=False, **how)
-    if ran.returncode == 0 and ran.stdout == answer:
+    status, out, err = finish(start(["bash", "-euo", "pipefail", "-c", commands], room))
+    if (status, out) == (0, answer.encode()):
         return None
-    return f"status {ran.returncode} and {ran.stdout!r}, where {answer!r} is written; {ran.stderr[-300:]!r}"
+    return f"status {status} and {out!r}, where {answer!r} is written; {err[-300:]!r}"
 
 
 def run_all():

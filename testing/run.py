@@ -7,8 +7,8 @@ EXAMPLES = f"{TOP}/examples"
 PROGRAMS = ("klpsim", "klpwatch", "klppage")
 # What ./klpsim says on standard error of a program that isn't proved, beside what the program says itself.
 DOOR = (": what follows isn't proved;", ": it is compiled first,")
-# A run may compile its program first, beside other compiles.
-SECONDS = 900
+# How long a run may take, and one that compiles first, on a machine that does much else.
+SECONDS, COMPILE_SECONDS = 300, 3600
 
 
 def own(err):
@@ -16,11 +16,28 @@ def own(err):
     return "".join(line for line in err.splitlines(keepends=True) if not any(it in line for it in DOOR))
 
 
-def run(words, given=b""):
-    """The status, the output and the standard error of the program that the first word names, in the folder of examples."""
-    words = [f"{TOP}/{words[0]}", *words[1:]]
-    ran = subprocess.run(words, input=given, capture_output=True, cwd=EXAMPLES, timeout=SECONDS, check=False)
-    return ran.returncode, ran.stdout, own(ran.stderr.decode(errors="replace"))
+def finish(process, given=b"", seconds=SECONDS):
+    """The status, the output and the standard error of a process over this input. Where it isn't done in time it is told to
+    stop, so that it can end what it started."""
+    try:
+        out, err = process.communicate(given, timeout=seconds)
+    except subprocess.TimeoutExpired:
+        process.terminate()
+        process.communicate()
+        raise
+    return process.returncode, out, err.decode(errors="replace")
+
+
+def start(words, where=EXAMPLES, **how):
+    """Starts a process with pipes for its streams."""
+    pipes = {"stdin": subprocess.PIPE, "stdout": subprocess.PIPE, "stderr": subprocess.PIPE}
+    return subprocess.Popen(words, cwd=where, **{**pipes, **how})
+
+
+def run(words, given=b"", seconds=SECONDS):
+    """The status and the output of the program that the first word names, and what it wrote to standard error itself."""
+    status, out, err = finish(start([f"{TOP}/{words[0]}", *words[1:]]), given, seconds)
+    return status, out, own(err)
 
 
 def fault(came, wanted):
