@@ -10,7 +10,7 @@ import tempfile
 from testing.run import EXAMPLES, TOP, fault, read, run
 
 # What klpwatch ends with where a trace isn't honest.
-DISHONEST = (0, 3)
+DISHONEST = (3,)
 
 
 def index(name):
