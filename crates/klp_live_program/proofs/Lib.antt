@@ -1,3 +1,4 @@
 pub mod RaceLemmas
 pub mod RunLemmas
+pub mod ShownLemmas
 pub mod StepLemmas

@@ -1,4 +1,5 @@
 pub mod Living
 pub mod Racing
 pub mod Reading
+pub mod Shown
 pub mod Steps

@@ -1,5 +1,5 @@
 -- What the steps of two tasks come to over a catalog's text.
-use Rattle.std.specs.Prelude.{◌≡◌, ℕ, List, Result, Ok, Err}
+use Rattle.std.specs.Prelude.{◌≡◌, ℕ, List, Option, Result, Ok, Err}
 use Rattle.std.specs.Str.Lines.{lines}
 use Rattle.klp_catalog_text.specs.Plan.{Plan}
 use Rattle.klp_catalog_text.specs.Text.{plan_of, IsFaultOf}
@@ -17,10 +17,11 @@ use Rattle.klp_live_program.specs.declared.fault.LiveFault.{LiveFault}
 use Rattle.klp_live_program.specs.declared.fault.LiveFault.TheVariants.{Program, Steps, NoMemory, NoPlace}
 use Rattle.klp_live_program.specs.Steps.{AreSteps, IsFirstFault}
 use Rattle.klp_live_program.specs.Racing.{IsPrepared, HaveRaced}
+use Rattle.klp_live_program.specs.Shown.{IsShownOn}
 
--- tasks 1 and 2 came to the booted machine; each did all steps of the text that are its own, with these outcomes; and all that was accepted
--- was taken back
-pub record HasDone (booted : Journaled) (text : List ℕ) (done : Done) : Type 0 where
+-- tasks 1 and 2 came to the booted machine; each did all steps of the text that are its own, with these outcomes; all that was accepted
+-- was taken back; and what came of it was written behind what the output had
+pub record HasDone (booted : Journaled) (text : List ℕ) (before after : Option (List ℕ)) (done : Done) : Type 0 where
   pub first : List Step
   pub second : List Step
   pub steps : AreSteps booted (lines text) first second
@@ -28,6 +29,7 @@ pub record HasDone (booted : Journaled) (text : List ℕ) (done : Done) : Type 0
   pub came : IsPrepared booted prepared
   pub left : Journaled
   pub raced : HaveRaced prepared left first second done
+  pub shown : IsShownOn left done before after
 
 -- why steps that were read aren't all done and shown: want of memory or of a place, or a failed write
 abbrev pub IsRunFault : LiveFault → Type 0
@@ -48,31 +50,31 @@ read_fault NoneForSteps = NoMemory
 read_fault (OfLine fault) = Steps fault
 
 -- over a manager
-abbrev pub LivesBy : Journaled → List ℕ → Result Done LiveFault → Type 0
-LivesBy booted text (Ok done) = HasDone booted text done
-LivesBy booted text (Err (Steps fault)) = IsFirstFault booted (lines text) fault.line fault.kind
-LivesBy booted text (Err fault) = IsRunFault fault
+abbrev pub LivesBy : Journaled → List ℕ → Option (List ℕ) → Option (List ℕ) → Result Done LiveFault → Type 0
+LivesBy booted text before after (Ok done) = HasDone booted text before after done
+LivesBy booted text before after (Err (Steps fault)) = IsFirstFault booted (lines text) fault.line fault.kind
+LivesBy booted text before after (Err fault) = IsRunFault fault
 
 -- over a plan, of which a manager is booted, or none is
-abbrev pub LivesPlan : Plan → List ℕ → Result Done LiveFault → Type 0
-LivesPlan plan text (Ok done) = (booted : Journaled) × IsBootedOver plan booted × HasDone booted text done
-LivesPlan plan text (Err (Steps fault)) = (booted : Journaled) × IsBootedOver plan booted × IsFirstFault booted (lines text) fault.line fault.kind
-LivesPlan plan text (Err (Program (Serve fault))) = Unit {0}
-LivesPlan plan text (Err (Program fault)) = IsBootFault plan fault
-LivesPlan plan text (Err fault) = Unit {0}
+abbrev pub LivesPlan : Plan → List ℕ → Option (List ℕ) → Option (List ℕ) → Result Done LiveFault → Type 0
+LivesPlan plan text before after (Ok done) = (booted : Journaled) × IsBootedOver plan booted × HasDone booted text before after done
+LivesPlan plan text before after (Err (Steps fault)) = (booted : Journaled) × IsBootedOver plan booted × IsFirstFault booted (lines text) fault.line fault.kind
+LivesPlan plan text before after (Err (Program (Serve fault))) = Unit {0}
+LivesPlan plan text before after (Err (Program fault)) = IsBootFault plan fault
+LivesPlan plan text before after (Err fault) = Unit {0}
 
 -- over a catalog's text
-abbrev pub Lives : List ℕ → List ℕ → Result Done LiveFault → Type 0
-Lives catalog text (Err (Program (Text fault))) = IsFaultOf catalog fault.line fault.kind
-Lives catalog text (Err NoMemory) = Unit {0}
-Lives catalog text result = (plan : Plan) × (plan_of catalog ≡ Ok plan) × LivesPlan plan text result
+abbrev pub Lives : List ℕ → List ℕ → Option (List ℕ) → Option (List ℕ) → Result Done LiveFault → Type 0
+Lives catalog text before after (Err (Program (Text fault))) = IsFaultOf catalog fault.line fault.kind
+Lives catalog text before after (Err NoMemory) = Unit {0}
+Lives catalog text before after result = (plan : Plan) × (plan_of catalog ≡ Ok plan) × LivesPlan plan text before after result
 
--- the exit status: 0 is told only where all steps are done and all is taken back
+-- the exit status: 0 is told only where all steps are done, all is taken back, and what came of it is written
 abbrev pub status_of : Result Done LiveFault → ℕ
 status_of (Ok done) = 0
 status_of (Err fault) = 1
 
-pub record Exits (catalog text : List ℕ) (status : ℕ) : Type 0 where
+pub record Exits (catalog text : List ℕ) (before after : Option (List ℕ)) (status : ℕ) : Type 0 where
   pub result : Result Done LiveFault
-  pub lives : Lives catalog text result
+  pub lives : Lives catalog text before after result
   pub status_is : status ≡ status_of result

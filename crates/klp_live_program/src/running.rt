@@ -1,11 +1,12 @@
 //! A manager is booted over a catalog's text, and two task threads run the steps of another text over it.
-ghost use Rattle.std.specs.Prelude.{◌≡◌, ◌≤◌, [], length, vec_len, IfOk, IfErr, MatchResult};
+ghost use Rattle.std.specs.Prelude.{◌≡◌, ◌≤◌, ◌++◌, [], false, length, vec_len, slice_get, slice_index_or, IfOk, IfErr, OnOk, MatchResult};
 ghost use Rattle.std.specs.Str.Lines.{lines};
 ghost use Rattle.klp_types.specs.declared.limits.TheConstants.{MAX_GROUPS};
 ghost use Rattle.klp_catalog_text.specs.Within.{AreTargetsWithin};
 ghost use Rattle.klp_core.specs.Journaled.{Journaled};
 ghost use Rattle.klp_live_program.specs.declared.step_lines.TheConstants.{MAX_STEPS};
 ghost use Rattle.klp_live_program.specs.Racing.{IsPrepared, HaveRaced};
+ghost use Rattle.klp_live_program.specs.Shown.{asks_for_texts, asks_if, counts_text, IsAnsweredBehind, IsShown, IsShownOn};
 ghost use Rattle.klp_live_program.specs.Steps.{AreSteps, IsReadFault};
 ghost use Rattle.klp_live_program.specs.Living.{IsRunFault, LivesBy, LivesPlan, Lives, Exits};
 
@@ -16,51 +17,95 @@ use klp_callback::{Boxed, Scripted};
 use klp_catalog::Catalog;
 use klp_catalog_text::Plan;
 use klp_console::{ServeFault, serve};
-use klp_console_io::{OverRead, OverWrite};
+use klp_console_io::{Feed, OverWrite};
 use klp_core::{Machine, Manager};
 use klp_model::Event;
+use klp_modules::Modules;
 use klp_program::{Fault, boot};
-use klp_types::{MAX_OBJECTS, ObjId};
+use klp_types::{MAX_OBJECTS, ObjId, READ_ROOM};
 use std::alloc::{AllocError, Global};
+use std::io;
 use std::io::Write;
 use std::marker::Brand;
 use std::sync::Wait;
 use std::sync::ledger::{Blank, Ledger};
 use std::thread::Threads;
 
-/// A line of the console for each object that is loaded, which asks for its text.
-fn texts(alloc: Global, manager: &Manager) -> Result<Vec<u8>, AllocError> {
+/// Adds the line of the console that asks for the text of an object, if it is loaded.
+fn add_ask(
+    alloc: Global,
+    modules: &Modules,
+    object: ObjId,
+    lines: &mut Vec<u8>,
+) -> Result<(), AllocError>
+    ensures { OnOk result (lines.new.items ≡ lines.old.items ++ asks_if (slice_get modules.now.names object)
+        (slice_index_or modules.now.loaded object false)) }
+{
+    let Some(name) = modules.object_name(object) else {
+        return Ok(());
+    };
+    if !modules.is_loaded(object) {
+        return Ok(());
+    }
+    let line = format!(in alloc; "text {name}\n")?;
+    lines.extend_from_slice(line.as_bytes())?;
+    Ok(())
+}
+
+/// A line for each object that is loaded.
+fn texts(alloc: Global, manager: &Manager) -> Result<Vec<u8>, AllocError>
+    ensures { IfOk result (λ lines. lines.items ≡ asks_for_texts manager.now) }
+{
     let modules = manager.modules();
     let mut lines = Vec::new(alloc);
     for number in 0..MAX_OBJECTS as u8 {
-        let object = ObjId(number);
-        if let Some(name) = modules.object_name(object)
-            && modules.is_loaded(object)
-        {
-            let line = format!(in alloc; "text {name}\n")?;
-            lines.extend_from_slice(line.as_bytes())?;
-        }
+        add_ask(alloc, modules, ObjId(number), &mut lines)?;
     }
     Ok(lines)
 }
 
-/// The console's answers to these lines.
-fn answer<W: Write, L: Ledger, M: Ledger>(
+/// How many steps of each task are done.
+fn counts(alloc: Global, done: &Done) -> io::Result<Vec<u8>>
+    ensures { IfOk result (λ text. text.items ≡ counts_text (length done.now.first.items) (length done.now.second.items)) }
+{
+    let mut text = Vec::new(alloc);
+    let (first, second) = (done.first.len(), done.second.len());
+    writeln!(text, "task 1 {first}\ntask 2 {second}")?;
+    Ok(text)
+}
+
+/// The console's answers to these lines, behind a front.
+fn answered<L: Ledger, M: Ledger>(
     manager: &mut Manager,
-    mut lines: &[u8],
-    out: &mut W,
+    lines: &[u8],
+    front: Vec<u8>,
     reads: Blank,
     writes: Blank,
-) -> Result<(), ServeFault>
+) -> Result<Vec<u8>, ServeFault>
     requires reads { (reads.name ≡ L.name) × (reads.parts ≡ L.parts) × (3 ≤ reads.parts) }
     requires writes { (writes.name ≡ M.name) × (writes.parts ≡ M.parts) × (2 ≤ writes.parts) }
+    ensures { IfOk result (λ text. IsAnsweredBehind manager.old lines.now front.items text.items) }
 {
-    let mut reader = OverRead::<&mut &[u8], L>::new(&mut lines, reads);
-    let mut writer = OverWrite::<&mut W, M>::new(out, writes);
-    match serve(&mut reader, &mut writer, manager) {
-        Ok(_) => Ok(()),
+    let mut source = Feed::<'_, L>::new(lines, READ_ROOM, None, reads);
+    let mut sink = OverWrite::<Vec<u8>, M>::new(front, writes);
+    let ended = serve(&mut source, &mut sink, manager);
+    let text = sink.into_inner();
+    match ended {
+        Ok(_) => Ok(text),
         Err(fault) => Err(fault),
     }
+}
+
+/// How many steps of each task are done, and the text of each object that is loaded. Only memory can be missing: each
+/// line is whole, and no longer than a line may be.
+fn shown(alloc: Global, manager: &mut Manager, done: &Done) -> Result<Vec<u8>, AllocError>
+    ensures { IfOk result (λ text. IsShown manager.old done.now text.items) }
+{
+    let lines = texts(alloc, manager)?;
+    let front = counts(alloc, done).map_err(|_| AllocError)?;
+    answered::<Brand, Brand>(manager, &lines, front, Blank::new(3), Blank::new(2)).map_err(
+        |_| AllocError,
+    )
 }
 
 /// What is done with a manager before and after its tasks run. It is a trait since one that has tasks run names no
@@ -80,7 +125,8 @@ trait Runs: Machine {
     /// Writes how many steps of each task are done, and the text of each object that is loaded.
     fn show<W: Write>(&mut self, alloc: Global, done: &Done, out: &mut W) -> Result<(), LiveFault>
         requires room { length (Self.journaled self.old).groups ≤ MAX_GROUPS }
-        ensures { IfErr result IsRunFault };
+        ensures shown { OnOk result (IsShownOn (Self.journaled self.old) done.now (W.contents out.old) (W.contents out.new)) }
+        ensures fault { IfErr result IsRunFault };
 }
 
 impl Runs for Manager {
@@ -94,16 +140,12 @@ impl Runs for Manager {
     }
 
     fn show<W: Write>(&mut self, alloc: Global, done: &Done, out: &mut W) -> Result<(), LiveFault> {
-        let Ok(lines) = texts(alloc, self) else {
+        let Ok(text) = shown(alloc, self, done) else {
             return Err(LiveFault::NoMemory);
         };
-        let (first, second) = (done.first.len(), done.second.len());
-        if writeln!(out, "task 1 {first}\ntask 2 {second}").is_err() {
-            return Err(LiveFault::Program(Fault::Serve(ServeFault::Write)));
-        }
-        match answer::<W, Brand, Brand>(self, &lines, out, Blank::new(3), Blank::new(2)) {
+        match out.write_all(&text) {
             Ok(()) => Ok(()),
-            Err(fault) => Err(LiveFault::Program(Fault::Serve(fault))),
+            Err(_) => Err(LiveFault::Program(Fault::Serve(ServeFault::Write))),
         }
     }
 }
@@ -119,7 +161,9 @@ fn race<M: Runs + Drop + Send, W: Write, R: Threads + Wait + Sync>(
     requires empty { (M.journaled machine).groups ≡ [] }
     requires first { vec_len steps.first ≤ MAX_STEPS }
     requires second { vec_len steps.second ≤ MAX_STEPS }
-    ensures done { IfOk result (λ done. (left : Journaled) × HaveRaced (M.journaled machine) left steps.first.items steps.second.items done) }
+    ensures done { IfOk result (λ done. (left : Journaled)
+        × HaveRaced (M.journaled machine) left steps.first.items steps.second.items done
+        × IsShownOn left done (W.contents out.old) (W.contents out.new)) }
     ensures fault { IfErr result IsRunFault }
 {
     match raced::<M, R>(rt, alloc, machine, steps) {
@@ -141,7 +185,7 @@ fn live_by<M: Runs + Drop + Send, W: Write, R: Threads + Wait + Sync>(
     text: &[u8],
     out: &mut W,
 ) -> Result<Done, LiveFault>
-    ensures { LivesBy (M.journaled machine) text.now result }
+    ensures { LivesBy (M.journaled machine) text.now (W.contents out.old) (W.contents out.new) result }
 {
     let mut machine = machine;
     match machine.steps(alloc, text) {
@@ -164,7 +208,7 @@ fn live_plan<W: Write, R: Threads + Wait + Sync>(
     out: &mut W,
 ) -> Result<Done, LiveFault>
     requires { AreTargetsWithin (length plan.objects) plan.patches }
-    ensures { LivesPlan plan text.now result }
+    ensures { LivesPlan plan text.now (W.contents out.old) (W.contents out.new) result }
 {
     let mut callbacks = Vec::new(alloc);
     while let Some(script) = plan.script(callbacks.len()) {
@@ -185,7 +229,7 @@ pub(crate) fn lived<W: Write, R: Threads + Wait + Sync>(
     text: &[u8],
     out: &mut W,
 ) -> Result<Done, LiveFault>
-    ensures { Lives catalog.now text.now result }
+    ensures { Lives catalog.now text.now (W.contents out.old) (W.contents out.new) result }
 {
     match Catalog::read(alloc, catalog) {
         Ok(plan) => live_plan(rt, alloc, plan, text, out),
@@ -202,7 +246,7 @@ pub fn live<W: Write, E: Write, R: Threads + Wait + Sync>(
     out: &mut W,
     err: &mut E,
 ) -> u8
-    ensures { Exits catalog.now text.now result }
+    ensures { Exits catalog.now text.now (W.contents out.old) (W.contents out.new) result }
 {
     match lived(rt, alloc, catalog, text, out) {
         Ok(_) => 0,

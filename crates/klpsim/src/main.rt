@@ -2,7 +2,7 @@
 //! standard output, or has two task threads run the steps of a file.
 #![tactic(auto)]
 
-ghost use Rattle.std.specs.Prelude.{◌≡◌, ◌⊎◌, ℕ, List, None, IfErr};
+ghost use Rattle.std.specs.Prelude.{◌≡◌, ◌⊎◌, ℕ, List, Option, None, IfErr};
 ghost use Rattle.klp_program.specs.declared.sample.TheConstants.{CATALOG};
 ghost use Rattle.klp_program.specs.Runs.{IsServed};
 ghost use Rattle.klp_live_program.specs.Living.{Exits};
@@ -30,7 +30,8 @@ fn serve(rt: &HostRuntime, path: Option<String>) -> u8
     }
 }
 
-// Two tasks run the steps of a file over a catalog. The answer is the exit status, which is 1 too where a file isn't read.
+// Two tasks run the steps of a file over a catalog, and standard output gets what came of it. The answer is the exit status,
+// which is 1 too where a file isn't read.
 // It takes a handle of its own, since the runtime has threads in `main` alone.
 fn race<R: Threads + Wait + Sync + Files + Print + AllocGlobal, E: Write>(
     rt: &R,
@@ -38,7 +39,8 @@ fn race<R: Threads + Wait + Sync + Files + Print + AllocGlobal, E: Write>(
     steps: &str,
     err: &mut E,
 ) -> u8
-    ensures { (result ≡ 1) ⊎ ((first : List ℕ) × (second : List ℕ) × Exits first second result) }
+    ensures { (result ≡ 1) ⊎ ((first : List ℕ) × (second : List ℕ) × (before : Option (List ℕ)) × (after : Option (List ℕ))
+        × Exits first second before after result) }
 {
     match bytes_in_both(rt, catalog, steps) {
         Ok((catalog, steps)) => live(rt, rt.alloc(), &catalog, &steps, &mut io::writer(rt), err),

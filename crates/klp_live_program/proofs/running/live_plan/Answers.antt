@@ -58,4 +58,4 @@ pub live_by-requires-send-M : goal.live_by-requires-send-M
 live_by-requires-send-M g c κs within = manager_given table.slots own-1 lawful-own-1 sends-own-1 _ _ yes
 
 pub returns : goal.returns
-returns g c = lives_plan c.args.plan c.in_ok-manager.manager c.args.text.now c.live_by.result c.in_ok-manager.ensures.booted c.live_by.ensures
+returns g c = lives_plan c.args.plan c.in_ok-manager.manager c.args.text.now (g.W.Write.contents c.args.out.now) (g.W.Write.contents c.live_by.new.out) c.live_by.result c.in_ok-manager.ensures.booted c.live_by.ensures
