@@ -39,7 +39,7 @@ fn modules_of(alloc: Global) -> Result<Modules, Fault> {
 fn all_picked(modules: &Modules) -> bool {
     PICKED.iter().all(|(object, name, position, wanted)| {
         let picked = modules.resolve(ObjId(*object), name, *position);
-        picked == wanted.map(Site)
+        picked == wanted.map(|number| Site(number))
     })
 }
 
