@@ -39,6 +39,26 @@ def traces():
     return [(f"{name}.trace", functools.partial(trace, name, catalog)) for name, catalog in index("traces")]
 
 
+# A life of task 1: it calls a function, and returns. 1,024 lives are as many accepted events as a journal has room for.
+LIFE = "task new 1\ntask enter 1\ncall 1 .klp.sym.vmlinux.f,0\nreturn 1\ntask exit 1\ntask end 1\n"
+# It leaves the kernel inside of the function.
+LEAVES = "task new 1\ntask enter 1\ncall 1 .klp.sym.vmlinux.f,0\ntask exit 1\n"
+
+
+def long_trace(text, said, status):
+    with tempfile.NamedTemporaryFile("w", suffix=".trace") as it:
+        it.write(text)
+        it.flush()
+        return fault(run(["klpwatch", "k.catalog", it.name]), (status, said, ""))
+
+
+def long_traces():
+    """Traces that are too long to be kept."""
+    honest = [(f"{count} lives", LIFE * count, f"honest {4 * count} {count} {count}\n".encode(), 0) for count in (1024, 1025, 5000)]
+    honest.append(("5000 lives, and a task that leaves inside of a function", LIFE * 5000 + LEAVES, b"line 30004: FramesLeft\n", 3))
+    return [(f"a trace of {name}", functools.partial(long_trace, *case)) for name, *case in honest]
+
+
 def steps(name, catalog):
     stored = read(f"{name}.output")
     wanted = (1, b"", stored.decode()) if stored.startswith(b"klpsim: ") else (0, stored, "")
@@ -107,5 +127,5 @@ def copies():
 
 
 def cases():
-    kinds = (scripts, traces, lives, pages, refused_catalogs, faulty_lines, unreadable_paths, copies)
+    kinds = (scripts, traces, long_traces, lives, pages, refused_catalogs, faulty_lines, unreadable_paths, copies)
     return [case for kind in kinds for case in kind()]
