@@ -17,6 +17,8 @@ mod image;
 #[cfg(test)]
 mod input;
 #[cfg(test)]
+mod large;
+#[cfg(test)]
 mod looks;
 #[cfg(test)]
 mod managed;
