@@ -1,4 +1,6 @@
+pub mod AskedLemmas
 pub mod BootedLemmas
 pub mod ServeLemmas
 pub mod TraceLemmas
 pub mod WatchLemmas
+pub mod WordLemmas

@@ -1,5 +1,6 @@
 pub mod Asked
 pub mod Booted
+pub mod Commands
 pub mod Kinds
 pub mod Printed
 pub mod Runs

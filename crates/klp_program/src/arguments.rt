@@ -1,5 +1,7 @@
-ghost use Rattle.std.specs.Prelude.{◌≡◌, ◌⊎◌, [], ◌∷◌, map, string_bytes, Some, None, IfErr, MatchResult};
-ghost use Rattle.klp_program.specs.Asked.{begins_with_dash, two_files};
+ghost use Rattle.std.specs.Prelude.{◌≡◌, ◌⊎◌, [], ◌∷◌, map, string_bytes, Some, None, option_map, IfOk, IfErr, MatchResult};
+ghost use Rattle.clap.specs.Words.{first_of, found_of, rows_of, subcommand_rows_of};
+ghost use Rattle.klp_program.specs.Asked.{asked_of, begins_with_dash, meaning, two_files};
+ghost use Rattle.klp_program.specs.Commands.{asked_in, console_app, klpsim_app, live_app, IsCommand};
 
 use crate::fault::Fault;
 use crate::wanted::Words;
@@ -27,18 +29,24 @@ const USAGE: u8 = 2;
 const FAULT: u8 = 1;
 
 // The console's words: a catalog, or none.
-fn console_command<'a>(alloc: Global) -> Result<Command<'a>, AllocError> {
+fn console_command<'a>(alloc: Global) -> Result<Command<'a>, AllocError>
+    ensures { IfOk result (λ command. IsCommand command console_app) }
+{
     Command::new(alloc, "console").arg(Arg::new(alloc, CATALOG))
 }
 
 // Those of two task threads: a catalog and steps.
-fn live_command<'a>(alloc: Global) -> Result<Command<'a>, AllocError> {
+fn live_command<'a>(alloc: Global) -> Result<Command<'a>, AllocError>
+    ensures { IfOk result (λ command. IsCommand command live_app) }
+{
     Command::new(alloc, LIVE)
         .arg(Arg::new(alloc, CATALOG).required(true))?
         .arg(Arg::new(alloc, STEPS).required(true))
 }
 
-fn command<'a>(alloc: Global) -> Result<Command<'a>, AllocError> {
+fn command<'a>(alloc: Global) -> Result<Command<'a>, AllocError>
+    ensures { IfOk result (λ command. IsCommand command klpsim_app) }
+{
     let console = console_command(alloc)?;
     let command = Command::new(alloc, NAME)
         .no_binary_name(true)
@@ -51,7 +59,9 @@ fn path_of(
     alloc: Global,
     matches: &ArgMatches<'_>,
     name: &str,
-) -> Result<Option<String>, AllocError> {
+) -> Result<Option<String>, AllocError>
+    ensures { IfOk result (λ path. option_map string_bytes path ≡ first_of name.now (rows_of (found_of matches.now))) }
+{
     match matches.get_str(name) {
         Some(path) => Ok(Some(String::from_str(alloc, path)?)),
         None => Ok(None),
@@ -59,7 +69,9 @@ fn path_of(
 }
 
 // What words ask for that were read.
-fn asked(alloc: Global, matches: &ArgMatches<'_>) -> Result<Option<Words>, AllocError> {
+fn asked(alloc: Global, matches: &ArgMatches<'_>) -> Result<Option<Words>, AllocError>
+    ensures { IfOk result (λ words. option_map meaning words ≡ asked_in (subcommand_rows_of matches.now)) }
+{
     let Some((name, given)) = matches.subcommand() else {
         return Ok(Some(Words::Console(None)));
     };
@@ -100,7 +112,11 @@ pub fn given<R: Env + AllocGlobal, W: Write>(
     }
 }
 
-fn parsed(alloc: Global, given: &[String]) -> Result<Words, Option<Fault>> {
+// The words are read, or refused; or memory ran out.
+fn parsed(alloc: Global, given: &[String]) -> Result<Words, Option<Fault>>
+    ensures meant { IfOk result (λ words. asked_of (map string_bytes given.now) ≡ Some (meaning words)) }
+    ensures refused { IfErr result (λ fault. fault ≡ None → asked_of (map string_bytes given.now) ≡ None) }
+{
     let command = command(alloc).map_err(|_| Some(Fault::NoMemory))?;
     match command.try_get_matches_from(given) {
         Ok(matches) => match asked(alloc, &matches) {
@@ -117,7 +133,9 @@ fn parsed(alloc: Global, given: &[String]) -> Result<Words, Option<Fault>> {
 /// `err` says so, and the answer is the exit status: 2 for words (`--help` is refused too), 1 for
 /// memory.
 pub fn words<W: Write>(alloc: Global, given: &[String], err: &mut W) -> Result<Words, u8>
-    ensures { IfErr result (λ status. (status ≡ 1) ⊎ (status ≡ 2)) }
+    ensures meant { IfOk result (λ words. asked_of (map string_bytes given.now) ≡ Some (meaning words)) }
+    ensures refused { IfErr result (λ status. status ≡ 2 → asked_of (map string_bytes given.now) ≡ None) }
+    ensures status { IfErr result (λ status. (status ≡ 1) ⊎ (status ≡ 2)) }
 {
     match parsed(alloc, given) {
         Ok(words) => Ok(words),

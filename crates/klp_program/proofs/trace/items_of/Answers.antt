@@ -1,7 +1,7 @@
 use Rattle.std.proofs.Common.{ℕ, List, sym, subst, ◌∙◌}
 use Rattle.std.specs.Str.Lines.{lines}
 use Rattle.klp_model.specs.declared.seen.Seen.{Seen}
-use Rattle.klp_program.proofs.TraceLemmas.{IsReadTo, nothing_read, one_read, all_read, bad_line}
+use Rattle.klp_program.proofs.TraceLemmas.{IsReadTo, nothing_read, one_read}
 use Rattle.klp_program.proofs.trace.items_of.Goals as goal
 
 pub loop-line-init : goal.loop-line-init

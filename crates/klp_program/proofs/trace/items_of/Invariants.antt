@@ -1,6 +1,5 @@
-use Rattle.std.proofs.Common.{◌≡◌, ◌++◌, map, length, Some}
+use Rattle.std.proofs.Common.{length}
 use Rattle.std.specs.Str.Lines.{lines}
-use Rattle.klp_program.specs.Trace.{item_of}
 use Rattle.klp_program.proofs.TraceLemmas.{IsReadTo}
 use Rattle.klp_program.proofs.trace.items_of.Given as goal
 
