@@ -1,13 +1,16 @@
 -- A callback for each script of a plan, made one after the other.
-use Rattle.std.proofs.Common.{◌≡◌, ℕ, List, [], ◌∷◌, ◌++◌, Some, None, length, map, take, option_map, refl, sym, ap}
+use Rattle.std.proofs.Common.{◌≡◌, ℕ, List, [], ◌∷◌, ◌++◌, Option, Some, None, length, map, take, option_map, refl, sym, ap, inl, inr}
 use Rattle.std.specs.List.{slice_get}
 use Rattle.klp_types.specs.Script.{Script}
 use Rattle.klp_callback.specs.Told.{Told}
 use Rattle.std.specs.Prelude.{Result, Ok, Err, IfOk}
 use Rattle.klp_catalog_text.specs.Plan.{Plan}
 use Rattle.klp_core.specs.Journaled.{Journaled}
+use Rattle.klp_console.specs.declared.served.ServeFault.TheVariants.{Read, Write, LineTooLong}
+use Rattle.klp_program.specs.declared.fault.Fault.{Fault}
+use Rattle.klp_program.specs.declared.fault.Fault.TheVariants.{CannotRead, NoMemory, Text, Image, Assemble, Boot, Serve, Trace}
 use Rattle.klp_program.specs.Booted.{never_ran, IsBootedOver}
-use Rattle.klp_page.specs.Pages.{IsPage, IsPageOver}
+use Rattle.klp_page.specs.Pages.{IsPage, IsPageOver, IsFaultOf, Writes}
 
 -- as many of the scripts as there are callbacks, and no other, have theirs
 abbrev pub first_made : List Told → List Script → List Told
@@ -48,3 +51,17 @@ pub page_over : {A E : Type 0} (plan : Plan) (booted : Journaled) (script : List
     → IsBootedOver plan booted → IfOk result (λ page. IsPage booted script (text page)) → IfOk result (λ page. IsPageOver plan script (text page))
 page_over plan booted script (Ok page) text is shown = record { booted = booted; is_booted = is; is_page = shown }
 page_over plan booted script (Err fault) text is shown = tt
+
+-- where there is no page, nothing is written
+pub writes_none : {A : Type 0} (text script : List ℕ) (before : Option (List ℕ)) (fault : Fault)
+    → IsFaultOf text script fault → Writes {A = A} text script before before (Err fault)
+writes_none text script before (Serve Write) (plan, planned, over) = elim over [ inl no ↦ absurd no | inr no ↦ absurd no ]
+writes_none text script before (Serve Read) is = (is, refl)
+writes_none text script before (Serve LineTooLong) is = (is, refl)
+writes_none text script before NoMemory is = (is, refl)
+writes_none text script before CannotRead is = (is, refl)
+writes_none text script before (Text fault) is = (is, refl)
+writes_none text script before (Image fault) is = (is, refl)
+writes_none text script before (Assemble fault) is = (is, refl)
+writes_none text script before (Boot fault) is = (is, refl)
+writes_none text script before (Trace fault) is = (is, refl)

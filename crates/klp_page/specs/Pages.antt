@@ -6,7 +6,7 @@ use Rattle.klp_catalog_text.specs.Plan.{Plan}
 use Rattle.klp_catalog_text.specs.Text.{plan_of}
 use Rattle.klp_catalog_text.specs.Text as catalog
 use Rattle.klp_core.specs.Journaled.{Journaled}
-use Rattle.klp_console.specs.declared.served.ServeFault.TheVariants.{LineTooLong}
+use Rattle.klp_console.specs.declared.served.ServeFault.TheVariants.{LineTooLong, Write}
 use Rattle.klp_console_io.specs.Lines.{lines_and_rest}
 use Rattle.klp_console.specs.Lines.{lines_of}
 use Rattle.klp_program.specs.declared.fault.Fault.{Fault}
@@ -67,19 +67,9 @@ IsFaultOf text script NoMemory = Unit {0}
 IsFaultOf text script (Text fault) = catalog.IsFaultOf text fault.line fault.kind
 IsFaultOf text script other = (plan : Plan) × (plan_of text ≡ Ok plan) × IsFaultOver plan script other
 
--- what a script comes to: its page, or why there is none
-abbrev pub ComesTo : List ℕ → List ℕ → Result (List ℕ) Fault → Type 0
-ComesTo text script (Ok page) = IsPageOf text script page
-ComesTo text script (Err fault) = IsFaultOf text script fault
-
--- the whole page was written behind what the output had, and the status is 0; or it is 1, since the page could not be written. Where
--- there is none nothing was written
-abbrev pub IsWritten : Option (List ℕ) → Option (List ℕ) → ℕ → Result (List ℕ) Fault → Type 0
-IsWritten before after status (Ok page) = (Appends before after page × (status ≡ 0)) ⊎ (status ≡ 1)
-IsWritten before after status (Err fault) = (after ≡ before) × (status ≡ 1)
-
--- a script was shown over a catalog's text, and what it came to was written
-pub record Writes (text script : List ℕ) (before after : Option (List ℕ)) (status : ℕ) : Type 0 where
-  pub ended : Result (List ℕ) Fault
-  pub comes_to : ComesTo text script ended
-  pub written : IsWritten before after status ended
+-- a script was shown over a catalog's text, and its whole page was written behind what the output had; or that could not be written; or there
+-- is no page for this fault, and nothing was written
+abbrev pub Writes : {A : Type 0} → List ℕ → List ℕ → Option (List ℕ) → Option (List ℕ) → Result A Fault → Type 0
+Writes text script before after (Ok done) = (page : List ℕ) × IsPageOf text script page × Appends before after page
+Writes text script before after (Err (Serve Write)) = (page : List ℕ) × IsPageOf text script page
+Writes text script before after (Err fault) = IsFaultOf text script fault × (after ≡ before)

@@ -12,7 +12,7 @@ use klp_catalog_text::Plan;
 use klp_chronicle::Chronicle;
 use klp_console::ServeFault;
 use klp_core::Manager;
-use klp_program::{Fault, boot, close, file_words, scripted, told_by};
+use klp_program::{Fault, boot, close, file_words, scripted};
 use std::alloc::Global;
 use std::io::Write;
 
@@ -72,24 +72,23 @@ pub fn page_over(alloc: Global, catalog: &[u8], script: &[u8]) -> Result<Vec<u8>
     page_plan(alloc, plan, script)
 }
 
-/// Writes the page of a script to `out`. The answer is the exit status: 0, or 1 where a line on `err` tells the
-/// fault. Nothing is written to `out` before all lines are served.
-pub fn write_page<W: Write, E: Write>(
+/// Writes the page of a script to `out`. Nothing is written before all lines are served. Where the page can't be written,
+/// the fault is that of the write.
+pub fn write_page<W: Write>(
     alloc: Global,
     catalog: &[u8],
     script: &[u8],
     out: &mut W,
-    err: &mut E,
-) -> u8
+) -> Result<(), Fault>
     ensures { Writes catalog.now script.now (W.contents out.old) (W.contents out.new) result }
 {
     let page = match page_over(alloc, catalog, script) {
         Ok(page) => page,
-        Err(fault) => return told_by(NAME, fault, err),
+        Err(fault) => return Err(fault),
     };
     match out.write_all(&page) {
-        Ok(()) => 0,
-        Err(_) => told_by(NAME, Fault::Serve(ServeFault::Write), err),
+        Ok(()) => Ok(()),
+        Err(_) => Err(Fault::Serve(ServeFault::Write)),
     }
 }
 

@@ -1,10 +1,12 @@
 -- What klpwatch prints of a verdict, and its exit status.
-use Rattle.std.specs.Prelude.{◌≡◌, ◌⊎◌, ℕ, List, ◌++◌, codes, Option, Result, Ok, Err}
+use Rattle.std.specs.Prelude.{◌≡◌, ℕ, List, ◌++◌, codes, Option, Result, Ok, Err}
 use Rattle.std.specs.Fmt.{decimal}
 use Rattle.std.specs.Io.KnownBytes.{Appends}
 use Rattle.klp_watch.specs.declared.cause.Cause.{Cause}
 use Rattle.klp_watch.specs.declared.cause.Cause.TheVariants.{NotOpening, Frames, FramesLeft, ModuleInUse, Forced, NoCall, NoReturn, Deep}
+use Rattle.klp_console.specs.declared.served.ServeFault.TheVariants.{Write}
 use Rattle.klp_program.specs.declared.fault.Fault.{Fault}
+use Rattle.klp_program.specs.declared.fault.Fault.TheVariants.{Serve}
 use Rattle.klp_program.specs.declared.verdict.Verdict.{Verdict}
 use Rattle.klp_program.specs.declared.verdict.Verdict.TheVariants.{Honest, Dishonest}
 use Rattle.klp_program.specs.Watches.{Watches}
@@ -29,14 +31,9 @@ abbrev pub verdict_status : Verdict → ℕ
 verdict_status (Honest counts) = 0
 verdict_status (Dishonest fault) = 3
 
--- the verdict's line was written behind what the output had, and the status is the verdict's; or it is 1, since the line could not be
--- written. Where there is no verdict nothing was written
-abbrev pub IsPrinted : Option (List ℕ) → Option (List ℕ) → ℕ → Result Verdict Fault → Type 0
-IsPrinted before after status (Ok verdict) = (Appends before after (verdict_text verdict) × (status ≡ verdict_status verdict)) ⊎ (status ≡ 1)
-IsPrinted before after status (Err fault) = (after ≡ before) × (status ≡ 1)
-
--- a trace was watched over a catalog's text, and what it came to was printed
-pub record Prints (catalog trace : List ℕ) (before after : Option (List ℕ)) (status : ℕ) : Type 0 where
-  pub ended : Result Verdict Fault
-  pub watches : Watches catalog trace ended
-  pub printed : IsPrinted before after status ended
+-- a trace was watched over a catalog's text, and the line of its verdict was written behind what the output had; or that line could not be
+-- written; or there is no verdict for this fault, and nothing was written
+abbrev pub Prints : List ℕ → List ℕ → Option (List ℕ) → Option (List ℕ) → Result Verdict Fault → Type 0
+Prints catalog trace before after (Ok verdict) = Watches catalog trace (Ok verdict) × Appends before after (verdict_text verdict)
+Prints catalog trace before after (Err (Serve fault)) = (fault ≡ Write) × ((verdict : Verdict) × Watches catalog trace (Ok verdict))
+Prints catalog trace before after (Err fault) = Watches catalog trace (Err fault) × (after ≡ before)

@@ -24,4 +24,4 @@ pub use sample::CATALOG;
 pub use serve::{close, console, served};
 pub use verdict::{Counts, Verdict};
 pub use wanted::Words;
-pub use watch::{trace_words, watch_trace, watched};
+pub use watch::{status_of, trace_words, watch_trace, watched};

@@ -8,7 +8,7 @@ ghost use Rattle.klp_program.specs.Asked.{two_files};
 ghost use Rattle.klp_program.specs.Printed.{cause_text, verdict_text, verdict_status, Prints};
 ghost use Rattle.klp_program.specs.Watches.{counted, IsFound, WatchesBy, WatchesPlan, Watches};
 
-use crate::arguments::{file_words, told_by};
+use crate::arguments::file_words;
 use crate::booted::boot;
 use crate::fault::Fault;
 use crate::kind::scripted;
@@ -134,7 +134,8 @@ fn print<W: Write>(verdict: Verdict, out: &mut W) -> io::Result<()>
     }
 }
 
-fn status_of(verdict: Verdict) -> u8
+/// The exit status of a verdict: 0 for an honest trace, and 3 for one that isn't.
+pub fn status_of(verdict: Verdict) -> u8
     ensures { result ≡ verdict_status verdict }
 {
     match verdict {
@@ -143,24 +144,22 @@ fn status_of(verdict: Verdict) -> u8
     }
 }
 
-/// Watches, and writes the verdict to `out`. The answer is the exit status: 0 for an honest trace, 3 for one that isn't, or
-/// 1 where a line on `err` tells the fault.
-pub fn watch_trace<W: Write, E: Write>(
+/// Watches, and writes the verdict to `out` as one line. Where that can't be written, the fault is that of the write.
+pub fn watch_trace<W: Write>(
     alloc: Global,
     catalog: &[u8],
     trace: &[u8],
     out: &mut W,
-    err: &mut E,
-) -> u8
+) -> Result<Verdict, Fault>
     ensures { Prints catalog.now trace.now (W.contents out.old) (W.contents out.new) result }
 {
     let verdict = match watched(alloc, catalog, trace) {
         Ok(verdict) => verdict,
-        Err(fault) => return told_by(NAME, fault, err),
+        Err(fault) => return Err(fault),
     };
     match print(verdict, out) {
-        Ok(()) => status_of(verdict),
-        Err(_) => told_by(NAME, Fault::Serve(ServeFault::Write), err),
+        Ok(()) => Ok(verdict),
+        Err(_) => Err(Fault::Serve(ServeFault::Write)),
     }
 }
 

@@ -1,0 +1,83 @@
+//! Who does what in an item of a trace that isn't honest.
+
+use crate::calls::Calls;
+use crate::escaped::Escaped;
+use crate::item::Item;
+use klp_watch::Cause;
+use std::fmt;
+
+#[derive(Clone, Copy)]
+pub(crate) enum Act<'a> {
+    /// No task does it.
+    Nobody(&'static str),
+    /// A task does this inside of a function, or of none.
+    Inside(u64, &'static str, Option<&'a [u8]>),
+    /// A task calls a function.
+    Calls(u64, &'a [u8]),
+    /// A module goes while a task is inside of its function.
+    Going(&'a [u8], u64, &'a [u8]),
+}
+
+impl<'a> fmt::Display for Act<'a> {
+    fn fmt<W: fmt::Write>(&self, f: &mut fmt::Formatter<W>) -> fmt::Result {
+        match *self {
+            Act::Nobody(what) => write!(f, "{what}"),
+            Act::Inside(task, does, None) => write!(f, "task {task} {does} inside of no function"),
+            Act::Inside(task, does, Some(symbol)) => {
+                write!(f, "task {task} {does} inside of {}", Escaped(symbol))
+            }
+            Act::Calls(task, symbol) => write!(
+                f,
+                "task {task} isn't running in the kernel, or {} isn't loaded",
+                Escaped(symbol)
+            ),
+            Act::Going(module, task, symbol) => write!(
+                f,
+                "{} goes while task {task} is inside of {}",
+                Escaped(module),
+                Escaped(symbol)
+            ),
+        }
+    }
+}
+
+/// A task returns, and runs in no function: it is inside of none, or asleep.
+fn returns<'a>(task: u64, calls: &Calls<'a>) -> Act<'a> {
+    match calls.last_of(task) {
+        None => Act::Inside(task, "returns, and is", None),
+        inside => Act::Inside(task, "returns while it sleeps", inside),
+    }
+}
+
+fn goes<'a>(module: &'a [u8], calls: &Calls<'a>) -> Option<Act<'a>> {
+    let (task, symbol) = calls.first_in(module)?;
+    Some(Act::Going(module, task, symbol))
+}
+
+/// What the item does, where a task does it or is in its way. The calls are those that are open before it.
+fn act_in<'a>(cause: Cause, item: Item<'a>, calls: &Calls<'a>) -> Option<Act<'a>> {
+    let (task, does) = match (cause, item) {
+        (Cause::Frames, Item::Sleep(task)) => (task, "tells other functions, and is"),
+        (Cause::FramesLeft, Item::Exit(task)) => (task, "leaves the kernel"),
+        (Cause::FramesLeft, Item::End(task)) => (task, "ends"),
+        (Cause::Deep, Item::Call(task, _)) => (task, "calls one function too many, and is"),
+        (Cause::NoCall, Item::Call(task, symbol)) => return Some(Act::Calls(task, symbol)),
+        (Cause::NoReturn, Item::Return(task)) => return Some(returns(task, calls)),
+        (Cause::ModuleInUse, Item::Going(module)) => return goes(module, calls),
+        _ => return None,
+    };
+    Some(Act::Inside(task, does, calls.last_of(task)))
+}
+
+/// What is told of an item of this cause.
+pub(crate) fn act_of<'a>(cause: Cause, item: Option<Item<'a>>, calls: &Calls<'a>) -> Act<'a> {
+    let act = match item {
+        Some(item) => act_in(cause, item, calls),
+        None => None,
+    };
+    act.unwrap_or(match cause {
+        Cause::Forced => Act::Nobody("a transition is forced"),
+        Cause::NotOpening => Act::Nobody("a task is there at the start"),
+        _ => Act::Nobody("a premise of the consistency model is broken"),
+    })
+}

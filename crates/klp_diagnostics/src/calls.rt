@@ -1,0 +1,87 @@
+//! What tasks are inside of, by the calls of a trace.
+
+use crate::item::Item;
+use klp_catalog_text::Lines;
+use std::alloc::{AllocError, Global};
+
+/// In front of a symbol's object, in its spelling.
+const SPELLING: &[u8] = b".klp.sym.";
+
+/// A call that wasn't returned from.
+#[derive(Clone, Copy)]
+struct Call<'a> {
+    task: u64,
+    symbol: &'a [u8],
+}
+
+/// All calls that weren't returned from, oldest first.
+#[derive(Drop)]
+pub(crate) struct Calls<'a> {
+    open: Vec<Call<'a>>,
+}
+
+impl<'a> Call<'a> {
+    fn is_in(&self, module: &[u8]) -> bool {
+        match self.symbol.strip_prefix(SPELLING) {
+            Some(rest) => match rest.strip_prefix(module) {
+                Some(symbol) => symbol.first() == Some(&b'.'),
+                None => false,
+            },
+            None => false,
+        }
+    }
+}
+
+impl<'a> Calls<'a> {
+    fn add(&mut self, item: Option<Item<'a>>) -> Result<(), AllocError> {
+        match item {
+            Some(Item::Call(task, symbol)) => self.open.push(Call { task, symbol })?,
+            Some(Item::Return(task)) => {
+                if let Some(place) = self.open.iter().rposition(|call| call.task == task) {
+                    self.open.remove(place);
+                }
+            }
+            _ => {}
+        }
+        Ok(())
+    }
+
+    /// The calls that are open behind so many lines of a trace, each of which is an honest item. So no call of a task
+    /// that ended is among them: it had returned from all.
+    pub(crate) fn behind(
+        alloc: Global,
+        trace: &'a [u8],
+        lines_before: u64,
+    ) -> Result<Calls<'a>, AllocError> {
+        let mut calls = Calls {
+            open: Vec::new(alloc),
+        };
+        let mut lines = Lines::new(trace);
+        for _ in 0..lines_before {
+            calls.add(Item::read(lines.next().unwrap_or(&[])))?;
+        }
+        Ok(calls)
+    }
+
+    /// The symbol that the task called last.
+    pub(crate) fn last_of(&self, task: u64) -> Option<&'a [u8]> {
+        let call = self.open.iter().rfind(|call| call.task == task)?;
+        Some(call.symbol)
+    }
+
+    /// The first task that is inside of a module, with the symbol of it that it called last.
+    pub(crate) fn first_in(&self, module: &[u8]) -> Option<(u64, &'a [u8])> {
+        let mut first: Option<Call<'a>> = None;
+        for call in &self.open {
+            let is_first = match first {
+                Some(other) => call.task <= other.task,
+                None => true,
+            };
+            if call.is_in(module) && is_first {
+                first = Some(*call);
+            }
+        }
+        let call = first?;
+        Some((call.task, call.symbol))
+    }
+}

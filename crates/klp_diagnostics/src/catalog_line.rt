@@ -1,0 +1,149 @@
+//! A faulty line of a catalog: which word is at fault, and what is wanted there.
+
+use crate::form::{Form, Part};
+use crate::lines::{line_at, word_at};
+use crate::wrong::Wrong;
+use klp_catalog_text::{CatalogLine, Lines, TextFault, TextFaultKind, words_of};
+use klp_types::{MAX_BODY, MAX_LINE};
+use klp_words::{
+    Words, hexadecimal, is_name, is_symbol_name, number32, number64, signed, spelling_of,
+};
+use std::alloc::Global;
+
+/// How many digits a byte of a body has.
+const DIGITS: usize = 2;
+
+/// Whether a text begins as a catalog does that may have no fault: with its handler, or with an object.
+pub(crate) fn begins_as_catalog(text: &[u8]) -> bool {
+    let mut lines = Lines::new(text);
+    for _ in 0..text.len() {
+        let line = lines.next().unwrap_or(&[]);
+        let first = word_at(words_of(line), 1);
+        if !first.is_empty() && line.first() != Some(&b'#') {
+            return first == b"handler".as_slice() || first == b"object".as_slice();
+        }
+    }
+    false
+}
+
+fn is_body(word: &[u8]) -> bool {
+    word.len() % DIGITS == 0 && word.iter().all(u8::is_ascii_hexdigit)
+}
+
+/// Whether a word is an edit, by the rule of the catalog's text: it stands alone behind a status of 0. Where there is no
+/// memory to ask, it is taken for one.
+fn is_edit(alloc: Global, word: &[u8]) -> bool {
+    let mut script = Vec::new(alloc);
+    if script.extend_from_slice(b"0 ").is_err() || script.extend_from_slice(word).is_err() {
+        return true;
+    }
+    let mut words = words_of(&script);
+    let read = CatalogLine::read(alloc, None, &script, b"pre", &mut words);
+    !matches!(read, Err(TextFaultKind::BadEdit))
+}
+
+fn is_spelled(alloc: Global, part: Part, word: &[u8]) -> bool {
+    match part {
+        Part::Name => is_name(word),
+        Part::SymbolName => is_symbol_name(word),
+        Part::Address => hexadecimal(word).is_some(),
+        Part::Body => is_body(word),
+        Part::Symbol => spelling_of(word).is_some(),
+        Part::Status => signed(word).is_some(),
+        Part::Id => number64(word).is_some(),
+        Part::Version => number32(word).is_some(),
+        Part::Edit => is_edit(alloc, word),
+    }
+}
+
+/// The first of these words that is no edit.
+fn bad_edit<'a>(alloc: Global, mut words: Words<'a>, most: usize) -> Wrong<'a> {
+    let mut word = words.next().unwrap_or(&[]);
+    for _ in 0..most {
+        if !is_edit(alloc, word) {
+            break;
+        }
+        word = words.next().unwrap_or(&[]);
+    }
+    Wrong::Word(word, Part::Edit.wanted())
+}
+
+/// The first word of a line that isn't spelled as it should be. Where all are, it is a symbol of another object than the
+/// target's.
+fn bad_word<'a>(alloc: Global, form: &Form, line: &'a [u8]) -> Wrong<'a> {
+    let mut words = words_of(line);
+    words.next();
+    for part in form.parts {
+        if let Part::Edit = *part {
+            return bad_edit(alloc, words, line.len());
+        }
+        let word = words.next().unwrap_or(&[]);
+        if !is_spelled(alloc, *part, word) {
+            return Wrong::Word(word, part.wanted());
+        }
+    }
+    Wrong::Word(word_at(words_of(line), 2), Part::Symbol.wanted())
+}
+
+/// What stands behind the first word of a line is there already.
+fn twice<'a>(form: &Form, line: &'a [u8]) -> Wrong<'a> {
+    let number = match form.parts {
+        [Part::Name | Part::Id, ..] => 2,
+        _ => 1,
+    };
+    Wrong::Word(word_at(words_of(line), number), form.once)
+}
+
+fn too_many<'a>(form: &Form, line: &'a [u8]) -> Wrong<'a> {
+    let body = word_at(words_of(line), 4);
+    match form.parts {
+        [.., Part::Body] if body.len() > DIGITS * MAX_BODY => {
+            Wrong::Most(body, MAX_BODY, "bytes of a body")
+        }
+        _ => Wrong::Most(line, form.most, form.of_these),
+    }
+}
+
+/// A line that begins with no word of a catalog, or a patch that is neither cumulative nor isn't.
+fn unknown_word(line: &[u8]) -> Wrong<'_> {
+    let first = word_at(words_of(line), 1);
+    match Form::of(first) {
+        Some(_) => Wrong::Word(word_at(words_of(line), 3), "is replace, or nothing"),
+        None => Wrong::Word(
+            first,
+            "is handler, object, symbol, patch, target, func, pre, post, preun, postun or state",
+        ),
+    }
+}
+
+fn wrong_with<'a>(alloc: Global, form: &Form, kind: TextFaultKind, line: &'a [u8]) -> Wrong<'a> {
+    match kind {
+        TextFaultKind::WrongCount => Wrong::Word(line, form.written),
+        TextFaultKind::OutOfPlace => Wrong::Word(line, form.place),
+        TextFaultKind::Twice => twice(form, line),
+        TextFaultKind::UnknownObject => {
+            Wrong::Word(
+                word_at(words_of(line), 2),
+                "is an object of the lines above",
+            )
+        }
+        TextFaultKind::TooMany => too_many(form, line),
+        _ => bad_word(alloc, form, line),
+    }
+}
+
+/// What is wrong in the line that has this fault.
+pub(crate) fn wrong_of(alloc: Global, catalog: &[u8], fault: TextFault) -> Wrong<'_> {
+    let line = line_at(catalog, fault.line);
+    match fault.kind {
+        TextFaultKind::Missing => Wrong::Lacking("are a handler and an object"),
+        TextFaultKind::NoMemory => Wrong::Lacking("is more memory"),
+        TextFaultKind::NotAscii => Wrong::Word(line, "is ASCII alone"),
+        TextFaultKind::LineTooLong => Wrong::Most(line, MAX_LINE, "bytes"),
+        TextFaultKind::UnknownWord => unknown_word(line),
+        kind => match Form::of(word_at(words_of(line), 1)) {
+            Some(form) => wrong_with(alloc, form, kind, line),
+            None => unknown_word(line),
+        },
+    }
+}

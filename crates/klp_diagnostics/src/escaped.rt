@@ -1,0 +1,56 @@
+//! Bytes of a file, for a terminal.
+
+use std::fmt;
+
+/// How many bytes of a word are shown.
+const SHOWN: usize = 64;
+
+/// Bytes as they are, but for what drives a terminal, can't be seen or is no text.
+#[derive(Clone, Copy)]
+pub(crate) struct Escaped<'a>(pub(crate) &'a [u8]);
+
+/// The same between quotes, and cut where it is long.
+#[derive(Clone, Copy)]
+pub(crate) struct Quoted<'a>(pub(crate) &'a [u8]);
+
+fn write_text<W: fmt::Write>(f: &mut fmt::Formatter<W>, text: &str) -> fmt::Result {
+    for c in text.chars() {
+        if matches!(c, '\'' | '"' | '\\') {
+            f.write_char(c)?;
+        } else {
+            write!(f, "{}", c.escape_debug())?;
+        }
+    }
+    Ok(())
+}
+
+impl<'a> fmt::Display for Escaped<'a> {
+    fn fmt<W: fmt::Write>(&self, f: &mut fmt::Formatter<W>) -> fmt::Result {
+        for chunk in self.0.utf8_chunks() {
+            write_text(f, chunk.valid())?;
+            write!(f, "{}", chunk.invalid().escape_ascii())?;
+        }
+        Ok(())
+    }
+}
+
+/// As much of a word as is shown, which ends with a whole character.
+fn shown(word: &[u8]) -> &[u8] {
+    let Some(front) = word.get(..SHOWN) else {
+        return word;
+    };
+    match str::from_utf8(front) {
+        Err(error) if error.error_len().is_none() => {
+            front.get(..error.valid_up_to()).unwrap_or(front)
+        }
+        _ => front,
+    }
+}
+
+impl<'a> fmt::Display for Quoted<'a> {
+    fn fmt<W: fmt::Write>(&self, f: &mut fmt::Formatter<W>) -> fmt::Result {
+        let shown = shown(self.0);
+        let more = if shown.len() < self.0.len() { ".." } else { "" };
+        write!(f, "'{}'{more}", Escaped(shown))
+    }
+}

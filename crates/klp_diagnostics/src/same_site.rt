@@ -1,0 +1,76 @@
+//! Functions of a patch that are for one site.
+
+use crate::wrong::{Named, Pair, Wrong};
+use klp_catalog_text::{PlanFunction, PlanPatch, PlanTarget};
+use klp_types::ObjectText;
+
+/// Which of an object's symbols of its name a function is for, counted from 1, if it is for one.
+fn position_in(object: &ObjectText, function: &PlanFunction) -> Option<usize> {
+    let count = object
+        .symbols
+        .iter()
+        .filter(|symbol| symbol.name == function.symbol)
+        .count();
+    match function.sympos as usize {
+        0 if count == 1 => Some(1),
+        position if 0 < position && position <= count => Some(position),
+        _ => None,
+    }
+}
+
+fn are_for_one_site(object: &ObjectText, one: &PlanFunction, other: &PlanFunction) -> bool {
+    let position = position_in(object, one);
+    one.symbol == other.symbol && position.is_some() && position == position_in(object, other)
+}
+
+/// The first of these functions that is for the same site as this one.
+fn earlier<'a>(
+    object: &ObjectText,
+    functions: &'a [PlanFunction],
+    function: &PlanFunction,
+) -> Option<&'a PlanFunction> {
+    functions
+        .iter()
+        .find(|other| are_for_one_site(object, other, function))
+}
+
+fn pair_in<'a>(patch: &'a str, object: &'a ObjectText, target: &'a PlanTarget) -> Option<Pair<'a>> {
+    for (place, function) in target.functions.iter().enumerate() {
+        if let Some(other) = earlier(object, &target.functions[..place], function) {
+            return Some(Pair {
+                patch,
+                first: other.new_name.as_str(),
+                second: function.new_name.as_str(),
+                site: Named {
+                    symbol: function.symbol.as_str(),
+                    object: object.name.as_str(),
+                },
+            });
+        }
+    }
+    None
+}
+
+fn pair_of<'a>(objects: &'a [ObjectText], patch: &'a PlanPatch) -> Option<Pair<'a>> {
+    for target in &patch.targets {
+        let object = objects.get(usize::from(target.object.0))?;
+        let pair = pair_in(patch.name.as_str(), object, target);
+        if pair.is_some() {
+            return pair;
+        }
+    }
+    None
+}
+
+/// The first two functions of one patch that are for one site.
+pub(crate) fn first_pair<'a>(
+    objects: &'a [ObjectText],
+    patches: &'a [PlanPatch],
+) -> Option<Wrong<'a>> {
+    for patch in patches {
+        if let Some(pair) = pair_of(objects, patch) {
+            return Some(Wrong::SameSite(pair));
+        }
+    }
+    None
+}

@@ -1,0 +1,82 @@
+//! What is wrong in a file, behind the name of its fault.
+
+use crate::escaped::{Escaped, Quoted};
+use std::fmt;
+
+/// A symbol, and its object.
+#[derive(Clone, Copy)]
+pub(crate) struct Named<'a> {
+    pub(crate) symbol: &'a str,
+    pub(crate) object: &'a str,
+}
+
+/// Two functions of a patch that are for one site.
+#[derive(Clone, Copy)]
+pub(crate) struct Pair<'a> {
+    pub(crate) patch: &'a str,
+    pub(crate) first: &'a str,
+    pub(crate) second: &'a str,
+    pub(crate) site: Named<'a>,
+}
+
+/// What is wrong. What is wanted begins with its verb.
+#[derive(Clone, Copy)]
+pub(crate) enum Wrong<'a> {
+    /// Something is lacking.
+    Lacking(&'static str),
+    /// A word, or a whole line, stands where this is wanted.
+    Word(&'a [u8], &'static str),
+    /// It is one more than there may be of these.
+    Most(&'a [u8], usize, &'static str),
+    Symbol(Named<'a>, &'static str),
+    SharedAddress(Named<'a>, Named<'a>),
+    /// The first object isn't the kernel.
+    First(&'a str),
+    SameSite(Pair<'a>),
+    /// The file of this name is the one that is wanted here.
+    Swapped(&'a str),
+}
+
+impl<'a> fmt::Display for Named<'a> {
+    fn fmt<W: fmt::Write>(&self, f: &mut fmt::Formatter<W>) -> fmt::Result {
+        write!(f, "{} of {}", self.symbol, self.object)
+    }
+}
+
+impl<'a> fmt::Display for Pair<'a> {
+    fn fmt<W: fmt::Write>(&self, f: &mut fmt::Formatter<W>) -> fmt::Result {
+        let Pair {
+            patch,
+            first,
+            second,
+            site,
+        } = *self;
+        write!(
+            f,
+            "{first} and {second} of patch {patch} are both for {site}"
+        )
+    }
+}
+
+impl<'a> fmt::Display for Wrong<'a> {
+    fn fmt<W: fmt::Write>(&self, f: &mut fmt::Formatter<W>) -> fmt::Result {
+        match *self {
+            Wrong::Lacking(wanted) => write!(f, "wanted {wanted}"),
+            Wrong::Word(word, wanted) => write!(f, "{}: wanted {wanted}", Quoted(word)),
+            Wrong::Most(word, most, what) => {
+                write!(f, "{}: wanted are {most} {what} at most", Quoted(word))
+            }
+            Wrong::Symbol(named, wanted) => write!(f, "symbol {named}: wanted {wanted}"),
+            Wrong::SharedAddress(named, other) => {
+                write!(f, "symbol {named} shares an address with {other}")
+            }
+            Wrong::First(name) => write!(f, "the first object is {name}: wanted is vmlinux"),
+            Wrong::SameSite(pair) => write!(f, "{pair}"),
+            Wrong::Swapped(name) => write!(
+                f,
+                "wanted is a catalog, which {} is: are the two swapped?",
+                Escaped(name.as_bytes())
+            ),
+        }
+    }
+}
