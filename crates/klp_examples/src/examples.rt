@@ -6,7 +6,8 @@ use crate::case::Case;
 use crate::few::Few;
 use crate::starved;
 use crate::tally::Tally;
-use klp_program::{console, watch_trace};
+use klp_diagnostics::{FileText, Inputs, Kind};
+use klp_program::{console, status_of, watch_trace};
 use std::alloc::Global;
 use std::io;
 use std::rt::{Clock, Files};
@@ -58,21 +59,47 @@ fn is_quick<R: Clock>(rt: &R, alloc: Global, case: &Case) -> io::Result<bool> {
     Ok(is_served && passed.as_secs() < SECONDS)
 }
 
-/// Whether the trace is answered so, with the status of its verdict.
-fn is_watched(alloc: Global, case: &Case) -> bool {
-    let mut out = Vec::new(alloc);
-    let mut err = Vec::new(alloc);
-    let status = watch_trace(alloc, &case.catalog, &case.input, &mut out, &mut err);
-    case.is_told(status, &out, &err)
+/// Watches the trace, and tells on `err` what is wrong, as `klpwatch` does. The answer is the exit status.
+fn watch(alloc: Global, inputs: &Inputs<'_>, out: &mut Vec<u8>, err: &mut Vec<u8>) -> u8 {
+    inputs.hint(err);
+    match watch_trace(alloc, inputs.catalog.bytes, inputs.second.bytes, out) {
+        Ok(verdict) => {
+            inputs.tell_verdict(alloc, verdict, err);
+            status_of(verdict)
+        }
+        Err(fault) => inputs.tell_fault(alloc, fault, err),
+    }
+}
+
+/// Whether the trace of this line is answered so, and what is told behind it.
+fn is_watched(alloc: Global, line: &str, case: &Case) -> io::Result<bool> {
+    let (name, catalog) = line.split_once(' ').unwrap_or((line, line));
+    let catalog = format!(in alloc; "{catalog}.catalog")?;
+    let trace = format!(in alloc; "{name}.trace")?;
+    let inputs = Inputs {
+        program: "klpwatch",
+        catalog: FileText {
+            name: catalog.as_str(),
+            bytes: &case.catalog,
+        },
+        second: FileText {
+            name: trace.as_str(),
+            bytes: &case.input,
+        },
+        kind: Kind::Trace,
+    };
+    let (mut out, mut err) = (Vec::new(alloc), Vec::new(alloc));
+    let status = watch(alloc, &inputs, &mut out, &mut err);
+    Ok(case.is_told(status, &out, &err))
 }
 
 /// Whether the example holds, run in this way.
-fn holds<R: Clock>(rt: &R, alloc: Global, case: &Case, way: Way) -> io::Result<bool> {
+fn holds<R: Clock>(rt: &R, alloc: Global, line: &str, case: &Case, way: Way) -> io::Result<bool> {
     match way {
         Way::AtOnce => is_quick(rt, alloc, case),
         Way::Cut(read, written) => Ok(is_served(alloc, case, read, written)),
         Way::Starved => Ok(starved::is_served(alloc, case)?),
-        Way::Watched => Ok(is_watched(alloc, case)),
+        Way::Watched => is_watched(alloc, line, case),
     }
 }
 
@@ -86,7 +113,7 @@ fn holds_all<R: Clock + Print + AllocGlobal>(
 ) -> io::Result<bool> {
     let mut all = true;
     for (way, fault) in ways {
-        if !holds(rt, rt.alloc(), case, *way)? {
+        if !holds(rt, rt.alloc(), line, case, *way)? {
             all = false;
             println!(rt; "{line}: {fault}")?;
         }
