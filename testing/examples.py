@@ -10,7 +10,7 @@ import tempfile
 from testing.run import EXAMPLES, TOP, fault, read, run
 
 # What klpwatch ends with where a trace isn't honest.
-DISHONEST = (3,)
+DISHONEST = 3
 
 
 def index(name):
@@ -29,10 +29,11 @@ def scripts():
 
 
 def trace(name, catalog):
-    stored = read(f"{name}.output")
-    came = run(["klpwatch", f"{catalog}.catalog", f"{name}.trace"])
-    statuses = [0] if stored.startswith(b"honest ") else DISHONEST
-    return fault(came, (came[0] if came[0] in statuses else statuses[-1], stored, ""))
+    """What klpwatch answers is stored, and behind it what it tells on standard error. The status is that of the answer."""
+    stored = read(f"{name}.output").decode()
+    status, out, err = run(["klpwatch", f"{catalog}.catalog", f"{name}.trace"])
+    wanted = 1 if not out else 0 if out.startswith(b"honest ") else DISHONEST
+    return fault((status, out.decode(errors="replace") + err, ""), (wanted, stored, ""))
 
 
 def traces():
@@ -45,18 +46,22 @@ LIFE = "task new 1\ntask enter 1\ncall 1 .klp.sym.vmlinux.f,0\nreturn 1\ntask ex
 LEAVES = "task new 1\ntask enter 1\ncall 1 .klp.sym.vmlinux.f,0\ntask exit 1\n"
 
 
-def long_trace(text, said, status):
+def long_trace(text, said, status, told=""):
     with tempfile.NamedTemporaryFile("w", suffix=".trace") as it:
         it.write(text)
         it.flush()
-        return fault(run(["klpwatch", "k.catalog", it.name]), (status, said, ""))
+        told = told and f"klpwatch: {it.name}: {told}\n"
+        return fault(run(["klpwatch", "k.catalog", it.name]), (status, said, told))
 
 
 def long_traces():
     """Traces that are too long to be kept."""
     honest = [(f"{count} lives", LIFE * count, f"honest {4 * count} {count} {count}\n".encode(), 0) for count in (1024, 1025, 5000)]
-    honest.append(("5000 lives, and a task that leaves inside of a function", LIFE * 5000 + LEAVES, b"line 30004: FramesLeft\n", 3))
-    return [(f"a trace of {name}", functools.partial(long_trace, *case)) for name, *case in honest]
+    said = "line 30004: FramesLeft"
+    told = f"{said}: task 1 leaves the kernel inside of .klp.sym.vmlinux.f,0"
+    name = "5000 lives, and a task that leaves inside of a function"
+    leaves = (name, LIFE * 5000 + LEAVES, f"{said}\n".encode(), DISHONEST, told)
+    return [(f"a trace of {name}", functools.partial(long_trace, *case)) for name, *case in [*honest, leaves]]
 
 
 def steps(name, catalog):
