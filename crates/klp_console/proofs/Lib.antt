@@ -1,4 +1,5 @@
 pub mod SaidLemmas
+pub mod ToldLemmas
 pub mod BackLemmas
 pub mod AheadLemmas
 pub mod HearLemmas

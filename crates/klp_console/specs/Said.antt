@@ -3,6 +3,7 @@ use Rattle.std.specs.Prelude.{◌≡◌, ℕ, ◌+◌, ◌<◌, ◌≤◌, Bool,
 use Rattle.std.specs.Io.KnownBytes.{Appends}
 use Rattle.klp_core.specs.Journaled.{Journaled}
 use Rattle.klp_console_io.specs.declared.marks.Mark.{Mark}
+use Rattle.klp_console_io.specs.declared.sink.Failed.{Failed}
 use Rattle.klp_console_io.specs.Gathered.{Gathered}
 use Rattle.klp_console_io.specs.Written.{Written}
 use Rattle.klp_console_io.specs.Says.{IsWell, IsToBlame, Says}
@@ -10,7 +11,7 @@ use Rattle.klp_types.specs.declared.limits.TheConstants.{MAX_CONSOLE_LINE}
 use Rattle.klp_console.specs.declared.served.Served.{Served}
 use Rattle.klp_console.specs.declared.served.ServeFault.{ServeFault}
 use Rattle.klp_console.specs.declared.served.ServeFault.TheVariants.{Read, Write, LineTooLong}
-use Rattle.klp_console.specs.Answered.{Answer}
+use Rattle.klp_console.specs.Answered.{Answer, IsAnswered}
 use Rattle.klp_console.specs.Back.{AreMarked}
 use Rattle.klp_console.specs.Lines.{AreAnswered, are_short, texts_of}
 
@@ -70,6 +71,17 @@ pub record Stops (before after : Written) (answers : List Answer) : Type 0 where
   pub missing : 0 < length rest
   pub whole : length (texts_of early) ≤ length gone
   pub blame : IsToBlame before after
+
+-- an answer was written, all of it; or the sink is to blame for what is missing of it
+abbrev pub IsTold : Written → Written → Answer → Result Bool Failed → Type 0
+IsTold before after answer (Ok refused) = (refused ≡ answer.is_refused) × Appends before.taken after.taken answer.text × IsWell before after
+IsTold before after answer (Err failed) = Stops before after (answer ∷ [])
+
+-- one line was answered, and its answer told
+pub record AnswersLine (before after : Journaled) (line : List ℕ) (written left : Written) (result : Result Bool Failed) : Type 0 where
+  pub answer : Answer
+  pub answered : IsAnswered before after line answer
+  pub told : IsTold written left answer result
 
 -- the sink failed: of these lines those are done up to the one whose answer it cut off, and nothing behind it stands
 pub record IsCut (before after : Moment) (lines : List (List ℕ)) : Type 0 where

@@ -4,9 +4,9 @@ ghost use Rattle.std.specs.Prelude.{◌≡◌, ℕ, ◌+◌, ◌<◌, ◌≤◌,
 ghost use Rattle.klp_types.specs.declared.limits.TheConstants.{MAX_CONSOLE_LINE};
 ghost use Rattle.klp_console_io.specs.declared.marks.TheConstants.{MARKS_ROOM};
 ghost use Rattle.klp_console_commands.specs.Lines as asked;
-ghost use Rattle.klp_console.specs.Answered.{IsRewoundAs, IsDoneIf, names_in};
+ghost use Rattle.klp_console.specs.Answered.{IsRewoundAs, IsDoneIf, IsAnswered, names_in};
 ghost use Rattle.klp_console.specs.Back as back;
-ghost use Rattle.klp_console.specs.Said.{Moment, IsSaid, Ahead, Comes};
+ghost use Rattle.klp_console.specs.Said.{Moment, IsSaid, AnswersLine, Ahead, Comes};
 
 use crate::back::{can_be_taken_back, make_ready, mark_line, take_back};
 use crate::queries::{say_force_nothing, say_query};
@@ -14,7 +14,7 @@ use crate::refusals::{say_bad_mark, say_fault};
 use crate::replies::{say_answer, say_done};
 use crate::served::Served;
 use klp_console_commands::{LineFault, Request, request_of};
-use klp_console_io::{Answers, Marks, Sink};
+use klp_console_io::{Answers, Failed, Marks, Sink};
 use klp_core::Manager;
 
 /// The events behind the mark are undone. Answers whether there are fewer than it, so that nothing was.
@@ -72,6 +72,45 @@ fn done<W: Sink>(
             false
         }
     }
+}
+
+/// Reads what a line asks for, does it and says its answer.
+fn take_line<W: Sink>(
+    manager: &mut Manager,
+    line: &[u8],
+    answers: &mut Answers,
+    writer: &mut W,
+) -> bool
+    requires { answers.old.has_failed ≡ false }
+    ensures { IsSaid (IsAnswered manager.old manager.new line.now) (answers.old, W.written writer.old)
+        (answers.new, W.written writer.new) result }
+{
+    let request = request_of(line, manager.catalog(), manager.modules());
+    let is_refused = done(manager, &request, answers, writer);
+    let _standing = manager.mark();
+    is_refused
+}
+
+/// Answers one line, without its line feed, as `serve` does with each line that it has cut: what it asks for is done by
+/// the same function, and then the answer is written. Answers whether the line was refused. An `Err` is a sink that
+/// failed or took nothing: the line is done all the same, and the end of its answer is missing.
+///
+/// The line may have any length. It costs as much as its words and what it asks for, and takes no memory.
+pub fn answer_line<W: Sink>(
+    manager: &mut Manager,
+    line: &[u8],
+    writer: &mut W,
+) -> Result<bool, Failed>
+    ensures { AnswersLine manager.old manager.new line.now (W.written writer.old) (W.written writer.new) result }
+{
+    klp_console_io::laws::what_is_said_adds_up();
+    let mut answers = Answers::new();
+    let is_refused = take_line(manager, line, &mut answers, writer);
+    answers.flush(writer);
+    if answers.has_failed() {
+        return Err(Failed);
+    }
+    Ok(is_refused)
 }
 
 /// Counts a line.

@@ -16,6 +16,9 @@
 //!
 //! `examples` has every reply and refusal, and what is shown of a small kernel.
 //!
+//! [`answer_line`] answers one line by itself, for those who have cut it, as [`serve`] does with each of its lines
+//! (`AnswersLine` of `specs/Said`).
+//!
 //! [`event_of`] and [`site_of`] tell what a line and a word ask for, for those who don't serve it at once
 //! (`specs/Asked`).
 #![tactic(auto)]
@@ -37,6 +40,7 @@ mod served;
 mod text;
 mod values;
 
+pub use answer::answer_line;
 pub use asked::{event_of, site_of};
 pub use console::serve;
 pub use served::{ServeFault, Served};

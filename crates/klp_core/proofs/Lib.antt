@@ -3,6 +3,7 @@ pub mod BriefLemmas
 pub mod EventLemmas
 pub mod PlacedLemmas
 pub mod ViewLemmas
+pub mod HoldersLemmas
 pub mod ToldLemmas
 pub mod JournalLemmas
 pub mod RunLemmas

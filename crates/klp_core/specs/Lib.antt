@@ -5,3 +5,4 @@ pub mod Journaled
 pub mod Taking
 pub mod Rewinding
 pub mod Withdrawal
+pub mod Holders

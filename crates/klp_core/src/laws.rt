@@ -1,6 +1,8 @@
 //! What is proved of what a manager keeps. A function here does nothing: its contract is the law.
-ghost use Rattle.std.specs.Prelude.{◌≡◌, ◌↔◌, true, false, is_ok, Err, List, [], ◌∷◌, ◌++◌};
+ghost use Rattle.std.specs.Prelude.{◌≡◌, ◌↔◌, true, false, is_ok, Some, Err, List, [], ◌∷◌, ◌++◌, count_by};
 ghost use Rattle.klp_types.specs.Setting.{Setting};
+ghost use Rattle.klp_types.specs.declared.version.Transition.{Transition};
+ghost use Rattle.klp_model.specs.Blocked.{pending};
 ghost use Rattle.klp_model.specs.declared.event.Event.{Event};
 ghost use Rattle.klp_model.specs.declared.event.Refusal.TheVariants.{JournalFull};
 ghost use Rattle.klp_model.specs.Run.{answer};
@@ -11,6 +13,7 @@ ghost use Rattle.klp_modules.specs.Names.{names_of};
 ghost use Rattle.klp_manager_state.specs.Managed.{Managed, setting_of};
 ghost use Rattle.klp_manager_state.specs.Events.{after_event};
 ghost use Rattle.klp_core.specs.Events.{after_events};
+ghost use Rattle.klp_core.specs.Holders.{holders, is_left};
 ghost use Rattle.klp_core.specs.Journaled.{Journaled, Stands};
 ghost use Rattle.klp_core.specs.Taking.{answer_in};
 ghost use Rattle.klp_core.specs.Withdrawal.{GoesOn, LeavesNoTrace};
@@ -47,6 +50,13 @@ pub fn events_go_on_where_they_end()
 {
     klp_catalog::laws::runs_add_up();
 }
+
+/// A poll that doesn't complete the transition answers how many tasks lag then, and these are known before it: those
+/// that hold the transition up, and those that wait awake. So what holds a task is what a poll goes by.
+pub fn a_poll_tells_how_many_are_left()
+    ensures { (setting : Setting) (state : State) (move : Transition) → state.moving ≡ Some move
+        → pending setting state move ≡ count_by is_left (holders setting state) }
+{}
 
 /// The journal is told as full exactly where it has no room and nothing else refuses the event: no rule of the
 /// events refuses one so.

@@ -8,7 +8,8 @@
 //! journal lead to (`specs/Rewinding`). `seal` makes what is now what events are taken back to.
 //!
 //! `src/take.rt` hands each event to its step, `src/journal.rt` appends and takes back, `src/looks.rt` and
-//! `src/row.rt` show the state, each by what the definitions say of it. [`Manager::boot`] makes the opening
+//! `src/row.rt` show the state, each by what the definitions say of it, and `src/holders.rt` which tasks hold
+//! a transition up (`specs/Holders`). [`Manager::boot`] makes the opening
 //! state, or answers why it can't (`specs/Boot`). No call after it has an allocator or an answer for want
 //! of memory. `laws` ties the functions of a catalog to the objects of their sites, and has what a patch
 //! leaves that is gone again, between any two managers. docs/THEOREMS.md has all of it.
@@ -16,6 +17,7 @@
 
 mod boot;
 mod fault;
+mod holders;
 mod journal;
 pub mod laws;
 mod looks;
@@ -26,6 +28,7 @@ mod take;
 mod view;
 
 pub use fault::{BadMark, BootFault};
+pub use holders::Lag;
 pub use machine::Machine;
 pub use manager::Manager;
 pub use view::TextView;
