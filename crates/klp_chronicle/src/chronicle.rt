@@ -1,16 +1,19 @@
 //! What a page tells of a run beside its lines: sentences, bars, and at each line what changed.
+ghost use Rattle.std.specs.Prelude.{IfOk};
+ghost use Rattle.klp_model.specs.State.{is_moving};
+ghost use Rattle.klp_chronicle.specs.Around.{IsHead, IsFoot};
 
+use crate::around::{Title, fold_end, foot_of, head_of};
 use crate::bars::{Bars, Sign};
 use crate::cards::{add_card, add_ended_card, add_patch_card, add_site_card, add_task_card};
 use crate::change::{Change, module_of, refused_patch, sentence_of, turn_of};
-use crate::drawing::add_drawing;
+use crate::drawing::drawn;
 use crate::names::{object_name, patch_name};
 use crate::part::Part;
 use crate::sheet::Sheet;
 use crate::sheet::Value::{Markup, Name, Number};
 use crate::shot::{PatchShot, TaskShot, patch_shots, task_shot};
 use crate::story::Story;
-use crate::style::{FOOT, HEAD, STYLE};
 use arrayvec::ArrayVec;
 use klp_console::event_of;
 use klp_core::Manager;
@@ -187,16 +190,16 @@ impl Chronicle {
         Told::of(before, rest)
     }
 
-    /// Ends the fold of rows in which nothing changed.
-    fn end_fold(&mut self) -> &'static str {
+    /// Ends the fold of rows in which nothing changed. Answers whether there is one.
+    fn end_fold(&mut self) -> bool {
         let is_folded = self.quiet > PLAIN_ROWS;
         self.quiet = 0;
-        if is_folded { "</details>\n" } else { "" }
+        is_folded
     }
 
     /// A row that opens, with its cards.
     fn row(&mut self, alloc: Global, rest: Sheet, open: &'static str) -> Result<Told, AllocError> {
-        let fold = self.end_fold();
+        let fold = fold_end(self.end_fold());
         let line = Number(self.line);
         let mut before = Sheet::new(alloc);
         before.fill(
@@ -334,45 +337,31 @@ impl Chronicle {
         is_changed
     }
 
-    /// What stands above the rows.
-    pub fn head(&mut self, alloc: Global, manager: &Manager) -> Result<Vec<Part>, AllocError> {
+    /// What stands above the rows, of which there are so many.
+    pub fn head(
+        &mut self,
+        alloc: Global,
+        manager: &Manager,
+        rows: usize,
+    ) -> Result<Vec<Part>, AllocError>
+        ensures { IfOk result (λ head. IsHead rows (is_moving manager.now.managed.state) head.items) }
+    {
         self.bars.close()?;
-        let mut head = Sheet::new(alloc);
-        self.add_title(&mut head);
-        self.story.end(manager, self.line, &mut head);
-        head.markup("</ul><h2>The run</h2>");
-        add_drawing(&mut head, manager, &self.bars);
-        head.markup("<h2>Line by line</h2>\n");
-        head.into_parts()
+        let story = self.story.end(alloc, manager, self.line)?;
+        let drawing = drawn(alloc, manager, &self.bars)?;
+        let title = Title {
+            lines: rows as u64,
+            transitions: self.transitions,
+            is_moving: manager.moving().is_some(),
+        };
+        head_of(alloc, &title, story, drawing)
     }
 
     /// What stands below them.
-    pub fn foot(&mut self, alloc: Global) -> Result<Vec<Part>, AllocError> {
-        let mut foot = Sheet::new(alloc);
-        foot.markup(self.end_fold());
-        foot.markup(FOOT);
-        foot.into_parts()
-    }
-
-    /// How much happened, and whether a transition still goes on: in the title of the page, and above its story.
-    fn add_title(&self, head: &mut Sheet) {
-        let title = [
-            Number(self.line),
-            Markup(plural(self.line)),
-            Number(self.transitions),
-            Markup(plural(self.transitions)),
-            Markup(match self.moving {
-                Some(_) => ", one still under way",
-                None => "",
-            }),
-        ];
-        head.markup(HEAD);
-        head.fill("{} line{}, {} transition{}{}", &title);
-        head.markup(STYLE);
-        head.fill(
-            "<h1>{} line{}, {} transition{}{}</h1><ul class=story>",
-            &title,
-        );
+    pub fn foot(&mut self, alloc: Global) -> Result<Vec<Part>, AllocError>
+        ensures { IfOk result (λ foot. IsFoot foot.items) }
+    {
+        foot_of(alloc, self.end_fold())
     }
 }
 
@@ -382,8 +371,4 @@ fn extent_of(patches: bool, others: bool) -> Extent {
         (false, true) => Extent::Tasks,
         (false, false) => Extent::Nothing,
     }
-}
-
-fn plural(count: u64) -> &'static str {
-    if count == 1 { "" } else { "s" }
 }

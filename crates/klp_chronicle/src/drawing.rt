@@ -2,12 +2,14 @@
 
 use crate::bars::{Bar, Bars, Mark, Sign};
 use crate::names::patch_name;
+use crate::part::Part;
 use crate::sheet::Sheet;
 use crate::sheet::Value::{Markup, Number, Text};
 use crate::shot::Shade;
 use crate::style::LEGEND;
 use klp_core::Manager;
 use klp_types::MAX_TASKS;
+use std::alloc::{AllocError, Global};
 
 /// How many columns are drawn at most; of more, several are one step.
 const MAX_COLUMNS: u64 = 600;
@@ -235,8 +237,7 @@ bars that are shorter than a step aren't drawn.</p>",
     }
 }
 
-/// The drawing, and what is said of it below.
-pub(crate) fn add_drawing(sheet: &mut Sheet, manager: &Manager, bars: &Bars) {
+fn add_drawing(sheet: &mut Sheet, manager: &Manager, bars: &Bars) {
     let columns = bars.columns.len() as u64;
     let scale = Scale::of(columns);
     let width = Number(scale.x(columns).saturating_add(110));
@@ -255,4 +256,15 @@ aria-label=\"Each task over the lines of the script\">",
     sheet.markup("</svg></div>");
     sheet.markup(LEGEND);
     add_note(sheet, columns, scale.step);
+}
+
+/// The drawing, and what is said of it below.
+pub(crate) fn drawn(
+    alloc: Global,
+    manager: &Manager,
+    bars: &Bars,
+) -> Result<Vec<Part>, AllocError> {
+    let mut sheet = Sheet::new(alloc);
+    add_drawing(&mut sheet, manager, bars);
+    sheet.into_parts()
 }

@@ -3,10 +3,12 @@
 //!
 //! A [`Chronicle`] looks at a manager after each line and compares it with what it saw before. It is told what the line
 //! was answered, and what holds a transition up; who asks for a page promises these, and this is layout, which has no
-//! contract. Stored pages show it (`examples/pages`). All that comes from a catalog or a script is a
-//! [`Part`] of its own kind, so that it can't be taken for markup.
+//! contract. Stored pages show it (`examples/pages`). What a page begins and ends with, and its title, are promised
+//! (`specs/Around`). All that comes from a catalog or a script is a [`Part`] of its own kind, so that it can't be taken
+//! for markup.
 #![tactic(auto)]
 
+mod around;
 mod bars;
 mod cards;
 mod change;

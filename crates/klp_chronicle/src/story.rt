@@ -2,6 +2,7 @@
 
 use crate::change::Change;
 use crate::names::{add_version, patch_name};
+use crate::part::Part;
 use crate::sheet::Value::{Name, Number};
 use crate::sheet::{Sheet, Value};
 use klp_core::Manager;
@@ -106,19 +107,26 @@ impl Story {
         sheet.markup(".");
     }
 
-    /// Gives all sentences to a page, after the last line.
-    pub(crate) fn end(&mut self, manager: &Manager, line: u64, page: &mut Sheet) {
+    /// All sentences, after the last line.
+    pub(crate) fn end(
+        &mut self,
+        alloc: Global,
+        manager: &Manager,
+        line: u64,
+    ) -> Result<Vec<Part>, AllocError> {
         for number in 0..MAX_TASKS {
             let task = TaskId(number as u8);
             self.see(manager, line.saturating_add(1), task, &None);
         }
-        page.append(&mut self.sheet);
+        let mut story = Sheet::new(alloc);
+        story.append(&mut self.sheet);
         let unsaid = self.sentences.saturating_sub(MAX_SENTENCES);
         if unsaid > 0 {
-            page.fill(
+            story.fill(
                 "<li>and {} sentences more, which the lines below tell.",
                 &[Number(unsaid)],
             );
         }
+        story.into_parts()
     }
 }

@@ -1,4 +1,4 @@
-//! What every page has: its style and its legend.
+//! What every page has: its beginning and its end, its style and its legend.
 
 pub(crate) const HEAD: &str = "<!doctype html><html lang=en><meta charset=utf-8>
 <meta name=viewport content=\"width=device-width,initial-scale=1\"><title>";
@@ -46,13 +46,22 @@ background:var(--card);font-size:.92rem}
 .row>summary samp,div.row samp{grid-column:2}.now{padding-left:.2rem}.more>summary{padding-left:2.6rem}}
 @media print{.row{break-inside:avoid}.run{overflow:visible}.run svg{max-width:100%;height:auto}}
 </style>
-";
+<h1>";
+
+pub(crate) const STORY: &str = "</h1><ul class=story>";
+
+pub(crate) const RUN: &str = "</ul><h2>The run</h2>";
+
+pub(crate) const LINES: &str = "<h2>Line by line</h2>\n";
 
 pub(crate) const LEGEND: &str =
     "<ul class=legend><li><span class=\"key old\"></span>old: doesn't run the patch \
 that moves<li><span class=\"key new\"></span>new: runs it<li><span class=\"key rest\"></span>no patch \
 moves<li><span class=\"key hold\"></span>holds the transition up<li>\u{25b6} a transition starts<li>\u{21ba} turns \
 round<li>! is forced<li>\u{25a0} ends<li>\u{21b6} events are taken back</ul>";
+
+/// The end of a fold of rows.
+pub(crate) const FOLD_END: &str = "</details>\n";
 
 pub(crate) const FOOT: &str =
     "<p class=soft>A click on a line with \u{25b8} shows what it changed.</p></html>\n";

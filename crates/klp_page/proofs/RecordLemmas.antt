@@ -1,5 +1,5 @@
 -- Rows of lines, one after the other.
-use Rattle.std.proofs.Common.{◌≡◌, ℕ, ◌==◌, false, true, List, [], ◌∷◌, ◌++◌, length, refl, sym, ap, subst, ◌∙◌, append_assoc, append-nil}
+use Rattle.std.proofs.Common.{◌≡◌, ℕ, suc, ◌==◌, false, true, List, [], ◌∷◌, ◌++◌, length, refl, sym, ap, subst, ◌∙◌, append_assoc, append-nil}
 use Rattle.std.proofs.lemmas.Bool.{both_ways, eqb-true}
 use Rattle.std.proofs.lemmas.List.{nil_from_length}
 use Rattle.klp_core.specs.Journaled.{Journaled, Stands}
@@ -52,3 +52,10 @@ rows_with_last first next last script line rows row has some is =
 -- what is cut so far, with one line more
 pub one_more : (all lines : List (List ℕ)) (mid rest : List (List ℕ)) (line : List ℕ) → all ≡ lines ++ mid → mid ≡ line ∷ rest → all ≡ (lines ++ line ∷ []) ++ rest
 one_more all lines mid rest line so_far next = so_far ∙ ap (λ l. lines ++ l) next ∙ sym (append_assoc lines (line ∷ []) rest)
+
+-- there are as many rows as lines
+pub as_many_rows : (first last : Journaled) (lines : List (List ℕ)) (rows : List Row) → AreRows first last lines rows → length rows ≡ length lines
+as_many_rows first last [] [] are = refl
+as_many_rows first last [] (row ∷ rows) are = absurd are
+as_many_rows first last (line ∷ lines) [] are = absurd are
+as_many_rows first last (line ∷ lines) (row ∷ rows) are = ap suc (as_many_rows are.0 last lines rows are.2)

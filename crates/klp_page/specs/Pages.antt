@@ -5,6 +5,7 @@ use Rattle.klp_types.specs.declared.limits.TheConstants.{MAX_CONSOLE_LINE}
 use Rattle.klp_catalog_text.specs.Plan.{Plan}
 use Rattle.klp_catalog_text.specs.Text.{plan_of}
 use Rattle.klp_catalog_text.specs.Text as catalog
+use Rattle.klp_model.specs.State.{is_moving}
 use Rattle.klp_core.specs.Journaled.{Journaled}
 use Rattle.klp_console.specs.declared.served.ServeFault.TheVariants.{LineTooLong, Write}
 use Rattle.klp_console_io.specs.Lines.{lines_and_rest}
@@ -13,17 +14,21 @@ use Rattle.klp_program.specs.declared.fault.Fault.{Fault}
 use Rattle.klp_program.specs.declared.fault.Fault.TheVariants.{NoMemory, Text, Serve}
 use Rattle.klp_program.specs.Booted.{IsBootedOver, IsBootFault}
 use Rattle.klp_chronicle.specs.declared.part.Part.{Part}
+use Rattle.klp_chronicle.specs.Around.{IsHead, IsFoot}
 use Rattle.klp_page.specs.declared.row.Row.{Row}
 use Rattle.klp_page.specs.Rows.{AreRows}
 use Rattle.klp_page.specs.Text.{page_text}
 
--- the page has a row for each line of the script
+-- the page has a row for each line of the script. Above them are the beginning that every page has and a title that tells how many
+-- there are and whether a transition goes on in the end, and below them every page's end
 pub record IsPage (booted : Journaled) (script page : List ℕ) : Type 0 where
   pub head : List Part
   pub rows : List Row
   pub foot : List Part
   pub left : Journaled
   pub shown : AreRows booted left (lines_of script) rows
+  pub above : IsHead (length (lines_of script)) (is_moving left.managed.state) head
+  pub below : IsFoot foot
   pub written : page ≡ page_text head rows foot
 
 -- of the lines of a script, all but the last have their rows

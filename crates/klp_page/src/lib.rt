@@ -6,7 +6,8 @@
 //! the definitions of `klp_model` (`specs/Holding`). What comes from the catalog or the script is escaped, since a page
 //! is made of pieces ([`Part`](klp_chronicle::Part)), of which markup is the program's own (`specs/Text`).
 //!
-//! All else is layout, and `klp_chronicle`'s.
+//! The page is whole: its title tells how many lines there are and whether a transition goes on in the end. All else is
+//! layout, and `klp_chronicle`'s.
 #![tactic(auto)]
 
 mod holding;

@@ -31,7 +31,7 @@ fn paged(
 {
     chronicle.open(manager)?;
     let rows = record(alloc, manager, script, chronicle)?;
-    let head = chronicle.head(alloc, manager)?;
+    let head = chronicle.head(alloc, manager, rows.len())?;
     let foot = chronicle.foot(alloc)?;
     Ok(page_of(alloc, &head, &rows, &foot)?)
 }

@@ -1,6 +1,6 @@
 //! The text of a page's pieces.
 ghost use Rattle.std.specs.Prelude.{◌≡◌, ◌++◌, OnOk};
-ghost use Rattle.klp_page.specs.Text.{escaped_byte, escaped, part_text, parts_text};
+ghost use Rattle.klp_chronicle.specs.Text.{escaped_byte, escaped, part_text, parts_text};
 
 use itoa::Buffer;
 use klp_chronicle::Part;

@@ -1,5 +1,5 @@
 use Rattle.std.proofs.Common.{◌≡◌, ◌++◌, drop}
-use Rattle.klp_page.specs.Text.{parts_text}
+use Rattle.klp_chronicle.specs.Text.{parts_text}
 use Rattle.klp_page.proofs.part.add_parts.Given as goal
 
 -- what is written, and what is left to be

@@ -1,5 +1,5 @@
 use Rattle.std.proofs.Common.{◌≡◌, ◌++◌, drop}
-use Rattle.klp_page.specs.Text.{escaped}
+use Rattle.klp_chronicle.specs.Text.{escaped}
 use Rattle.klp_page.proofs.part.add_text.Given as goal
 
 -- what is written, and what is left to be

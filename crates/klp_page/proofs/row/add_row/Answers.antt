@@ -1,5 +1,6 @@
 use Rattle.std.proofs.Common.{◌++◌, ap, ◌∙◌}
-use Rattle.klp_page.specs.Text.{row_text, parts_text, escaped, mark_text}
+use Rattle.klp_chronicle.specs.Text.{parts_text, escaped}
+use Rattle.klp_page.specs.Text.{row_text, mark_text}
 use Rattle.klp_page.proofs.TextLemmas.{behind}
 use Rattle.klp_page.proofs.row.add_row.Goals as goal
 
