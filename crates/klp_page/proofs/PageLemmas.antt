@@ -53,15 +53,15 @@ page_over plan booted script (Ok page) text is shown = record { booted = booted;
 page_over plan booted script (Err fault) text is shown = tt
 
 -- where there is no page, nothing is written
-pub writes_none : {A : Type 0} (text script : List ℕ) (before : Option (List ℕ)) (fault : Fault)
+pub writes_none : (A : Type 0) (text script : List ℕ) (before : Option (List ℕ)) (fault : Fault)
     → IsFaultOf text script fault → Writes {A = A} text script before before (Err fault)
-writes_none text script before (Serve Write) (plan, planned, over) = elim over [ inl no ↦ absurd no | inr no ↦ absurd no ]
-writes_none text script before (Serve Read) is = (is, refl)
-writes_none text script before (Serve LineTooLong) is = (is, refl)
-writes_none text script before NoMemory is = (is, refl)
-writes_none text script before CannotRead is = (is, refl)
-writes_none text script before (Text fault) is = (is, refl)
-writes_none text script before (Image fault) is = (is, refl)
-writes_none text script before (Assemble fault) is = (is, refl)
-writes_none text script before (Boot fault) is = (is, refl)
-writes_none text script before (Trace fault) is = (is, refl)
+writes_none A text script before (Serve Write) (plan, planned, over) = elim over [ inl never ↦ absurd never | inr never ↦ absurd never ]
+writes_none A text script before (Serve Read) is = (is, refl)
+writes_none A text script before (Serve LineTooLong) is = (is, refl)
+writes_none A text script before NoMemory is = (is, refl)
+writes_none A text script before CannotRead is = (is, refl)
+writes_none A text script before (Text fault) is = (is, refl)
+writes_none A text script before (Image fault) is = (is, refl)
+writes_none A text script before (Assemble fault) is = (is, refl)
+writes_none A text script before (Boot fault) is = (is, refl)
+writes_none A text script before (Trace fault) is = (is, refl)
