@@ -8,8 +8,8 @@
 //! as [`FrameWords`], so that these are copied and compared as they are.
 //!
 //! [`write_record`] puts one record behind any words, [`read_back`] reads the last of them, and each takes what the other
-//! gives, and nothing else. `laws` has that no record's words are the last of another's, and how many a record has;
-//! `examples` three of them. Why words: docs/DECISIONS.md, "Records as words".
+//! gives, and nothing else. `laws` has that, that no record's words are the last of another's, and how many a record
+//! has; `examples` three of them. Why words: docs/DECISIONS.md, "Records as words".
 #![tactic(auto)]
 
 mod behind;
