@@ -23,6 +23,8 @@ ghost use Rattle.klp_types.specs.Setting.{named_states, state_ids, function_for,
 ghost use Rattle.klp_types.specs.World.{key_cmp, number_of, state_value, previous_value, with_patch, without_patch, with_variable};
 ghost use Rattle.klp_types.specs.Examples.{kernel, patched_kernel, tracked, tracked_kernel, objects_refusing_in, ran, object_calling, object_without_callbacks, editing, refusing, call_by, key_of, patch_4, patch_5, patch_6, patch_3, world_of, four_installed, state_of, naming_kernel};
 
+use crate::task::PatchState;
+
 /// A cumulative patch puts a nop on a site for which it has no function and an older patch has one, because
 /// it takes the older one's function back; and nothing where no older patch has one.
 pub fn a_nop_stands_over_an_older_patch()
@@ -273,6 +275,19 @@ pub fn tasks_have_one_of_three_states()
         ≡ Original 0 ∷ New 1 2 ∷ [] }
     ensures nobody { frames_of None ≡ [] }
 {}
+
+/// A task's states are numbered as the kernel numbers them: nothing moves, it doesn't run the patch, it does.
+pub fn states_are_numbered_as_the_kernel_does() -> (PatchState, PatchState, PatchState)
+    ensures nothing_moves { result.0 ≡ negsuc 0 }
+    ensures unpatched { result.1 ≡ pos 0 }
+    ensures patched { result.2 ≡ pos 1 }
+{
+    (
+        PatchState::UNDEFINED,
+        PatchState::UNPATCHED,
+        PatchState::PATCHED,
+    )
+}
 
 /// Records of the event that is under way take room, and those of earlier events none.
 pub fn records_of_one_event_take_room()
