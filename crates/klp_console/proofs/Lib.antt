@@ -8,3 +8,4 @@ pub mod ServeLemmas
 mod LineLemmas
 mod AlikeLemmas
 pub mod AnswerExamples
+pub mod OutcomeLemmas

@@ -10,3 +10,4 @@ pub mod Replies
 pub mod Queries
 pub mod Alike
 pub mod Examples
+pub mod Outcomes

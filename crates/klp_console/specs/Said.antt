@@ -11,7 +11,10 @@ use Rattle.klp_types.specs.declared.limits.TheConstants.{MAX_CONSOLE_LINE}
 use Rattle.klp_console.specs.declared.served.Served.{Served}
 use Rattle.klp_console.specs.declared.served.ServeFault.{ServeFault}
 use Rattle.klp_console.specs.declared.served.ServeFault.TheVariants.{Read, Write, LineTooLong}
-use Rattle.klp_console.specs.Answered.{Answer, IsAnswered}
+use Rattle.klp_console_commands.specs.Lines.{request_of}
+use Rattle.klp_console.specs.declared.outcome.Outcome.{Outcome}
+use Rattle.klp_console.specs.Outcomes.{is_refusal, IsOutcome}
+use Rattle.klp_console.specs.Answered.{Answer, IsAnswered, names_in}
 use Rattle.klp_console.specs.Back.{AreMarked}
 use Rattle.klp_console.specs.Lines.{AreAnswered, are_short, texts_of}
 
@@ -72,16 +75,18 @@ pub record Stops (before after : Written) (answers : List Answer) : Type 0 where
   pub whole : length (texts_of early) ≤ length gone
   pub blame : IsToBlame before after
 
--- an answer was written, all of it; or the sink is to blame for what is missing of it
-abbrev pub IsTold : Written → Written → Answer → Result Bool Failed → Type 0
-IsTold before after answer (Ok refused) = (refused ≡ answer.is_refused) × Appends before.taken after.taken answer.text × IsWell before after
-IsTold before after answer (Err failed) = Stops before after (answer ∷ [])
+-- an answer was written, all of it, and this became of the line; or the sink is to blame for what is missing of the answer
+abbrev pub IsTold : Journaled → Journaled → List ℕ → Written → Written → Answer → Result Outcome Failed → Type 0
+IsTold before after line written left answer (Ok outcome) =
+    (is_refusal outcome ≡ answer.is_refused) × Appends written.taken left.taken answer.text × IsWell written left
+    × IsOutcome before after (request_of (names_in before) line) outcome
+IsTold before after line written left answer (Err failed) = Stops written left (answer ∷ [])
 
 -- one line was answered, and its answer told
-pub record AnswersLine (before after : Journaled) (line : List ℕ) (written left : Written) (result : Result Bool Failed) : Type 0 where
+pub record AnswersLine (before after : Journaled) (line : List ℕ) (written left : Written) (result : Result Outcome Failed) : Type 0 where
   pub answer : Answer
   pub answered : IsAnswered before after line answer
-  pub told : IsTold written left answer result
+  pub told : IsTold before after line written left answer result
 
 -- the sink failed: of these lines those are done up to the one whose answer it cut off, and nothing behind it stands
 pub record IsCut (before after : Moment) (lines : List (List ℕ)) : Type 0 where

@@ -4,11 +4,14 @@ ghost use Rattle.std.specs.Prelude.{◌≡◌, ℕ, ◌+◌, ◌<◌, ◌≤◌,
 ghost use Rattle.klp_types.specs.declared.limits.TheConstants.{MAX_CONSOLE_LINE};
 ghost use Rattle.klp_console_io.specs.declared.marks.TheConstants.{MARKS_ROOM};
 ghost use Rattle.klp_console_commands.specs.Lines as asked;
-ghost use Rattle.klp_console.specs.Answered.{IsRewoundAs, IsDoneIf, IsAnswered, names_in};
+ghost use Rattle.klp_console.specs.Answered.{IsRewoundAs, IsTakenAs, IsDoneIf, IsAnswered, names_in};
+ghost use Rattle.klp_console.specs.Outcomes.{is_refusal, IsEventOutcome, IsOutcome};
 ghost use Rattle.klp_console.specs.Back as back;
 ghost use Rattle.klp_console.specs.Said.{Moment, IsSaid, AnswersLine, Ahead, Comes};
 
+use crate::asked::event_asked;
 use crate::back::{can_be_taken_back, make_ready, mark_line, take_back};
+use crate::outcome::{Outcome, other_outcome};
 use crate::queries::{say_force_nothing, say_query};
 use crate::refusals::{say_bad_mark, say_fault};
 use crate::replies::{say_answer, say_done};
@@ -16,6 +19,7 @@ use crate::served::Served;
 use klp_console_commands::{LineFault, Request, request_of};
 use klp_console_io::{Answers, Failed, Marks, Sink};
 use klp_core::Manager;
+use klp_model::Event;
 
 /// The events behind the mark are undone. Answers whether there are fewer than it, so that nothing was.
 fn rewind<W: Sink>(manager: &mut Manager, mark: u32, answers: &mut Answers, writer: &mut W) -> bool
@@ -33,6 +37,24 @@ fn rewind<W: Sink>(manager: &mut Manager, mark: u32, answers: &mut Answers, writ
             true
         }
     }
+}
+
+/// Takes an event, and says what it is answered.
+fn take<W: Sink>(
+    manager: &mut Manager,
+    event: &Event,
+    answers: &mut Answers,
+    writer: &mut W,
+) -> Outcome
+    requires { answers.old.has_failed ≡ false }
+    ensures said { IsSaid (IsTakenAs manager.old manager.new event.now) (answers.old, W.written writer.old)
+        (answers.new, W.written writer.new) (is_refusal result) }
+    ensures outcome { IsEventOutcome manager.old manager.new event.now result }
+{
+    let reply = manager.apply(*event);
+    let catalog = manager.catalog();
+    say_answer(answers, writer, catalog, manager.modules(), &reply);
+    Outcome::Answered(*event, reply)
 }
 
 /// Does what a line asks for. Answers whether it was refused, by which the line is counted; what was refused
@@ -55,12 +77,7 @@ fn done<W: Sink>(
             say_fault(answers, writer, fault);
             true
         }
-        Some(Ok(Request::Take(event))) => {
-            let reply = manager.apply(event);
-            let catalog = manager.catalog();
-            say_answer(answers, writer, catalog, manager.modules(), &reply);
-            reply.is_err()
-        }
+        Some(Ok(Request::Take(ref event))) => take(manager, event, answers, writer).is_refusal(),
         Some(Ok(Request::Rewind(mark))) => rewind(manager, mark, answers, writer),
         Some(Ok(Request::ForceNothing(patch))) => {
             say_force_nothing(answers, writer, manager, patch).is_err()
@@ -74,43 +91,62 @@ fn done<W: Sink>(
     }
 }
 
+/// Does what a line asks for, and tells what became of it.
+fn do_request<W: Sink>(
+    manager: &mut Manager,
+    request: &Option<Result<Request, LineFault>>,
+    answers: &mut Answers,
+    writer: &mut W,
+) -> Outcome
+    requires { answers.old.has_failed ≡ false }
+    ensures said { IsSaid (IsDoneIf manager.old manager.new request.now) (answers.old, W.written writer.old)
+        (answers.new, W.written writer.new) (is_refusal result) }
+    ensures outcome { IsOutcome manager.old manager.new request.now result }
+{
+    match event_asked(request) {
+        Some(ref event) => take(manager, event, answers, writer),
+        None => other_outcome(request, done(manager, request, answers, writer)),
+    }
+}
+
 /// Reads what a line asks for, does it and says its answer.
 fn take_line<W: Sink>(
     manager: &mut Manager,
     line: &[u8],
     answers: &mut Answers,
     writer: &mut W,
-) -> bool
+) -> Outcome
     requires { answers.old.has_failed ≡ false }
-    ensures { IsSaid (IsAnswered manager.old manager.new line.now) (answers.old, W.written writer.old)
-        (answers.new, W.written writer.new) result }
+    ensures said { IsSaid (IsAnswered manager.old manager.new line.now) (answers.old, W.written writer.old)
+        (answers.new, W.written writer.new) (is_refusal result) }
+    ensures outcome { IsOutcome manager.old manager.new (asked.request_of (names_in manager.old) line.now) result }
 {
     let request = request_of(line, manager.catalog(), manager.modules());
-    let is_refused = done(manager, &request, answers, writer);
+    let outcome = do_request(manager, &request, answers, writer);
     let _standing = manager.mark();
-    is_refused
+    outcome
 }
 
 /// Answers one line, without its line feed, as `serve` does with each line that it has cut: what it asks for is done by
-/// the same function, and then the answer is written. Answers whether the line was refused. An `Err` is a sink that
-/// failed or took nothing: the line is done all the same, and the end of its answer is missing.
+/// the same function, and then the answer is written. Answers what became of the line. An `Err` is a sink that failed or
+/// took nothing: the line is done all the same, and the end of its answer is missing.
 ///
 /// The line may have any length. It costs as much as its words and what it asks for, and takes no memory.
 pub fn answer_line<W: Sink>(
     manager: &mut Manager,
     line: &[u8],
     writer: &mut W,
-) -> Result<bool, Failed>
+) -> Result<Outcome, Failed>
     ensures { AnswersLine manager.old manager.new line.now (W.written writer.old) (W.written writer.new) result }
 {
     klp_console_io::laws::what_is_said_adds_up();
     let mut answers = Answers::new();
-    let is_refused = take_line(manager, line, &mut answers, writer);
+    let outcome = take_line(manager, line, &mut answers, writer);
     answers.flush(writer);
     if answers.has_failed() {
         return Err(Failed);
     }
-    Ok(is_refused)
+    Ok(outcome)
 }
 
 /// Counts a line.

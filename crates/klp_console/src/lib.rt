@@ -17,7 +17,7 @@
 //! `examples` has every reply and refusal, and what is shown of a small kernel.
 //!
 //! [`answer_line`] answers one line by itself, for those who have cut it, as [`serve`] does with each of its lines
-//! (`AnswersLine` of `specs/Said`).
+//! (`specs/Answered`, and `IsSaid` of `specs/Said`).
 //!
 //! [`event_of`] and [`site_of`] tell what a line and a word ask for, for those who don't serve it at once
 //! (`specs/Asked`).
@@ -32,6 +32,7 @@ mod files;
 mod hear;
 pub mod laws;
 mod names;
+mod outcome;
 mod queries;
 mod refusals;
 mod replies;
@@ -43,4 +44,5 @@ mod values;
 pub use answer::answer_line;
 pub use asked::{event_of, site_of};
 pub use console::serve;
+pub use outcome::Outcome;
 pub use served::{ServeFault, Served};

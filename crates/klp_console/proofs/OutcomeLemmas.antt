@@ -1,0 +1,34 @@
+-- What became of a line, and its answer.
+use Rattle.std.proofs.Common.{◌≡◌, Bool, true, false, Some, None, Ok, Err, Option, Result, refl, sym, ap}
+use Rattle.std.proofs.lemmas.Option.{same_Some, none-some}
+use Rattle.klp_model.specs.declared.event.Event.{Event}
+use Rattle.klp_console_commands.specs.declared.request.Request.{Request}
+use Rattle.klp_console_commands.specs.declared.request.Request.TheVariants.{Take, ForceNothing, Rewind, Seal, See}
+use Rattle.klp_console_commands.specs.declared.fault.LineFault.{LineFault}
+use Rattle.klp_console.specs.Asked.{event_asked}
+use Rattle.klp_console.specs.Outcomes.{is_refusal, other_outcome}
+
+pub other_refused : (request : Option (Result Request LineFault)) (refused : Bool) → is_refusal (other_outcome request refused) ≡ refused
+other_refused None true = refl
+other_refused None false = refl
+other_refused (Some (Err fault)) true = refl
+other_refused (Some (Err fault)) false = refl
+other_refused (Some (Ok (Take event))) true = refl
+other_refused (Some (Ok (Take event))) false = refl
+other_refused (Some (Ok (ForceNothing patch))) true = refl
+other_refused (Some (Ok (ForceNothing patch))) false = refl
+other_refused (Some (Ok (Rewind mark))) true = refl
+other_refused (Some (Ok (Rewind mark))) false = refl
+other_refused (Some (Ok Seal)) true = refl
+other_refused (Some (Ok Seal)) false = refl
+other_refused (Some (Ok (See look))) true = refl
+other_refused (Some (Ok (See look))) false = refl
+
+pub asks_event : (request : Option (Result Request LineFault)) (event : Event) → event_asked request ≡ Some event → request ≡ Some (Ok (Take event))
+asks_event None event e = absurd (none-some event e)
+asks_event (Some (Err fault)) event e = absurd (none-some event e)
+asks_event (Some (Ok (Take own))) event e = ap (λ x. Some (Ok (Take x))) (same_Some own event e)
+asks_event (Some (Ok (ForceNothing patch))) event e = absurd (none-some event e)
+asks_event (Some (Ok (Rewind mark))) event e = absurd (none-some event e)
+asks_event (Some (Ok Seal)) event e = absurd (none-some event e)
+asks_event (Some (Ok (See look))) event e = absurd (none-some event e)
