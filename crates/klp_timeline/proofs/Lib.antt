@@ -1,0 +1,6 @@
+pub mod AlikeLemmas
+pub mod AmongLemmas
+pub mod CourseLemmas
+pub mod StayLemmas
+pub mod TellingLemmas
+pub mod ToldLemmas

@@ -1,0 +1,41 @@
+-- What a line did.
+use Rattle.std.specs.Prelude.{ℕ, Bool, true, false, ◌==◌, ◌||◌, List, [], ◌∷◌, ◌++◌, Option, Some, None, if◌then◌else◌}
+use Rattle.std.specs.List.{list_any, count_by, flat_map}
+use Rattle.std.specs.Option.{option_to_list}
+use Rattle.klp_types.specs.declared.version.Transition.{Transition}
+use Rattle.klp_timeline.specs.declared.moment.Moment.{Moment}
+use Rattle.klp_timeline.specs.declared.moment.Stay.{Stay}
+use Rattle.klp_timeline.specs.declared.moment.Stay.TheVariants.{Outdated}
+use Rattle.klp_timeline.specs.declared.moment.View.{View}
+use Rattle.klp_timeline.specs.declared.moment.Fact.{Fact}
+use Rattle.klp_timeline.specs.declared.moment.Fact.TheVariants.{Undoes, Starts, Reverses, Completes, Leaves}
+use Rattle.klp_timeline.specs.Stays.{is_transition}
+
+abbrev pub is_undone : Option Fact → Bool
+is_undone (Some (Undoes from to)) = true
+is_undone other = false
+
+abbrev pub is_outdated : Option Stay → Bool
+is_outdated (Some (Outdated version)) = true
+is_outdated other = false
+
+-- what becomes of a transition by an event, where these stays are seen afterwards
+abbrev pub turn : Option Transition → Option Transition → List (Option Stay) → Option Fact
+turn None None stays = None
+turn None (Some move) stays = Some (Starts move)
+turn (Some move) None stays = Some (Completes move (count_by is_outdated stays))
+turn (Some move) (Some other) stays = if is_transition move other then None else Some (Reverses other)
+
+abbrev pub is_of : Option Transition → ℕ → Bool
+is_of None patch = false
+is_of (Some move) patch = move.patch == patch
+
+-- that a patch left, where these are installed now; of the one that moved its completion tells
+abbrev pub leave_of : Option Transition → List ℕ → ℕ → List Fact
+leave_of moved installed patch = if is_of moved patch || list_any (λ other. other == patch) installed then [] else Leaves patch ∷ []
+
+-- what a line did: where it undid events, that alone
+abbrev pub facts : View → Moment → List Fact
+facts before moment = option_to_list moment.act ++ (if is_undone moment.act then [] else
+    option_to_list (turn before.moving moment.view.moving moment.view.stays)
+    ++ flat_map (leave_of before.moving moment.view.installed.items) before.installed.items)

@@ -1,0 +1,7 @@
+pub mod Course
+pub mod Facts
+pub mod Sentences
+pub mod Stays
+pub mod Still
+pub mod Telling
+pub mod Told

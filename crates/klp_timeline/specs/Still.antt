@@ -1,0 +1,34 @@
+-- Lines of which there is nothing to be said.
+use Rattle.std.specs.Prelude.{Bool, true, false, ◌==◌, ◌&&◌, ℕ, List, [], ◌∷◌, Option, Some, None, is_none}
+use Rattle.klp_types.specs.declared.version.Transition.{Transition}
+use Rattle.klp_timeline.specs.declared.moment.Moment.{Moment}
+use Rattle.klp_timeline.specs.declared.moment.Stay.{Stay}
+use Rattle.klp_timeline.specs.declared.moment.View.{View}
+use Rattle.klp_timeline.specs.Stays.{is_transition, is_seen}
+
+abbrev pub is_same_move : Option Transition → Option Transition → Bool
+is_same_move None None = true
+is_same_move (Some move) (Some other) = is_transition move other
+is_same_move before after = false
+
+abbrev pub is_same_stay : Option Stay → Option Stay → Bool
+is_same_stay None None = true
+is_same_stay (Some stay) after = is_seen stay after
+is_same_stay None (Some stay) = false
+
+-- whether each task sleeps where it did, as far as that matters
+abbrev pub are_same : List (Option Stay) → List (Option Stay) → Bool
+are_same [] [] = true
+are_same (before ∷ stays) (after ∷ others) = is_same_stay before after && are_same stays others
+are_same stays others = false
+
+abbrev pub are_equal : List ℕ → List ℕ → Bool
+are_equal [] [] = true
+are_equal (patch ∷ patches) (other ∷ others) = patch == other && are_equal patches others
+are_equal patches others = false
+
+-- a line did nothing that views don't show, and what they show of patches and of who sleeps where it matters is as it was
+abbrev pub is_still : View → Moment → Bool
+is_still before moment =
+    is_none moment.act && is_same_move before.moving moment.view.moving && are_equal before.installed.items moment.view.installed.items
+    && are_same before.stays moment.view.stays

@@ -1,0 +1,121 @@
+//! What a line did.
+ghost use Rattle.std.specs.Prelude.{◌≡◌, ◌++◌, ◌==◌, map, OnOk, ◌∷◌, []};
+ghost use Rattle.std.specs.List.{list_any, count_by, flat_map};
+ghost use Rattle.std.specs.Option.{option_to_list};
+ghost use Rattle.klp_timeline.specs.Facts.{is_outdated, turn, is_of, leave_of, facts};
+ghost use Rattle.klp_timeline.specs.Sentences.{did};
+
+use crate::moment::{Fact, Moment, Said, Sentence, Stay, View};
+use crate::stays::is_transition;
+use klp_types::{PatchId, Transition};
+use std::alloc::AllocError;
+
+/// How many tasks sleep inside of code that isn't called now.
+pub fn outdated(stays: &[Option<Stay>]) -> usize
+    ensures { result ≡ count_by is_outdated stays.now }
+{
+    let mut count = 0;
+    for stay in stays {
+        if matches!(stay, Some(Stay::Outdated(_))) {
+            count += 1;
+        }
+    }
+    count
+}
+
+/// What became of the transition between two views.
+fn turn(before: &View, after: &View) -> Option<Fact>
+    ensures { result ≡ turn before.now.moving after.now.moving after.now.stays }
+{
+    match (&before.moving, &after.moving) {
+        (None, None) => None,
+        (None, Some(moving)) => Some(Fact::Starts(*moving)),
+        (Some(moved), None) => Some(Fact::Completes(*moved, outdated(&after.stays))),
+        (Some(moved), Some(moving)) if is_transition(moved, moving) => None,
+        (Some(_), Some(moving)) => Some(Fact::Reverses(*moving)),
+    }
+}
+
+fn is_of(moving: &Option<Transition>, patch: PatchId) -> bool
+    ensures { result ≡ is_of moving.now patch }
+{
+    match moving {
+        Some(moving) => moving.patch == patch,
+        None => false,
+    }
+}
+
+fn is_among(patch: PatchId, patches: &[PatchId]) -> bool
+    ensures { result ≡ list_any (λ other. other == patch) patches.now }
+{
+    for other in patches {
+        if *other == patch {
+            return true;
+        }
+    }
+    false
+}
+
+/// That a patch left, if it isn't among those that are installed now, and isn't the one that moved.
+fn leave_of(patch: PatchId, moved: &Option<Transition>, installed: &[PatchId]) -> Option<Fact>
+    ensures { option_to_list result ≡ leave_of moved.now installed.now patch }
+{
+    if is_of(moved, patch) || is_among(patch, installed) {
+        None
+    } else {
+        Some(Fact::Leaves(patch))
+    }
+}
+
+fn add_fact(sentences: &mut Vec<Sentence>, fact: Option<Fact>, line: u64) -> Result<(), AllocError>
+    ensures { OnOk result (sentences.new.items
+        ≡ sentences.old.items ++ map (did line) (option_to_list fact)) }
+{
+    if let Some(fact) = fact {
+        let said = Said::Did(fact);
+        sentences.push(Sentence { line, said })?;
+    }
+    Ok(())
+}
+
+/// Adds the patches of the first list that left.
+fn add_leaving(
+    sentences: &mut Vec<Sentence>,
+    moved: &Option<Transition>,
+    before: &[PatchId],
+    installed: &[PatchId],
+    line: u64,
+) -> Result<(), AllocError>
+    ensures { OnOk result (sentences.new.items
+        ≡ sentences.old.items ++ map (did line) (flat_map (leave_of moved.now installed.now) before.now)) }
+{
+    for patch in before {
+        add_fact(sentences, leave_of(*patch, moved, installed), line)?;
+    }
+    Ok(())
+}
+
+/// Adds what a line did.
+pub(crate) fn add_facts(
+    sentences: &mut Vec<Sentence>,
+    before: &View,
+    moment: &Moment,
+    line: u64,
+) -> Result<(), AllocError>
+    ensures { OnOk result (sentences.new.items
+        ≡ sentences.old.items ++ map (did line) (facts before.now moment.now)) }
+{
+    add_fact(sentences, moment.act, line)?;
+    if matches!(moment.act, Some(Fact::Undoes(_, _))) {
+        return Ok(());
+    }
+    let after = &moment.view;
+    add_fact(sentences, turn(before, after), line)?;
+    add_leaving(
+        sentences,
+        &before.moving,
+        before.installed.as_slice(),
+        after.installed.as_slice(),
+        line,
+    )
+}

@@ -1,0 +1,38 @@
+//! What is said of a run is all of it, and true.
+ghost use Rattle.klp_timeline.specs.declared.moment.Moment.{Moment as AnyMoment};
+ghost use Rattle.klp_timeline.specs.declared.moment.View.{View as AnyView};
+ghost use Rattle.klp_timeline.specs.declared.moment.Sentence.{Sentence as AnySentence};
+ghost use Rattle.std.specs.Prelude.{◌≡◌, ◌+◌, ◌≤◌, ◌⊎◌, List, length, true, All, Contains};
+ghost use Rattle.klp_timeline.specs.declared.told.TheConstants.{MAX_SENTENCES};
+ghost use Rattle.klp_timeline.specs.Telling.{IsQuiet, IsAllTold, IsEachFactTold, IsAllTrue, IsGoingSince};
+ghost use Rattle.klp_timeline.specs.Told.{is_lasting, told, left_out};
+
+/// Whoever holds a transition up, or sleeps inside of code that isn't called now, after any line of a run is named by a
+/// sentence that spans the line.
+pub fn no_sleeper_is_left_out()
+    ensures { (opening : AnyView) → (run : List AnyMoment) → IsQuiet opening → IsAllTold opening run }
+{}
+
+/// Whatever a line did is told.
+pub fn no_fact_is_left_out()
+    ensures { (opening : AnyView) → (run : List AnyMoment) → IsEachFactTold opening run }
+{}
+
+/// Each sentence is true: of what a line did, or of each task that it names after each line that it spans.
+pub fn no_sentence_is_made_up()
+    ensures { (opening : AnyView) → (run : List AnyMoment) → IsAllTrue opening run }
+{}
+
+/// What moves at the end of a run has moved that way since the line that its course names.
+pub fn what_moves_has_moved_since()
+    ensures { (opening : AnyView) → (run : List AnyMoment) → IsGoingSince opening run }
+{}
+
+/// Of many sentences some are left out and counted, but none that is still so at the end.
+pub fn what_lasts_is_told()
+    ensures lasting { (all : List AnySentence) → (one : AnySentence) → Contains all one → is_lasting one ≡ true
+        → Contains (told all) one }
+    ensures count { (all : List AnySentence) → length (told all) + left_out all ≡ length all }
+    ensures short { (all : List AnySentence)
+        → (length (told all) ≤ MAX_SENTENCES) ⊎ All (λ one. is_lasting one ≡ true) (told all) }
+{}

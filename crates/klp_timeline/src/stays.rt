@@ -1,0 +1,110 @@
+//! The stays that begin with a line.
+ghost use Rattle.std.specs.Prelude.{◌≡◌, ◌++◌, ◌∷◌, [], ◌≤◌, ◌<◌, ◌+◌, ◌^◌, length, IfOk, OnOk};
+ghost use Rattle.klp_types.specs.declared.limits.TheConstants.{MAX_TASKS};
+ghost use Rattle.klp_model.specs.Blocked.{is_version};
+ghost use Rattle.klp_timeline.specs.Stays.{is_transition, is_stay, is_seen, until, sleep_of, sleeps_begun};
+
+use crate::moment::{Moment, Sleep, Stay};
+use klp_types::{MAX_TASKS, TaskId, Transition, Version};
+use std::alloc::{AllocError, Global};
+
+fn is_version(own: &Version, other: &Version) -> bool
+    ensures { result ≡ is_version own.now other.now }
+{
+    match (own, other) {
+        (Version::Original(site), Version::Original(frame)) => site == frame,
+        (Version::New(patch, function), Version::New(other, number)) => patch == other
+            && function == number,
+        _ => false,
+    }
+}
+
+pub(crate) fn is_transition(own: &Transition, other: &Transition) -> bool
+    ensures { result ≡ is_transition own.now other.now }
+{
+    own.patch == other.patch && own.target == other.target
+}
+
+pub(crate) fn is_stay(own: &Stay, other: &Stay) -> bool
+    ensures { result ≡ is_stay own.now other.now }
+{
+    match (own, other) {
+        (Stay::Holds(moving, version), Stay::Holds(other, frame)) => {
+            is_transition(moving, other) && is_version(version, frame)
+        }
+        (Stay::Outdated(version), Stay::Outdated(frame)) => is_version(version, frame),
+        _ => false,
+    }
+}
+
+pub(crate) fn is_seen(stay: &Stay, other: &Option<Stay>) -> bool
+    ensures { result ≡ is_seen stay.now other.now }
+{
+    match other {
+        Some(other) => is_stay(stay, other),
+        None => false,
+    }
+}
+
+/// The last line after which a stay is seen, where it is seen after `line` and these lines follow. `None` where it still is at
+/// the end. It looks at as many lines as the stay lasts.
+fn until(task: usize, stay: &Stay, line: u64, rest: &[Moment]) -> Option<u64>
+    requires task { task < MAX_TASKS }
+    requires lines { line + length rest.now < 2 ^ 64 }
+    ensures { result ≡ until task stay.now line rest.now }
+{
+    let mut last = line;
+    for moment in rest {
+        if !is_seen(stay, &moment.view.stays[task]) {
+            return Some(last);
+        }
+        last += 1;
+    }
+    None
+}
+
+/// Adds the stay of a task that begins with a line, if one does.
+fn add_sleep(
+    sleeps: &mut Vec<Sleep>,
+    task: usize,
+    before: &Option<Stay>,
+    stay: &Option<Stay>,
+    line: u64,
+    rest: &[Moment],
+) -> Result<(), AllocError>
+    requires task { task < MAX_TASKS }
+    requires lines { line + length rest.now < 2 ^ 64 }
+    ensures { OnOk result (sleeps.new.items ≡ sleeps.old.items ++ sleep_of task before.now stay.now line rest.now) }
+{
+    let Some(stay) = stay else {
+        return Ok(());
+    };
+    if is_seen(stay, before) {
+        return Ok(());
+    }
+    sleeps.push(Sleep {
+        task: TaskId(task as u8),
+        stay: *stay,
+        to: until(task, stay, line, rest),
+    })?;
+    Ok(())
+}
+
+/// The stays that begin with a line, before which these were seen.
+pub(crate) fn sleeps_begun(
+    alloc: Global,
+    before: &[Option<Stay>],
+    stays: &[Option<Stay>],
+    line: u64,
+    rest: &[Moment],
+) -> Result<Vec<Sleep>, AllocError>
+    requires tasks { (length before.now ≡ MAX_TASKS) × (length stays.now ≡ MAX_TASKS) }
+    requires lines { line + length rest.now < 2 ^ 64 }
+    ensures { IfOk result (λ sleeps. sleeps.items ≡ sleeps_begun 0 before.now stays.now line rest.now) }
+{
+    let mut sleeps = Vec::new(alloc);
+    for task in 0..stays.len() {
+        add_sleep(&mut sleeps, task, &before[task], &stays[task], line, rest)?;
+    }
+    Ok(sleeps)
+}

@@ -1,0 +1,63 @@
+//! Lines of which there is nothing to be said.
+ghost use Rattle.std.specs.Prelude.{◌≡◌, ◌<◌};
+ghost use Rattle.klp_timeline.specs.Still.{is_same_move, is_same_stay, are_same, are_equal, is_still};
+
+use crate::moment::{Moment, Stay, View};
+use crate::stays::{is_seen, is_transition};
+use klp_types::{PatchId, Transition};
+
+fn is_same_move(before: &Option<Transition>, after: &Option<Transition>) -> bool
+    ensures { result ≡ is_same_move before.now after.now }
+{
+    match (before, after) {
+        (None, None) => true,
+        (Some(moving), Some(other)) => is_transition(moving, other),
+        _ => false,
+    }
+}
+
+fn is_same_stay(before: &Option<Stay>, after: &Option<Stay>) -> bool
+    ensures { result ≡ is_same_stay before.now after.now }
+{
+    match before {
+        Some(stay) => is_seen(stay, after),
+        None => after.is_none(),
+    }
+}
+
+/// Whether each task sleeps where it did, as far as that matters.
+pub fn are_same(before: &[Option<Stay>], after: &[Option<Stay>]) -> bool
+    ensures { result ≡ are_same before.now after.now }
+{
+    match before {
+        [] => after.is_empty(),
+        [stay, stays @ ..] => match after {
+            [] => false,
+            [other, others @ ..] => is_same_stay(stay, other) && are_same(stays, others),
+        },
+    }
+}
+
+fn are_equal(before: &[PatchId], after: &[PatchId]) -> bool
+    ensures { result ≡ are_equal before.now after.now }
+{
+    match before {
+        [] => after.is_empty(),
+        [patch, patches @ ..] => match after {
+            [] => false,
+            [other, others @ ..] => patch == other && are_equal(patches, others),
+        },
+    }
+}
+
+/// Whether there is nothing to be said of a line: it did nothing that views don't show, and what they show of patches and of
+/// who sleeps where it matters is as it was.
+pub fn is_still(before: &View, moment: &Moment) -> bool
+    ensures { result ≡ is_still before.now moment.now }
+{
+    let after = &moment.view;
+    moment.act.is_none()
+        && is_same_move(&before.moving, &after.moving)
+        && are_equal(before.installed.as_slice(), after.installed.as_slice())
+        && are_same(&before.stays, &after.stays)
+}

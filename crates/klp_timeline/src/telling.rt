@@ -1,0 +1,121 @@
+//! All that is said of a run.
+ghost use Rattle.std.specs.Prelude.{◌≡◌, ◌++◌, ◌∷◌, [], ◌≤◌, ◌<◌, ◌+◌, ◌^◌, ◌==◌, map, length, IfOk, OnOk};
+ghost use Rattle.std.specs.List.{list_any};
+ghost use Rattle.klp_timeline.specs.Sentences.{is_end, is_alike, tasks_alike, slept, slept_from, said_of, sentences_of};
+
+use crate::facts::add_facts;
+use crate::moment::{Moment, Said, Sentence, Sleep, Sleepers, View};
+use crate::stays::{is_stay, sleeps_begun};
+use crate::task_list::TaskList;
+use std::alloc::{AllocError, Global};
+
+fn is_end(own: &Option<u64>, other: &Option<u64>) -> bool
+    ensures { result ≡ is_end own.now other.now }
+{
+    match (own, other) {
+        (None, None) => true,
+        (Some(to), Some(last)) => to == last,
+        _ => false,
+    }
+}
+
+fn is_alike(own: &Sleep, other: &Sleep) -> bool
+    ensures { result ≡ is_alike own.now other.now }
+{
+    is_stay(&own.stay, &other.stay) && is_end(&own.to, &other.to)
+}
+
+fn has_alike(own: &Sleep, sleeps: &[Sleep]) -> bool
+    ensures { result ≡ list_any (is_alike own.now) sleeps.now }
+{
+    for sleep in sleeps {
+        if is_alike(own, sleep) {
+            return true;
+        }
+    }
+    false
+}
+
+fn tasks_alike(alloc: Global, own: &Sleep, sleeps: &[Sleep]) -> Result<TaskList, AllocError>
+    ensures { IfOk result (λ tasks. tasks ≡ tasks_alike own.now sleeps.now) }
+{
+    let mut tasks = TaskList::new(alloc);
+    for sleep in sleeps {
+        if is_alike(own, sleep) {
+            tasks.push(sleep.task)?;
+        }
+    }
+    Ok(tasks)
+}
+
+/// Adds the sentence of all that are alike to one of these.
+fn add_alike(
+    sentences: &mut Vec<Sentence>,
+    alloc: Global,
+    own: &Sleep,
+    sleeps: &[Sleep],
+    line: u64,
+) -> Result<(), AllocError>
+    ensures { OnOk result (sentences.new.items ≡ sentences.old.items ++ slept line own.now sleeps.now ∷ []) }
+{
+    let said = Said::Slept(Sleepers {
+        stay: own.stay,
+        tasks: tasks_alike(alloc, own, sleeps)?,
+        to: own.to,
+    });
+    sentences.push(Sentence { line, said })?;
+    Ok(())
+}
+
+/// Adds a sentence for each of these that none before it is alike to.
+fn add_slept(
+    sentences: &mut Vec<Sentence>,
+    alloc: Global,
+    sleeps: &[Sleep],
+    line: u64,
+) -> Result<(), AllocError>
+    ensures { OnOk result (sentences.new.items ≡ sentences.old.items ++ slept_from line sleeps.now [] sleeps.now) }
+{
+    for index in 0..sleeps.len() {
+        let own = &sleeps[index];
+        if !has_alike(own, &sleeps[..index]) {
+            add_alike(sentences, alloc, own, sleeps, line)?;
+        }
+    }
+    Ok(())
+}
+
+/// Adds what is said of a line.
+fn add_line(
+    sentences: &mut Vec<Sentence>,
+    alloc: Global,
+    before: &View,
+    moment: &Moment,
+    line: u64,
+    rest: &[Moment],
+) -> Result<(), AllocError>
+    requires { line + length rest.now < 2 ^ 64 }
+    ensures { OnOk result (sentences.new.items
+        ≡ sentences.old.items ++ said_of before.now line moment.now rest.now) }
+{
+    add_facts(sentences, before, moment, line)?;
+    let sleeps = sleeps_begun(alloc, &before.stays, &moment.view.stays, line, rest)?;
+    add_slept(sentences, alloc, &sleeps, line)
+}
+
+/// All that is said of a run which begins with this view: for each line in order what it did, and then who sleeps where it
+/// matters from this line on, those that are alike in one sentence. A line looks at as many lines behind it as its stays
+/// last.
+pub fn sentences(alloc: Global, opening: &View, run: &[Moment]) -> Result<Vec<Sentence>, AllocError>
+    ensures { IfOk result (λ sentences. sentences.items ≡ sentences_of opening.now run.now) }
+{
+    let mut list = Vec::new(alloc);
+    let mut before = opening;
+    for index in 0..run.len() {
+        let moment = &run[index];
+        let (line, rest) = (index as u64 + 1, &run[index + 1..]);
+        add_line(&mut list, alloc, before, moment, line, rest)?;
+        before = &moment.view;
+    }
+    Ok(list)
+}
