@@ -1,0 +1,15 @@
+//! What a page is written on.
+//!
+//! A [`Sheet`] takes markup, which stands in the program, and what comes from a run, which it escapes: so nothing that a
+//! catalog, a script or a trace says can be taken for markup (`specs/Escaped`). A want of memory is kept, so whoever adds
+//! ten pieces asks once, at the end (`specs/Adds`).
+//!
+//! The names of a catalog are spelled by `names` (`specs/Names`).
+#![tactic(auto)]
+
+pub mod laws;
+mod names;
+mod sheet;
+
+pub use names::{add_symbol, add_version, function_name, object_name, patch_name};
+pub use sheet::{Sheet, Value};

@@ -1,0 +1,99 @@
+//! The names of a catalog.
+ghost use Rattle.std.specs.Prelude.{◌≡◌, ◌++◌, codes};
+ghost use Rattle.std.specs.Fmt.{decimal};
+ghost use Rattle.klp_modules.specs.Names.{symbol_at_site};
+ghost use Rattle.klp_markup.specs.Adds.{Adds};
+ghost use Rattle.klp_markup.specs.Escaped.{words_text};
+ghost use Rattle.klp_markup.specs.Names.{patch_name, object_name, function_name, owner_text, symbol_text, version_text};
+
+use crate::sheet::Sheet;
+use klp_catalog::Catalog;
+use klp_modules::Modules;
+use klp_types::{ObjId, PatchId, Site, Version};
+
+/// The name of a patch, as bytes. One that isn't there has the empty name, and so have the others here.
+pub fn patch_name(catalog: &Catalog, patch: PatchId) -> &[u8]
+    ensures { result.now ≡ patch_name catalog.now patch }
+{
+    catalog.patch_name(patch).unwrap_or("").as_bytes()
+}
+
+/// The name of an object, loaded or not.
+pub fn object_name(modules: &Modules, object: ObjId) -> &[u8]
+    ensures { result.now ≡ object_name modules.now.names object }
+{
+    modules.object_name(object).unwrap_or("").as_bytes()
+}
+
+/// The own name of a patch's function, by the function's number over the patch's objects from 0.
+pub fn function_name(catalog: &Catalog, patch: PatchId, number: u16) -> &[u8]
+    ensures { result.now ≡ function_name catalog.now patch number }
+{
+    match catalog.function(patch, number) {
+        Some((_, name, _)) => name.as_bytes(),
+        None => b"",
+    }
+}
+
+#[tactic(auto, unfolding(crate::specs::Names::owner_text))]
+fn add_owner(sheet: &mut Sheet, object: &[u8])
+    ensures { Adds sheet.old sheet.new (owner_text object.now) }
+{
+    crate::laws::what_is_added_adds_up();
+    sheet.markup(".klp.<wbr>sym.<wbr>");
+    sheet.words(object);
+    sheet.markup(".<wbr>");
+}
+
+fn add_symbol_of(sheet: &mut Sheet, object: &[u8], symbol: &[u8], position: u64)
+    ensures { Adds sheet.old sheet.new (owner_text object.now ++ words_text symbol.now ++ codes ","
+        ++ decimal position) }
+{
+    crate::laws::what_is_added_adds_up();
+    add_owner(sheet, object);
+    sheet.words(symbol);
+    sheet.markup(",");
+    sheet.number(position);
+}
+
+/// Adds the symbol of a site: `.klp.sym.OBJECT.SYMBOL,POSITION`.
+pub fn add_symbol(sheet: &mut Sheet, modules: &Modules, site: Site)
+    ensures { Adds sheet.old sheet.new (symbol_text modules.now.names (symbol_at_site modules.now.names site)) }
+{
+    crate::laws::what_is_added_adds_up();
+    if let Some((object, symbol, position)) = modules.symbol(site) {
+        let owner = object_name(modules, object);
+        add_symbol_of(sheet, owner, symbol.as_bytes(), u64::from(position));
+    }
+}
+
+fn add_new_function(sheet: &mut Sheet, patch: &[u8], number: u16, name: &[u8])
+    ensures { Adds sheet.old sheet.new (words_text patch.now ++ codes ":" ++ decimal number ++ codes " ("
+        ++ words_text name.now ++ codes ")") }
+{
+    crate::laws::what_is_added_adds_up();
+    sheet.words(patch);
+    sheet.markup(":");
+    sheet.number(u64::from(number));
+    sheet.markup(" (");
+    sheet.words(name);
+    sheet.markup(")");
+}
+
+/// Adds a function that a task is inside of: a symbol, or `PATCH:INDEX (NAME)`. The modules are those that the catalog was
+/// assembled over.
+pub fn add_version(sheet: &mut Sheet, catalog: &Catalog, modules: &Modules, version: Version)
+    requires { catalog.now.names ≡ modules.now.names }
+    ensures { Adds sheet.old sheet.new (version_text catalog.now version) }
+{
+    match version {
+        Version::Original(site) => add_symbol(sheet, modules, site),
+        Version::New(patch, number) => {
+            let (owner, name) = (
+                patch_name(catalog, patch),
+                function_name(catalog, patch, number),
+            );
+            add_new_function(sheet, owner, number, name);
+        }
+    }
+}

@@ -1,0 +1,187 @@
+//! A page that is being written.
+ghost use Rattle.std.specs.Prelude.{◌≡◌, ◌==◌, true, false, [], length, MatchResult};
+ghost use Rattle.std.specs.Fmt.{decimal, signed_decimal};
+ghost use Rattle.klp_markup.specs.Adds.{Written, Adds};
+ghost use Rattle.klp_markup.specs.Escaped.{escaped_byte, escaped, ends_word, break_behind, words_text, name_text};
+
+use itoa::Buffer;
+use std::alloc::{AllocError, Global};
+use std::marker::Model;
+
+/// What stands at a gap of a template. What comes from a run is no `Markup`.
+#[derive(Clone, Copy)]
+pub enum Value<'a> {
+    Markup(&'static str),
+    Number(u64),
+    Integer(i64),
+    Text(&'a [u8]),
+    /// A name, in which a line may be broken behind its words.
+    Words(&'a [u8]),
+    /// The same, set apart.
+    Name(&'a [u8]),
+}
+
+/// A page, or a part of one.
+#[derive(Drop)]
+pub struct Sheet {
+    bytes: Vec<u8>,
+    is_short: bool,
+}
+
+impl Model for Sheet {
+    ghost use Rattle.klp_markup.specs.Adds.{Written};
+
+    ghost Value = { Written };
+
+    ghost view = { λ s. record { text = s.bytes.items; is_short = s.is_short } };
+}
+
+fn ends_word(byte: u8) -> bool
+    ensures { result ≡ ends_word byte }
+{
+    byte == b'.' || byte == b'_' || byte == b','
+}
+
+impl Sheet {
+    /// Nothing is written yet, and no memory is taken.
+    pub fn new(alloc: Global) -> Sheet
+        ensures { result ≡ record { text = []; is_short = false } }
+    {
+        Sheet {
+            bytes: Vec::new(alloc),
+            is_short: false,
+        }
+    }
+
+    fn add(&mut self, bytes: &[u8])
+        ensures { Adds self.old self.new bytes.now }
+    {
+        if self.bytes.extend_from_slice(bytes).is_err() {
+            self.is_short = true;
+        }
+    }
+
+    fn add_byte(&mut self, byte: u8)
+        ensures { Adds self.old self.new (escaped_byte byte) }
+    {
+        match byte {
+            b'&' => self.add(b"&amp;"),
+            b'<' => self.add(b"&lt;"),
+            b'>' => self.add(b"&gt;"),
+            b'"' => self.add(b"&quot;"),
+            b'\'' => self.add(b"&#39;"),
+            _ => self.add(&[byte]),
+        }
+    }
+
+    /// Adds markup of the program's own.
+    pub fn markup(&mut self, markup: &'static str)
+        ensures { Adds self.old self.new markup.now }
+    {
+        self.add(markup.as_bytes());
+    }
+
+    /// Adds text of a run, escaped.
+    pub fn text(&mut self, text: &[u8])
+        ensures { Adds self.old self.new (escaped text.now) }
+    {
+        crate::laws::what_is_added_adds_up();
+        for byte in text {
+            self.add_byte(*byte);
+        }
+    }
+
+    pub fn number(&mut self, number: u64)
+        ensures { Adds self.old self.new (decimal number) }
+    {
+        self.add(Buffer::new().format(number).as_bytes());
+    }
+
+    /// Adds a number that may be below zero.
+    pub fn integer(&mut self, value: i64)
+        ensures { Adds self.old self.new (signed_decimal value) }
+    {
+        self.add(Buffer::new().format(value).as_bytes());
+    }
+
+    fn add_break(&mut self, byte: u8)
+        ensures { Adds self.old self.new (break_behind byte) }
+    {
+        crate::laws::what_is_added_adds_up();
+        if ends_word(byte) {
+            self.add(b"<wbr>");
+        }
+    }
+
+    /// Adds a name, in which a line may be broken behind its words.
+    pub fn words(&mut self, name: &[u8])
+        ensures { Adds self.old self.new (words_text name.now) }
+    {
+        crate::laws::what_is_added_adds_up();
+        for byte in name {
+            self.add_byte(*byte);
+            self.add_break(*byte);
+        }
+    }
+
+    /// Adds a name that is set apart.
+    pub fn name(&mut self, name: &[u8])
+        ensures { Adds self.old self.new (name_text name.now) }
+    {
+        crate::laws::what_is_added_adds_up();
+        self.markup("<span class=m>");
+        self.words(name);
+        self.markup("</span>");
+    }
+
+    fn value(&mut self, value: &Value<'_>) {
+        match *value {
+            Value::Markup(markup) => self.markup(markup),
+            Value::Number(number) => self.number(number),
+            Value::Integer(value) => self.integer(value),
+            Value::Text(text) => self.text(text),
+            Value::Words(name) => self.words(name),
+            Value::Name(name) => self.name(name),
+        }
+    }
+
+    /// Adds a template with a value at each of its gaps, which are written `{}`. It has no contract, and is for layout.
+    pub fn fill(&mut self, template: &'static str, values: &[Value<'_>]) {
+        let mut rest = template;
+        for value in values {
+            let (markup, behind) = rest.split_once("{}").unwrap_or((rest, ""));
+            self.markup(markup);
+            self.value(value);
+            rest = behind;
+        }
+        self.markup(rest);
+    }
+
+    /// Adds what was written of another page.
+    pub fn append(&mut self, other: &Sheet)
+        ensures adds { Adds self.old self.new other.now.text }
+        ensures short { other.now.is_short ≡ true → self.new.is_short ≡ true }
+    {
+        self.add(&other.bytes);
+        self.is_short |= other.is_short;
+    }
+
+    /// Whether nothing is written.
+    pub fn is_empty(&self) -> bool
+        ensures { result ≡ (length self.now.text == 0) }
+    {
+        self.bytes.is_empty()
+    }
+
+    /// What was written; an `Err` where memory was refused.
+    pub fn into_bytes(self) -> Result<Vec<u8>, AllocError>
+        ensures { MatchResult result (λ bytes. (self.is_short ≡ false) × (bytes.items ≡ self.text))
+            (λ _. self.is_short ≡ true) }
+    {
+        let Sheet { bytes, is_short } = self;
+        if is_short {
+            return Err(AllocError);
+        }
+        Ok(bytes)
+    }
+}
