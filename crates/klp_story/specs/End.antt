@@ -1,0 +1,137 @@
+-- How a run ends, in words.
+use Rattle.std.specs.Prelude.{ℕ, ◌-◌, ◌==◌, ◌&&◌, nat_lt, true, false, Bool, List, [], ◌∷◌, ◌++◌, codes, length, count_by, sum_by, Option, Some, None, is_some, if◌then◌else◌}
+use Rattle.klp_types.specs.declared.task.Mode.{Mode}
+use Rattle.klp_types.specs.declared.task.Mode.TheVariants.{User, Kernel, Asleep}
+use Rattle.klp_types.specs.declared.version.Transition.{Transition}
+use Rattle.klp_model.specs.Task.{is_mode}
+use Rattle.klp_timeline.specs.declared.course.Since.{Since}
+use Rattle.klp_timeline.specs.declared.course.Since.TheVariants.{Turned, Undone}
+use Rattle.klp_timeline.specs.declared.course.Course.{Course}
+use Rattle.klp_timeline.specs.declared.moment.Stay.{Stay}
+use Rattle.klp_timeline.specs.declared.moment.Stay.TheVariants.{Holds, Outdated}
+use Rattle.klp_timeline.specs.declared.moment.View.{View}
+use Rattle.klp_timeline.specs.declared.moment.Said.{Said}
+use Rattle.klp_timeline.specs.declared.moment.Said.TheVariants.{Did, Slept}
+use Rattle.klp_timeline.specs.declared.moment.Sentence.{Sentence}
+use Rattle.klp_timeline.specs.Course.{course_of}
+use Rattle.klp_timeline.specs.Facts.{is_outdated}
+use Rattle.klp_timeline.specs.Told.{is_lasting}
+use Rattle.klp_catalog.specs.Catalog.{Catalog}
+use Rattle.klp_markup.specs.Names.{version_text}
+use Rattle.klp_story.specs.declared.end.TheConstants.{MAX_HOLDERS}
+use Rattle.klp_story.specs.Words.{counted_text, link_text, quoted_text, tasks_text, why}
+
+abbrev pub way : Bool → List ℕ
+way true = codes " is in transition, patching"
+way false = codes " is in transition, unpatching"
+
+abbrev pub since_text : Option Since → List ℕ
+since_text None = []
+since_text (Some (Turned line)) = codes " since " ++ link_text (codes "line ") line
+since_text (Some (Undone line)) = codes " at least since " ++ link_text (codes "line ") line
+
+abbrev pub forced_text : Bool → List ℕ
+forced_text is_forced = if is_forced then codes ", and was forced" else []
+
+abbrev pub is_holding : Option Stay → Bool
+is_holding (Some (Holds move version)) = true
+is_holding other = false
+
+abbrev pub held_text : ℕ → List ℕ
+held_text count =
+    if count == 0 then codes ". Nobody holds it up." else counted_text (codes ". ") count (codes " task holds it up.") (codes " tasks hold it up.")
+
+-- patches behind others
+abbrev pub also_text : Catalog → List ℕ → List ℕ
+also_text catalog [] = []
+also_text catalog (patch ∷ patches) = codes ", " ++ quoted_text catalog patch ++ also_text catalog patches
+
+abbrev pub enabled_text : Catalog → List ℕ → List ℕ
+enabled_text catalog [] = codes " No patch is enabled."
+enabled_text catalog (patch ∷ patches) = codes " Enabled: " ++ quoted_text catalog patch ++ also_text catalog patches ++ codes "."
+
+abbrev pub rest_text : Catalog → List ℕ → List ℕ
+rest_text catalog patches = codes "No patch is in transition." ++ enabled_text catalog patches
+
+-- what moves, or that nothing does
+abbrev pub state_text : Catalog → View → Course → Option Transition → List ℕ
+state_text catalog view course None = rest_text catalog view.installed.items
+state_text catalog view course (Some move) =
+    quoted_text catalog move.patch ++ way move.target ++ since_text course.since ++ forced_text course.is_forced ++ held_text (count_by is_holding view.stays)
+
+abbrev pub outdated_text : ℕ → List ℕ
+outdated_text count =
+    if count == 0 then []
+    else counted_text (codes " ") count (codes " task sleeps in code that isn't called now.") (codes " tasks sleep in code that isn't called now.")
+
+-- the first so many sentences that last
+abbrev pub first_lasting : ℕ → List Sentence → List Sentence
+first_lasting room [] = []
+first_lasting room (sentence ∷ rest) =
+    if nat_lt 0 room && is_lasting sentence then sentence ∷ first_lasting (room - 1) rest else first_lasting room rest
+
+abbrev pub reason_text : Catalog → Stay → List ℕ
+reason_text catalog (Holds move version) = version_text catalog version ++ codes ", " ++ why move.target version ++ codes ".\n"
+reason_text catalog (Outdated version) = version_text catalog version ++ codes ", which isn't called now: the module or patch that has it mustn't be unloaded.\n"
+
+-- who still sleeps there, since which line
+abbrev pub sleeper_text : Catalog → ℕ → Said → List ℕ
+sleeper_text catalog line (Did fact) = []
+sleeper_text catalog line (Slept sleepers) =
+    codes "<li class=holds><b>" ++ tasks_text sleepers.tasks ++ codes "</b>, in the way since " ++ link_text (codes "line ") line ++ codes ": asleep in "
+    ++ reason_text catalog sleepers.stay
+
+abbrev pub sleepers_text : Catalog → List Sentence → List ℕ
+sleepers_text catalog [] = []
+sleepers_text catalog (sentence ∷ rest) = sleeper_text catalog sentence.line sentence.said ++ sleepers_text catalog rest
+
+abbrev pub tasks_said : Said → ℕ
+tasks_said (Did fact) = 0
+tasks_said (Slept sleepers) = length sleepers.tasks
+
+abbrev pub tasks_of : Sentence → ℕ
+tasks_of sentence = tasks_said sentence.said
+
+-- those that aren't told of here
+abbrev pub others_text : ℕ → List ℕ
+others_text count =
+    if count == 0 then []
+    else counted_text (codes "<li class=holds>") count (codes " task more, of which the sentences below tell.\n")
+    (codes " tasks more, of which the sentences below tell.\n")
+
+-- all who sleep where it matters: some by themselves, and how many others
+abbrev pub all_sleepers_text : Catalog → List (Option Stay) → List Sentence → List ℕ
+all_sleepers_text catalog stays sentences =
+    let shown = first_lasting MAX_HOLDERS sentences in sleepers_text catalog shown ++ others_text (count_by is_some stays - sum_by tasks_of shown)
+
+abbrev pub item_text : List ℕ → List ℕ → ℕ → List ℕ
+item_text one more count = if count == 0 then [] else counted_text (codes "<li>") count one more
+
+abbrev pub is_in : Mode → Option Mode → Bool
+is_in mode None = false
+is_in mode (Some own) = is_mode own mode
+
+-- where so many tasks are that merely lag, and when they switch
+abbrev pub lagging_text : Mode → ℕ → List ℕ
+lagging_text User =
+    item_text (codes " task lags in user space: it switches once it has been in the kernel again.\n")
+    (codes " tasks lag in user space: each switches once it has been in the kernel again.\n")
+lagging_text Kernel =
+    item_text (codes " task lags in the kernel: it switches as it leaves.\n") (codes " tasks lag in the kernel: each switches as it leaves.\n")
+lagging_text Asleep =
+    item_text (codes " task lags, asleep elsewhere: the next poll switches it.\n")
+    (codes " tasks lag, asleep elsewhere: the next poll switches them.\n")
+
+abbrev pub all_lagging_text : List (Option Mode) → List ℕ
+all_lagging_text waits =
+    lagging_text User (count_by (is_in User) waits) ++ lagging_text Kernel (count_by (is_in Kernel) waits) ++ lagging_text Asleep (count_by (is_in Asleep) waits)
+
+-- a page's first line
+unfoldable pub first_text : Catalog → View → List Sentence → List ℕ
+first_text catalog view sentences =
+    codes "<h1>At the end: " ++ state_text catalog view (course_of sentences) view.moving ++ outdated_text (count_by is_outdated view.stays) ++ codes "</h1>"
+
+-- and what belongs to it
+abbrev pub end_text : Catalog → View → List Sentence → List ℕ
+end_text catalog view sentences =
+    first_text catalog view sentences ++ codes "<ul class=story>\n" ++ all_sleepers_text catalog view.stays sentences ++ all_lagging_text view.waits ++ codes "</ul>\n"

@@ -1,0 +1,42 @@
+//! Worked examples of what a page says, by computation. A function here does nothing: its contract is the example, so a
+//! definition that comes to something else isn't proved.
+ghost use Rattle.std.specs.Prelude.{◌≡◌, ◌++◌, ◌∷◌, [], codes, true, false, Some, None};
+ghost use Rattle.klp_types.specs.declared.task.Mode.TheVariants.{User};
+ghost use Rattle.klp_timeline.specs.declared.moment.Fact.TheVariants.{Undoes, Completes};
+ghost use Rattle.klp_catalog.specs.Catalog.{Catalog as AnyCatalog};
+ghost use Rattle.klp_story.specs.Words.{tasks_text, quoted_text};
+ghost use Rattle.klp_story.specs.Sentences.{fact_text, span_text};
+ghost use Rattle.klp_story.specs.End.{rest_text, held_text, lagging_text};
+
+/// Of more than nine tasks eight are named.
+pub fn tasks_are_told_like_this()
+    ensures one { tasks_text (5 ∷ []) ≡ codes "task 5" }
+    ensures two { tasks_text (1 ∷ 12 ∷ []) ≡ codes "tasks 1 and 12" }
+    ensures nine { tasks_text (1 ∷ 2 ∷ 3 ∷ 4 ∷ 5 ∷ 6 ∷ 7 ∷ 8 ∷ 9 ∷ [])
+        ≡ codes "tasks 1, 2, 3, 4, 5, 6, 7, 8 and 9" }
+    ensures ten { tasks_text (1 ∷ 2 ∷ 3 ∷ 4 ∷ 5 ∷ 6 ∷ 7 ∷ 8 ∷ 9 ∷ 10 ∷ [])
+        ≡ codes "tasks 1, 2, 3, 4, 5, 6, 7, 8 and 2 more" }
+{}
+
+/// A completion with sleepers in code that isn't called now says so.
+pub fn facts_are_told_like_this()
+    ensures complete { (catalog : AnyCatalog) → fact_text catalog (Completes (record { patch = 0; target = true }) 0)
+        ≡ quoted_text catalog 0 ++ codes ": patching complete" ++ codes ": each task calls its functions." }
+    ensures forced { (catalog : AnyCatalog) → fact_text catalog (Completes (record { patch = 0; target = false }) 2)
+        ≡ quoted_text catalog 0 ++ codes ": unpatching complete"
+        ++ codes ", but 2 tasks slept on in code that wasn't called then." }
+    ensures undone { (catalog : AnyCatalog) → fact_text catalog (Undoes 3 2)
+        ≡ codes "1 event is undone: all is as it was after event 2." }
+{}
+
+/// The lines of a stay, who holds a transition up, and who lags.
+pub fn stays_are_told_like_this()
+    ensures line { span_text 7 (Some 7) ≡ codes "<li><a href=\"#line-7\">Line 7</a>: " }
+    ensures lines { span_text 7 (Some 12) ≡ codes "<li><a href=\"#line-7\">Lines 7</a> to 12: " }
+    ensures still { span_text 7 None ≡ codes "<li class=holds>Since <a href=\"#line-7\">line 7</a>, and still: " }
+    ensures held { held_text 1 ≡ codes ". 1 task holds it up." }
+    ensures lagging { lagging_text User 2
+        ≡ codes "<li>2 tasks lag in user space: each switches once it has been in the kernel again.\n" }
+    ensures nothing { (catalog : AnyCatalog) → rest_text catalog []
+        ≡ codes "No patch is in transition. No patch is enabled." }
+{}

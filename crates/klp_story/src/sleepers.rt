@@ -1,0 +1,169 @@
+//! Who sleeps where it matters, in words.
+ghost use Rattle.std.specs.Prelude.{◌≡◌, ◌++◌, ◌∷◌, [], codes, length};
+ghost use Rattle.std.specs.Fmt.{decimal};
+ghost use Rattle.klp_markup.specs.Adds.{Adds};
+ghost use Rattle.klp_markup.specs.Names.{version_text};
+ghost use Rattle.klp_story.specs.Words.{plural, link_text, quoted_text, tasks_text, why};
+ghost use Rattle.klp_story.specs.Sentences.{span_text, anchor_text, anchors_text, holding, sleeping, warning, stay_text, said_text};
+ghost use Rattle.klp_timeline.specs.declared.moment.Said.TheVariants.{Slept};
+
+use crate::words::{add_link, add_number, add_patch, add_tasks, plural, why};
+use klp_catalog::Catalog;
+use klp_markup::{Sheet, add_version};
+use klp_modules::Modules;
+use klp_timeline::{Sleepers, Stay};
+use klp_types::{TaskId, Transition, Version};
+
+/// Adds a link to a line, between these.
+pub(crate) fn add_linked(
+    sheet: &mut Sheet,
+    before: &'static str,
+    word: &'static str,
+    line: u64,
+    behind: &'static str,
+)
+    ensures { Adds sheet.old sheet.new (before.now ++ link_text word.now line ++ behind.now) }
+{
+    klp_markup::laws::what_is_added_adds_up();
+    sheet.markup(before);
+    add_link(sheet, word, line);
+    sheet.markup(behind);
+}
+
+/// Adds from which line to which a stay is seen.
+fn add_span(sheet: &mut Sheet, line: u64, to: &Option<u64>)
+    ensures { Adds sheet.old sheet.new (span_text line to.now) }
+{
+    klp_markup::laws::what_is_added_adds_up();
+    match *to {
+        None => add_linked(
+            sheet,
+            "<li class=holds>Since ",
+            "line ",
+            line,
+            ", and still: ",
+        ),
+        Some(to) if to == line => add_linked(sheet, "<li>", "Line ", line, ": "),
+        Some(to) => {
+            add_linked(sheet, "<li>", "Lines ", line, " to ");
+            sheet.number(to);
+            sheet.markup(": ");
+        }
+    }
+}
+
+/// Adds what the label of a drawing leads to.
+#[tactic(auto, unfolding(crate::specs::Sentences::anchor_text))]
+fn add_anchor(sheet: &mut Sheet, line: u64, task: TaskId)
+    ensures { Adds sheet.old sheet.new (anchor_text line task) }
+{
+    klp_markup::laws::what_is_added_adds_up();
+    add_number(sheet, "<i id=stay-", line, "-");
+    sheet.number(u64::from(task.0));
+    sheet.markup("></i>");
+}
+
+fn add_anchors(sheet: &mut Sheet, line: u64, tasks: &[TaskId])
+    ensures { Adds sheet.old sheet.new (anchors_text line tasks.now) }
+{
+    klp_markup::laws::what_is_added_adds_up();
+    for task in tasks {
+        add_anchor(sheet, line, *task);
+    }
+}
+
+fn holding(to: &Option<u64>, count: usize) -> &'static str
+    ensures { result.now ≡ holding to.now count }
+{
+    match to {
+        None => plural(count, " holds ", " hold "),
+        Some(_) => " held ",
+    }
+}
+
+fn sleeping(to: &Option<u64>, count: usize) -> &'static str
+    ensures { result.now ≡ sleeping to.now count }
+{
+    match to {
+        None => plural(count, " sleeps in ", " sleep in "),
+        Some(_) => " slept in ",
+    }
+}
+
+fn warning(to: &Option<u64>) -> &'static str
+    ensures { result.now ≡ warning to.now }
+{
+    match to {
+        None => ", which isn't called now: the module or patch that has it mustn't be unloaded.",
+        Some(_) => ", which wasn't called then.",
+    }
+}
+
+/// Adds that a patch is held up, by tasks that do what the verb says inside of a function.
+fn add_hold(
+    sheet: &mut Sheet,
+    catalog: &Catalog,
+    modules: &Modules,
+    verb: &'static str,
+    moving: &Transition,
+    version: Version,
+)
+    requires { catalog.now.names ≡ modules.now.names }
+    ensures { Adds sheet.old sheet.new (verb.now ++ quoted_text catalog.now moving.now.patch
+        ++ codes " up, asleep in " ++ version_text catalog.now version ++ codes ", "
+        ++ why moving.now.target version ++ codes ".") }
+{
+    klp_markup::laws::what_is_added_adds_up();
+    sheet.markup(verb);
+    add_patch(sheet, catalog, moving.patch);
+    sheet.markup(" up, asleep in ");
+    add_version(sheet, catalog, modules, version);
+    sheet.markup(", ");
+    sheet.markup(why(moving, &version));
+    sheet.markup(".");
+}
+
+/// Adds what so many tasks do, or did.
+fn add_stay(
+    sheet: &mut Sheet,
+    catalog: &Catalog,
+    modules: &Modules,
+    sleepers: &Sleepers,
+    count: usize,
+)
+    requires { catalog.now.names ≡ modules.now.names }
+    ensures { Adds sheet.old sheet.new (stay_text catalog.now sleepers.now.stay sleepers.now.to count) }
+{
+    klp_markup::laws::what_is_added_adds_up();
+    let to = &sleepers.to;
+    match &sleepers.stay {
+        Stay::Holds(moving, version) => {
+            let verb = holding(to, count);
+            add_hold(sheet, catalog, modules, verb, moving, *version);
+        }
+        Stay::Outdated(version) => {
+            sheet.markup(sleeping(to, count));
+            add_version(sheet, catalog, modules, *version);
+            sheet.markup(warning(to));
+        }
+    }
+}
+
+/// Adds who sleeps where it matters, from this line on.
+pub(crate) fn add_sleepers(
+    sheet: &mut Sheet,
+    catalog: &Catalog,
+    modules: &Modules,
+    line: u64,
+    sleepers: &Sleepers,
+)
+    requires { catalog.now.names ≡ modules.now.names }
+    ensures { Adds sheet.old sheet.new (said_text catalog.now line (Slept sleepers.now)) }
+{
+    klp_markup::laws::what_is_added_adds_up();
+    let tasks = sleepers.tasks.as_slice();
+    add_span(sheet, line, &sleepers.to);
+    add_anchors(sheet, line, tasks);
+    add_tasks(sheet, tasks);
+    add_stay(sheet, catalog, modules, sleepers, tasks.len());
+}

@@ -1,0 +1,161 @@
+//! What moves at the end of a run, or that nothing does.
+ghost use Rattle.std.specs.Prelude.{◌≡◌, ◌++◌, ◌∷◌, [], codes, count_by};
+ghost use Rattle.std.specs.Fmt.{decimal};
+ghost use Rattle.klp_markup.specs.Adds.{Adds};
+ghost use Rattle.klp_timeline.specs.Course.{course_of};
+ghost use Rattle.klp_story.specs.Words.{link_text, quoted_text};
+ghost use Rattle.klp_story.specs.End.{way, since_text, forced_text, is_holding, held_text, also_text, enabled_text, rest_text, state_text, outdated_text};
+
+use crate::words::{add_counted, add_link, add_patch};
+use klp_catalog::Catalog;
+use klp_markup::Sheet;
+use klp_timeline::{Course, Since, Stay, View};
+use klp_types::{PatchId, Transition};
+
+fn way(target: bool) -> &'static str
+    ensures { result.now ≡ way target }
+{
+    if target {
+        " is in transition, patching"
+    } else {
+        " is in transition, unpatching"
+    }
+}
+
+/// Adds since when a transition goes this way.
+fn add_since(sheet: &mut Sheet, since: &Option<Since>)
+    ensures { Adds sheet.old sheet.new (since_text since.now) }
+{
+    klp_markup::laws::what_is_added_adds_up();
+    match *since {
+        None => {}
+        Some(Since::Turned(line)) => {
+            sheet.markup(" since ");
+            add_link(sheet, "line ", line);
+        }
+        Some(Since::Undone(line)) => {
+            sheet.markup(" at least since ");
+            add_link(sheet, "line ", line);
+        }
+    }
+}
+
+fn forced(is_forced: bool) -> &'static str
+    ensures { result.now ≡ forced_text is_forced }
+{
+    if is_forced { ", and was forced" } else { "" }
+}
+
+/// How many tasks hold the transition up.
+fn holding(stays: &[Option<Stay>]) -> usize
+    ensures { result ≡ count_by is_holding stays.now }
+{
+    let mut count = 0;
+    for stay in stays {
+        if matches!(stay, Some(Stay::Holds(_, _))) {
+            count += 1;
+        }
+    }
+    count
+}
+
+fn add_held(sheet: &mut Sheet, count: usize)
+    ensures { Adds sheet.old sheet.new (held_text count) }
+{
+    klp_markup::laws::what_is_added_adds_up();
+    if count == 0 {
+        sheet.markup(". Nobody holds it up.");
+    } else {
+        add_counted(
+            sheet,
+            ". ",
+            count,
+            " task holds it up.",
+            " tasks hold it up.",
+        );
+    }
+}
+
+/// Adds what moves, which way, since when, and how many hold it up.
+fn add_moving(
+    sheet: &mut Sheet,
+    catalog: &Catalog,
+    moving: &Transition,
+    course: &Course,
+    holders: usize,
+)
+    ensures { Adds sheet.old sheet.new (quoted_text catalog.now moving.now.patch ++ way moving.now.target
+        ++ since_text course.now.since ++ forced_text course.now.is_forced ++ held_text holders) }
+{
+    klp_markup::laws::what_is_added_adds_up();
+    add_patch(sheet, catalog, moving.patch);
+    sheet.markup(way(moving.target));
+    add_since(sheet, &course.since);
+    sheet.markup(forced(course.is_forced));
+    add_held(sheet, holders);
+}
+
+/// Adds patches behind others.
+fn add_also(sheet: &mut Sheet, catalog: &Catalog, patches: &[PatchId])
+    ensures { Adds sheet.old sheet.new (also_text catalog.now patches.now) }
+{
+    klp_markup::laws::what_is_added_adds_up();
+    for patch in patches {
+        sheet.markup(", ");
+        add_patch(sheet, catalog, *patch);
+    }
+}
+
+/// Adds the patches that are enabled where nothing moves.
+fn add_enabled(sheet: &mut Sheet, catalog: &Catalog, patches: &[PatchId])
+    ensures { Adds sheet.old sheet.new (enabled_text catalog.now patches.now) }
+{
+    klp_markup::laws::what_is_added_adds_up();
+    match patches {
+        [] => sheet.markup(" No patch is enabled."),
+        [first, others @ ..] => {
+            sheet.markup(" Enabled: ");
+            add_patch(sheet, catalog, *first);
+            add_also(sheet, catalog, others);
+            sheet.markup(".");
+        }
+    }
+}
+
+/// Adds that nothing moves, and which patches are enabled.
+fn add_rest(sheet: &mut Sheet, catalog: &Catalog, patches: &[PatchId])
+    ensures { Adds sheet.old sheet.new (rest_text catalog.now patches.now) }
+{
+    klp_markup::laws::what_is_added_adds_up();
+    sheet.markup("No patch is in transition.");
+    add_enabled(sheet, catalog, patches);
+}
+
+/// Adds what moves, or that nothing does.
+pub(crate) fn add_state(sheet: &mut Sheet, catalog: &Catalog, view: &View, course: &Course)
+    ensures { Adds sheet.old sheet.new (state_text catalog.now view.now course.now view.now.moving) }
+{
+    klp_markup::laws::what_is_added_adds_up();
+    match &view.moving {
+        None => add_rest(sheet, catalog, view.installed.as_slice()),
+        Some(moving) => {
+            add_moving(sheet, catalog, moving, course, holding(&view.stays));
+        }
+    }
+}
+
+/// Adds how many tasks sleep inside of code that isn't called now, if any does.
+pub(crate) fn add_outdated(sheet: &mut Sheet, count: usize)
+    ensures { Adds sheet.old sheet.new (outdated_text count) }
+{
+    klp_markup::laws::what_is_added_adds_up();
+    if count > 0 {
+        add_counted(
+            sheet,
+            " ",
+            count,
+            " task sleeps in code that isn't called now.",
+            " tasks sleep in code that isn't called now.",
+        );
+    }
+}

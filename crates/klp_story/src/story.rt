@@ -1,0 +1,73 @@
+//! What happened, in sentences.
+ghost use Rattle.std.specs.Prelude.{◌≡◌, ◌++◌, ◌∷◌, [], codes};
+ghost use Rattle.klp_markup.specs.Adds.{Adds};
+ghost use Rattle.klp_timeline.specs.declared.moment.Said.TheVariants.{Did};
+ghost use Rattle.klp_timeline.specs.Told.{told};
+ghost use Rattle.klp_story.specs.Sentences.{said_text, sentence_text, sentences_text, earlier_text, story_text};
+
+use crate::facts::add_fact;
+use crate::sleepers::{add_linked, add_sleepers};
+use crate::words::add_number;
+use klp_catalog::Catalog;
+use klp_markup::Sheet;
+use klp_modules::Modules;
+use klp_timeline::{Fact, Said, Sentence, excess, is_left_out, left_out};
+
+fn add_did(sheet: &mut Sheet, catalog: &Catalog, modules: &Modules, line: u64, fact: &Fact)
+    requires { catalog.now.names ≡ modules.now.names }
+    ensures { Adds sheet.old sheet.new (said_text catalog.now line (Did fact.now)) }
+{
+    klp_markup::laws::what_is_added_adds_up();
+    add_linked(sheet, "<li>", "Line ", line, ": ");
+    add_fact(sheet, catalog, modules, fact);
+}
+
+fn add_sentence(sheet: &mut Sheet, catalog: &Catalog, modules: &Modules, sentence: &Sentence)
+    requires { catalog.now.names ≡ modules.now.names }
+    ensures { Adds sheet.old sheet.new (sentence_text catalog.now sentence.now) }
+{
+    klp_markup::laws::what_is_added_adds_up();
+    let line = sentence.line;
+    match &sentence.said {
+        Said::Did(fact) => add_did(sheet, catalog, modules, line, fact),
+        Said::Slept(sleepers) => add_sleepers(sheet, catalog, modules, line, sleepers),
+    }
+    sheet.markup("\n");
+}
+
+/// Adds the sentences that are told of.
+fn add_told(sheet: &mut Sheet, catalog: &Catalog, modules: &Modules, sentences: &[Sentence])
+    requires { catalog.now.names ≡ modules.now.names }
+    ensures { Adds sheet.old sheet.new (sentences_text catalog.now (told sentences.now)) }
+{
+    klp_markup::laws::what_is_added_adds_up();
+    let mut excess = excess(sentences);
+    for sentence in sentences {
+        if is_left_out(excess, sentence) {
+            excess -= 1;
+        } else {
+            add_sentence(sheet, catalog, modules, sentence);
+        }
+    }
+}
+
+fn add_earlier(sheet: &mut Sheet, count: usize)
+    ensures { Adds sheet.old sheet.new (earlier_text count) }
+{
+    klp_markup::laws::what_is_added_adds_up();
+    if count > 0 {
+        let behind = " earlier, which the lines below tell.\n";
+        add_number(sheet, "<li>And ", count as u64, behind);
+    }
+}
+
+/// Adds a list item for each sentence that is told of, in the order of the lines where each begins, and how many of the
+/// oldest aren't. The modules are those that the catalog was assembled over.
+pub fn add_story(sheet: &mut Sheet, catalog: &Catalog, modules: &Modules, sentences: &[Sentence])
+    requires { catalog.now.names ≡ modules.now.names }
+    ensures { Adds sheet.old sheet.new (story_text catalog.now sentences.now) }
+{
+    klp_markup::laws::what_is_added_adds_up();
+    add_told(sheet, catalog, modules, sentences);
+    add_earlier(sheet, left_out(sentences));
+}
