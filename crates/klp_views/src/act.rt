@@ -1,0 +1,37 @@
+//! What a line did that views don't show.
+ghost use Rattle.std.specs.Prelude.{◌≡◌};
+ghost use Rattle.klp_views.specs.Views.{fact_of, act_of};
+
+use klp_console::Outcome;
+use klp_model::{Event, Reply};
+use klp_timeline::Fact;
+use klp_types::Transition;
+
+fn fact_of(moving: &Option<Transition>, event: &Event, reply: &Reply) -> Option<Fact>
+    ensures { result ≡ fact_of moving.now event.now reply.now }
+{
+    match (event, reply) {
+        (_, Reply::PreFailed(patch, object, status)) => {
+            Some(Fact::PreFailed(*patch, *object, *status))
+        }
+        (Event::Force(_), _) => match moving {
+            Some(moving) => Some(Fact::Forces(*moving)),
+            None => None,
+        },
+        (Event::Coming(object), _) => Some(Fact::Comes(*object)),
+        (Event::Going(object), _) => Some(Fact::Goes(*object)),
+        _ => None,
+    }
+}
+
+/// What a line did that came to this, where this moved before it. There were `from` events before the line, and there are
+/// `to` now.
+pub fn act_of(moving: &Option<Transition>, outcome: &Outcome, from: u32, to: u32) -> Option<Fact>
+    ensures { result ≡ act_of moving.now outcome.now from to }
+{
+    match outcome {
+        Outcome::Answered(event, Ok(reply)) => fact_of(moving, event, reply),
+        Outcome::Rewound(_) if from != to => Some(Fact::Undoes(from, to)),
+        _ => None,
+    }
+}

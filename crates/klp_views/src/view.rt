@@ -1,0 +1,164 @@
+//! What a manager shows after a line.
+ghost use Rattle.std.specs.Prelude.{◌≡◌, ◌<◌, map, option_and_then, option_map};
+ghost use Rattle.klp_types.specs.Frames.{frames_of};
+ghost use Rattle.klp_model.specs.Blocked.{is_version};
+ghost use Rattle.klp_model.specs.Pick.{pick_by};
+ghost use Rattle.klp_core.specs.Holders.{holders};
+ghost use Rattle.klp_model.specs.Task.{task_at};
+ghost use Rattle.klp_types.specs.declared.limits.TheConstants.{MAX_TASKS};
+ghost use Rattle.klp_manager_state.specs.Managed.{setting_of};
+ghost use Rattle.klp_timeline.specs.declared.moment.Stay.TheVariants.{Outdated};
+ghost use Rattle.klp_views.specs.Views.{site_of, is_picked, is_current, innermost_outside, outdated_in, lag_in, stay_by, stay_in, wait_by, IsView};
+
+use klp_core::{Lag, Manager};
+use klp_timeline::{Stay, View};
+use klp_types::{MAX_TASKS, Mode, Site, Target, TaskId, Transition, Version};
+
+fn is_same(own: &Version, other: &Version) -> bool
+    ensures { result ≡ is_version own.now other.now }
+{
+    match (own, other) {
+        (Version::Original(site), Version::Original(frame)) => site == frame,
+        (Version::New(patch, function), Version::New(other, number)) => {
+            patch == other && function == number
+        }
+        _ => false,
+    }
+}
+
+/// The site whose calls a version answers.
+fn site_of(manager: &Manager, version: &Version) -> Option<Site>
+    ensures { result ≡ site_of (setting_of manager.now.managed) version.now }
+{
+    match *version {
+        Version::Original(site) => Some(site),
+        Version::New(patch, number) => manager.site_of(patch, usize::from(number)),
+    }
+}
+
+fn is_picked(version: &Version, target: &Option<Target>) -> bool
+    ensures { result ≡ is_picked version.now target.now }
+{
+    match target {
+        Some(target) => is_same(&target.version, version),
+        None => false,
+    }
+}
+
+/// Whether a call by this task would run the version now.
+fn is_current(manager: &Manager, task: TaskId, version: &Version) -> bool
+    ensures { result ≡ is_current (setting_of manager.now.managed) manager.now.managed.state
+        (task_at manager.now.managed.state.tasks task) version.now }
+{
+    match site_of(manager, version) {
+        Some(site) => is_picked(version, &manager.pick(task, site)),
+        None => false,
+    }
+}
+
+/// The innermost of these versions that a call by this task wouldn't run any more.
+fn outdated_among(manager: &Manager, task: TaskId, versions: &[Version]) -> Option<Version>
+    ensures { result ≡ innermost_outside (is_current (setting_of manager.now.managed) manager.now.managed.state
+        (task_at manager.now.managed.state.tasks task)) versions.now }
+{
+    let mut found = None;
+    for version in versions {
+        if !is_current(manager, task, version) {
+            found = Some(*version);
+        }
+    }
+    found
+}
+
+/// The innermost version that a task sleeps inside of and wouldn't run any more.
+fn outdated(manager: &Manager, task: TaskId) -> Option<Version>
+    ensures { result ≡ outdated_in (setting_of manager.now.managed) manager.now.managed.state
+        (task_at manager.now.managed.state.tasks task) }
+{
+    outdated_among(manager, task, manager.frames(task).as_slice())
+}
+
+/// Why it matters where a task sleeps.
+fn stay_of(
+    manager: &Manager,
+    task: TaskId,
+    moving: &Option<Transition>,
+    lag: &Option<Lag>,
+) -> Option<Stay>
+    ensures { result ≡ stay_by moving.now lag.now (outdated_in (setting_of manager.now.managed)
+        manager.now.managed.state (task_at manager.now.managed.state.tasks task)) }
+{
+    if let (Some(moving), Some(Lag::Holds(version))) = (moving, lag) {
+        return Some(Stay::Holds(*moving, *version));
+    }
+    match outdated(manager, task) {
+        Some(version) => Some(Stay::Outdated(version)),
+        None => None,
+    }
+}
+
+/// The same, where all lags are known.
+fn stay_in(
+    manager: &Manager,
+    number: usize,
+    moving: &Option<Transition>,
+    lags: &[Option<Lag>; MAX_TASKS],
+) -> Option<Stay>
+    requires task { number < MAX_TASKS }
+    requires moving { moving.now ≡ manager.now.managed.state.moving }
+    requires lags { lags.now ≡ holders (setting_of manager.now.managed) manager.now.managed.state }
+    ensures { result ≡ stay_in (setting_of manager.now.managed) manager.now.managed.state
+        (task_at manager.now.managed.state.tasks number) }
+{
+    // there is a row for each number: the call is made for its contract
+    let _rows = manager.mode(TaskId(0));
+    stay_of(manager, TaskId(number as u8), moving, &lags[number])
+}
+
+/// The same of each number, in order.
+fn stays(manager: &Manager, lags: &[Option<Lag>; MAX_TASKS]) -> [Option<Stay>; MAX_TASKS]
+    requires { lags.now ≡ holders (setting_of manager.now.managed) manager.now.managed.state }
+    ensures { result ≡ map (stay_in (setting_of manager.now.managed) manager.now.managed.state)
+        manager.now.managed.state.tasks }
+{
+    let _rows = manager.mode(TaskId(0));
+    let moving = manager.moving();
+    let mut stays = [None; MAX_TASKS];
+    for number in 0..MAX_TASKS {
+        stays[number] = stay_in(manager, number, &moving, lags);
+    }
+    stays
+}
+
+fn wait_of(lag: &Option<Lag>) -> Option<Mode>
+    ensures { result ≡ wait_by lag.now }
+{
+    match lag {
+        Some(Lag::Waits(mode)) => Some(*mode),
+        _ => None,
+    }
+}
+
+/// Where tasks are that merely lag.
+fn waits(lags: &[Option<Lag>; MAX_TASKS]) -> [Option<Mode>; MAX_TASKS]
+    ensures { result ≡ map wait_by lags.now }
+{
+    let mut waits = [None; MAX_TASKS];
+    for number in 0..MAX_TASKS {
+        waits[number] = wait_of(&lags[number]);
+    }
+    waits
+}
+
+/// What a manager shows. It costs as much as a poll that switches nobody, and a pick for each frame of each sleeper.
+pub fn view_of(manager: &Manager) -> View
+    ensures { IsView (setting_of manager.now.managed) manager.now.managed.state result }
+{
+    let lags = manager.holders();
+    View {
+        moving: manager.moving(),
+        installed: manager.installed(),
+        stays: stays(manager, &lags),
+        waits: waits(&lags),
+    }
+}
