@@ -1,0 +1,219 @@
+//! The drawing of a whole run: a table with a row for each patch and each task, over the lines of the script.
+
+use crate::bars::{Bars, LANES};
+use crate::held::{Held, add_areas, add_labels, all_held};
+use crate::idle::add_idle;
+use crate::lane::{add_bars, add_words};
+use crate::pen::{LANE, LETTER, add_text_start, number_width};
+use crate::scale::CUT;
+use crate::strips::strips_of;
+use crate::style::{LEGEND, PATTERNS};
+use crate::turn::sign_text;
+use crate::words::{Stop, stops};
+use klp_core::Manager;
+use klp_markup::Value::{Markup, Number, Words};
+use klp_markup::{Sheet, patch_name};
+use klp_timeline::Sentence;
+use klp_types::{MAX_PATCHES, PatchId, TaskId};
+use std::alloc::{AllocError, Global};
+
+/// How wide a sign is with the gap behind it.
+const SIGN: u64 = 12;
+
+/// What is drawn with.
+#[derive(Drop)]
+struct Board<'a> {
+    manager: &'a Manager,
+    bars: &'a Bars,
+    sentences: &'a [Sentence],
+    held: Vec<Held>,
+    stops: Vec<Stop>,
+    width: u64,
+}
+
+/// Where marks are drawn: where something happens to a transition, as far as there is room for their signs.
+fn places_of_marks(alloc: Global, bars: &Bars) -> Result<Vec<u64>, AllocError> {
+    let mut places = Vec::new(alloc);
+    let mut free = 0;
+    for mark in &bars.marks {
+        let x = bars.scale.x(mark.line);
+        if x >= free {
+            places.push(x)?;
+            free = x.saturating_add(SIGN);
+        }
+    }
+    Ok(places)
+}
+
+/// The signs of the marks. Where there is room up to the next one, the number of its line stands beside it.
+fn add_signs(sheet: &mut Sheet, bars: &Bars) {
+    let mut free = 0;
+    for (number, mark) in bars.marks.iter().enumerate() {
+        let x = bars.scale.x(mark.line);
+        if x < free {
+            continue;
+        }
+        free = x.saturating_add(SIGN);
+        add_text_start(sheet, "sign", x.saturating_sub(4), 13);
+        sheet.markup(sign_text(mark.sign));
+        let next = match bars.marks.get(number.saturating_add(1)) {
+            Some(next) => bars.scale.x(next.line),
+            None => u64::MAX,
+        };
+        if next.saturating_sub(x) >= number_width(mark.line).saturating_add(SIGN) {
+            sheet.fill("{}", &[Number(mark.line)]);
+        }
+        sheet.markup("</text>");
+    }
+}
+
+/// The numbers of the lines in which something changes, as far as there is room.
+fn add_numbers(sheet: &mut Sheet, bars: &Bars, y: u64) {
+    let mut free = 0;
+    for line in bars.changed() {
+        let x = bars.scale.x(*line);
+        if x >= free {
+            add_text_start(sheet, "soft", x, y);
+            sheet.fill("{}</text>", &[Number(*line)]);
+            free = x.saturating_add(number_width(*line)).saturating_add(LETTER);
+        }
+    }
+}
+
+/// The marks of one lane, which all lanes use: a line down where something happens to a transition.
+fn add_marks(sheet: &mut Sheet, places: &[u64]) {
+    sheet.markup("<g id=marks><path class=mark d=\"M0 0");
+    for x in places {
+        sheet.fill("M{} 0v26", &[Number(*x)]);
+    }
+    sheet.markup("\"/></g>");
+}
+
+/// The cuts of one lane, which all lanes use: a gap between two zigzags.
+fn add_cuts(sheet: &mut Sheet, bars: &Bars) {
+    sheet.markup("<g id=cuts>");
+    for x in &bars.scale.cuts {
+        sheet.fill(
+            "<path class=gap d=\"M{} 0l6 6.5l-6 6.5l6 6.5l-6 6.5h6l6 -6.5l-6 -6.5l6 -6.5l-6 -6.5z\"/><path class=zig d=\"M{} 0l6 6.5l-6 6.5l6 6.5l-6 6.5m6 0l6 -6.5l-6 -6.5l6 -6.5l-6 -6.5\"/>",
+            &[Number(*x), Number(*x)],
+        );
+    }
+    sheet.markup("</g>");
+}
+
+/// The head of the table: signs and numbers, and what all lanes use.
+fn add_head(sheet: &mut Sheet, board: &Board<'_>, marks: &[u64]) {
+    sheet.fill(
+        "<div class=run><table><thead><tr><th></th><td><svg width=\"{}\" height=\"36\" aria-hidden=true><defs>",
+        &[Number(board.width)],
+    );
+    sheet.markup(PATTERNS);
+    add_marks(sheet, marks);
+    add_cuts(sheet, board.bars);
+    sheet.markup("</defs>");
+    add_signs(sheet, board.bars);
+    add_numbers(sheet, board.bars, 30);
+    sheet.markup("</svg></td></tr></thead>");
+}
+
+/// The foot of the table: the numbers once more.
+fn add_foot(sheet: &mut Sheet, board: &Board<'_>) {
+    sheet.fill(
+        "<tfoot><tr><th></th><td><svg width=\"{}\" height=\"18\" aria-hidden=true>",
+        &[Number(board.width)],
+    );
+    add_numbers(sheet, board.bars, 13);
+    sheet.markup("</svg></td></tr></tfoot></table></div>\n");
+}
+
+fn add_name(sheet: &mut Sheet, manager: &Manager, lane: usize) {
+    if lane < MAX_PATCHES {
+        let name = patch_name(manager.catalog(), PatchId(lane as u8));
+        sheet.fill("<tr><th scope=row>{}</th>", &[Words(name)]);
+    } else {
+        let task = lane.saturating_sub(MAX_PATCHES) as u64;
+        sheet.fill("<tr><th scope=row>task {}</th>", &[Number(task)]);
+    }
+}
+
+/// A lane, from below: marks, bars, stays, cuts, and all words.
+fn add_lane(
+    alloc: Global,
+    sheet: &mut Sheet,
+    board: &Board<'_>,
+    lane: usize,
+) -> Result<(), AllocError> {
+    let strips = strips_of(alloc, board.bars.bars_of(lane), &board.bars.scale)?;
+    let is_task = lane >= MAX_PATCHES;
+    let task = TaskId((lane.saturating_sub(MAX_PATCHES)).min(255) as u8);
+    add_name(sheet, board.manager, lane);
+    sheet.fill(
+        "<td><svg width=\"{}\" height=\"{}\"><use href=\"#marks\"/>",
+        &[Number(board.width), Number(LANE)],
+    );
+    add_bars(sheet, &strips);
+    if is_task {
+        add_areas(sheet, &board.held, task);
+    }
+    sheet.markup("<use href=\"#cuts\"/>");
+    add_words(sheet, &strips, &board.stops, is_task);
+    if is_task {
+        add_labels(
+            sheet,
+            board.manager,
+            board.sentences,
+            &board.held,
+            task,
+            &board.stops,
+        );
+    }
+    sheet.markup("</svg></td></tr>\n");
+    Ok(())
+}
+
+/// What is said of the lines below the drawing.
+fn add_note(sheet: &mut Sheet, bars: &Bars) {
+    sheet.markup("<p class=soft>Numbers are lines of the script.");
+    if !bars.scale.cuts.is_empty() {
+        sheet.markup(" At a zigzag, lines are cut out in which nothing changes.");
+    }
+    if bars.scale.is_coarse() {
+        sheet.markup(
+            " There are so many lines that one point shows several: of its bars the highest.",
+        );
+    }
+    sheet.markup("</p>\n");
+}
+
+/// Adds the drawing of what was seen, with the legend. Each stay leads to its sentence, `#stay-LINE-TASK`, or where that
+/// is left out to the line, `#line-LINE`.
+pub fn add_drawing(
+    alloc: Global,
+    sheet: &mut Sheet,
+    manager: &Manager,
+    bars: &Bars,
+    sentences: &[Sentence],
+) -> Result<(), AllocError> {
+    let marks = places_of_marks(alloc, bars)?;
+    let board = Board {
+        manager,
+        bars,
+        sentences,
+        held: all_held(alloc, &bars.scale, sentences)?,
+        stops: stops(alloc, bars, &marks)?,
+        width: bars.scale.end().saturating_add(44),
+    };
+    add_head(sheet, &board, &marks);
+    sheet.markup("<tbody>");
+    for lane in 0..LANES {
+        if bars.acts(lane) {
+            add_lane(alloc, sheet, &board, lane)?;
+        }
+    }
+    sheet.markup("</tbody>");
+    add_foot(sheet, &board);
+    sheet.markup(LEGEND);
+    add_idle(sheet, bars);
+    add_note(sheet, bars);
+    Ok(())
+}

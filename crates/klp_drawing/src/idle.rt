@@ -1,0 +1,61 @@
+//! The tasks that do nothing, which have no lane in the drawing.
+
+use crate::bars::Bars;
+use klp_markup::Sheet;
+use klp_markup::Value::{Markup, Number};
+use klp_types::{MAX_PATCHES, MAX_TASKS};
+
+fn is_idle(bars: &Bars, task: usize) -> bool {
+    bars.is_idle(MAX_PATCHES.saturating_add(task))
+}
+
+/// How many of the tasks from this one on do nothing, without a gap.
+fn run_from(bars: &Bars, task: usize) -> usize {
+    let mut count = 0usize;
+    for other in task..MAX_TASKS {
+        if !is_idle(bars, other) {
+            return count;
+        }
+        count = count.saturating_add(1);
+    }
+    count
+}
+
+/// The tasks that do nothing: `1, 3 to 5`.
+fn add_numbers(sheet: &mut Sheet, bars: &Bars) {
+    let mut join = "";
+    for task in 0..MAX_TASKS {
+        let is_first = task == 0 || !is_idle(bars, task - 1);
+        if !is_idle(bars, task) || !is_first {
+            continue;
+        }
+        sheet.fill("{}{}", &[Markup(join), Number(task as u64)]);
+        let last = task.saturating_add(run_from(bars, task)).saturating_sub(1);
+        if last > task {
+            sheet.fill(" to {}", &[Number(last as u64)]);
+        }
+        join = ", ";
+    }
+}
+
+/// How many they are, and which.
+pub(crate) fn add_idle(sheet: &mut Sheet, bars: &Bars) {
+    let mut count = 0u64;
+    for task in 0..MAX_TASKS {
+        if is_idle(bars, task) {
+            count = count.saturating_add(1);
+        }
+    }
+    match count {
+        0 => return,
+        1 => sheet.markup(
+            "<p class=soft>1 task does nothing, and isn't drawn: it stays in user space. It is task ",
+        ),
+        _ => sheet.fill(
+            "<p class=soft>{} tasks do nothing, and aren't drawn: they stay in user space. They are tasks ",
+            &[Number(count)],
+        ),
+    }
+    add_numbers(sheet, bars);
+    sheet.markup(".</p>\n");
+}

@@ -1,0 +1,58 @@
+//! The style of a drawing, its patterns and its legend.
+
+/// What a page's style needs for a drawing. Blue and orange are told apart by colour-blind people, and by their
+/// lightness in grey. Whatever is to be seen in print is drawn or has a border, since print has no backgrounds.
+pub const STYLE: &str =
+    ":root{--old:#004070;--oldink:#fff;--new:#c98200;--newink:#111;--rest:#7a848e}
+@media screen and (prefers-color-scheme:dark){:root{--old:#2f7ab8;--oldink:#111;--new:#ffcf66;--rest:#8a949e}}
+.run{overflow-x:auto;border:1px solid var(--rule);border-radius:.5rem;padding:.6rem;background:var(--card)}
+.run table{border-spacing:0}.run th,.run td{padding:0;vertical-align:top}.run td svg{display:block}
+.run th{position:sticky;left:0;z-index:1;width:8rem;min-width:4.2rem;padding:3px .5rem 3px 0;text-align:left;
+background:var(--card);border-right:1px solid var(--rule);font:12px/20px ui-monospace,\"DejaVu Sans Mono\",monospace;
+overflow-wrap:break-word}
+.run svg text{fill:var(--ink);font:12px ui-monospace,\"DejaVu Sans Mono\",monospace;paint-order:stroke;stroke-width:3px}
+.run svg text.name{font-size:11px}.run svg text.soft{fill:var(--soft)}.run svg text.above,.run svg text.gone{stroke:var(--card)}
+.run rect,.legend rect{shape-rendering:crispEdges}
+.old{fill:var(--old)}.new,.enabled{fill:var(--new)}.rest{fill:var(--card);stroke:var(--rest);stroke-width:2}
+.coming,.leaving,.forced{fill:var(--card);stroke:var(--ink);stroke-width:2}.leaving{stroke-dasharray:5 3}
+.forced{stroke-width:4}.gone{fill:var(--soft)}
+svg text.old{fill:var(--oldink);stroke:var(--old)}
+svg text.new,svg text.enabled{fill:var(--newink);stroke:var(--new)}
+svg text.rest,svg text.coming,svg text.leaving,svg text.forced{fill:var(--ink);stroke:var(--card);
+stroke-dasharray:none;stroke-width:3px}
+.dark{fill:#111}.light{fill:#fff}.hatch{fill:url(#hatch)}.dots{fill:url(#dots)}.clear{fill:transparent}
+.outer{fill:none;stroke:#111;stroke-width:2}.inner{fill:none;stroke:#fff;stroke-width:2}
+.plate{fill:var(--card);stroke:var(--ink)}a:hover .plate,a:focus .plate{stroke:var(--focus);stroke-width:3}
+.gap{fill:var(--card)}.zig,.mark{stroke:var(--ink);fill:none}.mark{stroke-dasharray:2 4.5}
+.legend{display:flex;flex-wrap:wrap;gap:.2rem 1.2rem;margin:.5rem 0 0;padding:0;list-style:none;font-size:.9rem}
+.legend li{break-inside:avoid}.legend svg{vertical-align:-4px;margin-right:.4rem}
+@media screen and (max-width:60rem){.run::before{content:\"The drawing scrolls sideways \\2192\";display:block;position:sticky;
+left:0;width:fit-content;font-size:.9rem;color:var(--soft)}}
+@media(max-width:40rem){.run th{width:4.2rem;line-height:16px}}
+@media print{.run{overflow:visible;zoom:.72}.run rect{shape-rendering:auto}.run tr{break-inside:avoid}.run th{position:static}}
+";
+
+/// What holds a transition up, and what isn't called now. Both are black and white, so that they are seen on each colour.
+pub(crate) const PATTERNS: &str =
+    "<pattern id=hatch width=10 height=10 patternUnits=userSpaceOnUse patternTransform=\"rotate(45)\"><rect \
+class=dark width=3 height=10 /><rect class=light x=3 width=3 height=10 /></pattern><pattern id=dots width=10 height=8 \
+patternUnits=userSpaceOnUse><circle class=dark cx=2.5 cy=4 r=2 /><circle class=light cx=7.5 cy=4 r=2 /></pattern>";
+
+pub(crate) const LEGEND: &str =
+    "<ul class=legend><li>A patch:<li><svg width=24 height=20><rect class=coming x=1 y=1 width=22 height=18 \
+/></svg>moves in<li><svg width=24 height=20><rect class=leaving x=1 y=1 width=22 height=18 /></svg>moves out<li><svg \
+width=24 height=20><rect class=forced x=2 y=2 width=20 height=16 /></svg>is forced<li><svg width=24 height=20><rect \
+class=enabled width=24 height=20 /></svg>is enabled<li><svg width=24 height=20><rect class=gone y=18 width=24 \
+height=2 /></svg>is gone</ul>
+<ul class=legend><li>A task:<li><svg width=24 height=20><rect class=old width=24 height=20 /></svg>old: doesn't run the \
+patch that moves<li><svg width=24 height=20><rect class=new width=24 height=20 /></svg>new: runs it<li><svg width=24 \
+height=20><rect class=rest x=1 y=1 width=22 height=18 /></svg>no patch moves<li><svg width=56 height=20><rect class=old \
+y=14 width=18 height=6 /><rect class=old x=19 y=6 width=18 height=14 /><rect class=old x=38 width=18 height=20 \
+/></svg>low: in user space, higher: asleep, highest: in the kernel<li><svg width=32 height=20><rect class=old width=32 \
+height=20 /><rect class=hatch width=32 height=20 /><rect class=outer x=1 y=1 width=30 height=18 /><rect class=inner x=3 \
+y=3 width=26 height=14 /></svg>holds the transition up, in the function that stands there, or since the line whose number \
+does<li><svg width=32 height=20><rect class=rest x=1 y=1 width=30 height=18 /><rect class=dots width=32 height=20 /><rect \
+class=outer x=1 y=1 width=30 height=18 /><rect class=inner x=3 y=3 width=26 height=14 /></svg>sleeps in code that \
+isn't called now, told likewise</ul>
+<ul class=legend><li>A transition:<li>\u{25b6} starts<li>\u{21ba} turns round<li>! is forced<li>\u{25a0} ends<li>\u{21b6} \
+is undone, since events are</ul>\n";

@@ -1,0 +1,38 @@
+//! What becomes of a transition.
+
+use klp_timeline::{Fact, Moment, View};
+
+/// What happens to a transition, as a mark shows it.
+#[derive(Clone, Copy, PartialEq, Eq)]
+pub(crate) enum Sign {
+    Starts,
+    Turns,
+    Forced,
+    Ends,
+    /// Events are undone.
+    Back,
+}
+
+/// What became of the transition from one line to the next, if anything did.
+pub(crate) fn sign_of(before: &View, moment: &Moment) -> Option<Sign> {
+    let after = &moment.view;
+    match (moment.act, before.moving, after.moving) {
+        (Some(Fact::Forces(_)), _, _) => Some(Sign::Forced),
+        (_, own, other) if own == other => None,
+        (Some(Fact::Undoes(_, _)), _, _) => Some(Sign::Back),
+        (_, None, _) => Some(Sign::Starts),
+        (_, _, None) => Some(Sign::Ends),
+        _ => Some(Sign::Turns),
+    }
+}
+
+/// The sign that stands above a mark.
+pub(crate) fn sign_text(sign: Sign) -> &'static str {
+    match sign {
+        Sign::Starts => "\u{25b6}",
+        Sign::Turns => "\u{21ba}",
+        Sign::Forced => "!",
+        Sign::Ends => "\u{25a0}",
+        Sign::Back => "\u{21b6}",
+    }
+}

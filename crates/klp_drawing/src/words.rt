@@ -1,0 +1,54 @@
+//! Where words stand in a lane, so that no mark crosses them.
+
+use crate::bars::Bars;
+use crate::scale::CUT;
+use std::alloc::{AllocError, Global};
+
+/// What no word may cross, from one place up to another: a mark or a cut.
+#[derive(Clone, Copy, PartialEq, Eq, PartialOrd, Ord)]
+pub(crate) struct Stop {
+    pub from: u64,
+    pub to: u64,
+}
+
+/// All that no word may cross, from left to right.
+pub(crate) fn stops(alloc: Global, bars: &Bars, marks: &[u64]) -> Result<Vec<Stop>, AllocError> {
+    let mut stops = Vec::new(alloc);
+    for x in &bars.scale.cuts {
+        stops.push(Stop {
+            from: *x,
+            to: x.saturating_add(CUT),
+        })?;
+    }
+    for x in marks {
+        stops.push(Stop {
+            from: *x,
+            to: x.saturating_add(1),
+        })?;
+    }
+    stops.sort()?;
+    Ok(stops)
+}
+
+/// How much room so many letters take, with a gap on each side.
+pub(crate) fn width_of(letters: usize) -> u64 {
+    (letters as u64).saturating_mul(15).saturating_add(16) / 2
+}
+
+/// The first place between two others where there is so much room and no stop.
+pub(crate) fn free_place(stops: &[Stop], from: u64, to: u64, width: u64) -> Option<u64> {
+    let mut place = from;
+    for stop in stops {
+        if stop.to > place {
+            if place.saturating_add(width) <= stop.from.min(to) {
+                return Some(place);
+            }
+            place = stop.to;
+        }
+    }
+    if place.saturating_add(width) <= to {
+        Some(place)
+    } else {
+        None
+    }
+}
