@@ -1,374 +1,257 @@
-//! What a page tells of a run beside its lines: sentences, bars, and at each line what changed.
-ghost use Rattle.std.specs.Prelude.{IfOk};
-ghost use Rattle.klp_model.specs.State.{is_moving};
-ghost use Rattle.klp_chronicle.specs.Around.{IsHead, IsFoot};
+//! What each line of a run changed.
 
-use crate::around::{Title, fold_end, foot_of, head_of};
-use crate::bars::{Bars, Sign};
-use crate::cards::{add_card, add_ended_card, add_patch_card, add_site_card, add_task_card};
-use crate::change::{Change, module_of, refused_patch, sentence_of, turn_of};
-use crate::drawing::drawn;
-use crate::names::{object_name, patch_name};
-use crate::part::Part;
-use crate::sheet::Sheet;
-use crate::sheet::Value::{Markup, Name, Number};
-use crate::shot::{PatchShot, TaskShot, patch_shots, task_shot};
-use crate::story::Story;
+use crate::callbacks::Callbacks;
+use crate::cards::{add_act, add_patches, are_patches_changed};
+use crate::reach::{Reach, reach_of};
+use crate::shot::{
+    TaskShot, did_something, has_other_state, is_holding, stands_as_before, task_shot,
+};
+use crate::sites::add_site_card;
+use crate::tasks::{Actor, add_ended_card, add_task_card, add_uncarded};
 use arrayvec::ArrayVec;
-use klp_console::event_of;
+use klp_catalog_text::Plan;
+use klp_console::Outcome;
 use klp_core::Manager;
-use klp_types::{Entry, MAX_PATCHES, MAX_TASKS, PatchId, Site, TaskId, Transition, Version};
+use klp_markup::Sheet;
+use klp_timeline::{Moment, View};
+use klp_types::{Entry, MAX_PATCHES, MAX_TASKS, Site, TaskId};
 use std::alloc::{AllocError, Global};
 
-/// How many rows in a row stand open in which nothing changed; more of them fold.
-const PLAIN_ROWS: u64 = 3;
+/// How many tasks have a card at a line.
+const MAX_CARDS: u64 = 12;
 
-/// What stands in front of a line, and what behind its answer.
+/// What a line changed, and the cards that show it.
 #[derive(Drop)]
 pub struct Told {
-    pub before: Vec<Part>,
-    pub rest: Vec<Part>,
+    /// Whether a patch was installed or left, or the transition is another one.
+    pub patches: bool,
+    /// Whether a task is another than before.
+    pub tasks: bool,
+    /// Whether the function stack of a site changed.
+    pub sites: bool,
+    /// Whether others hold the transition up.
+    pub holders: bool,
+    /// Whether a callback ran.
+    pub callbacks: bool,
+    /// One beside the other. There are none where nothing changed.
+    pub cards: Sheet,
 }
 
-/// What was seen after the last line, and what is told of the run up to there.
+/// What a line changed, as in [`Told`].
+#[derive(Clone, Copy)]
+struct Changes {
+    patches: bool,
+    tasks: bool,
+    sites: bool,
+    holders: bool,
+    callbacks: bool,
+}
+
+/// What was seen after the last line.
 #[derive(Drop)]
 pub struct Chronicle {
-    line: u64,
-    mark: u32,
-    /// How many of the last rows had no change.
-    quiet: u64,
-    transitions: u64,
-    moving: Option<Transition>,
     tasks: Vec<Option<TaskShot>>,
-    patches: Vec<PatchShot>,
     stacks: Vec<ArrayVec<Entry, MAX_PATCHES>>,
-    bars: Bars,
-    story: Story,
+    callbacks: Callbacks,
 }
 
-/// How much a line changed.
-enum Extent {
-    Nothing,
-    /// Tasks or sites.
-    Tasks,
-    /// A patch comes, moves, turns, is enabled or goes.
-    Patches,
-}
-
-impl Told {
-    fn of(before: Sheet, rest: Sheet) -> Result<Told, AllocError> {
-        Ok(Told {
-            before: before.into_parts()?,
-            rest: rest.into_parts()?,
-        })
-    }
+/// What is gathered of tasks at a line.
+#[derive(Clone, Copy)]
+struct Crowd {
+    is_changed: bool,
+    holders: bool,
+    cards: u64,
+    uncarded: u64,
 }
 
 impl Chronicle {
-    /// Nothing is told yet, and no room is taken.
+    /// Nothing is seen yet, and no room is taken.
     pub fn new(alloc: Global) -> Chronicle {
         Chronicle {
-            line: 0,
-            mark: 0,
-            quiet: 0,
-            transitions: 0,
-            moving: None,
             tasks: Vec::new(alloc),
-            patches: Vec::new(alloc),
             stacks: Vec::new(alloc),
-            bars: Bars::new(alloc),
-            story: Story::new(alloc),
+            callbacks: Callbacks::new(alloc),
         }
     }
 
-    /// Takes the room for each task and each site.
+    /// Takes up the shadow variables that the scripts of a plan name, of which the manager is going to be booted.
+    pub fn watch(&mut self, plan: &Plan) -> Result<(), AllocError> {
+        self.callbacks.watch(plan)
+    }
+
+    /// Takes the room for each task, each site and each callback of a manager that was just booted.
     pub fn open(&mut self, manager: &Manager) -> Result<(), AllocError> {
         self.tasks.resize(MAX_TASKS, None)?;
         for _site in 0..manager.sites() {
             self.stacks.push(ArrayVec::new())?;
         }
-        self.bars.open()?;
-        self.story.open()
+        self.callbacks.open(manager)
     }
 
-    /// Tells of a line that was answered. The versions are those that the transition which goes on blocks, and the
-    /// tasks those that hold it up: none of either where there is no transition.
+    /// Tells what a line changed that came to this. It is wanted of each line whose event was taken or undone.
     pub fn tell(
         &mut self,
         alloc: Global,
         manager: &Manager,
-        line: &[u8],
-        answer: &[u8],
-        blocked: &[Version],
-        holders: &[TaskId],
+        outcome: &Outcome,
+        before: &View,
+        moment: &Moment,
     ) -> Result<Told, AllocError> {
-        self.line = self.line.saturating_add(1);
-        // each accepted event has its own mark, and so has what is taken back
-        if manager.mark() == self.mark {
-            return self.quiet_row(alloc, answer);
-        }
-        let change = self.change_of(manager, line, blocked, holders);
-        let mut rest = Sheet::new(alloc);
-        match self.tell_change(alloc, manager, &mut rest, &change)? {
-            Extent::Nothing => self.quiet_row(alloc, answer),
-            Extent::Tasks => self.row(alloc, rest, ""),
-            Extent::Patches => self.row(alloc, rest, " open"),
-        }
+        let mut cards = Sheet::new(alloc);
+        let changes = self.tell_to(&mut cards, manager, outcome, before, moment)?;
+        Ok(Told {
+            patches: changes.patches,
+            tasks: changes.tasks,
+            sites: changes.sites,
+            holders: changes.holders,
+            callbacks: changes.callbacks,
+            cards,
+        })
     }
 
-    /// What a line may have changed.
-    fn change_of<'a>(
+    /// Adds the cards of a line to a sheet, and answers what it changed.
+    fn tell_to(
         &mut self,
-        manager: &Manager,
-        line: &[u8],
-        blocked: &'a [Version],
-        holders: &'a [TaskId],
-    ) -> Change<'a> {
-        let mark = manager.mark();
-        let event = if mark > self.mark {
-            event_of(line, manager)
-        } else {
-            None
-        };
-        let moving = manager.moving();
-        let turn = turn_of(&self.moving, &moving, &event);
-        self.mark = mark;
-        self.moving = moving;
-        Change {
-            line: self.line,
-            event,
-            turn,
-            moving,
-            blocked,
-            holders,
-        }
-    }
-
-    /// Tells of what a line changed, in sentences, bars and cards.
-    fn tell_change(
-        &mut self,
-        alloc: Global,
-        manager: &Manager,
-        rest: &mut Sheet,
-        change: &Change<'_>,
-    ) -> Result<Extent, AllocError> {
-        rest.markup("</summary><div class=now>");
-        let modules = self.tell_module(manager, rest, change);
-        self.tell_turn(manager, change);
-        let patches = self.tell_patches(alloc, manager, rest, change)?;
-        let others = self.tell_tasks(manager, rest, change) | self.tell_sites(manager, rest);
-        rest.markup("</div></details>\n");
-        self.bars.see(change.line, &change.turn, &self.tasks);
-        let is_changed = modules | patches | others;
-        if is_changed {
-            self.story.tell_back(change);
-        }
-        Ok(extent_of(patches, is_changed))
-    }
-
-    /// A row in which nothing changed.
-    fn quiet_row(&mut self, alloc: Global, answer: &[u8]) -> Result<Told, AllocError> {
-        let fold = if self.quiet == PLAIN_ROWS {
-            "<details class=more><summary>more lines: no patch, task, site or module changes</summary>"
-        } else {
-            ""
-        };
-        self.quiet = self.quiet.saturating_add(1);
-        let class = if answer.starts_with(b"error ") {
-            "\"row no\""
-        } else {
-            "row"
-        };
-        let line = Number(self.line);
-        let mut before = Sheet::new(alloc);
-        before.fill(
-            "{}<div class={} id=line-{}><span class=n>{}</span>",
-            &[Markup(fold), Markup(class), line, line],
-        );
-        let mut rest = Sheet::new(alloc);
-        rest.markup("</div>\n");
-        Told::of(before, rest)
-    }
-
-    /// Ends the fold of rows in which nothing changed. Answers whether there is one.
-    fn end_fold(&mut self) -> bool {
-        let is_folded = self.quiet > PLAIN_ROWS;
-        self.quiet = 0;
-        is_folded
-    }
-
-    /// A row that opens, with its cards.
-    fn row(&mut self, alloc: Global, rest: Sheet, open: &'static str) -> Result<Told, AllocError> {
-        let fold = fold_end(self.end_fold());
-        let line = Number(self.line);
-        let mut before = Sheet::new(alloc);
-        before.fill(
-            "{}<details class=row{} id=line-{}><summary><span class=n>{}</span>",
-            &[Markup(fold), Markup(open), line, line],
-        );
-        Told::of(before, rest)
-    }
-
-    /// The module that came or went, if one did.
-    fn tell_module(&mut self, manager: &Manager, sheet: &mut Sheet, change: &Change<'_>) -> bool {
-        let Some((object, sentence)) = module_of(manager, &change.event) else {
-            return false;
-        };
-        let name = object_name(manager, object);
-        let what = if manager.modules().is_loaded(object) {
-            "is loaded"
-        } else {
-            "isn't loaded"
-        };
-        add_card(sheet, "card", name, what);
-        self.story.tell(change.line, sentence, &[Name(name)]);
-        true
-    }
-
-    fn tell_patch(&mut self, manager: &Manager, patch: PatchId, sentence: &'static str) {
-        let name = Name(patch_name(manager, patch));
-        self.story.tell(self.line, sentence, &[name]);
-    }
-
-    /// The sentences of what an event did to a patch.
-    fn tell_turn(&mut self, manager: &Manager, change: &Change<'_>) {
-        if let Some(patch) = refused_patch(manager, &change.event) {
-            let sentence = "{} isn't installed: a pre-patch callback refused.";
-            self.tell_patch(manager, patch, sentence);
-        }
-        let Some((sign, moving)) = change.turn else {
-            return;
-        };
-        if matches!(sign, Sign::Starts) {
-            self.transitions = self.transitions.saturating_add(1);
-        }
-        if let Some(sentence) = sentence_of(sign, moving.target) {
-            self.tell_patch(manager, moving.patch, sentence);
-        }
-    }
-
-    /// The patches, where one of them changed.
-    fn tell_patches(
-        &mut self,
-        alloc: Global,
-        manager: &Manager,
         sheet: &mut Sheet,
-        change: &Change<'_>,
-    ) -> Result<bool, AllocError> {
-        let shots = patch_shots(alloc, manager)?;
-        let is_changed = shots.as_slice() != self.patches.as_slice();
-        if is_changed {
-            for shot in &shots {
-                add_patch_card(sheet, manager, shot);
-            }
-            self.tell_gone(manager, sheet, change);
+        manager: &Manager,
+        outcome: &Outcome,
+        before: &View,
+        moment: &Moment,
+    ) -> Result<Changes, AllocError> {
+        let view = &moment.view;
+        add_act(sheet, manager, &moment.act);
+        let patches = are_patches_changed(before, view);
+        if patches {
+            add_patches(sheet, manager, before, view);
         }
-        self.patches = shots;
-        Ok(is_changed)
+        let callbacks = self.tell_callbacks(sheet, manager, outcome, before)?;
+        let crowd = self.tell_tasks(sheet, manager, outcome, view);
+        let sites = self.tell_sites(sheet, manager, outcome);
+        Ok(Changes {
+            patches,
+            tasks: crowd.is_changed,
+            sites,
+            holders: crowd.holders,
+            callbacks,
+        })
     }
 
-    /// The patches that were installed before the line.
-    fn tell_gone(&mut self, manager: &Manager, sheet: &mut Sheet, change: &Change<'_>) {
-        for shot in &self.patches {
-            if manager.enabled(shot.patch).is_none() {
-                let name = patch_name(manager, shot.patch);
-                add_card(sheet, "card", name, "is gone");
-                if change.is_replaced(shot.patch) {
-                    let sentence = "{} is replaced, and has left.";
-                    self.story.tell(change.line, sentence, &[Name(name)]);
+    /// The callbacks that ran. Answers whether one did.
+    fn tell_callbacks(
+        &mut self,
+        sheet: &mut Sheet,
+        manager: &Manager,
+        outcome: &Outcome,
+        before: &View,
+    ) -> Result<bool, AllocError> {
+        if matches!(reach_of(outcome), Reach::All) {
+            let installed = before.installed.as_slice();
+            return self.callbacks.tell(sheet, manager, installed);
+        }
+        self.callbacks.hear(manager, outcome)?;
+        Ok(false)
+    }
+
+    /// The tasks that did something.
+    fn tell_tasks(
+        &mut self,
+        sheet: &mut Sheet,
+        manager: &Manager,
+        outcome: &Outcome,
+        view: &View,
+    ) -> Crowd {
+        let mut crowd = Crowd {
+            is_changed: false,
+            holders: false,
+            cards: 0,
+            uncarded: 0,
+        };
+        match reach_of(outcome) {
+            Reach::Nothing => {}
+            Reach::Task(task) => self.tell_task(sheet, manager, view, task, &mut crowd),
+            Reach::Tasks => {
+                for number in 0..MAX_TASKS {
+                    let task = TaskId(number as u8);
+                    if !self.stands(manager, view, task) {
+                        self.tell_task(sheet, manager, view, task, &mut crowd);
+                    }
+                }
+            }
+            Reach::All => {
+                for number in 0..MAX_TASKS {
+                    let task = TaskId(number as u8);
+                    self.tell_task(sheet, manager, view, task, &mut crowd);
                 }
             }
         }
+        add_uncarded(sheet, crowd.uncarded);
+        crowd
     }
 
-    /// The tasks that changed or hold the transition up. Answers whether one changed.
-    fn tell_tasks(&mut self, manager: &Manager, sheet: &mut Sheet, change: &Change<'_>) -> bool {
-        let mut is_changed = false;
-        for number in 0..MAX_TASKS {
-            let task = TaskId(number as u8);
-            is_changed |= self.tell_task(manager, sheet, change, task);
+    /// Whether a task stands as it was seen last, what it sleeps inside of aside.
+    fn stands(&self, manager: &Manager, view: &View, task: TaskId) -> bool {
+        let number = usize::from(task.0);
+        if number >= self.tasks.len() || number >= MAX_TASKS {
+            return true;
         }
-        is_changed
+        stands_as_before(manager, task, &view.stays[number], &self.tasks[number])
     }
 
     fn tell_task(
         &mut self,
-        manager: &Manager,
         sheet: &mut Sheet,
-        change: &Change<'_>,
+        manager: &Manager,
+        view: &View,
         task: TaskId,
-    ) -> bool {
+        crowd: &mut Crowd,
+    ) {
         let number = usize::from(task.0);
-        if number >= self.tasks.len() {
-            return false;
+        if number >= self.tasks.len() || number >= MAX_TASKS {
+            return;
         }
-        let shot = task_shot(manager, change.holders, task);
-        let is_changed = self.tasks[number] != shot;
-        self.tasks[number] = shot;
-        match shot {
-            Some(ref shot) => {
-                if is_changed || shot.look.is_holding {
-                    add_task_card(sheet, manager, u64::from(task.0), shot, change);
-                }
-            }
-            None => {
-                if is_changed {
-                    add_ended_card(sheet, u64::from(task.0));
-                }
-            }
+        let stay = &view.stays[number];
+        let after = task_shot(manager, task, stay);
+        let before = self.tasks[number];
+        self.tasks[number] = after;
+        crowd.is_changed |= has_other_state(&before, &after);
+        if !did_something(&before, &after) {
+            return;
         }
-        let hold = change.hold_of(&shot);
-        self.story.see(manager, change.line, task, &hold);
-        is_changed
+        crowd.is_changed = true;
+        crowd.holders |= is_holding(&before) != is_holding(&after);
+        if crowd.cards >= MAX_CARDS {
+            crowd.uncarded = crowd.uncarded.saturating_add(1);
+            return;
+        }
+        crowd.cards = crowd.cards.saturating_add(1);
+        let Some(shot) = &after else {
+            add_ended_card(sheet, task);
+            return;
+        };
+        let actor = Actor {
+            task,
+            shot,
+            stay,
+            moving: &view.moving,
+        };
+        add_task_card(sheet, manager, &actor);
     }
 
     /// The sites whose function stack changed. Answers whether there is one.
-    fn tell_sites(&mut self, manager: &Manager, sheet: &mut Sheet) -> bool {
+    fn tell_sites(&mut self, sheet: &mut Sheet, manager: &Manager, outcome: &Outcome) -> bool {
+        if !matches!(reach_of(outcome), Reach::All) {
+            return false;
+        }
         let mut is_changed = false;
-        for number in 0..self.stacks.len().min(65_535) {
-            let site = Site(number as u16);
+        for (number, stack) in self.stacks.iter_mut().enumerate() {
+            let site = Site(number.min(65_535) as u16);
             let entries = manager.stack(site);
-            if entries.as_slice() != self.stacks[number].as_slice() {
+            if entries.as_slice() != stack.as_slice() {
                 add_site_card(sheet, manager, site, entries.as_slice());
-                self.stacks[number] = entries;
+                *stack = entries;
                 is_changed = true;
             }
         }
         is_changed
-    }
-
-    /// What stands above the rows, of which there are so many.
-    pub fn head(
-        &mut self,
-        alloc: Global,
-        manager: &Manager,
-        rows: usize,
-    ) -> Result<Vec<Part>, AllocError>
-        ensures { IfOk result (λ head. IsHead rows (is_moving manager.now.managed.state) head.items) }
-    {
-        self.bars.close()?;
-        let story = self.story.end(alloc, manager, self.line)?;
-        let drawing = drawn(alloc, manager, &self.bars)?;
-        let title = Title {
-            lines: rows as u64,
-            transitions: self.transitions,
-            is_moving: manager.moving().is_some(),
-        };
-        head_of(alloc, &title, story, drawing)
-    }
-
-    /// What stands below them.
-    pub fn foot(&mut self, alloc: Global) -> Result<Vec<Part>, AllocError>
-        ensures { IfOk result (λ foot. IsFoot foot.items) }
-    {
-        foot_of(alloc, self.end_fold())
-    }
-}
-
-fn extent_of(patches: bool, others: bool) -> Extent {
-    match (patches, others) {
-        (true, _) => Extent::Patches,
-        (false, true) => Extent::Tasks,
-        (false, false) => Extent::Nothing,
     }
 }

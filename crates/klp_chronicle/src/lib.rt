@@ -1,25 +1,25 @@
-//! What a page tells of a run beside its lines and their answers: sentences, one drawing of each task over time, and at
-//! each line a card for each patch, task and site that changed.
+//! What a row of a page shows beside its line and its answer: a card for each patch, task and site that changed, and for
+//! the callbacks that ran.
 //!
-//! A [`Chronicle`] looks at a manager after each line and compares it with what it saw before. It is told what the line
-//! was answered, and what holds a transition up; who asks for a page promises these, and this is layout, which has no
-//! contract. Stored pages show it (`examples/pages`). What a page begins and ends with, and its title, are promised
-//! (`specs/Around`). All that comes from a catalog or a script is a [`Part`] of its own kind, so that it can't be taken
-//! for markup.
+//! A [`Chronicle`] looks at a manager after each line whose event was taken or undone, compares it with what it saw before,
+//! and tells what changed ([`Told`]). The callbacks of an event stand in the order in which they ran, with what they
+//! changed: shadow variables that the catalog's scripts name, and system states. So the scripts are to be watched before
+//! the manager is booted ([`Chronicle::watch`]), as it doesn't lend them.
+//!
+//! This is layout, and has no contract. What comes from the catalog or the script is escaped, as all on a `Sheet` is.
+//! [`STYLE`] is what a page's style needs for cards, over the page's own colours and those of the drawing.
 #![tactic(auto)]
 
-mod around;
-mod bars;
+mod callbacks;
+mod calls;
 mod cards;
-mod change;
 mod chronicle;
-mod drawing;
-mod names;
-mod part;
-mod sheet;
+mod reach;
 mod shot;
-mod story;
+mod sites;
 mod style;
+mod tasks;
+mod watched;
 
 pub use chronicle::{Chronicle, Told};
-pub use part::Part;
+pub use style::STYLE;

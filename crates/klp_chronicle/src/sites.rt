@@ -1,0 +1,78 @@
+//! The cards of sites.
+
+use klp_core::Manager;
+use klp_markup::Value::{Name, Words};
+use klp_markup::{Sheet, add_symbol, function_name, patch_name};
+use klp_types::{Entry, ObjId, Site};
+
+/// How many hexadecimal digits an entry site has.
+const DIGITS: usize = 10;
+
+/// The instruction that a call through a pointer lands on, in front of an entry site.
+const ENDBR64: [u8; 4] = [0xf3, 0x0f, 0x1e, 0xfa];
+
+/// The five bytes of an entry site, which may stand behind an ENDBR64.
+fn entry_bytes(body: &[u8]) -> Option<[u8; DIGITS]> {
+    let offset = if body.starts_with(&ENDBR64) { 4 } else { 0 };
+    if body.len() < offset + 5 {
+        return None;
+    }
+    let mut digits = [0; DIGITS];
+    let _ = hex::encode_to_slice(&body[offset..offset + 5], &mut digits);
+    Some(digits)
+}
+
+/// The number of a site among the symbols of its object.
+fn number_in(manager: &Manager, site: Site, object: ObjId) -> u16 {
+    let modules = manager.modules();
+    let mut number = site.0;
+    for before in 0..object.0 {
+        let count = modules.symbols(ObjId(before)).unwrap_or(0);
+        number = number.saturating_sub(count);
+    }
+    number
+}
+
+fn add_bytes(sheet: &mut Sheet, manager: &Manager, site: Site) {
+    let Some((object, _, _)) = manager.modules().symbol(site) else {
+        return;
+    };
+    let Some(text) = manager.text(object) else {
+        sheet.markup("<p>its object isn't loaded</p>");
+        return;
+    };
+    let Some((_, _, body)) = text.get(number_in(manager, site, object)) else {
+        return;
+    };
+    if let Some(digits) = entry_bytes(body) {
+        sheet.fill("<p>entry site: {}</p>", &[Name(&digits)]);
+    }
+}
+
+/// An entry of a function stack: `PATCH NEWNAME`, or `PATCH nop`.
+fn add_entry(sheet: &mut Sheet, manager: &Manager, entry: &Entry) {
+    let catalog = manager.catalog();
+    let function = match entry.func {
+        Some(function) => function_name(catalog, entry.patch, function),
+        None => b"nop",
+    };
+    let patch = patch_name(catalog, entry.patch);
+    sheet.fill("<li>{} {}", &[Words(patch), Words(function)]);
+}
+
+/// A site whose function stack changed, with its entries newest first.
+pub(crate) fn add_site_card(sheet: &mut Sheet, manager: &Manager, site: Site, entries: &[Entry]) {
+    sheet.markup("<div class=card><b class=m>");
+    add_symbol(sheet, manager.modules(), site);
+    if entries.is_empty() {
+        sheet.markup("</b><p>no entry: the function as it was built</p>");
+    } else {
+        sheet.markup("</b><p>entries, newest first:</p><ol class=m>");
+        for entry in entries {
+            add_entry(sheet, manager, entry);
+        }
+        sheet.markup("</ol>");
+    }
+    add_bytes(sheet, manager, site);
+    sheet.markup("</div>");
+}

@@ -1,0 +1,128 @@
+//! The cards of tasks.
+
+use crate::shot::TaskShot;
+use klp_core::Manager;
+use klp_markup::Value::{Markup, Number};
+use klp_markup::{Sheet, add_version};
+use klp_timeline::Stay;
+use klp_types::{Mode, TaskId, Transition, Version};
+
+/// A task that did something.
+#[derive(Clone, Copy)]
+pub(crate) struct Actor<'a> {
+    pub task: TaskId,
+    pub shot: &'a TaskShot,
+    pub stay: &'a Option<Stay>,
+    /// The transition that goes on.
+    pub moving: &'a Option<Transition>,
+}
+
+fn class_of(shot: &TaskShot) -> &'static str {
+    match (shot.state, shot.is_holding) {
+        (1, true) => "\"card new hold\"",
+        (1, false) => "\"card new\"",
+        (0, true) => "\"card old hold\"",
+        (0, false) => "\"card old\"",
+        _ => "card",
+    }
+}
+
+fn mode_text(mode: Mode) -> &'static str {
+    match mode {
+        Mode::User => "is in user space",
+        Mode::Kernel => "runs in the kernel",
+        Mode::Asleep => "sleeps",
+    }
+}
+
+/// Whether a task is at the target of the transition that goes on, and else when it switches.
+fn progress(actor: &Actor<'_>) -> &'static str {
+    let Some(moving) = actor.moving else {
+        return "";
+    };
+    if actor.shot.state == i8::from(moving.target) {
+        return "<p>is at the target</p>";
+    }
+    if actor.shot.is_holding {
+        return "<p class=holds>holds the transition up</p>";
+    }
+    match actor.shot.mode {
+        Mode::User => "<p>behind: switches once it has been in the kernel again</p>",
+        Mode::Kernel => "<p>behind: switches as it leaves the kernel</p>",
+        Mode::Asleep => "<p>behind: the next poll switches it</p>",
+    }
+}
+
+/// Why it matters that a task sleeps inside of a version, if it does. Where the task is at the target, the version that
+/// it doesn't run any more blocks nothing.
+fn why_it_matters(manager: &Manager, actor: &Actor<'_>, version: Version) -> &'static str {
+    match *actor.stay {
+        Some(Stay::Outdated(outdated)) if outdated == version => {
+            "not called now: what has it mustn't be unloaded"
+        }
+        Some(Stay::Holds(moving, _)) if manager.blocks(version) => {
+            if moving.target {
+                "blocks: the patch changes it"
+            } else {
+                "blocks: it leaves with the patch"
+            }
+        }
+        _ => "",
+    }
+}
+
+fn add_frame(sheet: &mut Sheet, manager: &Manager, version: Version, why: &'static str) {
+    let (catalog, modules) = (manager.catalog(), manager.modules());
+    if why.is_empty() {
+        sheet.markup("<li>");
+        add_version(sheet, catalog, modules, version);
+    } else {
+        sheet.markup("<li class=blocks>");
+        add_version(sheet, catalog, modules, version);
+        sheet.fill(" <span class=why>{}</span>", &[Markup(why)]);
+    }
+}
+
+/// A task that did something. Its functions stand outermost first.
+pub(crate) fn add_task_card(sheet: &mut Sheet, manager: &Manager, actor: &Actor<'_>) {
+    let shot = actor.shot;
+    sheet.fill(
+        "<div class={}><b>task {}</b> {}",
+        &[
+            Markup(class_of(shot)),
+            Number(u64::from(actor.task.0)),
+            Markup(mode_text(shot.mode)),
+        ],
+    );
+    let frames = shot.frames.as_slice();
+    if !frames.is_empty() {
+        sheet.markup(" in<ul class=m>");
+        for version in frames {
+            let why = why_it_matters(manager, actor, *version);
+            add_frame(sheet, manager, *version, why);
+        }
+        sheet.markup("</ul>");
+    }
+    sheet.markup(progress(actor));
+    sheet.markup("</div>");
+}
+
+/// A task that was there before the line.
+pub(crate) fn add_ended_card(sheet: &mut Sheet, task: TaskId) {
+    sheet.fill(
+        "<div class=card><b>task {}</b> has ended</div>",
+        &[Number(u64::from(task.0))],
+    );
+}
+
+/// The tasks that have no card, since there are too many.
+pub(crate) fn add_uncarded(sheet: &mut Sheet, count: u64) {
+    match count {
+        0 => {}
+        1 => sheet.markup("<div class=card>1 more task did something or switched</div>"),
+        _ => sheet.fill(
+            "<div class=card>{} more tasks did something or switched</div>",
+            &[Number(count)],
+        ),
+    }
+}
