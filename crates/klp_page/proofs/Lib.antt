@@ -1,4 +1,3 @@
-pub mod HoldingLemmas
 pub mod PageLemmas
 pub mod RecordLemmas
-pub mod TextLemmas
+pub mod RowLemmas

@@ -47,21 +47,22 @@ pub told_of : (told : Told) (given script : Script) (count runs : ℕ)
 told_of told given script count runs made same counted = rw (made, same, counted) refl
 
 -- what a booted manager shows is shown over its plan
-pub page_over : {A E : Type 0} (plan : Plan) (booted : Journaled) (script : List ℕ) (result : Result A E) (text : A → List ℕ)
-    → IsBootedOver plan booted → IfOk result (λ page. IsPage booted script (text page)) → IfOk result (λ page. IsPageOver plan script (text page))
-page_over plan booted script (Ok page) text is shown = record { booted = booted; is_booted = is; is_page = shown }
-page_over plan booted script (Err fault) text is shown = tt
+pub page_over : {A E : Type 0} (plan : Plan) (booted : Journaled) (name script : List ℕ) (result : Result A E) (text : A → List ℕ)
+    → IsBootedOver plan booted → IfOk result (λ page. IsPage booted name script (text page))
+    → IfOk result (λ page. IsPageOver plan name script (text page))
+page_over plan booted name script (Ok page) text is shown = record { booted = booted; is_booted = is; is_page = shown }
+page_over plan booted name script (Err fault) text is shown = tt
 
 -- where there is no page, nothing is written
-pub writes_none : (A : Type 0) (text script : List ℕ) (before : Option (List ℕ)) (fault : Fault)
-    → IsFaultOf text script fault → Writes {A = A} text script before before (Err fault)
-writes_none A text script before (Serve Write) (plan, planned, over) = elim over [ inl never ↦ absurd never | inr never ↦ absurd never ]
-writes_none A text script before (Serve Read) is = (is, refl)
-writes_none A text script before (Serve LineTooLong) is = (is, refl)
-writes_none A text script before NoMemory is = (is, refl)
-writes_none A text script before CannotRead is = (is, refl)
-writes_none A text script before (Text fault) is = (is, refl)
-writes_none A text script before (Image fault) is = (is, refl)
-writes_none A text script before (Assemble fault) is = (is, refl)
-writes_none A text script before (Boot fault) is = (is, refl)
-writes_none A text script before (Trace fault) is = (is, refl)
+pub writes_none : (A : Type 0) (text name script : List ℕ) (before : Option (List ℕ)) (fault : Fault)
+    → IsFaultOf text script fault → Writes {A = A} text name script before before (Err fault)
+writes_none A text name script before (Serve Write) (plan, planned, over) = elim over [ inl never ↦ absurd never | inr never ↦ absurd never ]
+writes_none A text name script before (Serve Read) is = (is, refl)
+writes_none A text name script before (Serve LineTooLong) is = (is, refl)
+writes_none A text name script before NoMemory is = (is, refl)
+writes_none A text name script before CannotRead is = (is, refl)
+writes_none A text name script before (Text fault) is = (is, refl)
+writes_none A text name script before (Image fault) is = (is, refl)
+writes_none A text name script before (Assemble fault) is = (is, refl)
+writes_none A text name script before (Boot fault) is = (is, refl)
+writes_none A text name script before (Trace fault) is = (is, refl)

@@ -1,4 +1,3 @@
-pub mod Holding
 pub mod Pages
 pub mod Rows
 pub mod Text

@@ -1,41 +1,58 @@
 -- What a page comes to over a catalog's text and a script.
-use Rattle.std.specs.Prelude.{◌≡◌, ℕ, ◌<◌, List, [], ◌∷◌, ◌++◌, length, ◌⊎◌, Option, Result, Ok, Err}
+use Rattle.std.specs.Prelude.{◌≡◌, ℕ, ◌<◌, List, [], ◌∷◌, ◌++◌, length, count_by, is_some, ◌⊎◌, Option, Result, Ok, Err}
 use Rattle.std.specs.Io.KnownBytes.{Appends}
 use Rattle.klp_types.specs.declared.limits.TheConstants.{MAX_CONSOLE_LINE}
 use Rattle.klp_catalog_text.specs.Plan.{Plan}
 use Rattle.klp_catalog_text.specs.Text.{plan_of}
 use Rattle.klp_catalog_text.specs.Text as catalog
-use Rattle.klp_model.specs.State.{is_moving}
+use Rattle.klp_manager_state.specs.Managed.{setting_of}
 use Rattle.klp_core.specs.Journaled.{Journaled}
+use Rattle.klp_catalog.specs.Catalog.{Catalog}
 use Rattle.klp_console.specs.declared.served.ServeFault.TheVariants.{LineTooLong, Write}
 use Rattle.klp_console_io.specs.Lines.{lines_and_rest}
 use Rattle.klp_console.specs.Lines.{lines_of}
 use Rattle.klp_program.specs.declared.fault.Fault.{Fault}
 use Rattle.klp_program.specs.declared.fault.Fault.TheVariants.{NoMemory, Text, Serve}
 use Rattle.klp_program.specs.Booted.{IsBootedOver, IsBootFault}
-use Rattle.klp_chronicle.specs.declared.part.Part.{Part}
-use Rattle.klp_chronicle.specs.Around.{IsHead, IsFoot}
+use Rattle.klp_timeline.specs.declared.moment.Moment.{Moment}
+use Rattle.klp_timeline.specs.declared.moment.Sentence.{Sentence}
+use Rattle.klp_timeline.specs.declared.moment.View.{View}
+use Rattle.klp_timeline.specs.Sentences.{sentences_of}
+use Rattle.klp_views.specs.Views.{IsView}
+use Rattle.klp_page.specs.declared.head.Title.{Title}
 use Rattle.klp_page.specs.declared.row.Row.{Row}
-use Rattle.klp_page.specs.Rows.{AreRows}
-use Rattle.klp_page.specs.Text.{page_text}
+use Rattle.klp_page.specs.Rows.{AreRows, last_view}
+use Rattle.klp_page.specs.Text.{is_start, page_text}
 
--- the page has a row for each line of the script. Above them are the beginning that every page has and a title that tells how many
--- there are and whether a transition goes on in the end, and below them every page's end
-pub record IsPage (booted : Journaled) (script page : List ℕ) : Type 0 where
-  pub head : List Part
+-- the title of a page: its name, how many lines there are, how many transitions started, and whether one goes on at the end
+pub record IsTitle (title : Title) (name : List ℕ) (lines : ℕ) (view : View) (sentences : List Sentence) : Type 0 where
+  pub name_is : title.name.now ≡ name
+  pub lines_are : title.lines ≡ lines
+  pub transitions_are : title.transitions ≡ count_by is_start sentences
+  pub moves : title.is_moving ≡ is_some view.moving
+
+-- A page of rows and of what was seen with them: above the rows stands how the run ends, and what is said of it, which is all that there is to be said
+pub record IsPageOfRun (catalog : Catalog) (name : List ℕ) (opening : View) (rows : List Row) (run : List Moment) (page : List ℕ) : Type 0 where
+  pub drawing : List ℕ
+  pub title : Title
+  pub title_is : IsTitle title name (length rows) (last_view opening run) (sentences_of opening run)
+  pub written : page ≡ page_text title catalog (last_view opening run) (sentences_of opening run) drawing rows
+
+-- the page has a row for each line of the script, in order, and is made of these and of what was seen with each
+pub record IsPage (booted : Journaled) (name script page : List ℕ) : Type 0 where
+  pub opening : View
+  pub run : List Moment
   pub rows : List Row
-  pub foot : List Part
   pub left : Journaled
-  pub shown : AreRows booted left (lines_of script) rows
-  pub above : IsHead (length (lines_of script)) (is_moving left.managed.state) head
-  pub below : IsFoot foot
-  pub written : page ≡ page_text head rows foot
+  pub begins : IsView (setting_of booted.managed) booted.managed.state opening
+  pub shown : AreRows booted left opening (lines_of script) rows run
+  pub is_page : IsPageOfRun left.managed.catalog name opening rows run page
 
 -- of the lines of a script, all but the last have their rows
-pub record HasRows (before after : Journaled) (script last : List ℕ) (rows : List Row) : Type 0 where
+pub record HasRows (before after : Journaled) (opening : View) (script last : List ℕ) (rows : List Row) (run : List Moment) : Type 0 where
   pub lines : List (List ℕ)
   pub parted : lines_and_rest script ≡ lines ++ last ∷ []
-  pub shown : AreRows before after lines rows
+  pub shown : AreRows before after opening lines rows run
 
 -- a line of the script is too long
 pub record HasLongLine (script : List ℕ) : Type 0 where
@@ -52,20 +69,20 @@ IsScriptFault script (Serve LineTooLong) = HasLongLine script
 IsScriptFault script other = ⊥
 
 -- a manager was booted over a plan, and shows the script
-pub record IsPageOver (plan : Plan) (script page : List ℕ) : Type 0 where
+pub record IsPageOver (plan : Plan) (name script page : List ℕ) : Type 0 where
   pub booted : Journaled
   pub is_booted : IsBootedOver plan booted
-  pub is_page : IsPage booted script page
+  pub is_page : IsPage booted name script page
 
 -- none was booted, or the script isn't shown
 abbrev pub IsFaultOver : Plan → List ℕ → Fault → Type 0
 IsFaultOver plan script fault = IsBootFault plan fault ⊎ IsScriptFault script fault
 
 -- the same over a catalog's text
-pub record IsPageOf (text script page : List ℕ) : Type 0 where
+pub record IsPageOf (text name script page : List ℕ) : Type 0 where
   pub plan : Plan
   pub planned : plan_of text ≡ Ok plan
-  pub over : IsPageOver plan script page
+  pub over : IsPageOver plan name script page
 
 abbrev pub IsFaultOf : List ℕ → List ℕ → Fault → Type 0
 IsFaultOf text script NoMemory = Unit {0}
@@ -74,7 +91,7 @@ IsFaultOf text script other = (plan : Plan) × (plan_of text ≡ Ok plan) × IsF
 
 -- a script was shown over a catalog's text, and its whole page was written behind what the output had; or that could not be written; or there
 -- is no page for this fault, and nothing was written
-abbrev pub Writes : {A : Type 0} → List ℕ → List ℕ → Option (List ℕ) → Option (List ℕ) → Result A Fault → Type 0
-Writes text script before after (Ok done) = (page : List ℕ) × IsPageOf text script page × Appends before after page
-Writes text script before after (Err (Serve Write)) = (page : List ℕ) × IsPageOf text script page
-Writes text script before after (Err fault) = IsFaultOf text script fault × (after ≡ before)
+abbrev pub Writes : {A : Type 0} → List ℕ → List ℕ → List ℕ → Option (List ℕ) → Option (List ℕ) → Result A Fault → Type 0
+Writes text name script before after (Ok done) = (page : List ℕ) × IsPageOf text name script page × Appends before after page
+Writes text name script before after (Err (Serve Write)) = (page : List ℕ) × IsPageOf text name script page
+Writes text name script before after (Err fault) = IsFaultOf text script fault × (after ≡ before)

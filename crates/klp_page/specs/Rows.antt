@@ -1,25 +1,75 @@
--- What the rows of a page show of a script.
-use Rattle.std.specs.Prelude.{◌≡◌, ℕ, List, [], ◌∷◌}
+-- What the rows of a page show of a script, and the moments that are seen with them.
+use Rattle.std.specs.Prelude.{◌≡◌, ℕ, ◌+◌, ◌&&◌, Bool, true, false, not, List, [], ◌∷◌, ◌++◌, length, Option, Some, None, if◌then◌else◌}
+use Rattle.klp_console_commands.specs.Lines.{request_of}
+use Rattle.klp_console.specs.declared.outcome.Outcome.{Outcome}
+use Rattle.klp_console.specs.Answered.{Answer, IsAnswered, names_in}
+use Rattle.klp_console.specs.Outcomes.{is_refusal, IsOutcome}
 use Rattle.klp_core.specs.Journaled.{Journaled}
-use Rattle.klp_console.specs.Answered.{Answer, IsAnswered}
-use Rattle.klp_page.specs.declared.row.Row.{Row}
 use Rattle.klp_manager_state.specs.Managed.{setting_of}
-use Rattle.klp_page.specs.Holding.{holders}
+use Rattle.klp_timeline.specs.declared.moment.Moment.{Moment}
+use Rattle.klp_timeline.specs.declared.moment.Stay.{Stay}
+use Rattle.klp_timeline.specs.declared.moment.Stay.TheVariants.{Holds, Outdated}
+use Rattle.klp_timeline.specs.declared.moment.View.{View}
+use Rattle.klp_timeline.specs.Still.{are_same, is_still}
+use Rattle.klp_views.specs.Views.{IsView, act_of}
+use Rattle.klp_page.specs.declared.row.Row.{Row}
 
--- a line was answered, and the row has the line, its answer, and the tasks that hold a transition up after it
-pub record IsRowOf (before after : Journaled) (line : List ℕ) (row : Row) : Type 0 where
+abbrev pub holder_of : ℕ → Option Stay → List ℕ
+holder_of task (Some (Holds move version)) = task ∷ []
+holder_of task other = []
+
+-- the tasks that hold the transition up, where the first of these has this number
+abbrev pub holders_from : ℕ → List (Option Stay) → List ℕ
+holders_from task [] = []
+holders_from task (stay ∷ stays) = holder_of task stay ++ holders_from (task + 1) stays
+
+-- a row names them where something changed in where tasks sleep that matters
+abbrev pub holders_told : View → View → List ℕ
+holders_told before after = if are_same before.stays after.stays then [] else holders_from 0 after.stays
+
+-- a line may be folded away: it was done, and a page has nothing to say of it
+abbrev pub is_quiet : Outcome → View → Moment → Bool
+is_quiet outcome before moment = not (is_refusal outcome) && is_still before moment
+
+-- a line was answered, and came to this; the row has the line and its answer, and the moment is what the line did and what the manager shows afterwards
+pub record IsRowOf (before after : Journaled) (view : View) (line : List ℕ) (row : Row) (moment : Moment) : Type 0 where
   pub answer : Answer
+  pub outcome : Outcome
   pub answered : IsAnswered before after line answer
+  pub became : IsOutcome before after (request_of (names_in before) line) outcome
+  pub refuses : is_refusal outcome ≡ answer.is_refused
+  pub seen : IsView (setting_of after.managed) after.managed.state moment.view
+  pub did : moment.act ≡ act_of view.moving outcome (length before.groups) (length after.groups)
   pub line_is : row.line.items ≡ line
   pub answer_is : row.answer.items ≡ answer.text
-  pub holders : row.holders.items ≡ holders (setting_of after.managed) after.managed.state
+  pub refused : row.is_refused ≡ answer.is_refused
+  pub quiet : row.is_quiet ≡ is_quiet outcome view moment
+  pub holders : row.holders.items ≡ holders_told view moment.view
 
--- a line was answered with this text
-abbrev pub IsAnsweredBy : Journaled → Journaled → List ℕ → List ℕ → Type 0
-IsAnsweredBy before after line text = (answer : Answer) × IsAnswered before after line answer × (text ≡ answer.text)
+-- what was seen last
+abbrev pub last_view : View → List Moment → View
+last_view view [] = view
+last_view view (moment ∷ run) = last_view moment.view run
 
--- a row for each line, in order, each line answered by the manager that the one before it left
-abbrev pub AreRows : Journaled → Journaled → List (List ℕ) → List Row → Type 0
-AreRows before after [] [] = after ≡ before
-AreRows before after (line ∷ lines) (row ∷ rows) = (next : Journaled) × IsRowOf before next line row × AreRows next after lines rows
-AreRows before after lines rows = ⊥
+-- a row and a moment for each line, in order, each line answered by the manager that the one before it left
+abbrev pub AreRows : Journaled → Journaled → View → List (List ℕ) → List Row → List Moment → Type 0
+AreRows before after view [] [] [] = after ≡ before
+AreRows before after view (line ∷ lines) (row ∷ rows) (moment ∷ run) =
+    (next : Journaled) × IsRowOf before next view line row moment × AreRows next after moment.view lines rows run
+AreRows before after view lines rows run = ⊥
+
+-- a line was answered with this text, and this became of it
+pub record IsAnsweredBy (before after : Journaled) (line text : List ℕ) (outcome : Outcome) : Type 0 where
+  pub answer : Answer
+  pub answered : IsAnswered before after line answer
+  pub became : IsOutcome before after (request_of (names_in before) line) outcome
+  pub refuses : is_refusal outcome ≡ answer.is_refused
+  pub text_is : text ≡ answer.text
+
+-- one more row and one more moment
+pub record AddsRow (before after : Journaled) (opening : View) (line : List ℕ) (rows more_rows : List Row) (run more_run : List Moment) : Type 0 where
+  pub row : Row
+  pub moment : Moment
+  pub is_row : IsRowOf before after (last_view opening run) line row moment
+  pub rows_are : more_rows ≡ rows ++ row ∷ []
+  pub run_is : more_run ≡ run ++ moment ∷ []

@@ -1,11 +1,49 @@
 -- The text of a page.
-use Rattle.std.specs.Prelude.{ℕ, List, [], ◌∷◌, ◌++◌, codes}
+use Rattle.std.specs.Prelude.{ℕ, ◌==◌, ◌+◌, ◌-◌, nat_lt, Bool, true, false, List, [], ◌∷◌, ◌++◌, codes, length, count_by, if◌then◌else◌}
 use Rattle.std.specs.Fmt.{decimal}
-use Rattle.klp_chronicle.specs.declared.part.Part.{Part}
-use Rattle.klp_chronicle.specs.Text.{escaped, parts_text}
+use Rattle.klp_catalog.specs.Catalog.{Catalog}
+use Rattle.klp_markup.specs.Escaped.{escaped}
+use Rattle.klp_story.specs.End.{end_text}
+use Rattle.klp_story.specs.Sentences.{story_text}
+use Rattle.klp_timeline.specs.declared.moment.Fact.TheVariants.{Starts}
+use Rattle.klp_timeline.specs.declared.moment.Said.{Said}
+use Rattle.klp_timeline.specs.declared.moment.Said.TheVariants.{Did}
+use Rattle.klp_timeline.specs.declared.moment.Sentence.{Sentence}
+use Rattle.klp_timeline.specs.declared.moment.View.{View}
+use Rattle.klp_drawing.specs.declared.style.TheConstants as drawing
+use Rattle.klp_chronicle.specs.declared.style.TheConstants as cards
+use Rattle.klp_page.specs.declared.head.Title.{Title}
 use Rattle.klp_page.specs.declared.row.Row.{Row}
+use Rattle.klp_page.specs.declared.style.TheConstants.{
+  HEAD,
+  STYLE,
+  STYLE_END,
+  COUNTS,
+  STORY,
+  RUN,
+  LINES,
+  FOOT,
+  PLAIN_ROW,
+  CARD_ROW,
+  REFUSED,
+  OPEN,
+  ID,
+  NUMBER,
+  CARD_NUMBER,
+  LINE,
+  ANSWER,
+  ANSWER_END,
+  PLAIN_END,
+  CARDS,
+  CARDS_END,
+  FOLD,
+  FOLD_END,
+  FOLDED,
+  QUIET_ROWS,
+  HELD,
+  HELD_END,
+}
 
--- the number of a task that holds the transition up
 abbrev pub holder_text : ℕ → List ℕ
 holder_text task = codes " " ++ decimal task
 
@@ -16,18 +54,78 @@ holders_text (task ∷ tasks) = holder_text task ++ holders_text tasks
 -- the mark of a line after which these tasks hold the transition up; where there are none it has no mark
 abbrev pub mark_text : List ℕ → List ℕ
 mark_text [] = []
-mark_text (task ∷ tasks) = codes "<b class=held>held up by task" ++ holders_text (task ∷ tasks) ++ codes "</b>"
+mark_text (task ∷ tasks) = HELD.now ++ holders_text (task ∷ tasks) ++ HELD_END.now
 
--- the line, its answer and its mark, between what else the row shows
-unfoldable pub row_text : Row → List ℕ
-row_text row =
-    parts_text row.before.items ++ codes "<code class=line>" ++ escaped row.line.items ++ codes "</code><samp>" ++ escaped row.answer.items
-    ++ codes "</samp>" ++ mark_text row.holders.items ++ parts_text row.rest.items
+abbrev pub refused_text : Bool → List ℕ
+refused_text is_refused = if is_refused then REFUSED.now else []
+
+abbrev pub open_text : Bool → List ℕ
+open_text is_open = if is_open then OPEN.now else []
+
+-- the line with its number, its answer and its mark
+unfoldable pub told_text : ℕ → Row → List ℕ
+told_text number row =
+    decimal number ++ LINE.now ++ escaped row.line.items ++ ANSWER.now ++ escaped row.answer.items ++ ANSWER_END.now ++ mark_text row.holders.items
+
+-- what stands in front of the number of a line
+unfoldable pub start_text : List ℕ → ℕ → Row → List ℕ
+start_text tag number row = tag ++ refused_text row.is_refused ++ ID.now ++ decimal number
+
+-- a row with cards opens, and shows them then
+unfoldable pub row_text : ℕ → Row → List ℕ
+row_text number row =
+    if length row.cards.text == 0
+    then start_text PLAIN_ROW.now number row ++ NUMBER.now ++ told_text number row ++ PLAIN_END.now
+    else start_text CARD_ROW.now number row ++ open_text row.is_open ++ CARD_NUMBER.now ++ told_text number row ++ CARDS.now ++ row.cards.text ++ CARDS_END.now
+
+-- of quiet lines in a row the first few are shown; then a fold begins
+abbrev pub fold_start : ℕ → List ℕ
+fold_start quiet = if quiet == QUIET_ROWS then FOLD.now else []
+
+-- and ends with how many lines it has
+abbrev pub fold_end : ℕ → List ℕ
+fold_end quiet = if nat_lt QUIET_ROWS quiet then FOLD_END.now ++ decimal (quiet - QUIET_ROWS) ++ FOLDED.now else []
+
+-- rows, of which the first has this number, behind so many quiet ones: nothing else is folded away
+abbrev pub rows_from : ℕ → ℕ → List Row → List ℕ
+rows_from quiet number [] = fold_end quiet
+rows_from quiet number (row ∷ rows) =
+    if row.is_quiet
+    then fold_start quiet ++ row_text number row ++ rows_from (quiet + 1) (number + 1) rows
+    else fold_end quiet ++ row_text number row ++ rows_from 0 (number + 1) rows
 
 abbrev pub rows_text : List Row → List ℕ
-rows_text [] = []
-rows_text (row ∷ rows) = row_text row ++ rows_text rows
+rows_text rows = rows_from 0 1 rows
 
--- the rows in order, between what stands above and below them
-abbrev pub page_text : List Part → List Row → List Part → List ℕ
-page_text head rows foot = parts_text head ++ rows_text rows ++ parts_text foot
+abbrev pub is_started : Said → Bool
+is_started (Did (Starts moving)) = true
+is_started other = false
+
+abbrev pub is_start : Sentence → Bool
+is_start sentence = is_started sentence.said
+
+abbrev pub count_text : ℕ → List ℕ → List ℕ → List ℕ
+count_text count one many = decimal count ++ (if count == 1 then one else many)
+
+-- what is shown, how much happened, and whether a transition still goes on
+unfoldable pub title_text : Title → List ℕ
+title_text title =
+    escaped title.name.now ++ codes ": " ++ count_text title.lines (codes " line, ") (codes " lines, ")
+    ++ count_text title.transitions (codes " transition") (codes " transitions") ++ (if title.is_moving then codes ", one still under way" else [])
+
+-- the document's beginning with its title and its style
+unfoldable pub opening_text : Title → List ℕ
+opening_text title = HEAD.now ++ title_text title ++ STYLE.now ++ drawing.STYLE.now ++ cards.STYLE.now ++ STYLE_END.now
+
+-- how the run ends, below the document's beginning, and what happened above the sentences
+unfoldable pub front_text : Title → Catalog → View → List Sentence → List ℕ
+front_text title catalog view sentences = opening_text title ++ end_text catalog view sentences ++ COUNTS.now ++ title_text title ++ STORY.now
+
+-- the sentences, and the drawing
+unfoldable pub story_and_drawing : Catalog → List Sentence → List ℕ → List ℕ
+story_and_drawing catalog sentences picture = story_text catalog sentences ++ RUN.now ++ picture ++ LINES.now
+
+-- the rows in order, below what stands above them
+abbrev pub page_text : Title → Catalog → View → List Sentence → List ℕ → List Row → List ℕ
+page_text title catalog view sentences picture rows =
+    front_text title catalog view sentences ++ story_and_drawing catalog sentences picture ++ rows_text rows ++ FOOT.now

@@ -1,75 +1,149 @@
 //! A manager is booted over a catalog's text, and a script is shown by it.
 ghost use Rattle.std.specs.Prelude.{◌≡◌, [], ◌∷◌, length, map, string_bytes, Some, None, IfOk, IfErr, MatchResult};
 ghost use Rattle.klp_catalog_text.specs.Within.{AreTargetsWithin};
-ghost use Rattle.klp_page.specs.Pages.{IsPage, IsScriptFault, IsPageOver, IsFaultOver, IsPageOf, IsFaultOf, Writes};
+ghost use Rattle.klp_page.specs.Rows.{last_view};
+ghost use Rattle.klp_page.specs.Text.{page_text};
+ghost use Rattle.klp_page.specs.Pages.{IsPage, IsPageOfRun, IsScriptFault, IsPageOver, IsFaultOver, IsPageOf, IsFaultOf, Writes};
 ghost use Rattle.klp_program.specs.Asked.{two_files};
 
-use crate::record::record;
-use crate::row::page_of;
+use crate::head::{Title, add_front, add_story_and_drawing, transitions};
+use crate::layout::Layout;
+use crate::record::{Recorded, last_view, record};
+use crate::row::{Row, add_rows};
+use crate::style::FOOT;
 use klp_callback::Boxed;
 use klp_catalog::Catalog;
 use klp_catalog_text::Plan;
-use klp_chronicle::Chronicle;
 use klp_console::ServeFault;
 use klp_core::Manager;
+use klp_markup::Sheet;
 use klp_program::{Fault, boot, close, file_words, scripted};
-use std::alloc::Global;
+use klp_timeline::{Sentence, View, sentences};
+use klp_views::view_of;
+use std::alloc::{AllocError, Global};
 use std::io::Write;
 
 /// The name that the program gives itself.
 const NAME: &str = "klppage";
 
+/// The page of a run, of which the rows and all that is said of it are there.
+fn written(
+    alloc: Global,
+    manager: &Manager,
+    title: &Title<'_>,
+    view: &View,
+    sentences: &[Sentence],
+    drawing: &Sheet,
+    rows: &[Row],
+) -> Result<Vec<u8>, AllocError>
+    ensures { IfOk result (λ page. page.items ≡ page_text title.now manager.now.managed.catalog view.now
+        sentences.now drawing.now.text rows.now) }
+{
+    klp_markup::laws::what_is_added_adds_up();
+    let mut sheet = Sheet::new(alloc);
+    let (catalog, modules) = (manager.catalog(), manager.modules());
+    add_front(&mut sheet, title, catalog, modules, view, sentences);
+    add_story_and_drawing(&mut sheet, catalog, modules, sentences, drawing);
+    add_rows(&mut sheet, rows);
+    sheet.markup(FOOT);
+    sheet.into_bytes()
+}
+
+/// The page of what was recorded.
+fn page_of(
+    alloc: Global,
+    manager: &Manager,
+    name: &[u8],
+    opening: &View,
+    recorded: &Recorded,
+    layout: &mut Layout,
+) -> Result<Vec<u8>, AllocError>
+    ensures { IfOk result (λ page. IsPageOfRun manager.now.managed.catalog name.now opening.now recorded.now.rows.items
+        recorded.now.run.items page.items) }
+{
+    let sentences = sentences(alloc, opening, &recorded.run)?;
+    let view = last_view(opening, &recorded.run);
+    let title = Title {
+        name,
+        lines: recorded.rows.len() as u64,
+        transitions: transitions(&sentences),
+        is_moving: view.moving.is_some(),
+    };
+    let drawing = layout.draw(alloc, manager, &sentences)?;
+    written(
+        alloc,
+        manager,
+        &title,
+        view,
+        &sentences,
+        &drawing,
+        &recorded.rows,
+    )
+}
+
 /// The page of a script.
 fn paged(
     alloc: Global,
     manager: &mut Manager,
+    name: &[u8],
     script: &[u8],
-    chronicle: &mut Chronicle,
+    layout: &mut Layout,
 ) -> Result<Vec<u8>, Fault>
-    ensures page { IfOk result (λ page. IsPage manager.old script.now page.items) }
+    ensures page { IfOk result (λ page. IsPage manager.old name.now script.now page.items) }
     ensures fault { IfErr result (λ fault. IsScriptFault script.now fault) }
 {
-    chronicle.open(manager)?;
-    let rows = record(alloc, manager, script, chronicle)?;
-    let head = chronicle.head(alloc, manager, rows.len())?;
-    let foot = chronicle.foot(alloc)?;
-    Ok(page_of(alloc, &head, &rows, &foot)?)
+    layout.open(manager)?;
+    let opening = view_of(manager);
+    let recorded = record(alloc, manager, script, &opening, layout)?;
+    Ok(page_of(alloc, manager, name, &opening, &recorded, layout)?)
 }
 
 // The manager goes then.
-fn page_by(alloc: Global, mut manager: Manager, script: &[u8]) -> Result<Vec<u8>, Fault>
-    ensures page { IfOk result (λ page. IsPage manager script.now page.items) }
+fn page_by(
+    alloc: Global,
+    mut manager: Manager,
+    name: &[u8],
+    script: &[u8],
+    mut layout: Layout,
+) -> Result<Vec<u8>, Fault>
+    ensures page { IfOk result (λ page. IsPage manager name.now script.now page.items) }
     ensures fault { IfErr result (λ fault. IsScriptFault script.now fault) }
 {
-    let mut chronicle = Chronicle::new(alloc);
-    let page = paged(alloc, &mut manager, script, &mut chronicle);
+    let page = paged(alloc, &mut manager, name, script, &mut layout);
     close(manager);
     page
 }
 
 // Boots a manager over a plan, and shows the script by it. The callbacks are made here, as where a trace is
 // watched.
-fn page_plan(alloc: Global, plan: Plan, script: &[u8]) -> Result<Vec<u8>, Fault>
+fn page_plan(alloc: Global, plan: Plan, name: &[u8], script: &[u8]) -> Result<Vec<u8>, Fault>
     requires { AreTargetsWithin (length plan.objects) plan.patches }
-    ensures page { IfOk result (λ page. IsPageOver plan script.now page.items) }
+    ensures page { IfOk result (λ page. IsPageOver plan name.now script.now page.items) }
     ensures fault { IfErr result (λ fault. IsFaultOver plan script.now fault) }
 {
+    let mut layout = Layout::new(alloc);
+    layout.watch(&plan)?;
     let mut callbacks = Vec::new(alloc);
     while let Some(callback) = scripted(alloc, &plan, callbacks.len())? {
         callbacks.push(Boxed::new(callback))?;
     }
     let manager = boot(alloc, plan, callbacks)?;
-    page_by(alloc, manager, script)
+    page_by(alloc, manager, name, script, layout)
 }
 
-/// Boots a manager over the catalog's text, and shows the script by it: a page with a row for each line. Memory is
-/// taken by the script's length.
-pub fn page_over(alloc: Global, catalog: &[u8], script: &[u8]) -> Result<Vec<u8>, Fault>
-    ensures page { IfOk result (λ page. IsPageOf catalog.now script.now page.items) }
+/// Boots a manager over the catalog's text, and shows the script by it: a page with a row for each line, which has this name.
+/// Memory is taken by the script's length.
+pub fn page_over(
+    alloc: Global,
+    catalog: &[u8],
+    name: &[u8],
+    script: &[u8],
+) -> Result<Vec<u8>, Fault>
+    ensures page { IfOk result (λ page. IsPageOf catalog.now name.now script.now page.items) }
     ensures fault { IfErr result (λ fault. IsFaultOf catalog.now script.now fault) }
 {
     let plan = Catalog::read(alloc, catalog)?;
-    page_plan(alloc, plan, script)
+    page_plan(alloc, plan, name, script)
 }
 
 /// Writes the page of a script to `out`. Nothing is written before all lines are served. Where the page can't be written,
@@ -77,12 +151,13 @@ pub fn page_over(alloc: Global, catalog: &[u8], script: &[u8]) -> Result<Vec<u8>
 pub fn write_page<W: Write>(
     alloc: Global,
     catalog: &[u8],
+    name: &[u8],
     script: &[u8],
     out: &mut W,
 ) -> Result<(), Fault>
-    ensures { Writes catalog.now script.now (W.contents out.old) (W.contents out.new) result }
+    ensures { Writes catalog.now name.now script.now (W.contents out.old) (W.contents out.new) result }
 {
-    let page = match page_over(alloc, catalog, script) {
+    let page = match page_over(alloc, catalog, name, script) {
         Ok(page) => page,
         Err(fault) => return Err(fault),
     };

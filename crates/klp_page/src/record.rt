@@ -1,59 +1,108 @@
 //! A script is served line by line, and each line gets its row.
-ghost use Rattle.std.specs.Prelude.{◌≡◌, ◌≤◌, [], ◌∷◌, length, IfOk, IfErr};
-ghost use Rattle.klp_types.specs.declared.limits.TheConstants.{MAX_CONSOLE_LINE};
-ghost use Rattle.klp_console_io.specs.Lines.{lines_and_rest};
+ghost use Rattle.std.specs.Prelude.{◌≡◌, ◌≤◌, ◌+◌, [], ◌++◌, length, IfOk, IfErr, OnOk};
+ghost use Rattle.klp_types.specs.declared.limits.TheConstants.{MAX_TASKS};
+ghost use Rattle.klp_manager_state.specs.Managed.{setting_of};
+ghost use Rattle.klp_views.specs.Views.{IsView, act_of};
 ghost use Rattle.klp_console.specs.Lines.{lines_of};
-ghost use Rattle.klp_page.specs.Rows.{IsAnsweredBy, IsRowOf, AreRows};
+ghost use Rattle.klp_page.specs.Rows.{IsAnsweredBy, IsRowOf, AddsRow, AreRows, holders_from, holders_told, is_quiet, last_view};
 ghost use Rattle.klp_page.specs.Pages.{HasRows, IsScriptFault};
 
-use crate::holding::{blocked_now, holders};
+use crate::layout::Layout;
 use crate::row::Row;
-use klp_chronicle::Chronicle;
-use klp_console::{ServeFault, serve};
-use klp_console_io::{Feed, LineBuffer, OverWrite, TooLong};
+use klp_console::{Outcome, ServeFault, answer_line};
+use klp_console_io::{LineBuffer, OverWrite, TooLong};
 use klp_core::Manager;
 use klp_program::Fault;
-use klp_types::READ_ROOM;
+use klp_timeline::{Moment, Stay, View, are_same, is_still};
+use klp_types::{MAX_TASKS, TaskId};
+use klp_views::{act_of, view_of};
 use std::alloc::{AllocError, Global};
 use std::marker::Brand;
 use std::sync::ledger::{Blank, Ledger};
 
-/// Serves one line by the console, and gives its answer.
-fn served<L: Ledger, M: Ledger>(
-    alloc: Global,
-    manager: &mut Manager,
-    line: &[u8],
-    reads: Blank,
-    writes: Blank,
-) -> Result<Vec<u8>, ServeFault>
-    requires reads { (reads.name ≡ L.name) × (reads.parts ≡ L.parts) × (3 ≤ reads.parts) }
-    requires writes { (writes.name ≡ M.name) × (writes.parts ≡ M.parts) × (2 ≤ writes.parts) }
-    requires line { lines_of line.now ≡ line.now ∷ [] }
-    ensures { IfOk result (λ text. IsAnsweredBy manager.old manager.new line.now text.items) }
+/// What a line was answered, and what it came to.
+#[derive(Drop)]
+struct Answered {
+    text: Vec<u8>,
+    outcome: Outcome,
+}
+
+/// What is gathered of the lines so far.
+#[derive(Drop)]
+pub(crate) struct Recorded {
+    pub rows: Vec<Row>,
+    pub run: Vec<Moment>,
+}
+
+/// What was seen last.
+pub(crate) fn last_view<'a>(opening: &'a View, run: &'a [Moment]) -> &'a View
+    ensures { result.now ≡ last_view opening.now run.now }
 {
-    let mut source = Feed::<'_, L>::new(line, READ_ROOM, None, reads);
-    let mut sink = OverWrite::<Vec<u8>, M>::new(Vec::new(alloc), writes);
-    let ended = serve(&mut source, &mut sink, manager);
-    let text = sink.into_inner();
-    match ended {
-        Ok(_) => Ok(text),
-        Err(fault) => Err(fault),
+    match run.last() {
+        Some(moment) => &moment.view,
+        None => opening,
     }
 }
 
-/// What a line is answered. An empty one is answered nothing, and changes nothing.
-fn answer(alloc: Global, manager: &mut Manager, line: &[u8]) -> Result<Vec<u8>, AllocError>
-    requires { lines_and_rest line.now ≡ line.now ∷ [] }
-    ensures { IfOk result (λ text. IsAnsweredBy manager.old manager.new line.now text.items) }
+/// Does what a line asks for, and gives its answer.
+fn answer<M: Ledger>(
+    alloc: Global,
+    manager: &mut Manager,
+    line: &[u8],
+    writes: Blank,
+) -> Result<Answered, AllocError>
+    requires writes { (writes.name ≡ M.name) × (writes.parts ≡ M.parts) × (2 ≤ writes.parts) }
+    ensures { IfOk result (λ answered. IsAnsweredBy manager.old manager.new line.now answered.text.items
+        answered.outcome) }
 {
-    let _standing = manager.mark();
-    if line.is_empty() {
-        return Ok(Vec::new(alloc));
+    let mut sink = OverWrite::<Vec<u8>, M>::new(Vec::new(alloc), writes);
+    match answer_line(manager, line, &mut sink) {
+        Ok(outcome) => Ok(Answered {
+            text: sink.into_inner(),
+            outcome,
+        }),
+        Err(_) => Err(AllocError),
     }
-    let reads = Blank::new(3);
-    let writes = Blank::new(2);
-    // the line is whole and no longer than a line may be, so only the answer's memory can be missing
-    served::<Brand, Brand>(alloc, manager, line, reads, writes).map_err(|_| AllocError)
+}
+
+/// What a line did that came to this, and what the manager shows afterwards. There were so many events before it.
+fn moment_of(manager: &Manager, before: &View, outcome: &Outcome, from: u32) -> Moment
+    ensures seen { IsView (setting_of manager.now.managed) manager.now.managed.state result.view }
+    ensures did { result.act ≡ act_of before.now.moving outcome.now from (length manager.now.groups) }
+{
+    Moment {
+        act: act_of(&before.moving, outcome, from, manager.mark()),
+        view: view_of(manager),
+    }
+}
+
+/// Adds the tasks that hold the transition up, of which the first of these has this number.
+fn add_holders(
+    tasks: &mut Vec<TaskId>,
+    number: usize,
+    stays: &[Option<Stay>],
+) -> Result<(), AllocError>
+    requires { number + length stays.now ≤ MAX_TASKS }
+    ensures { OnOk result (tasks.new.items ≡ tasks.old.items ++ holders_from number stays.now) }
+{
+    let [stay, rest @ ..] = stays else {
+        return Ok(());
+    };
+    if matches!(stay, Some(Stay::Holds(_, _))) {
+        tasks.push(TaskId(number as u8))?;
+    }
+    add_holders(tasks, number + 1, rest)
+}
+
+/// The tasks that hold the transition up, where something changed in where tasks sleep that matters.
+fn holders_told(alloc: Global, before: &View, after: &View) -> Result<Vec<TaskId>, AllocError>
+    ensures { IfOk result (λ tasks. tasks.items ≡ holders_told before.now after.now) }
+{
+    let mut tasks = Vec::new(alloc);
+    if !are_same(&before.stays, &after.stays) {
+        add_holders(&mut tasks, 0, &after.stays)?;
+    }
+    Ok(tasks)
 }
 
 /// Serves a line, and makes its row.
@@ -61,30 +110,45 @@ fn record_line(
     alloc: Global,
     manager: &mut Manager,
     line: &[u8],
-    chronicle: &mut Chronicle,
-) -> Result<Row, AllocError>
-    requires { lines_and_rest line.now ≡ line.now ∷ [] }
-    ensures { IfOk result (λ row. IsRowOf manager.old manager.new line.now row) }
+    before: &View,
+    layout: &mut Layout,
+) -> Result<(Row, Moment), AllocError>
+    ensures { IfOk result (λ told. IsRowOf manager.old manager.new before.now line.now told.0 told.1) }
 {
-    let answer = answer(alloc, manager, line)?;
-    let blocked = blocked_now(alloc, manager)?;
-    let holders = holders(alloc, manager, blocked.as_slice())?;
-    let copy = Vec::from_slice(alloc, line)?;
-    let told = chronicle.tell(
-        alloc,
-        manager,
-        line,
-        answer.as_slice(),
-        blocked.as_slice(),
-        holders.as_slice(),
-    )?;
-    Ok(Row {
-        before: told.before,
-        line: copy,
-        answer,
-        holders,
-        rest: told.rest,
-    })
+    let from = manager.mark();
+    let writes = Blank::new(2);
+    let Answered { text, outcome } = answer::<Brand>(alloc, manager, line, writes)?;
+    let moment = moment_of(manager, before, &outcome, from);
+    let cards = layout.see(alloc, manager, &outcome, before, &moment)?;
+    let row = Row {
+        line: Vec::from_slice(alloc, line)?,
+        answer: text,
+        is_refused: outcome.is_refusal(),
+        is_quiet: !outcome.is_refusal() && is_still(before, &moment),
+        holders: holders_told(alloc, before, &moment.view)?,
+        is_open: cards.is_open,
+        cards: cards.sheet,
+    };
+    Ok((row, moment))
+}
+
+/// Serves a line behind others, and records it.
+fn add_line(
+    alloc: Global,
+    manager: &mut Manager,
+    line: &[u8],
+    opening: &View,
+    recorded: &mut Recorded,
+    layout: &mut Layout,
+) -> Result<(), AllocError>
+    ensures { IfOk result (λ _. AddsRow manager.old manager.new opening.now line.now recorded.old.rows.items
+        recorded.new.rows.items recorded.old.run.items recorded.new.run.items) }
+{
+    let before = last_view(opening, &recorded.run);
+    let (row, moment) = record_line(alloc, manager, line, before, layout)?;
+    recorded.rows.push(row)?;
+    recorded.run.push(moment)?;
+    Ok(())
 }
 
 /// Serves all lines that a line feed ends. `line` has then what is behind the last one.
@@ -93,12 +157,15 @@ fn record_lines(
     manager: &mut Manager,
     script: &[u8],
     line: &mut LineBuffer,
-    chronicle: &mut Chronicle,
-    rows: &mut Vec<Row>,
+    opening: &View,
+    recorded: &mut Recorded,
+    layout: &mut Layout,
 ) -> Result<(), Fault>
     requires line { line.old ≡ [] }
-    requires rows { rows.old.items ≡ [] }
-    ensures done { IfOk result (λ _. HasRows manager.old manager.new script.now line.new rows.new.items) }
+    requires rows { recorded.old.rows.items ≡ [] }
+    requires run { recorded.old.run.items ≡ [] }
+    ensures done { IfOk result (λ _. HasRows manager.old manager.new opening.now script.now line.new
+        recorded.new.rows.items recorded.new.run.items) }
     ensures fault { IfErr result (λ fault. IsScriptFault script.now fault) }
 {
     let mut rest = script;
@@ -107,7 +174,7 @@ fn record_lines(
             Err(TooLong) => return Err(Fault::Serve(ServeFault::LineTooLong)),
             Ok(None) => return Ok(()),
             Ok(Some(after)) => {
-                rows.push(record_line(alloc, manager, line.bytes(), chronicle)?)?;
+                add_line(alloc, manager, line.bytes(), opening, recorded, layout)?;
                 line.clear();
                 rest = after;
             }
@@ -117,23 +184,36 @@ fn record_lines(
     Ok(())
 }
 
-/// The rows of a script, one for each of its lines.
+/// The rows of a script, one for each of its lines, and what was seen with each.
 pub(crate) fn record(
     alloc: Global,
     manager: &mut Manager,
     script: &[u8],
-    chronicle: &mut Chronicle,
-) -> Result<Vec<Row>, Fault>
-    ensures rows { IfOk result (λ rows. AreRows manager.old manager.new (lines_of script.now) rows.items) }
+    opening: &View,
+    layout: &mut Layout,
+) -> Result<Recorded, Fault>
+    ensures rows { IfOk result (λ recorded. AreRows manager.old manager.new opening.now (lines_of script.now)
+        recorded.rows.items recorded.run.items) }
     ensures fault { IfErr result (λ fault. IsScriptFault script.now fault) }
 {
     let mut line = LineBuffer::new();
-    let mut rows = Vec::new(alloc);
-    record_lines(alloc, manager, script, &mut line, chronicle, &mut rows)?;
+    let mut recorded = Recorded {
+        rows: Vec::new(alloc),
+        run: Vec::new(alloc),
+    };
+    record_lines(
+        alloc,
+        manager,
+        script,
+        &mut line,
+        opening,
+        &mut recorded,
+        layout,
+    )?;
     let last = line.bytes();
     if last.is_empty() {
-        return Ok(rows);
+        return Ok(recorded);
     }
-    rows.push(record_line(alloc, manager, last, chronicle)?)?;
-    Ok(rows)
+    add_line(alloc, manager, last, opening, &mut recorded, layout)?;
+    Ok(recorded)
 }

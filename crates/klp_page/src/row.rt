@@ -1,91 +1,182 @@
-//! The rows of a page, and the page of rows.
-ghost use Rattle.std.specs.Prelude.{◌≡◌, ◌++◌, OnOk, IfOk};
-ghost use Rattle.klp_page.specs.Text.{holder_text, holders_text, mark_text, row_text, rows_text, page_text};
+//! The rows of a page.
+ghost use Rattle.std.specs.Prelude.{◌≡◌, ◌<◌, ◌+◌, ◌-◌, ◌^◌, ◌++◌, codes, length};
+ghost use Rattle.std.specs.Fmt.{decimal};
+ghost use Rattle.klp_markup.specs.Adds.{Adds};
+ghost use Rattle.klp_page.specs.Text.{holders_text, mark_text, refused_text, open_text, told_text, start_text, row_text, fold_start, fold_end, rows_text};
 
-use crate::part::{add_parts, add_text};
-use itoa::Buffer;
-use klp_chronicle::Part;
+use crate::style::{
+    ANSWER, ANSWER_END, CARD_NUMBER, CARD_ROW, CARDS, CARDS_END, FOLD, FOLD_END, FOLDED, HELD,
+    HELD_END, ID, LINE, NUMBER, OPEN, PLAIN_END, PLAIN_ROW, QUIET_ROWS, REFUSED,
+};
+use klp_markup::Sheet;
 use klp_types::TaskId;
-use std::alloc::{AllocError, Global};
 
 /// What a page shows of a line.
 #[derive(Drop)]
 pub(crate) struct Row {
-    /// What stands in front of the line.
-    pub before: Vec<Part>,
     pub line: Vec<u8>,
     pub answer: Vec<u8>,
-    /// The tasks that hold a transition up after the line.
+    pub is_refused: bool,
+    /// Whether it may be folded away.
+    pub is_quiet: bool,
+    /// The tasks that hold a transition up after the line, where that isn't as it was before.
     pub holders: Vec<TaskId>,
-    /// What stands behind the mark.
-    pub rest: Vec<Part>,
+    /// Whether its cards stand open.
+    pub is_open: bool,
+    /// What it changed.
+    pub cards: Sheet,
 }
 
-fn add_holder(page: &mut Vec<u8>, task: TaskId) -> Result<(), AllocError>
-    ensures { OnOk result (page.new.items ≡ page.old.items ++ holder_text task) }
+fn add_holder(sheet: &mut Sheet, task: TaskId)
+    ensures { Adds sheet.old sheet.new (codes " " ++ decimal task) }
 {
-    let mut buffer = Buffer::new();
-    page.extend_from_slice(b" ")?;
-    page.extend_from_slice(buffer.format(task.0).as_bytes())?;
-    Ok(())
+    klp_markup::laws::what_is_added_adds_up();
+    sheet.markup(" ");
+    sheet.number(u64::from(task.0));
 }
 
-fn add_holders(page: &mut Vec<u8>, tasks: &[TaskId]) -> Result<(), AllocError>
-    ensures { OnOk result (page.new.items ≡ page.old.items ++ holders_text tasks.now) }
+fn add_holders(sheet: &mut Sheet, tasks: &[TaskId])
+    ensures { Adds sheet.old sheet.new (holders_text tasks.now) }
 {
+    klp_markup::laws::what_is_added_adds_up();
     for task in tasks {
-        add_holder(page, *task)?;
+        add_holder(sheet, *task);
     }
-    Ok(())
 }
 
-fn add_mark(page: &mut Vec<u8>, tasks: &[TaskId]) -> Result<(), AllocError>
-    ensures { OnOk result (page.new.items ≡ page.old.items ++ mark_text tasks.now) }
+fn add_mark(sheet: &mut Sheet, tasks: &[TaskId])
+    ensures { Adds sheet.old sheet.new (mark_text tasks.now) }
 {
+    klp_markup::laws::what_is_added_adds_up();
     if tasks.is_empty() {
-        return Ok(());
+        return;
     }
-    page.extend_from_slice(b"<b class=held>held up by task")?;
-    add_holders(page, tasks)?;
-    page.extend_from_slice(b"</b>")?;
-    Ok(())
+    sheet.markup(HELD);
+    add_holders(sheet, tasks);
+    sheet.markup(HELD_END);
 }
 
-fn add_row(page: &mut Vec<u8>, row: &Row) -> Result<(), AllocError>
-    ensures { OnOk result (page.new.items ≡ page.old.items ++ row_text row.now) }
+fn add_refused(sheet: &mut Sheet, is_refused: bool)
+    ensures { Adds sheet.old sheet.new (refused_text is_refused) }
 {
-    add_parts(page, &row.before)?;
-    page.extend_from_slice(b"<code class=line>")?;
-    add_text(page, &row.line)?;
-    page.extend_from_slice(b"</code><samp>")?;
-    add_text(page, &row.answer)?;
-    page.extend_from_slice(b"</samp>")?;
-    add_mark(page, &row.holders)?;
-    add_parts(page, &row.rest)?;
-    Ok(())
-}
-
-fn add_rows(page: &mut Vec<u8>, rows: &[Row]) -> Result<(), AllocError>
-    ensures { OnOk result (page.new.items ≡ page.old.items ++ rows_text rows.now) }
-{
-    for row in rows {
-        add_row(page, row)?;
+    klp_markup::laws::what_is_added_adds_up();
+    if is_refused {
+        sheet.markup(REFUSED);
     }
-    Ok(())
 }
 
-/// The page of rows in order, between what stands above and below them.
-pub(crate) fn page_of(
-    alloc: Global,
-    head: &[Part],
-    rows: &[Row],
-    foot: &[Part],
-) -> Result<Vec<u8>, AllocError>
-    ensures { IfOk result (λ page. page.items ≡ page_text head.now rows.now foot.now) }
+fn add_open(sheet: &mut Sheet, is_open: bool)
+    ensures { Adds sheet.old sheet.new (open_text is_open) }
 {
-    let mut page = Vec::new(alloc);
-    add_parts(&mut page, head)?;
-    add_rows(&mut page, rows)?;
-    add_parts(&mut page, foot)?;
-    Ok(page)
+    klp_markup::laws::what_is_added_adds_up();
+    if is_open {
+        sheet.markup(OPEN);
+    }
+}
+
+/// The line with its number, its answer and its mark.
+#[tactic(auto, unfolding(crate::specs::Text::told_text))]
+fn add_told(sheet: &mut Sheet, number: u64, row: &Row)
+    ensures { Adds sheet.old sheet.new (told_text number row.now) }
+{
+    klp_markup::laws::what_is_added_adds_up();
+    sheet.number(number);
+    sheet.markup(LINE);
+    sheet.text(&row.line);
+    sheet.markup(ANSWER);
+    sheet.text(&row.answer);
+    sheet.markup(ANSWER_END);
+    add_mark(sheet, &row.holders);
+}
+
+#[tactic(auto, unfolding(crate::specs::Text::start_text))]
+fn add_start(sheet: &mut Sheet, tag: &'static str, number: u64, row: &Row)
+    ensures { Adds sheet.old sheet.new (start_text tag.now number row.now) }
+{
+    klp_markup::laws::what_is_added_adds_up();
+    sheet.markup(tag);
+    add_refused(sheet, row.is_refused);
+    sheet.markup(ID);
+    sheet.number(number);
+}
+
+/// A row that doesn't open.
+fn add_plain_row(sheet: &mut Sheet, number: u64, row: &Row)
+    ensures { Adds sheet.old sheet.new
+        (start_text PLAIN_ROW.now number row.now ++ NUMBER.now ++ told_text number row.now ++ PLAIN_END.now) }
+{
+    klp_markup::laws::what_is_added_adds_up();
+    add_start(sheet, PLAIN_ROW, number, row);
+    sheet.markup(NUMBER);
+    add_told(sheet, number, row);
+    sheet.markup(PLAIN_END);
+}
+
+/// A row that opens, with its cards.
+fn add_card_row(sheet: &mut Sheet, number: u64, row: &Row)
+    ensures { Adds sheet.old sheet.new
+        (start_text CARD_ROW.now number row.now ++ open_text row.now.is_open ++ CARD_NUMBER.now ++ told_text number row.now
+        ++ CARDS.now ++ row.now.cards.text ++ CARDS_END.now) }
+{
+    klp_markup::laws::what_is_added_adds_up();
+    add_start(sheet, CARD_ROW, number, row);
+    add_open(sheet, row.is_open);
+    sheet.markup(CARD_NUMBER);
+    add_told(sheet, number, row);
+    sheet.markup(CARDS);
+    sheet.append(&row.cards);
+    sheet.markup(CARDS_END);
+}
+
+#[tactic(auto, unfolding(crate::specs::Text::row_text))]
+fn add_row(sheet: &mut Sheet, number: u64, row: &Row)
+    ensures { Adds sheet.old sheet.new (row_text number row.now) }
+{
+    if row.cards.is_empty() {
+        add_plain_row(sheet, number, row);
+    } else {
+        add_card_row(sheet, number, row);
+    }
+}
+
+/// Begins a fold, where as many quiet rows as are shown stand before.
+fn add_fold_start(sheet: &mut Sheet, quiet: usize)
+    ensures { Adds sheet.old sheet.new (fold_start quiet) }
+{
+    klp_markup::laws::what_is_added_adds_up();
+    if quiet == QUIET_ROWS {
+        sheet.markup(FOLD);
+    }
+}
+
+/// Ends the fold, where there is one, and tells how many rows it has.
+fn add_fold_end(sheet: &mut Sheet, quiet: usize)
+    ensures { Adds sheet.old sheet.new (fold_end quiet) }
+{
+    klp_markup::laws::what_is_added_adds_up();
+    if quiet > QUIET_ROWS {
+        sheet.markup(FOLD_END);
+        sheet.number((quiet - QUIET_ROWS) as u64);
+        sheet.markup(FOLDED);
+    }
+}
+
+/// Adds the rows in order, and folds quiet ones away where there are many in a row.
+pub(crate) fn add_rows(sheet: &mut Sheet, rows: &[Row])
+    ensures { Adds sheet.old sheet.new (rows_text rows.now) }
+{
+    klp_markup::laws::what_is_added_adds_up();
+    let mut quiet = 0;
+    for index in 0..rows.len() {
+        let row = &rows[index];
+        if row.is_quiet {
+            add_fold_start(sheet, quiet);
+            quiet += 1;
+        } else {
+            add_fold_end(sheet, quiet);
+            quiet = 0;
+        }
+        add_row(sheet, index as u64 + 1, row);
+    }
+    add_fold_end(sheet, quiet);
 }

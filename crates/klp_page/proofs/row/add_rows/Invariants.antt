@@ -1,7 +1,8 @@
-use Rattle.std.proofs.Common.{◌≡◌, ◌++◌, drop}
-use Rattle.klp_page.specs.Text.{rows_text}
+use Rattle.std.proofs.Common.{◌≡◌, ◌++◌, ◌+◌, ◌≤◌, false, drop}
+use Rattle.klp_page.specs.Text.{rows_from, rows_text}
 use Rattle.klp_page.proofs.row.add_rows.Given as goal
 
 -- what is written, and what is left to be
-abbrev pub invariant-loop-row : goal.invariant-loop-row
-invariant-loop-row l = l.page.items ++ rows_text (drop l.row-index l.rows) ≡ l.initial.page.items ++ rows_text l.rows
+abbrev pub invariant-loop-index : goal.invariant-loop-index
+invariant-loop-index l = (l.quiet ≤ l.index) × (l.sheet.is_short ≡ false
+    → (l.initial.sheet.is_short ≡ false) × (l.sheet.text ++ rows_from l.quiet (l.index + 1) (drop l.index l.rows) ≡ l.initial.sheet.text ++ rows_text l.rows))

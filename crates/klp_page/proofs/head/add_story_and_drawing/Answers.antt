@@ -1,0 +1,16 @@
+use Rattle.std.proofs.Common.{◌++◌}
+use Rattle.klp_story.specs.Sentences.{story_text}
+use Rattle.klp_markup.proofs.AddsLemmas.{adds_append}
+use Rattle.klp_page.specs.declared.style.TheConstants.{RUN, LINES}
+use Rattle.klp_page.specs.Text.{story_and_drawing}
+use Rattle.klp_page.proofs.head.add_story_and_drawing.Goals as goal
+
+pub returns : goal.returns
+unfolding story_and_drawing
+returns g c =
+    let start = c.args.sheet.now in
+    let story = story_text c.args.catalog.now c.args.sentences.now in
+    let picture = c.args.drawing.now.text in
+    let two = adds_append start c.add_story.new.sheet c.markup.new.self story RUN.now c.add_story.ensures c.markup.ensures in
+    let three = adds_append start c.markup.new.self c.append.new.self (story ++ RUN.now) picture two c.append.ensures.adds in
+    adds_append start c.append.new.self c.markup-2.new.self (story ++ RUN.now ++ picture) LINES.now three c.markup-2.ensures

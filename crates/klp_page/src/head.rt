@@ -1,0 +1,120 @@
+//! What stands above the rows of a page, and below them.
+ghost use Rattle.std.specs.Prelude.{◌≡◌, [], ◌++◌, codes, count_by, if◌then◌else◌};
+ghost use Rattle.std.specs.Fmt.{decimal};
+ghost use Rattle.klp_markup.specs.Adds.{Adds};
+ghost use Rattle.klp_page.specs.Text.{is_started, is_start, count_text, title_text, opening_text, front_text, story_and_drawing};
+
+use crate::style::{COUNTS, HEAD, LINES, RUN, STORY, STYLE, STYLE_END};
+use klp_catalog::Catalog;
+use klp_markup::Sheet;
+use klp_modules::Modules;
+use klp_story::{add_end, add_story};
+use klp_timeline::{Fact, Said, Sentence, View};
+
+/// What is shown, how much happened, and whether a transition still goes on.
+#[derive(Clone, Copy)]
+pub(crate) struct Title<'a> {
+    pub name: &'a [u8],
+    pub lines: u64,
+    pub transitions: u64,
+    pub is_moving: bool,
+}
+
+fn is_start(sentence: &Sentence) -> bool
+    ensures { result ≡ is_start sentence.now }
+{
+    matches!(sentence.said, Said::Did(Fact::Starts(_)))
+}
+
+/// How many transitions started.
+pub(crate) fn transitions(sentences: &[Sentence]) -> u64
+    ensures { result ≡ count_by is_start sentences.now }
+{
+    let mut count = 0usize;
+    for sentence in sentences {
+        if is_start(sentence) {
+            count += 1;
+        }
+    }
+    count as u64
+}
+
+/// Adds so many of something, in the word for one or for many.
+fn add_count(sheet: &mut Sheet, count: u64, one: &'static str, many: &'static str)
+    ensures { Adds sheet.old sheet.new (count_text count one.now many.now) }
+{
+    klp_markup::laws::what_is_added_adds_up();
+    sheet.number(count);
+    sheet.markup(if count == 1 { one } else { many });
+}
+
+fn add_under_way(sheet: &mut Sheet, is_moving: bool)
+    ensures { Adds sheet.old sheet.new (if is_moving then codes ", one still under way" else []) }
+{
+    klp_markup::laws::what_is_added_adds_up();
+    if is_moving {
+        sheet.markup(", one still under way");
+    }
+}
+
+#[tactic(auto, unfolding(crate::specs::Text::title_text))]
+fn add_title(sheet: &mut Sheet, title: &Title<'_>)
+    ensures { Adds sheet.old sheet.new (title_text title.now) }
+{
+    klp_markup::laws::what_is_added_adds_up();
+    sheet.text(title.name);
+    sheet.markup(": ");
+    add_count(sheet, title.lines, " line, ", " lines, ");
+    add_count(sheet, title.transitions, " transition", " transitions");
+    add_under_way(sheet, title.is_moving);
+}
+
+/// The document's beginning, with its title and its style.
+#[tactic(auto, unfolding(crate::specs::Text::opening_text))]
+fn add_opening(sheet: &mut Sheet, title: &Title<'_>)
+    ensures { Adds sheet.old sheet.new (opening_text title.now) }
+{
+    klp_markup::laws::what_is_added_adds_up();
+    sheet.markup(HEAD);
+    add_title(sheet, title);
+    sheet.markup(STYLE);
+    sheet.markup(klp_drawing::STYLE);
+    sheet.markup(klp_chronicle::STYLE);
+    sheet.markup(STYLE_END);
+}
+
+/// The document's beginning, and how the run ends.
+pub(crate) fn add_front(
+    sheet: &mut Sheet,
+    title: &Title<'_>,
+    catalog: &Catalog,
+    modules: &Modules,
+    view: &View,
+    sentences: &[Sentence],
+)
+    requires { catalog.now.names ≡ modules.now.names }
+    ensures { Adds sheet.old sheet.new (front_text title.now catalog.now view.now sentences.now) }
+{
+    add_opening(sheet, title);
+    add_end(sheet, catalog, modules, view, sentences);
+    sheet.markup(COUNTS);
+    add_title(sheet, title);
+    sheet.markup(STORY);
+}
+
+/// The sentences, and the drawing.
+pub(crate) fn add_story_and_drawing(
+    sheet: &mut Sheet,
+    catalog: &Catalog,
+    modules: &Modules,
+    sentences: &[Sentence],
+    drawing: &Sheet,
+)
+    requires { catalog.now.names ≡ modules.now.names }
+    ensures { Adds sheet.old sheet.new (story_and_drawing catalog.now sentences.now drawing.now.text) }
+{
+    add_story(sheet, catalog, modules, sentences);
+    sheet.markup(RUN);
+    sheet.append(drawing);
+    sheet.markup(LINES);
+}

@@ -1,0 +1,95 @@
+//! The markup of every page: its beginning and its end, its style, and what a row is made of.
+
+/// How many quiet lines in a row are shown; more of them fold.
+pub(crate) const QUIET_ROWS: usize = 10;
+
+pub(crate) const HEAD: &str = "<!doctype html><html lang=en><meta charset=utf-8>
+<meta name=viewport content=\"width=device-width,initial-scale=1\"><title>";
+
+/// The page's own colours, its sentences and its rows. Those of the drawing and of cards follow. Print has no backgrounds, so
+/// what has to be seen there is drawn or has a border.
+pub(crate) const STYLE: &str = "</title><style>
+:root{color-scheme:light dark;--paper:#fff;--ink:#1b1f24;--soft:#57606a;--rule:#d9dee4;--card:#f5f7f9;--hold:#b3261e;
+--focus:#0072b2}
+@media screen and (prefers-color-scheme:dark){:root{--paper:#14171a;--ink:#e7eaee;--soft:#9aa4af;--rule:#2c333a;
+--card:#1c2126;--hold:#ff8a80;--focus:#56b4e9}}
+*{box-sizing:border-box}html{scroll-padding-top:1rem}
+body{margin:0 auto;max-width:64rem;padding:1.5rem 1rem 4rem;background:var(--paper);color:var(--ink);
+font:16px/1.5 system-ui,\"DejaVu Sans\",sans-serif}
+h1{font-size:1.35rem;margin:0 0 .25rem}h2{font-size:1.05rem;margin:1.8rem 0 .5rem}h1,h2{break-after:avoid}
+code,samp,.m{font-family:ui-monospace,\"DejaVu Sans Mono\",monospace;font-size:.86em}
+code,samp{overflow-wrap:anywhere}
+.soft{color:var(--soft);margin:.2rem 0}a{color:inherit}
+.story{margin:.2rem 0;padding:0 0 0 1.1rem}.story li{margin:.15rem 0}.holds{color:var(--hold)}
+.row:target,.story li:has(:target){outline:3px solid var(--focus);outline-offset:2px}
+.row{border-top:1px solid var(--rule)}
+.row>summary,div.row{display:grid;grid-template-columns:3.2rem minmax(0,1.3fr) minmax(0,1fr);
+gap:0 .6rem;padding:.35rem .2rem}
+summary{cursor:pointer;list-style:none;break-after:avoid}summary::-webkit-details-marker{display:none}
+.n{color:var(--soft);text-align:right;font-size:.86em}
+.row>summary .n::before{content:\"\\25b8 \"}.row[open]>summary .n::before{content:\"\\25be \"}
+div.row{color:var(--soft)}samp{white-space:pre-wrap}.no samp{color:var(--hold);font-weight:600}
+.held{grid-column:2/-1;justify-self:start;color:var(--hold);font-size:.86em}
+.fold{position:relative;border-top:1px solid var(--rule)}
+.more>summary{min-height:2.2rem;padding:.35rem .2rem .35rem 3rem}
+.more>summary::before{content:\"\\25b8 \"}.more[open]>summary::before{content:\"\\25be \"}
+.folded{position:absolute;top:.35rem;left:4rem;right:0;margin:0;color:var(--soft);pointer-events:none}
+@media(max-width:40rem){.row>summary,div.row{grid-template-columns:2.6rem minmax(0,1fr)}
+.row>summary samp,div.row samp{grid-column:2}.more>summary{min-height:3.6rem;padding-left:2.2rem}.folded{left:3.2rem}}
+@media print{body{max-width:none;padding:0;font-size:10.5pt}.row>summary,div.row,.story li{break-inside:avoid}
+a{text-decoration:none}}
+";
+
+pub(crate) const STYLE_END: &str = "</style>
+";
+
+pub(crate) const COUNTS: &str = "<p class=soft>";
+
+pub(crate) const STORY: &str = "</p>\n<h2>What happened</h2><ul class=story>\n";
+
+pub(crate) const RUN: &str = "</ul><h2>The run</h2>";
+
+pub(crate) const LINES: &str = "<h2>Line by line</h2>\n";
+
+pub(crate) const PLAIN_ROW: &str = "<div class=\"row";
+
+pub(crate) const CARD_ROW: &str = "<details class=\"row";
+
+/// The class of a line that was refused.
+pub(crate) const REFUSED: &str = " no";
+
+pub(crate) const ID: &str = "\" id=line-";
+
+/// A row with cards that stands open.
+pub(crate) const OPEN: &str = " open";
+
+pub(crate) const NUMBER: &str = "><span class=n>";
+
+pub(crate) const CARD_NUMBER: &str = "><summary><span class=n>";
+
+pub(crate) const LINE: &str = "</span><code class=line>";
+
+pub(crate) const ANSWER: &str = "</code><samp>";
+
+pub(crate) const ANSWER_END: &str = "</samp>";
+
+pub(crate) const PLAIN_END: &str = "</div>\n";
+
+pub(crate) const CARDS: &str = "</summary><div class=now>";
+
+pub(crate) const CARDS_END: &str = "</div></details>\n";
+
+pub(crate) const FOLD: &str =
+    "<div class=fold><details class=more><summary aria-label=\"folded lines\"></summary>\n";
+
+pub(crate) const FOLD_END: &str = "</details><p class=folded>";
+
+pub(crate) const FOLDED: &str = " more: no patch and no holder changes</p></div>\n";
+
+pub(crate) const FOOT: &str =
+    "<p class=soft>A click on a line with \u{25b8} shows what it changed.</p></html>\n";
+
+/// The mark of a line after which others hold the transition up, and its end.
+pub(crate) const HELD: &str = "<b class=held>held up by task";
+
+pub(crate) const HELD_END: &str = "</b>";
