@@ -3,6 +3,7 @@
 Each case has its files in a folder of its own, a.catalog beside a.trace or a.script.
 """
 import functools
+import itertools
 import tempfile
 
 from testing.run import TOP, fault, finish, own, start
@@ -19,6 +20,11 @@ FUNC = "wanted is func .klp.sym.OBJECT.SYMBOL,POSITION NEWNAME ADDRESS"
 EDIT = "wanted is alloc:OBJ:ID:VALUE, free:OBJ:ID, freeall:ID, set:STATE:VALUE or takeprev:STATE"
 DROPPED = "a carriage return, which is dropped at the end of a line, and else is part of a word"
 ITEM = "wanted is call TASK SYMBOL, return TASK, or a line of the console that asks for an event"
+OWN_SYMBOL = "wanted is one symbol of the catalog, as .klp.sym.OBJECT.SYMBOL,POSITION"
+FRAME = "wanted is .klp.sym.OBJECT.SYMBOL,POSITION or PATCH:INDEX, of the catalog"
+FILE = "wanted is /sys/kernel/livepatch/PATCH/enabled or force, of a known patch"
+MARK = "wanted is ASCII alone, and no byte-order mark in front"
+F = ".klp.sym.vmlinux.f,0"
 # Lines behind the five of PATCH, and what is told of the last one.
 FAULTY = [
     ("bogus x", f"UnknownWord: 'bogus': {LINE}"),
@@ -59,6 +65,8 @@ FAULTY = [
 # Whole catalogs, and what is told of them.
 CATALOGS = [
     ("", "line 0: Missing: wanted are a handler and an object"),
+    (f"\ufeff{KERNEL}", f"line 1: NotAscii: '\\u{{feff}}handler ffffffff81000000': {MARK}"),
+    (f"{KERNEL}\ufeffobject m\n", f"line 4: NotAscii: '\\u{{feff}}object m': {MARK}"),
     (f"{KERNEL}object vmlinux\n", "line 4: Twice: 'vmlinux': wanted is a name that no object has"),
     (f"{HANDLER}{HANDLER}", "line 2: Twice: 'handler': wanted is one handler"),
     (
@@ -83,14 +91,74 @@ CATALOGS = [
         "SameSite: f_p and f_q of patch p are both for f of vmlinux",
     ),
 ]
+# A catalog with two symbols of one name, a module and a patch.
+MORE = f"""{KERNEL}symbol d ffffffff81002000 e800000000\nsymbol d ffffffff81003000 e800000000
+object m\nsymbol g ffffffffa0000000 e800000000\npatch p\ntarget vmlinux\nfunc {F} f_p ffffffffc0001000
+"""
+# Lines of a trace over MORE that are no items, and what is told of them.
+ITEMS = [
+    ("", "wanted is an item on each line"),
+    ("call 1", "'call 1': wanted is call TASK SYMBOL"),
+    (f"call 1 {F} 2", f"'call 1 {F} 2': wanted is call TASK SYMBOL"),
+    (f"call x {F}", "'x': wanted is a task, from 0 to 63"),
+    ("call 1 f", f"'f': {OWN_SYMBOL}"),
+    ("call 1 .klp.sym.vmlinux.nope,0", f"'.klp.sym.vmlinux.nope,0': {OWN_SYMBOL}"),
+    ("call 1 .klp.sym.nope.f,0", f"'.klp.sym.nope.f,0': {OWN_SYMBOL}"),
+    ("call 1 .klp.sym.vmlinux.d,0", f"'.klp.sym.vmlinux.d,0': {OWN_SYMBOL}"),
+    ("call 1 .klp.sym.vmlinux.d,3", f"'.klp.sym.vmlinux.d,3': {OWN_SYMBOL}"),
+    ("return", "'return': wanted is return TASK"),
+    ("return 64", "'64': wanted is a task, from 0 to 63"),
+    ("load z", "'z': wanted is a patch of the catalog"),
+    ("load", "'load': wanted is load PATCH"),
+    ("load p p", "'load p p': wanted is load PATCH"),
+    ("insmod z", "'z': wanted is an object of the catalog"),
+    ("rmmod z", "'z': wanted is an object of the catalog"),
+    ("poll p", "'poll p': wanted is poll"),
+    ("echo 2 > /sys/kernel/livepatch/p/enabled", "'2': wanted is 0 or 1"),
+    ("echo 01 > /sys/kernel/livepatch/p/enabled", "'01': wanted is 0 or 1"),
+    ("echo 1 >/sys/kernel/livepatch/p/enabled", "'echo 1 >/sys/kernel/livepatch/p/enabled': wanted is echo SWITCH > FILE"),
+    ("echo 1 > /sys/kernel/livepatch/z/enabled", f"'/sys/kernel/livepatch/z/enabled': {FILE}"),
+    ("echo 1 > /sys/kernel/livepatch/p/transition", f"'/sys/kernel/livepatch/p/transition': {FILE}"),
+    ("echo 0 > /sys/kernel/livepatch/p/force", f"'echo 0 > /sys/kernel/livepatch/p/force': {ITEM}"),
+    ("task new 64", "'64': wanted is a task, from 0 to 63"),
+    ("task fork 1 64", "'64': wanted is a task, from 0 to 63"),
+    ("task fork 1", "'task fork 1': wanted is task fork TASK TASK"),
+    ("task goes 1", "'goes': wanted is new, end, enter, exit, wake, fork or sleep"),
+    ("task sleep", "'task sleep': wanted is task sleep TASK FRAME .."),
+    ("task sleep 1 .klp.sym.vmlinux.nope,0", f"'.klp.sym.vmlinux.nope,0': {FRAME}"),
+    ("task sleep 1 .klp.sym.vmlinux.d,2 p:1 z:0", f"'z:0': {FRAME}"),
+    ("task sleep 1 p:65536", f"'p:65536': {FRAME}"),
+    (f"task sleep 1{33 * ' p:0'}", f"'task sleep 1{13 * ' p:0'}'..: wanted are 32 functions at most"),
+    ("shadow get 1 2", f"'shadow get 1 2': {ITEM}"),
+    ("text vmlinux", f"'text vmlinux': {ITEM}"),
+]
 # Traces over KERNEL, and what is told of their line that is no item.
 TRACES = [
     ("task new 1\n\n", "line 2: BadItem: wanted is an item on each line"),
-    ("call 1\n", "line 1: BadItem: 'call 1': wanted is call TASK SYMBOL"),
-    ("call x .klp.sym.vmlinux.f,0\n", "line 1: BadItem: 'x': wanted is a task, from 0 to 63"),
-    ("return\n", "line 1: BadItem: 'return': wanted is return TASK"),
-    ("return 64\n", "line 1: BadItem: '64': wanted is a task, from 0 to 63"),
     ("text vmlinux\r\n", f"line 1: hint: {DROPPED}\nline 1: BadItem: 'text vmlinux': {ITEM}"),
+    (KERNEL, f"line 1: hint: a catalog, where a trace is wanted\nline 1: BadItem: 'handler ffffffff81000000': {ITEM}"),
+]
+# Traces over MORE, and what is told of their last line, which isn't honest.
+IN = "task new 1\ntask enter 1\n"
+D, G = ".klp.sym.vmlinux.d,1", ".klp.sym.m.g,0"
+OUTSIDE = f"NoCall: task 1 calls {F}, and isn't running in the kernel"
+UNLOADED = f"NoCall: task 1 calls {G}, whose object isn't loaded"
+SLEEP = "wanted is each function that the task is inside of, a patch's as PATCH:INDEX; its calls are of"
+DISHONEST = [
+    (f"call 1 {F}", OUTSIDE),
+    (f"task new 1\ncall 1 {F}", OUTSIDE),
+    (f"{IN}call 1 {F}\ntask sleep 1 {F}\ncall 1 {F}", OUTSIDE),
+    (f"{IN}{32 * f'call 1 {F}{chr(10)}'}task sleep 1{32 * f' {F}'}\ncall 1 {F}", OUTSIDE),
+    (f"insmod m\ncall 1 {G}", OUTSIDE.replace(F, G)),
+    (f"{IN}call 1 {G}", UNLOADED),
+    (f"task new 1\ncall 1 {G}", UNLOADED),
+    (f"insmod m\nrmmod m\n{IN}call 1 {G}", UNLOADED),
+    (f"{IN}call 1 {F}\ntask sleep 1", f"Frames: 'task sleep 1': {SLEEP} {F}"),
+    (f"{IN}task sleep 1 {F}", f"Frames: 'task sleep 1 {F}': {SLEEP} no function"),
+    (f"{IN}call 1 {F}\nreturn 1\ncall 1 {D}\ncall 1 {F}\ntask sleep 1 {D}", f"Frames: 'task sleep 1 {D}': {SLEEP} {D} {F}"),
+    (f"load p\npoll\n{IN}call 1 {F}\ntask sleep 1 {F}", f"Frames: 'task sleep 1 {F}': {SLEEP} {F}"),
+    (f"{IN}{4 * f'call 1 {F}{chr(10)}'}task sleep 1", f"Frames: 'task sleep 1': {SLEEP}{4 * f' {F}'}"),
+    (f"{IN}{5 * f'call 1 {F}{chr(10)}'}task sleep 1", f"Frames: 'task sleep 1': {SLEEP}{4 * f' {F}'} .."),
 ]
 # Scripts over KERNEL, with the status, and what is told of them.
 SCRIPTS = [
@@ -101,7 +169,11 @@ SCRIPTS = [
     ("mark\nmark\r\n", 0, "line 2: hint: a carriage return, which is part of a word"),
     ("mark\tmark\n\tmark\n", 0, "line 1: hint: a tab, which is part of a word: spaces separate words"),
     ("mark\n mark #\n#\n", 0, "line 3: hint: a line that begins with #, and is no comment here"),
+    (KERNEL, 0, "line 1: hint: a catalog, where a script is wanted"),
 ]
+# How the programs say that they are called, and words that they refuse.
+USAGE = {"klpwatch": "CATALOG TRACE", "klppage": "CATALOG SCRIPT"}
+REFUSED = [(), ("k.catalog",), ("--help",), ("k.catalog", "-"), ("k.catalog", "k.catalog", "k.catalog"), ("k.catalog", b"\xff")]
 
 
 def told(program, texts, status, said):
@@ -128,6 +200,19 @@ def unreadable(program, words, said):
     return fault((status, out, own(err)), (1, b"", said))
 
 
+def not_called_so(program, words):
+    """The words are refused, and how the program is called is told."""
+    came, _, err = finish(start([f"{TOP}/{program}", *words]))
+    said = f"{program}: usage: {program} {USAGE[program]} (man {program})\n"
+    return fault((came, own(err)), (2, said))
+
+
+def last_line(trace, status, said):
+    """A case of what klpwatch tells of the last line of a trace."""
+    number = trace.count("\n") + 1
+    return case("klpwatch", MORE, f"{trace}\n", status, f"line {number}: {said}", of="trace")
+
+
 def cases():
     made = []
     for line, said in FAULTY:
@@ -136,7 +221,11 @@ def cases():
     made += [case("klpwatch", catalog, "poll\n", 1, said) for catalog, said in CATALOGS]
     made += [case("klppage", catalog, "poll\n", 1, said) for catalog, said in CATALOGS]
     made += [case("klpwatch", KERNEL, trace, 1, said, of="trace") for trace, said in TRACES]
+    made += [last_line(line, 1, f"BadItem: {said}") for line, said in ITEMS]
+    made += [last_line(trace, 3, said) for trace, said in DISHONEST]
     made += [case("klppage", KERNEL, script, status, said, of="script") for script, status, said in SCRIPTS]
+    for program, words in itertools.product(USAGE, REFUSED):
+        made.append((f"{program}, the words {words}", functools.partial(not_called_so, program, words)))
     swapped = "line 1: UnknownWord: wanted is a catalog, which a.script is: are the two swapped?"
     made.append(case("klppage", "load p\n", PATCH, 1, swapped))
     missing = [("klpwatch", ("k.catalog", "missing"), "missing"), ("klppage", (".", "k.script"), ".")]

@@ -12,8 +12,6 @@ pub(crate) enum Act<'a> {
     Nobody(&'static str),
     /// A task does this inside of a function, or of none.
     Inside(u64, &'static str, Option<&'a [u8]>),
-    /// A task calls a function.
-    Calls(u64, &'a [u8]),
     /// A module goes while a task is inside of its function.
     Going(&'a [u8], u64, &'a [u8]),
 }
@@ -26,11 +24,6 @@ impl<'a> fmt::Display for Act<'a> {
             Act::Inside(task, does, Some(symbol)) => {
                 write!(f, "task {task} {does} inside of {}", Escaped(symbol))
             }
-            Act::Calls(task, symbol) => write!(
-                f,
-                "task {task} isn't running in the kernel, or {} isn't loaded",
-                Escaped(symbol)
-            ),
             Act::Going(module, task, symbol) => write!(
                 f,
                 "{} goes while task {task} is inside of {}",
@@ -57,11 +50,9 @@ fn goes<'a>(module: &'a [u8], calls: &Calls<'a>) -> Option<Act<'a>> {
 /// What the item does, where a task does it or is in its way. The calls are those that are open before it.
 fn act_in<'a>(cause: Cause, item: Item<'a>, calls: &Calls<'a>) -> Option<Act<'a>> {
     let (task, does) = match (cause, item) {
-        (Cause::Frames, Item::Sleep(task)) => (task, "tells other functions, and is"),
         (Cause::FramesLeft, Item::Exit(task)) => (task, "leaves the kernel"),
         (Cause::FramesLeft, Item::End(task)) => (task, "ends"),
         (Cause::Deep, Item::Call(task, _)) => (task, "calls one function too many, and is"),
-        (Cause::NoCall, Item::Call(task, symbol)) => return Some(Act::Calls(task, symbol)),
         (Cause::NoReturn, Item::Return(task)) => return Some(returns(task, calls)),
         (Cause::ModuleInUse, Item::Going(module)) => return goes(module, calls),
         _ => return None,

@@ -2,6 +2,7 @@
 
 use crate::form::{Form, Part};
 use crate::lines::{line_at, word_at};
+use crate::stray::BYTE_ORDER_MARK;
 use crate::wrong::Wrong;
 use klp_catalog_text::{CatalogLine, Lines, TextFault, TextFaultKind, words_of};
 use klp_types::{MAX_BODY, MAX_LINE};
@@ -138,6 +139,9 @@ pub(crate) fn wrong_of(alloc: Global, catalog: &[u8], fault: TextFault) -> Wrong
     match fault.kind {
         TextFaultKind::Missing => Wrong::Lacking("are a handler and an object"),
         TextFaultKind::NoMemory => Wrong::Lacking("is more memory"),
+        TextFaultKind::NotAscii if line.starts_with(&BYTE_ORDER_MARK) => {
+            Wrong::Word(line, "is ASCII alone, and no byte-order mark in front")
+        }
         TextFaultKind::NotAscii => Wrong::Word(line, "is ASCII alone"),
         TextFaultKind::LineTooLong => Wrong::Most(line, MAX_LINE, "bytes"),
         TextFaultKind::UnknownWord => unknown_word(line),

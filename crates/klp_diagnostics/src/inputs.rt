@@ -1,12 +1,14 @@
 //! The files of a program, and what is told of them on standard error, a line each.
 ghost use Rattle.std.specs.Prelude.{◌≡◌, IfErr};
 
-use crate::act::{Act, act_of};
+use crate::act::act_of;
 use crate::calls::Calls;
 use crate::catalog_line::begins_as_catalog;
 use crate::escaped::Escaped;
 use crate::item::Item;
+use crate::lack::lack_of;
 use crate::lines::line_at;
+use crate::names::Names;
 use crate::same_site::first_pair;
 use crate::stray::STRAYS;
 use crate::wrong::Wrong;
@@ -16,7 +18,7 @@ use klp_catalog_text::{Plan, TextFault};
 use klp_console::ServeFault;
 use klp_program::{Fault, TraceFault, Verdict, bytes_in};
 use klp_types::MAX_CONSOLE_LINE;
-use klp_watch::NotHonest;
+use klp_watch::{Cause, NotHonest};
 use std::alloc::Global;
 use std::io;
 use std::io::Write;
@@ -24,6 +26,9 @@ use std::rt::Files;
 
 /// The exit status of a fault.
 const FAULT: u8 = 1;
+
+/// What is wanted of a task that falls asleep.
+const SLEEP: &str = "is each function that the task is inside of, a patch's as PATCH:INDEX";
 
 /// A file that a program was given: what it is called, and its bytes.
 #[derive(Clone, Copy)]
@@ -68,6 +73,17 @@ pub fn file_in<R: Files + AllocGlobal, E: Write>(
     }
 }
 
+/// What is wrong in a line of a trace over this plan.
+fn wrong_item(mut plan: Plan, line: &[u8]) -> Wrong<'_> {
+    let objects = plan.take_objects();
+    let (patches, _names) = plan.into_patches();
+    let names = Names {
+        objects: &objects,
+        patches: &patches,
+    };
+    item::wrong_of(line, &names)
+}
+
 impl<'a> FileText<'a> {
     fn shown(&self) -> Escaped<'a> {
         Escaped(self.name.as_bytes())
@@ -81,8 +97,11 @@ impl<'a> FileText<'a> {
 
 impl<'a> Inputs<'a> {
     /// Hints at what stands in the file beside the catalog and may be meant otherwise than it is, in its first line of each
-    /// kind.
+    /// kind. Of swapped files the fault tells all.
     pub fn hint<E: Write>(&self, err: &mut E) {
+        if self.are_swapped() {
+            return;
+        }
         for stray in STRAYS {
             if let Some(line) = stray.first_line(self.second.bytes) {
                 let _ = self.second.write_place(self.program, line as u64, err);
@@ -108,12 +127,35 @@ impl<'a> Inputs<'a> {
 
     fn write_item<E: Write>(&self, alloc: Global, fault: NotHonest, err: &mut E) -> io::Result<()> {
         let (line, trace) = (fault.item as u64, self.second.bytes);
-        let act = match Calls::behind(alloc, trace, line.saturating_sub(1)) {
-            Ok(calls) => act_of(fault.cause, Item::read(line_at(trace, line)), &calls),
-            Err(_) => Act::Nobody("there is no memory to find the task"),
-        };
         self.second.write_place(self.program, line, err)?;
-        writeln!(err, "{}: {act}", fault.cause)
+        write!(err, "{}: ", fault.cause)?;
+        match Calls::behind(alloc, trace, line.saturating_sub(1)) {
+            Ok(calls) => self.write_act(alloc, fault, &calls, err),
+            Err(_) => writeln!(err, "there is no memory to find the task"),
+        }
+    }
+
+    /// What is done in the line of a trace that isn't honest, before which these calls are open.
+    fn write_act<E: Write>(
+        &self,
+        alloc: Global,
+        fault: NotHonest,
+        calls: &Calls<'a>,
+        err: &mut E,
+    ) -> io::Result<()> {
+        let number = fault.item as u64;
+        let line = line_at(self.second.bytes, number);
+        match (fault.cause, Item::read(line)) {
+            (Cause::Frames, Some(Item::Sleep(task))) => {
+                write!(err, "{}; its calls are of", Wrong::Word(line, SLEEP))?;
+                calls.write_of(task, err)
+            }
+            (Cause::NoCall, Some(Item::Call(task, symbol))) => {
+                let lack = lack_of(alloc, self, number, task);
+                writeln!(err, "task {task} calls {}, {lack}", Escaped(symbol))
+            }
+            (cause, item) => writeln!(err, "{}", act_of(cause, item, calls)),
+        }
     }
 
     fn write_fault<E: Write>(&self, alloc: Global, fault: Fault, err: &mut E) -> io::Result<()> {
@@ -122,7 +164,7 @@ impl<'a> Inputs<'a> {
             Fault::Image(_) | Fault::Assemble(AssembleFault::SameSite) => {
                 self.write_whole(alloc, fault, err)
             }
-            Fault::Trace(fault) => self.write_no_item(fault, err),
+            Fault::Trace(fault) => self.write_no_item(alloc, fault, err),
             Fault::Serve(ServeFault::LineTooLong) => self.write_long_line(err),
             _ => writeln!(err, "{}: {fault}", self.program),
         }
@@ -175,10 +217,18 @@ impl<'a> Inputs<'a> {
     }
 
     /// A line of the trace is no item.
-    fn write_no_item<E: Write>(&self, fault: TraceFault, err: &mut E) -> io::Result<()> {
-        let wrong = item::wrong_of(line_at(self.second.bytes, fault.line));
+    fn write_no_item<E: Write>(
+        &self,
+        alloc: Global,
+        fault: TraceFault,
+        err: &mut E,
+    ) -> io::Result<()> {
+        let line = line_at(self.second.bytes, fault.line);
         self.second.write_place(self.program, fault.line, err)?;
-        writeln!(err, "BadItem: {wrong}")
+        match Catalog::read(alloc, self.catalog.bytes) {
+            Ok(plan) => writeln!(err, "BadItem: {}", wrong_item(plan, line)),
+            Err(_) => writeln!(err, "BadItem"),
+        }
     }
 
     /// A line of the script is too long.

@@ -1,9 +1,44 @@
 //! The lines of a trace, as far as they tell of one task, and one that is no item.
 
 use crate::lines::word_at;
+use crate::names::{Kind, Names};
 use crate::wrong::Wrong;
-use klp_types::MAX_TASKS;
+use klp_types::MAX_FRAMES;
 use klp_words::{Separators, Words, number64};
+
+/// How items are written. A word in capital letters stands for one of its kind, and `..` for more of the last kind. The
+/// lines of shadow variables have no names to be told.
+static FORMS: [&str; 14] = [
+    "call TASK SYMBOL",
+    "return TASK",
+    "load PATCH",
+    "insmod OBJECT",
+    "rmmod OBJECT",
+    "poll",
+    "echo SWITCH > FILE",
+    "task new TASK",
+    "task end TASK",
+    "task enter TASK",
+    "task exit TASK",
+    "task wake TASK",
+    "task fork TASK TASK",
+    "task sleep TASK FRAME ..",
+];
+
+/// What the words in capital letters stand for.
+static KINDS: [(&str, Kind); 7] = [
+    ("PATCH", Kind::Patch),
+    ("OBJECT", Kind::Object),
+    ("SYMBOL", Kind::Symbol),
+    ("FRAME", Kind::Frame),
+    ("FILE", Kind::File),
+    ("TASK", Kind::Task),
+    ("SWITCH", Kind::Switch),
+];
+
+/// What is wanted where a line has none of these forms, or one that asks for no event.
+const ITEM: &str =
+    "is call TASK SYMBOL, return TASK, or a line of the console that asks for an event";
 
 /// What a line of a trace says of a task, or of a module that goes.
 #[derive(Clone, Copy)]
@@ -17,8 +52,12 @@ pub(crate) enum Item<'a> {
     Going(&'a [u8]),
 }
 
+fn words_of(line: &[u8]) -> Words<'_> {
+    Words::new(line, Separators::Spaces)
+}
+
 fn word(line: &[u8], number: usize) -> &[u8] {
-    word_at(Words::new(line, Separators::Spaces), number)
+    word_at(words_of(line), number)
 }
 
 /// What a line with these first words says of a task, where its verb is `task`.
@@ -52,50 +91,61 @@ impl<'a> Item<'a> {
     }
 }
 
-/// Whether a word is the number of a task that can be.
-fn is_task(word: &[u8]) -> bool {
-    match number64(word) {
-        Some(number) => number < MAX_TASKS as u64,
-        None => false,
-    }
+/// Whether a line begins with the words of a form that stand for themselves, which are one or two.
+fn begins_as(form: &[u8], line: &[u8]) -> bool {
+    let (first, second) = (word(form, 1), word(form, 2));
+    let has_verb = second.iter().any(u8::is_ascii_lowercase);
+    first == word(line, 1) && (!has_verb || second == word(line, 2))
 }
 
-fn wrong_call(line: &[u8]) -> Wrong<'_> {
-    let (task, symbol) = (word(line, 2), word(line, 3));
-    if symbol.is_empty() || !word(line, 4).is_empty() {
-        Wrong::Word(line, "is call TASK SYMBOL")
-    } else if !is_task(task) {
-        Wrong::Word(task, "is a task, from 0 to 63")
-    } else {
-        Wrong::Word(
-            symbol,
-            "is a symbol of the catalog, as .klp.sym.OBJECT.SYMBOL,POSITION",
-        )
-    }
+/// What is wanted in place of a word, if it isn't what this word of a form stands for.
+fn in_place_of(part: &[u8], word: &[u8], names: &Names<'_>) -> Option<&'static str> {
+    let (_, kind) = KINDS.iter().find(|row| row.0.as_bytes() == part)?;
+    (!names.has(*kind, word)).then_some(kind.wanted())
 }
 
-fn wrong_return(line: &[u8]) -> Wrong<'_> {
-    let task = word(line, 2);
-    if task.is_empty() || !word(line, 3).is_empty() {
-        Wrong::Word(line, "is return TASK")
-    } else {
-        Wrong::Word(task, "is a task, from 0 to 63")
+/// The first word of a line that isn't what the form has there. A line that fits and is no item has too many functions, or
+/// asks for no event.
+fn wrong_in<'a>(form: &'static str, line: &'a [u8], names: &Names<'_>) -> Wrong<'a> {
+    let (mut parts, mut words) = (words_of(form.as_bytes()), words_of(line));
+    let mut part = parts.next();
+    for _ in 0..=line.len() {
+        match (part, words.next()) {
+            (Some(part), Some(word)) => {
+                if let Some(wanted) = in_place_of(part, word, names) {
+                    return Wrong::Word(word, wanted);
+                }
+            }
+            (Some(b"FRAME"), None) => return Wrong::Most(line, MAX_FRAMES, "functions"),
+            (None, None) => return Wrong::Word(line, ITEM),
+            _ => break,
+        }
+        if part != Some(b"FRAME".as_slice()) {
+            part = parts.next();
+        }
     }
+    Wrong::Form(line, form)
 }
 
-/// What is wrong in a line of a trace that is no item.
-pub(crate) fn wrong_of(line: &[u8]) -> Wrong<'_> {
+/// What is wrong in a line that has none of the forms.
+fn formless(line: &[u8]) -> Wrong<'_> {
     let first = word(line, 1);
     if first.is_empty() {
         Wrong::Lacking("is an item on each line")
-    } else if first == b"call".as_slice() {
-        wrong_call(line)
-    } else if first == b"return".as_slice() {
-        wrong_return(line)
-    } else {
+    } else if first == b"task".as_slice() {
         Wrong::Word(
-            line,
-            "is call TASK SYMBOL, return TASK, or a line of the console that asks for an event",
+            word(line, 2),
+            "is new, end, enter, exit, wake, fork or sleep",
         )
+    } else {
+        Wrong::Word(line, ITEM)
+    }
+}
+
+/// What is wrong in a line of a trace that is no item, by the names of the catalog.
+pub(crate) fn wrong_of<'a>(line: &'a [u8], names: &Names<'_>) -> Wrong<'a> {
+    match FORMS.iter().find(|form| begins_as(form.as_bytes(), line)) {
+        Some(form) => wrong_in(form, line, names),
+        None => formless(line),
     }
 }

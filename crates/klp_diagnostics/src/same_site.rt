@@ -4,14 +4,14 @@ use crate::wrong::{Named, Pair, Wrong};
 use klp_catalog_text::{PlanFunction, PlanPatch, PlanTarget};
 use klp_types::ObjectText;
 
-/// Which of an object's symbols of its name a function is for, counted from 1, if it is for one.
-fn position_in(object: &ObjectText, function: &PlanFunction) -> Option<usize> {
+/// Which of an object's symbols of this name is asked for, counted from 1, if one is.
+pub(crate) fn position_in(object: &ObjectText, symbol: &str, sympos: u32) -> Option<usize> {
     let count = object
         .symbols
         .iter()
-        .filter(|symbol| symbol.name == function.symbol)
+        .filter(|own| own.name.as_str() == symbol)
         .count();
-    match function.sympos as usize {
+    match sympos as usize {
         0 if count == 1 => Some(1),
         position if 0 < position && position <= count => Some(position),
         _ => None,
@@ -19,8 +19,10 @@ fn position_in(object: &ObjectText, function: &PlanFunction) -> Option<usize> {
 }
 
 fn are_for_one_site(object: &ObjectText, one: &PlanFunction, other: &PlanFunction) -> bool {
-    let position = position_in(object, one);
-    one.symbol == other.symbol && position.is_some() && position == position_in(object, other)
+    let position = position_in(object, one.symbol.as_str(), one.sympos);
+    one.symbol == other.symbol
+        && position.is_some()
+        && position == position_in(object, other.symbol.as_str(), other.sympos)
 }
 
 /// The first of these functions that is for the same site as this one.

@@ -1,12 +1,15 @@
 //! What means something in other files and nothing here. It is no fault, and means what it means.
 
+use crate::catalog_line::begins_as_catalog;
 use crate::inputs::Kind;
 
 /// The bytes of a byte-order mark.
-const BYTE_ORDER_MARK: [u8; 3] = [0xef, 0xbb, 0xbf];
+pub(crate) const BYTE_ORDER_MARK: [u8; 3] = [0xef, 0xbb, 0xbf];
 
 #[derive(Clone, Copy)]
 pub(crate) enum Stray {
+    /// All of the file.
+    Catalog,
     /// In front of the first line.
     ByteOrderMark,
     CarriageReturn,
@@ -15,7 +18,8 @@ pub(crate) enum Stray {
     Comment,
 }
 
-pub(crate) const STRAYS: [Stray; 4] = [
+pub(crate) const STRAYS: [Stray; 5] = [
+    Stray::Catalog,
     Stray::ByteOrderMark,
     Stray::CarriageReturn,
     Stray::Tab,
@@ -25,6 +29,7 @@ pub(crate) const STRAYS: [Stray; 4] = [
 impl Stray {
     fn is_in(self, line: &[u8]) -> bool {
         match self {
+            Stray::Catalog => begins_as_catalog(line),
             Stray::ByteOrderMark => line.starts_with(&BYTE_ORDER_MARK),
             Stray::CarriageReturn => line.contains(&b'\r'),
             Stray::Tab => line.contains(&b'\t'),
@@ -36,7 +41,7 @@ impl Stray {
     pub(crate) fn first_line(self, text: &[u8]) -> Option<usize> {
         let mut lines = text.split(|b| *b == b'\n');
         let place = match self {
-            Stray::ByteOrderMark => self.is_in(text).then_some(0),
+            Stray::Catalog | Stray::ByteOrderMark => self.is_in(text).then_some(0),
             _ => lines.position(|line| self.is_in(line)),
         };
         Some(place?.saturating_add(1))
@@ -44,6 +49,8 @@ impl Stray {
 
     pub(crate) fn hint(self, kind: Kind) -> &'static str {
         match (self, kind) {
+            (Stray::Catalog, Kind::Script) => "a catalog, where a script is wanted",
+            (Stray::Catalog, Kind::Trace) => "a catalog, where a trace is wanted",
             (Stray::ByteOrderMark, _) => "a byte-order mark, which is part of the first word",
             (Stray::CarriageReturn, Kind::Script) => "a carriage return, which is part of a word",
             (Stray::CarriageReturn, Kind::Trace) => {

@@ -26,6 +26,8 @@ pub(crate) enum Wrong<'a> {
     Lacking(&'static str),
     /// A word, or a whole line, stands where this is wanted.
     Word(&'a [u8], &'static str),
+    /// A line stands where one of this form is wanted.
+    Form(&'a [u8], &'static str),
     /// It is one more than there may be of these.
     Most(&'a [u8], usize, &'static str),
     Symbol(Named<'a>, &'static str),
@@ -63,6 +65,7 @@ impl<'a> fmt::Display for Wrong<'a> {
         match *self {
             Wrong::Lacking(wanted) => write!(f, "wanted {wanted}"),
             Wrong::Word(word, wanted) => write!(f, "{}: wanted {wanted}", Quoted(word)),
+            Wrong::Form(line, form) => write!(f, "{}: wanted is {form}", Quoted(line)),
             Wrong::Most(word, most, what) => {
                 write!(f, "{}: wanted are {most} {what} at most", Quoted(word))
             }

@@ -183,6 +183,16 @@ pub fn refused<W: Write>(err: &mut W) -> u8
     refused_by(NAME, err)
 }
 
+/// How the program of this name is called, and where that is explained. Scripts ask for the line of klpsim, which so has
+/// the one word alone.
+fn usage_of(name: &str) -> &'static str {
+    match name.as_bytes() {
+        b"klpwatch" => "usage: klpwatch CATALOG TRACE (man klpwatch)",
+        b"klppage" => "usage: klppage CATALOG SCRIPT (man klppage)",
+        _ => "usage",
+    }
+}
+
 /// The same of the program of this name.
 pub fn told_by<W: Write>(name: &str, fault: Fault, err: &mut W) -> u8
     ensures { result ≡ 1 }
@@ -194,6 +204,6 @@ pub fn told_by<W: Write>(name: &str, fault: Fault, err: &mut W) -> u8
 pub fn refused_by<W: Write>(name: &str, err: &mut W) -> u8
     ensures { result ≡ 2 }
 {
-    let _ = writeln!(err, "{name}: usage");
+    let _ = writeln!(err, "{name}: {}", usage_of(name));
     USAGE
 }

@@ -1,0 +1,39 @@
+//! What a call lacks that can't be.
+
+use crate::inputs::Inputs;
+use klp_catalog_text::Lines;
+use klp_program::{Verdict, watched};
+use klp_watch::Cause;
+use std::alloc::Global;
+use std::io;
+use std::io::Write;
+
+/// What is told where there is no memory to find out.
+const EITHER: &str = "and isn't running in the kernel, or its object isn't loaded";
+
+/// Writes the trace up to a line, in front of which its task is brought into the kernel, wherever it is.
+fn bring_in(text: &mut Vec<u8>, trace: &[u8], line: u64, task: u64) -> io::Result<()> {
+    let mut lines = Lines::new(trace);
+    for _ in 1..line {
+        text.write_all(lines.next().unwrap_or(&[]))?;
+        text.write_all(b"\n")?;
+    }
+    writeln!(text, "task new {task}\ntask wake {task}\ntask enter {task}")?;
+    text.write_all(lines.next().unwrap_or(&[]))
+}
+
+/// What the call of a task lacks in the first line that isn't honest. Once its task has come into the kernel, a call lacks
+/// nothing but a loaded object.
+pub(crate) fn lack_of(alloc: Global, inputs: &Inputs<'_>, line: u64, task: u64) -> &'static str {
+    let mut text = Vec::new(alloc);
+    if bring_in(&mut text, inputs.second.bytes, line, task).is_err() {
+        return EITHER;
+    }
+    match watched(alloc, inputs.catalog.bytes, &text) {
+        Ok(Verdict::Dishonest(fault)) if matches!(fault.cause, Cause::NoCall) => {
+            "whose object isn't loaded"
+        }
+        Ok(_) => "and isn't running in the kernel",
+        Err(_) => EITHER,
+    }
+}

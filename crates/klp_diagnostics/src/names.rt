@@ -1,0 +1,87 @@
+//! The names of a catalog, and the words of a trace that have to be among them.
+
+use crate::same_site::position_in;
+use klp_catalog_text::PlanPatch;
+use klp_types::{MAX_INDEX, MAX_TASKS, ObjectText};
+use klp_words::{cut, number64, spelling_of};
+
+/// What the files of a patch begin with.
+const BELOW_PATCHES: &[u8] = b"/sys/kernel/livepatch/";
+
+/// What a word of a trace has to be.
+#[derive(Clone, Copy)]
+pub(crate) enum Kind {
+    Patch,
+    Object,
+    Symbol,
+    Frame,
+    File,
+    Task,
+    Switch,
+}
+
+impl Kind {
+    pub(crate) fn wanted(self) -> &'static str {
+        match self {
+            Kind::Patch => "is a patch of the catalog",
+            Kind::Object => "is an object of the catalog",
+            Kind::Symbol => "is one symbol of the catalog, as .klp.sym.OBJECT.SYMBOL,POSITION",
+            Kind::Frame => "is .klp.sym.OBJECT.SYMBOL,POSITION or PATCH:INDEX, of the catalog",
+            Kind::File => "is /sys/kernel/livepatch/PATCH/enabled or force, of a known patch",
+            Kind::Task => "is a task, from 0 to 63",
+            Kind::Switch => "is 0 or 1",
+        }
+    }
+}
+
+#[derive(Clone, Copy)]
+pub(crate) struct Names<'a> {
+    pub(crate) objects: &'a [ObjectText],
+    pub(crate) patches: &'a [PlanPatch],
+}
+
+fn is_number_to(most: u64, word: &[u8]) -> bool {
+    number64(word).is_some_and(|number| number <= most)
+}
+
+impl<'a> Names<'a> {
+    fn has_patch(&self, name: &[u8]) -> bool {
+        self.patches.iter().any(|own| own.name.as_bytes() == name)
+    }
+
+    fn object(&self, name: &[u8]) -> Option<&'a ObjectText> {
+        self.objects.iter().find(|own| own.name.as_bytes() == name)
+    }
+
+    fn has_symbol(&self, word: &[u8]) -> bool {
+        spelling_of(word).is_some_and(|spelling| {
+            let Some(object) = self.object(spelling.object.as_bytes()) else {
+                return false;
+            };
+            position_in(object, spelling.symbol, spelling.sympos).is_some()
+        })
+    }
+
+    fn has_frame(&self, word: &[u8]) -> bool {
+        let (patch, index) = cut(word, b':');
+        self.has_symbol(word) || self.has_patch(patch) && is_number_to(MAX_INDEX, index)
+    }
+
+    fn has_file(&self, word: &[u8]) -> bool {
+        let (patch, file) = cut(word.strip_prefix(BELOW_PATCHES).unwrap_or(&[]), b'/');
+        self.has_patch(patch) && matches!(file, b"enabled" | b"force")
+    }
+
+    /// Whether a word is of this kind.
+    pub(crate) fn has(&self, kind: Kind, word: &[u8]) -> bool {
+        match kind {
+            Kind::Patch => self.has_patch(word),
+            Kind::Object => self.object(word).is_some(),
+            Kind::Symbol => self.has_symbol(word),
+            Kind::Frame => self.has_frame(word),
+            Kind::File => self.has_file(word),
+            Kind::Task => is_number_to(MAX_TASKS as u64 - 1, word),
+            Kind::Switch => is_number_to(1, word) && word.len() == 1,
+        }
+    }
+}
