@@ -1,6 +1,6 @@
 -- Runs of callbacks: which script is meant, and what a run leaves.
 use Rattle.std.proofs.Common.{◌≡◌, ℕ, zero, suc, ◌+◌, ◌<◌, ◌≤◌, Bool, true, false, cond, List, [], ◌∷◌, length, map, slice_get, option_map, get_or, set, Some, None, Option, refl, sym, ap, subst, ◌∙◌, arith}
-use Rattle.std.specs.Prelude.{◌==◌, find, position, option_and_then}
+use Rattle.std.specs.Prelude.{◌==◌, find, is_some, position, option_and_then}
 use Rattle.std.specs.List.{position_from}
 use Rattle.std.proofs.lemmas.List.{length-map, length-set}
 use Rattle.std.proofs.lemmas.Option.{slice_get-map}
@@ -140,6 +140,14 @@ module _ {names : List ObjectNames} {symbols : List ℕ} {patch_names : List (Li
       ∙ ap (option_and_then (slice_get (counts_told callbacks)))
       (position-is (is_callback p o which) (callback_ids (patches_in (scripts_told callbacks) stored))
       ∙ sym (only-position (is_callback p o which) 0 (callback_ids (patches_in (scripts_told callbacks) stored)) (number_of stored p o which) only))
+
+  -- whether there is such a callback
+  pub is_there : is_some (number_of stored p o which) ≡ is_some (script_at catalog p o which)
+  is_there = by (number_of stored p o which) ∙ sym (ap is_some script_found)
+    where
+      by : (number : Option ℕ) → is_some number ≡ is_some (option_map (script_number (scripts_told callbacks)) number)
+      by None = refl
+      by (Some n) = refl
 
   -- there is no such callback
   module _ (none : None ≡ number_of stored p o which) where

@@ -295,6 +295,13 @@ impl Catalog {
         Some(self.callbacks[number].run(patch, world, log))
     }
 
+    /// Whether the patch has a callback of a kind for the object at this place.
+    pub fn has_callback(&self, patch: PatchId, place: u8, which: Which) -> bool
+        ensures { result ≡ is_some (script_at self.now patch place which) }
+    {
+        patch::number_of(&self.patches, patch, usize::from(place), which).is_some()
+    }
+
     /// How many shadow variables such a run adds at most. 0 where there is no such callback, so that sums
     /// need no case for it.
     pub fn allocs(&self, patch: PatchId, place: u8, which: Which) -> u16

@@ -339,14 +339,14 @@ pub record Does (b n : Moment) (line : List ℕ) : Type 0 where
   pub refused : n.served.refused ≡ b.served.refused + cond answer.is_refused 1 0
 
 quiet_if : (before after : Journaled) (request : Option (Result Request LineFault)) (answer : Answer) (marks : List Mark) → IsDoneIf before after request answer
-    → (can_be_taken_back request ≡ true) ⊎ (marks ≡ []) → (marks ≡ []) ⊎ CanGoBack before after
+    → (can_be_taken_back before request ≡ true) ⊎ (marks ≡ []) → (marks ≡ []) ⊎ CanGoBack before after
 quiet_if before after request answer marks done (inl can) = inr (line_back before after request answer can done)
 quiet_if before after request answer marks done (inr none) = inl none
 
 pub does_line : (b n : Moment) (line : List ℕ) (request : Option (Result Request LineFault)) (told : Bool) → request ≡ request_of (names_in b.manager) line
     → IsSaid (IsDoneIf b.manager n.manager request) (hold b.said) n.said told → Stands n.manager → length line ≤ MAX_CONSOLE_LINE
     → n.served.lines ≡ b.served.lines + 1 → n.served.refused ≡ b.served.refused + cond told 1 0
-    → (can_be_taken_back request ≡ true) ⊎ (b.marks ≡ []) → Does b n line
+    → (can_be_taken_back b.manager request ≡ true) ⊎ (b.marks ≡ []) → Does b n line
 does_line b n line request told asked said stands short lines refused back =
     let answer : Answer = record { text = said.0; is_refused = told } in
     record {

@@ -1,5 +1,5 @@
 -- Which managers the journal leads back to.
-use Rattle.std.proofs.Common.{◌≡◌, ℕ, ◌≤◌, true, [], ◌∷◌, ◌++◌, length, take, Option, Some, None, refl, sym, ap, subst, ◌∙◌, append_assoc, append-nil, arith}
+use Rattle.std.proofs.Common.{◌≡◌, ℕ, ◌≤◌, Bool, not, true, false, [], ◌∷◌, ◌++◌, length, take, Option, Some, None, refl, sym, ap, subst, ◌∙◌, append_assoc, append-nil, arith}
 use Rattle.std.proofs.Math.Seq.{take-length}
 use Rattle.std.proofs.lemmas.Bool.{false≢true}
 use Rattle.std.proofs.lemmas.List.{length-append, take-append-le}
@@ -7,24 +7,22 @@ use Rattle.std.specs.Prelude.{Result, Ok, Err}
 use Rattle.klp_types.specs.Image.{Image}
 use Rattle.klp_types.specs.Setting.{Setting}
 use Rattle.klp_model.specs.declared.event.Event.{Event}
-use Rattle.klp_model.specs.declared.event.Event.TheVariants.{Enable, SetEnabled, Force, Poll, Coming, Going, NewTask, Fork, EndTask, EnterKernel, ExitToUser, Sleep, Wake, ShadowAlloc, ShadowGetOrAlloc, ShadowFree, ShadowFreeAll}
 use Rattle.klp_model.specs.declared.event.Refusal.{Refusal}
-use Rattle.klp_model.specs.EventCalls.{calls}
-use Rattle.klp_model.specs.Refusals.{refusal}
 use Rattle.klp_model.specs.State.{State}
-use Rattle.klp_model.specs.Step.{calls_unless}
 use Rattle.klp_model.specs.Legal.{state_after_history}
 use Rattle.klp_catalog.specs.Catalog.{Catalog}
 use Rattle.klp_catalog.specs.Runs.{after_runs}
 use Rattle.klp_manager_state.specs.Managed.{setting_of}
+use Rattle.klp_core.specs.Events.{may_run_some}
 use Rattle.klp_core.specs.Journaled.{Journaled, Stands, history_in}
 use Rattle.klp_core.specs.Rewinding.{IsRewound}
 use Rattle.klp_core.specs.Taking.{IsTaken}
+use Rattle.klp_core.proofs.MayRunLemmas.{none_runs}
 use Rattle.klp_console_commands.specs.declared.request.Request.{Request}
 use Rattle.klp_console_commands.specs.declared.request.Request.TheVariants.{Take, ForceNothing, Rewind, Seal, See}
 use Rattle.klp_console_commands.specs.declared.fault.LineFault.{LineFault}
 use Rattle.klp_console.specs.Answered.{Answer, IsDoneIf}
-use Rattle.klp_console.specs.Back.{CanGoBack, runs_none, can_be_taken_back}
+use Rattle.klp_console.specs.Back.{CanGoBack, can_be_taken_back}
 
 -- back to what is there already
 pub back_to_now : (now : Journaled) → CanGoBack now now
@@ -64,50 +62,27 @@ back_to earlier now after events stands back are rewound =
     ∙ ap (λ l. state_after_history (setting_of earlier.managed) earlier.base (history_in l)) first ∙ sym stands.state in
     λ i. record { managed = record { image = image i; catalog = catalog i; state = state i }; base = base i; groups = groups i }
 
--- which events run no callback
-
-no_calls : (setting : Setting) (state : State) (event : Event) → runs_none event ≡ true → calls setting state event ≡ []
-no_calls setting state (Enable patch) none = absurd (false≢true none)
-no_calls setting state (SetEnabled patch value) none = absurd (false≢true none)
-no_calls setting state (Force patch) none = refl
-no_calls setting state Poll none = absurd (false≢true none)
-no_calls setting state (Coming object) none = absurd (false≢true none)
-no_calls setting state (Going object) none = absurd (false≢true none)
-no_calls setting state (NewTask task) none = refl
-no_calls setting state (Fork parent child) none = refl
-no_calls setting state (EndTask task) none = refl
-no_calls setting state (EnterKernel task) none = refl
-no_calls setting state (ExitToUser task) none = refl
-no_calls setting state (Sleep task frames) none = refl
-no_calls setting state (Wake task) none = refl
-no_calls setting state (ShadowAlloc key value) none = refl
-no_calls setting state (ShadowGetOrAlloc key value) none = refl
-no_calls setting state (ShadowFree key) none = refl
-no_calls setting state (ShadowFreeAll id) none = refl
-
-none_unless : (refused : Option Refusal) → calls_unless refused [] ≡ []
-none_unless None = refl
-none_unless (Some refusal) = refl
-
--- an event that runs no callback can be taken back
-taken_back : (before after : Journaled) (event : Event) (result : Result _ Refusal) → runs_none event ≡ true → IsTaken before after event result → CanGoBack before after
+-- an event that may run no callback can be taken back
+taken_back : (before after : Journaled) (event : Event) (result : Result _ Refusal) → may_run_some (setting_of before.managed) before.managed.state event ≡ false
+    → IsTaken before after event result → CanGoBack before after
 taken_back before after event (Err refused) none taken = back_same before after taken.refused
 taken_back before after event (Ok reply) none taken =
-    let setting = setting_of before.managed in
-    let state = before.managed.state in
-    let runs = ap (calls_unless (refusal setting state event)) (no_calls setting state event none) ∙ none_unless (refusal setting state event) in
     record {
       goes_on = record { more = taken.accepted.group ∷ []; groups = taken.accepted.groups; base = taken.accepted.base };
       image = ap (λ m. m.image) taken.accepted.left;
-      catalog = ap (λ m. m.catalog) taken.accepted.left ∙ ap (after_runs before.managed.catalog) runs;
+      catalog = ap (λ m. m.catalog) taken.accepted.left ∙ ap (after_runs before.managed.catalog) (none_runs (setting_of before.managed) before.managed.state event none);
     }
 
+denied : (may : Bool) → not may ≡ true → may ≡ false
+denied true wrong = absurd (false≢true wrong)
+denied false right = refl
+
 -- a line that can be taken back is taken back by the journal
-pub line_back : (before after : Journaled) (request : Option (Result Request LineFault)) (answer : Answer) → can_be_taken_back request ≡ true → IsDoneIf before after request answer
+pub line_back : (before after : Journaled) (request : Option (Result Request LineFault)) (answer : Answer) → can_be_taken_back before request ≡ true → IsDoneIf before after request answer
     → CanGoBack before after
 line_back before after None answer can done = back_same before after done.0
 line_back before after (Some (Err fault)) answer can done = back_same before after done.0
-line_back before after (Some (Ok (Take event))) answer can done = taken_back before after event done.reply can done.taken
+line_back before after (Some (Ok (Take event))) answer can done = taken_back before after event done.reply (denied (may_run_some (setting_of before.managed) before.managed.state event) can) done.taken
 line_back before after (Some (Ok (ForceNothing patch))) answer can done = back_same before after done.0
 line_back before after (Some (Ok (Rewind mark))) answer can done = absurd (false≢true can)
 line_back before after (Some (Ok Seal)) answer can done = absurd (false≢true can)

@@ -1,7 +1,7 @@
 -- Going back from a failed write: which lines' events can be taken back, and what that leaves.
-use Rattle.std.specs.Prelude.{◌≡◌, ℕ, zero, suc, ◌+◌, ◌<◌, ◌≤◌, Bool, true, false, List, [], ◌∷◌, ◌++◌, length, ◌⊎◌, Option, Some, None, Result, Ok}
-use Rattle.klp_model.specs.declared.event.Event.{Event}
-use Rattle.klp_model.specs.declared.event.Event.TheVariants.{Enable, SetEnabled, Poll, Coming, Going}
+use Rattle.std.specs.Prelude.{◌≡◌, ℕ, zero, suc, ◌+◌, ◌<◌, ◌≤◌, not, Bool, true, false, List, [], ◌∷◌, ◌++◌, length, ◌⊎◌, Option, Some, None, Result, Ok}
+use Rattle.klp_manager_state.specs.Managed.{setting_of}
+use Rattle.klp_core.specs.Events.{may_run_some}
 use Rattle.klp_core.specs.Journaled.{Journaled}
 use Rattle.klp_core.specs.Rewinding.{IsRewound}
 use Rattle.klp_core.specs.Withdrawal.{GoesOn}
@@ -11,21 +11,12 @@ use Rattle.klp_console_commands.specs.declared.fault.LineFault.{LineFault}
 use Rattle.klp_console_io.specs.declared.marks.Mark.{Mark}
 use Rattle.klp_console.specs.Answered.{Answer, IsAnswered}
 
--- whether an event of this kind runs no callback, in whatever state: patches and modules don't come, go or complete by it
-abbrev pub runs_none : Event → Bool
-runs_none (Enable patch) = false
-runs_none (SetEnabled patch value) = false
-runs_none Poll = false
-runs_none (Coming object) = false
-runs_none (Going object) = false
-runs_none other = true
-
 -- whether what a line asks for leaves nothing that the journal can't take back: no callback's run, and no event that is gone from the journal
-abbrev pub can_be_taken_back : Option (Result Request LineFault) → Bool
-can_be_taken_back (Some (Ok (Take event))) = runs_none event
-can_be_taken_back (Some (Ok (Rewind mark))) = false
-can_be_taken_back (Some (Ok Seal)) = false
-can_be_taken_back other = true
+abbrev pub can_be_taken_back : Journaled → Option (Result Request LineFault) → Bool
+can_be_taken_back manager (Some (Ok (Take event))) = not (may_run_some (setting_of manager.managed) manager.managed.state event)
+can_be_taken_back manager (Some (Ok (Rewind mark))) = false
+can_be_taken_back manager (Some (Ok Seal)) = false
+can_be_taken_back manager other = true
 
 -- the journal leads back: what stood then still stands, first, and no callback has run since
 pub record CanGoBack (earlier now : Journaled) : Type 0 where

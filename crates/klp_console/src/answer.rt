@@ -177,7 +177,7 @@ fn gather<W: Sink>(
     requires room { served.old.lines + 1 < 2 ^ 64 }
     requires few { served.old.refused ≤ served.old.lines }
     requires marks { length marks.old < MARKS_ROOM }
-    requires back { (back.can_be_taken_back request.now ≡ true) ⊎ (marks.old ≡ []) }
+    requires back { (back.can_be_taken_back manager.old request.now ≡ true) ⊎ (marks.old ≡ []) }
     ensures comes { (before : Moment) (lines : List (List ℕ)) (line : List ℕ)
         → request.now ≡ asked.request_of (names_in manager.old) line → length line ≤ MAX_CONSOLE_LINE
         → Ahead before (record {
@@ -237,7 +237,7 @@ pub(crate) fn serve_line<W: Sink>(
     ensures lines { served.new.lines ≤ served.old.lines + 1 }
 {
     let request = request_of(line, manager.catalog(), manager.modules());
-    let is_ahead = can_be_taken_back(&request);
+    let is_ahead = can_be_taken_back(manager, &request);
     make_ready(manager, is_ahead, answers, marks, writer);
     if answers.has_failed() {
         return;

@@ -12,30 +12,18 @@ ghost use Rattle.klp_console_io.specs.declared.marks.TheConstants.{MARKS_ROOM};
 use klp_console_commands::{LineFault, Request};
 use klp_console_io::{Answers, Mark, Marks, Sink};
 use klp_core::Manager;
-use klp_model::Event;
 
-/// Whether an event of this kind runs no callback, whatever the state. A run can't be taken back, since
-/// counts of runs stay.
-fn runs_none(event: &Event) -> bool
-    ensures { result ≡ back.runs_none event.now }
-{
-    !matches!(
-        *event,
-        Event::Enable(_)
-            | Event::SetEnabled(_, _)
-            | Event::Poll
-            | Event::Coming(_)
-            | Event::Going(_)
-    )
-}
-
-/// Whether a line may be done ahead of the answers before it. `seal` and `rewind` take events from the
-/// journal, by which they would be taken back.
-pub(crate) fn can_be_taken_back(request: &Option<Result<Request, LineFault>>) -> bool
-    ensures { result ≡ back.can_be_taken_back request.now }
+/// Whether a line may be done ahead of the answers before it. A callback's run can't be taken back, since counts of runs
+/// stay, so the manager is asked whether the event may run one. `seal` and `rewind` take events from the journal, by which
+/// they would be taken back.
+pub(crate) fn can_be_taken_back(
+    manager: &Manager,
+    request: &Option<Result<Request, LineFault>>,
+) -> bool
+    ensures { result ≡ back.can_be_taken_back manager.now request.now }
 {
     match *request {
-        Some(Ok(Request::Take(ref event))) => runs_none(event),
+        Some(Ok(Request::Take(ref event))) => !manager.may_run(event),
         Some(Ok(Request::Rewind(_) | Request::Seal)) => false,
         _ => true,
     }

@@ -1,12 +1,17 @@
 -- What lists of events leave.
-use Rattle.std.specs.Prelude.{◌≡◌, ℕ, List, Some, option_map}
+use Rattle.std.specs.Prelude.{◌≡◌, ℕ, ◌&&◌, Bool, List, Some, is_none, option_map}
 use Rattle.klp_types.specs.declared.callback.Which.{Which}
 use Rattle.klp_types.specs.Callbacks.{Call}
 use Rattle.klp_model.specs.declared.event.Event.{Event}
+use Rattle.klp_types.specs.Setting.{Setting}
+use Rattle.klp_model.specs.EventCalls.{may_run}
+use Rattle.klp_model.specs.Refusals.{refusal}
 use Rattle.klp_model.specs.Run.{run, callbacks_of_run}
+use Rattle.klp_model.specs.State.{State}
 use Rattle.klp_catalog.specs.Catalog.{Catalog}
 use Rattle.klp_catalog.specs.Counts.{times, grown}
 use Rattle.klp_catalog.specs.Runs.{objects_at, place_of, after_runs, callback_runs}
+use Rattle.klp_patch.specs.Calls.{are_some}
 use Rattle.klp_manager_state.specs.Managed.{Managed, setting_of}
 
 -- what events leave, one after another
@@ -22,3 +27,7 @@ abbrev pub AreCounted : Catalog → Catalog → List Call → Type 0
 AreCounted before after runs = (patch object place : ℕ) (which : Which)
     → place_of object (objects_at before patch) ≡ Some place
     → callback_runs after patch object which ≡ option_map (grown (times patch place which runs)) (callback_runs before patch object which)
+
+-- whether an event may run a callback: one of those is there for which it asks room, and nothing refuses it
+abbrev pub may_run_some : Setting → State → Event → Bool
+may_run_some setting state event = are_some (may_run setting state event) && is_none (refusal setting state event)

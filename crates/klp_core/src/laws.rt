@@ -7,12 +7,13 @@ ghost use Rattle.klp_model.specs.declared.event.Event.{Event};
 ghost use Rattle.klp_model.specs.declared.event.Refusal.TheVariants.{JournalFull};
 ghost use Rattle.klp_model.specs.Run.{answer};
 ghost use Rattle.klp_model.specs.State.{State};
+ghost use Rattle.klp_model.specs.Step.{callbacks_of};
 ghost use Rattle.klp_journal.specs.Journal.{Group, has_room};
 ghost use Rattle.klp_model.specs.InPlace.{IsInPlace};
 ghost use Rattle.klp_modules.specs.Names.{names_of};
 ghost use Rattle.klp_manager_state.specs.Managed.{Managed, setting_of};
 ghost use Rattle.klp_manager_state.specs.Events.{after_event};
-ghost use Rattle.klp_core.specs.Events.{after_events};
+ghost use Rattle.klp_core.specs.Events.{after_events, may_run_some};
 ghost use Rattle.klp_core.specs.Holders.{holders, is_left};
 ghost use Rattle.klp_core.specs.Journaled.{Journaled, Stands};
 ghost use Rattle.klp_core.specs.Taking.{answer_in};
@@ -41,6 +42,13 @@ pub fn what_is_withdrawn_leaves_no_trace()
     gone_at_the_end();
     only_shadow_events_outside();
 }
+
+/// An event that may run no callback runs none: so no count of runs changes by it, and to take it back leaves all as it
+/// was.
+pub fn what_may_not_run_does_not()
+    ensures { (setting : Setting) (state : State) (event : Event) → may_run_some setting state event ≡ false
+        → callbacks_of setting state event ≡ [] }
+{}
 
 /// What one more event leaves behind others is what all of them leave: so a call that takes them one by one
 /// can tell what its whole list comes to.

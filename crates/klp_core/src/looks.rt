@@ -17,12 +17,16 @@ ghost use Rattle.klp_model.specs.Refusals.{enabled_value};
 ghost use Rattle.klp_modules.specs.Names.{names_of};
 ghost use Rattle.klp_catalog.specs.Runs.{objects_at, place_of, script_at, callback_runs};
 ghost use Rattle.klp_manager_state.specs.Managed.{setting_of};
+ghost use Rattle.klp_core.specs.Events.{may_run_some};
 
 use crate::manager::Manager;
+use crate::take::refused;
 use crate::view::TextView;
 use arrayvec::ArrayVec;
 use klp_catalog::Catalog;
+use klp_model::Event;
 use klp_modules::Modules;
+use klp_patch_events::may_run;
 use klp_types::{
     Entry, Frames, MAX_PATCHES, Mode, ObjId, PatchId, ShadowKey, ShadowValue, Site, TaskId,
     Transition, Version, Which,
@@ -155,6 +159,16 @@ impl Manager {
             (place_of object (objects_at self.now.managed.catalog patch))) }
     {
         self.catalog.callback_runs(patch, object, which)
+    }
+
+    /// Whether an event may run a callback, were it taken now: nothing refuses it, and one of the callbacks is there that
+    /// it might run. One that may run none runs none (`laws::what_may_not_run_does_not`). It costs as much as the objects
+    /// of the event's patch, or of installed patches for a module, and where a callback is there as much as to refuse it.
+    pub fn may_run(&self, event: &Event) -> bool
+        ensures { result ≡ may_run_some (setting_of self.now.managed) self.now.managed.state event.now }
+    {
+        may_run(&self.state, &self.catalog, event)
+            && refused(&self.state, &self.catalog, event).is_none()
     }
 
     /// The catalog that the manager was booted with. Its callbacks have run since, so their counts are

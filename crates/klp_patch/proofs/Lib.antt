@@ -1,5 +1,6 @@
 pub mod CoverLemmas
 pub mod SiteLemmas
+pub mod SomeLemmas
 pub mod MadeLemmas
 pub mod FunctionLemmas
 pub mod ScopeLemmas

@@ -259,6 +259,13 @@ module _ (moving : Option Transition) (first now : Catalog) (object : ℕ) (patc
         ap parts_before next ∙ before-append own behind ∙ ap (λ refusing. parts_before own ++ unless_found refusing (parts_before behind)) found
         ∙ ap (λ parts. parts ++ []) first_of_it
 
+-- what the next patch has, and those behind it
+pub may_run-next : (f : Part → List Call) (catalog : Catalog) (object : ℕ) (patches : List ℕ) (k patch : ℕ) → k < length patches → patch ≡ get_or patches k patch
+    → flat_map f (parts_in catalog object (drop k patches)) ≡ flat_map f (parts_at catalog object patch) ++ flat_map f (parts_in catalog object (drop (k + 1) patches))
+may_run-next f catalog object patches k patch below is =
+    ap (flat_map f) (parts-next catalog object patches k patch below is)
+    ∙ flat_map-append f (parts_at catalog object patch) (parts_in catalog object (drop (k + 1) patches))
+
 -- ---- room
 
 module _ (moving : Option Transition) (parts : List Part) (world : World) (log : RecordList) where

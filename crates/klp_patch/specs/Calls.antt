@@ -1,5 +1,5 @@
 -- What runs of callbacks leave, and the room that they need.
-use Rattle.std.specs.Prelude.{◌≡◌, ℕ, ◌+◌, ◌≤◌, true, List, length}
+use Rattle.std.specs.Prelude.{◌≡◌, ℕ, ◌+◌, ◌≤◌, Bool, true, false, List, [], ◌∷◌, length}
 use Rattle.std.specs.List.{sum_by, All}
 use Rattle.std.specs.FinMap as finite
 use Rattle.klp_types.specs.declared.limits.TheConstants.{MAX_VARIABLES}
@@ -18,6 +18,11 @@ use Rattle.klp_patch.specs.Loaded.{patches_in}
 -- one more for each that adds a variable
 abbrev pub records_of : List Call → ℕ
 records_of calls = sum_by (λ (c : Call). length c.script.edits + alloc_count c.script.edits) calls
+
+-- whether there is a callback among these
+abbrev pub are_some : List Call → Bool
+are_some [] = false
+are_some (call ∷ calls) = true
 
 -- these callbacks ran, in this order
 pub record HaveRun (before after : Catalog) (world_before world_after : World) (log_before log_after : RecordList) (calls : List Call) : Type 0 where

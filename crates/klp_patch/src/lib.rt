@@ -30,6 +30,8 @@ mod patch_callbacks;
 mod site;
 
 pub use blocked::block;
-pub use module_callbacks::{allocs_of_coming, allocs_of_going, run_coming, run_going};
+pub use module_callbacks::{
+    allocs_of_coming, allocs_of_going, may_run_coming, may_run_going, run_coming, run_going,
+};
 pub use patch::{drop_nops, patch_sites, unpatch_sites};
-pub use patch_callbacks::{allocs, run_callbacks, run_pre_patch};
+pub use patch_callbacks::{allocs, has_callbacks, run_callbacks, run_pre_patch};

@@ -10,9 +10,11 @@ ghost use Rattle.klp_model.specs.ModuleCalls.{Part, part_refuses, parts_before, 
 ghost use Rattle.klp_model.specs.EventCalls.{coming_may_run, going_may_run};
 ghost use Rattle.klp_patch.specs.ModuleShares.{parts_in};
 ghost use Rattle.klp_patch.specs.Brought.{bring_calls, refusal};
-ghost use Rattle.klp_patch.specs.Calls.{HaveRun, HasRoomFor, records_of};
+ghost use Rattle.klp_patch.specs.Calls.{HaveRun, HasRoomFor, records_of, are_some};
 
-use crate::module_share::{allocs_to_bring, allocs_to_let_go, bring, let_go};
+use crate::module_share::{
+    allocs_to_bring, allocs_to_let_go, bring, let_go, may_run_to_bring, may_run_to_let_go,
+};
 use klp_catalog::Catalog;
 use klp_record_words::Records;
 use klp_types::{ObjId, PatchId, Transition};
@@ -56,6 +58,40 @@ pub fn allocs_of_going(
         sum += allocs_to_let_go(catalog, patch, object, &moving);
     }
     sum
+}
+
+/// Whether one of these patches has a callback that may run when a module comes.
+pub fn may_run_coming(
+    catalog: &Catalog,
+    installed: &[PatchId],
+    object: ObjId,
+    moving: Option<Transition>,
+) -> bool
+    ensures { result ≡ are_some (flat_map (coming_may_run moving) (parts_in catalog.now object installed.now)) }
+{
+    for &patch in installed {
+        if may_run_to_bring(catalog, patch, object, &moving) {
+            return true;
+        }
+    }
+    false
+}
+
+/// Whether one of these patches has a callback that may run when a module goes.
+pub fn may_run_going(
+    catalog: &Catalog,
+    installed: &[PatchId],
+    object: ObjId,
+    moving: Option<Transition>,
+) -> bool
+    ensures { result ≡ are_some (flat_map (going_may_run moving) (parts_in catalog.now object installed.now)) }
+{
+    for &patch in installed {
+        if may_run_to_let_go(catalog, patch, object, &moving) {
+            return true;
+        }
+    }
+    false
 }
 
 /// For each of these patches that has the module, pre-unpatch if the patch doesn't move, and post-unpatch.

@@ -15,7 +15,7 @@ ghost use Rattle.klp_patch.specs.Places as places;
 ghost use Rattle.klp_patch.specs.Places.{call_at, still_at};
 ghost use Rattle.klp_patch.specs.ModuleShares.{parts_at};
 ghost use Rattle.klp_patch.specs.Brought.{bring_calls, refusal};
-ghost use Rattle.klp_patch.specs.Calls.{HaveRun, HasRoomFor, records_of};
+ghost use Rattle.klp_patch.specs.Calls.{HaveRun, HasRoomFor, records_of, are_some};
 
 use crate::callback_run::run_at;
 use klp_catalog::Catalog;
@@ -95,6 +95,63 @@ pub(crate) fn allocs_to_let_go(
                 + allocs_still(catalog, patch, place, Which::PreUn, moving)
         }
         None => 0,
+    }
+}
+
+/// Whether there is a callback that runs only if the patch doesn't move, and the patch doesn't.
+fn has_still(
+    catalog: &Catalog,
+    patch: PatchId,
+    place: u8,
+    which: Which,
+    moving: &Option<Transition>,
+) -> bool
+    ensures { result ≡ are_some (still_at moving.now catalog.now patch place which) }
+{
+    if is_in_transition(moving, patch) {
+        false
+    } else {
+        catalog.has_callback(patch, place, which)
+    }
+}
+
+/// Whether the patch has a callback that may run when the module comes.
+pub(crate) fn may_run_to_bring(
+    catalog: &Catalog,
+    patch: PatchId,
+    object: ObjId,
+    moving: &Option<Transition>,
+) -> bool
+    ensures { result ≡ are_some (flat_map (coming_may_run moving.now) (parts_at catalog.now object patch)) }
+{
+    match catalog.place(patch, object) {
+        Some(place) => {
+            let comes = catalog.has_callback(patch, place, Which::Pre);
+            let goes = catalog.has_callback(patch, place, Which::PostUn);
+            let came = has_still(catalog, patch, place, Which::Post, moving);
+            let leaves = has_still(catalog, patch, place, Which::PreUn, moving);
+            comes | goes | came | leaves
+        }
+        None => false,
+    }
+}
+
+/// Whether the patch has a callback that may run when the module goes.
+pub(crate) fn may_run_to_let_go(
+    catalog: &Catalog,
+    patch: PatchId,
+    object: ObjId,
+    moving: &Option<Transition>,
+) -> bool
+    ensures { result ≡ are_some (flat_map (going_may_run moving.now) (parts_at catalog.now object patch)) }
+{
+    match catalog.place(patch, object) {
+        Some(place) => {
+            let goes = catalog.has_callback(patch, place, Which::PostUn);
+            let leaves = has_still(catalog, patch, place, Which::PreUn, moving);
+            goes | leaves
+        }
+        None => false,
     }
 }
 

@@ -8,7 +8,7 @@ ghost use Rattle.klp_model.specs.Callbacks.{status_of};
 ghost use Rattle.klp_catalog.specs.Runs.{objects_at};
 ghost use Rattle.klp_patch.specs.Loaded.{loaded_in};
 ghost use Rattle.klp_patch.specs.Refusing.{loaded_calls, loaded_call, loaded_status, pre_calls};
-ghost use Rattle.klp_patch.specs.Calls.{HaveRun, HasRoomFor, records_of};
+ghost use Rattle.klp_patch.specs.Calls.{HaveRun, HasRoomFor, records_of, are_some};
 
 use crate::callback_run::run_at;
 use klp_catalog::Catalog;
@@ -49,6 +49,34 @@ pub fn allocs(catalog: &Catalog, modules: &Modules, patch: PatchId, which: Which
         sum += usize::from(allocs_where_loaded(catalog, modules, patch, which, place));
     }
     sum
+}
+
+/// Whether one object has a callback of a kind, where the object is loaded.
+fn has_callback_where_loaded(
+    catalog: &Catalog,
+    modules: &Modules,
+    patch: PatchId,
+    which: Which,
+    place: u8,
+) -> bool
+    ensures { result ≡ are_some (loaded_call catalog.now modules.now patch which place) }
+{
+    match catalog.target(patch, place) {
+        Some(object) if modules.is_loaded(object) => catalog.has_callback(patch, place, which),
+        _ => false,
+    }
+}
+
+/// Whether one of a patch's loaded objects has a callback of a kind.
+pub fn has_callbacks(catalog: &Catalog, modules: &Modules, patch: PatchId, which: Which) -> bool
+    ensures { result ≡ are_some (calls_of patch which (loaded_in catalog.now modules.now patch)) }
+{
+    for place in 0..catalog.target_len(patch) {
+        if has_callback_where_loaded(catalog, modules, patch, which, place) {
+            return true;
+        }
+    }
+    false
 }
 
 /// Runs the callback of one object, where the object is loaded, and answers its status: 0 where there is

@@ -37,7 +37,7 @@ use klp_types::{
 
 /// The kind of callback that runs at the end of a transition to this target: post-patch where the patch is
 /// in, post-unpatch where it is out.
-fn end_of(target: bool) -> Which
+pub(crate) fn end_of(target: bool) -> Which
     ensures { result ≡ end_of target }
 {
     if target { Which::Post } else { Which::PostUn }

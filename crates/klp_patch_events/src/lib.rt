@@ -5,10 +5,11 @@
 //! it. What refuses an event can be asked alone, without taking it.
 //!
 //! There is one file for each kind of event: `src/enabling.rt`, `disabling.rt`, `forcing.rt`,
-//! `completing.rt` and `module.rt`. `replacing.rt` has what a cumulative patch takes out, and
+//! `completing.rt` and `module.rt`. `callbacks.rt` asks whether an event may run a callback, `replacing.rt` has what a cumulative patch takes out, and
 //! `module_sites.rt` what a module that comes or goes does to its sites.
 #![tactic(auto)]
 
+mod callbacks;
 mod completing;
 mod disabling;
 mod enabling;
@@ -17,6 +18,7 @@ mod module;
 mod module_sites;
 mod replacing;
 
+pub use callbacks::may_run;
 pub use completing::{poll, poll_refusal};
 pub use disabling::{set_enabled, set_refusal};
 pub use enabling::{enable, enable_refusal};

@@ -1,0 +1,36 @@
+use Rattle.std.proofs.Common.{◌+◌, drop, sym, ap, ◌∙◌, refl, arith}
+use Rattle.std.specs.List.{flat_map}
+use Rattle.klp_model.specs.EventCalls.{going_may_run}
+use Rattle.klp_patch.specs.ModuleShares.{parts_at, parts_in}
+use Rattle.klp_patch.specs.Calls.{are_some}
+use Rattle.klp_patch.proofs.CallLemmas.{drop_past}
+use Rattle.klp_patch.proofs.ModuleSharesLemmas.{may_run-next}
+use Rattle.klp_patch.proofs.SomeLemmas.{some-first, some-behind}
+use Rattle.klp_patch.proofs.module_callbacks.may_run_going.Goals as goal
+
+pub loop-patch-init : goal.loop-patch-init
+loop-patch-init g c = refl
+
+pub returns-then-may_run_to_let_go : goal.returns-then-may_run_to_let_go
+returns-then-may_run_to_let_go g c =
+    let f = going_may_run c.args.moving in
+    let next = may_run-next f c.args.catalog.now c.args.object c.args.installed.now c.loop-patch.patch-index c.patch-item.result c.loop-patch-test.true c.patch-item.is in
+    some-first (flat_map f (parts_at c.args.catalog.now c.args.object c.patch-item.result))
+    (flat_map f (parts_in c.args.catalog.now c.args.object (drop (c.loop-patch.patch-index + 1) c.args.installed.now)))
+    (sym c.may_run_to_let_go.ensures ∙ c.if-may_run_to_let_go.true)
+    ∙ sym (ap are_some next) ∙ c.loop-patch.invariant
+
+pub loop-patch-preserved : goal.loop-patch-preserved
+loop-patch-preserved g c =
+    let f = going_may_run c.args.moving in
+    let next = may_run-next f c.args.catalog.now c.args.object c.args.installed.now c.loop-patch.patch-index c.patch-item.result c.loop-patch-test.true c.patch-item.is in
+    sym (some-behind (flat_map f (parts_at c.args.catalog.now c.args.object c.patch-item.result))
+    (flat_map f (parts_in c.args.catalog.now c.args.object (drop (c.loop-patch.patch-index + 1) c.args.installed.now)))
+    (sym c.may_run_to_let_go.ensures ∙ c.if-may_run_to_let_go.false))
+    ∙ sym (ap are_some next) ∙ c.loop-patch.invariant
+
+pub returns : goal.returns
+returns g c =
+    sym (ap (λ patches. are_some (flat_map (going_may_run c.args.moving) (parts_in c.args.catalog.now c.args.object patches)))
+    (drop_past c.args.installed.now c.loop-patch.patch-index (omega (arith, c.loop-patch-test.false))))
+    ∙ c.loop-patch.invariant
