@@ -1,3 +1,4 @@
 pub mod Adds
 pub mod Escaped
 pub mod Names
+pub mod Tasks

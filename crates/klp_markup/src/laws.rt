@@ -1,10 +1,22 @@
 //! What is proved of adding. A function here does nothing: its contract is the law.
-ghost use Rattle.std.specs.Prelude.{ℕ, List, [], ◌++◌};
+ghost use Rattle.std.specs.Prelude.{◌≡◌, ◌≤◌, ◌<◌, ◌+◌, ◌-◌, ℕ, List, [], ◌++◌, length, take, codes};
+ghost use Rattle.std.specs.Fmt.{decimal};
+ghost use Rattle.klp_markup.specs.declared.tasks.TheConstants.{MAX_NAMED};
 ghost use Rattle.klp_markup.specs.Adds.{Written, Adds};
+ghost use Rattle.klp_markup.specs.Tasks.{names_text, each_text, tasks_text};
 
 /// Texts that are added one after the other are one text that is added, and where nothing happens the empty text is: so
 /// whoever adds ten pieces has one fact to prove.
 pub fn what_is_added_adds_up()
     ensures adds_up { (a b c : Written) (t u : List ℕ) → Adds a b t → Adds b c u → Adds a c (t ++ u) }
     ensures nothing { (a : Written) → Adds a a [] }
+{}
+
+/// A list of tasks that is cut short where it is long names each of few tasks, and of many the first and how many others
+/// there are.
+pub fn a_list_of_tasks_leaves_nobody_out()
+    ensures few { (tasks : List ℕ) → length tasks ≤ MAX_NAMED + 1 → tasks_text tasks ≡ each_text tasks }
+    ensures many { (tasks : List ℕ) → MAX_NAMED + 1 < length tasks → tasks_text tasks
+        ≡ codes "tasks " ++ names_text (length tasks) 0 (take MAX_NAMED tasks)
+        ++ codes " and " ++ decimal (length tasks - MAX_NAMED) ++ codes " more" }
 {}

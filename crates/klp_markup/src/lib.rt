@@ -4,12 +4,14 @@
 //! catalog, a script or a trace says can be taken for markup (`specs/Escaped`). A want of memory is kept, so whoever adds
 //! ten pieces asks once, at the end (`specs/Adds`).
 //!
-//! The names of a catalog are spelled by `names` (`specs/Names`).
+//! The names of a catalog are spelled by `names` (`specs/Names`), and lists of tasks by `tasks` (`specs/Tasks`).
 #![tactic(auto)]
 
 pub mod laws;
 mod names;
 mod sheet;
+mod tasks;
 
 pub use names::{add_symbol, add_version, function_name, object_name, patch_name};
 pub use sheet::{Sheet, Value};
+pub use tasks::{MAX_NAMED, add_each_task, add_tasks, plural};

@@ -1,5 +1,6 @@
 pub mod Course
 pub mod Facts
+pub mod Lagging
 pub mod Sentences
 pub mod Stays
 pub mod Still

@@ -2,8 +2,10 @@
 ghost use Rattle.klp_timeline.specs.declared.moment.Moment.{Moment as AnyMoment};
 ghost use Rattle.klp_timeline.specs.declared.moment.View.{View as AnyView};
 ghost use Rattle.klp_timeline.specs.declared.moment.Sentence.{Sentence as AnySentence};
-ghost use Rattle.std.specs.Prelude.{◌≡◌, ◌+◌, ◌≤◌, ◌⊎◌, List, length, true, All, Contains};
+ghost use Rattle.std.specs.Prelude.{◌≡◌, ◌+◌, ◌≤◌, ◌⊎◌, List, length, count_by, true, Option, All, Contains};
 ghost use Rattle.klp_timeline.specs.declared.told.TheConstants.{MAX_SENTENCES};
+ghost use Rattle.klp_types.specs.declared.task.Mode.{Mode as AnyMode};
+ghost use Rattle.klp_timeline.specs.Lagging.{is_in, lagging, IsEachLaggardThere, IsNoLaggardMadeUp};
 ghost use Rattle.klp_timeline.specs.Telling.{IsQuiet, IsAllTold, IsEachFactTold, IsAllTrue, IsGoingSince};
 ghost use Rattle.klp_timeline.specs.Told.{is_lasting, told, left_out};
 
@@ -35,4 +37,12 @@ pub fn what_lasts_is_told()
     ensures count { (all : List AnySentence) → length (told all) + left_out all ≡ length all }
     ensures short { (all : List AnySentence)
         → (length (told all) ≤ MAX_SENTENCES) ⊎ All (λ one. is_lasting one ≡ true) (told all) }
+{}
+
+/// Whoever merely lags is among those that lag where the task is, nobody else is, and there are as many as are counted.
+pub fn who_lags_is_named()
+    ensures named { (waits : List (Option AnyMode)) → IsEachLaggardThere waits }
+    ensures lags { (waits : List (Option AnyMode)) → IsNoLaggardMadeUp waits }
+    ensures count { (waits : List (Option AnyMode)) → (mode : AnyMode)
+        → length (lagging mode waits) ≡ count_by (is_in mode) waits }
 {}

@@ -8,6 +8,7 @@
 
 mod course;
 mod facts;
+mod lags;
 mod laws;
 mod moment;
 mod stays;
@@ -18,9 +19,10 @@ mod told;
 
 pub use course::{Course, Since, latest_course};
 pub use facts::outdated;
+pub use lags::{Laggards, lagging};
 pub use laws::{
     no_fact_is_left_out, no_sentence_is_made_up, no_sleeper_is_left_out, what_lasts_is_told,
-    what_moves_has_moved_since,
+    what_moves_has_moved_since, who_lags_is_named,
 };
 pub use moment::{Fact, Moment, Said, Sentence, Sleepers, Stay, View};
 pub use still::{are_same, is_still};

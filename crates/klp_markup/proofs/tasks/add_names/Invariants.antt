@@ -1,6 +1,6 @@
 use Rattle.std.proofs.Common.{◌≡◌, ◌++◌, false, drop}
-use Rattle.klp_story.specs.Words.{names_text}
-use Rattle.klp_story.proofs.words.add_names.Given as goal
+use Rattle.klp_markup.specs.Tasks.{names_text}
+use Rattle.klp_markup.proofs.tasks.add_names.Given as goal
 
 -- what is written, and what is left to be
 abbrev pub invariant-loop-place : goal.invariant-loop-place

@@ -1,0 +1,89 @@
+//! Lists of tasks.
+ghost use Rattle.std.specs.Prelude.{◌≡◌, ◌==◌, ◌++◌, ◌∷◌, [], ◌+◌, ◌-◌, ◌<◌, ◌≤◌, ◌^◌, codes, length, if◌then◌else◌};
+ghost use Rattle.std.specs.Fmt.{decimal};
+ghost use Rattle.klp_markup.specs.Adds.{Adds};
+ghost use Rattle.klp_markup.specs.Tasks.{plural, named, join, names_text, more_text, each_text, tasks_text};
+
+use crate::sheet::Sheet;
+use klp_types::TaskId;
+
+/// How many tasks a list names at most that is cut short, beside the number of the others.
+pub const MAX_NAMED: usize = 8;
+
+/// The word for one of something, or for another number of it.
+pub fn plural(count: usize, one: &'static str, more: &'static str) -> &'static str
+    ensures { result.now ≡ plural count one.now more.now }
+{
+    if count == 1 { one } else { more }
+}
+
+fn named(count: usize) -> usize
+    ensures { result ≡ named count }
+{
+    if count > MAX_NAMED + 1 {
+        MAX_NAMED
+    } else {
+        count
+    }
+}
+
+fn join(place: usize, count: usize) -> &'static str
+    requires { place < count }
+    ensures { result.now ≡ join place count }
+{
+    if place == 0 {
+        ""
+    } else if place == count - 1 {
+        " and "
+    } else {
+        ", "
+    }
+}
+
+/// Adds the numbers of these, the first of so many tasks.
+fn add_names(sheet: &mut Sheet, count: usize, tasks: &[TaskId])
+    requires { length tasks.now ≤ count }
+    ensures { Adds sheet.old sheet.new (names_text count 0 tasks.now) }
+{
+    crate::laws::what_is_added_adds_up();
+    for place in 0..tasks.len() {
+        let task = tasks[place];
+        sheet.markup(join(place, count));
+        sheet.number(u64::from(task.0));
+    }
+}
+
+fn add_more(sheet: &mut Sheet, count: usize)
+    ensures { Adds sheet.old sheet.new (more_text count) }
+{
+    crate::laws::what_is_added_adds_up();
+    if count > 0 {
+        sheet.markup(" and ");
+        sheet.number(count as u64);
+        sheet.markup(" more");
+    }
+}
+
+/// Adds each of these tasks: `task 1`, or `tasks 1, 2 and 3`.
+#[tactic(auto, unfolding(crate::specs::Tasks::each_text))]
+pub fn add_each_task(sheet: &mut Sheet, tasks: &[TaskId])
+    ensures { Adds sheet.old sheet.new (each_text tasks.now) }
+{
+    crate::laws::what_is_added_adds_up();
+    let count = tasks.len();
+    sheet.markup(plural(count, "task ", "tasks "));
+    add_names(sheet, count, tasks);
+}
+
+/// Adds tasks, of many the first: `task 1`, `tasks 1, 2 and 3`, or `tasks 1, 2, .. and 14 more`.
+#[tactic(auto, unfolding(crate::specs::Tasks::tasks_text))]
+pub fn add_tasks(sheet: &mut Sheet, tasks: &[TaskId])
+    ensures { Adds sheet.old sheet.new (tasks_text tasks.now) }
+{
+    crate::laws::what_is_added_adds_up();
+    let count = tasks.len();
+    let named = named(count);
+    sheet.markup(plural(count, "task ", "tasks "));
+    add_names(sheet, count, &tasks[..named]);
+    add_more(sheet, count - named);
+}

@@ -1,0 +1,74 @@
+//! Who merely lags behind a transition.
+ghost use Rattle.std.specs.Prelude.{◌≡◌, [], ◌∷◌, ◌++◌, ◌<◌, length};
+ghost use Rattle.klp_types.specs.declared.limits.TheConstants.{MAX_TASKS};
+ghost use Rattle.klp_timeline.specs.Lagging.{is_in, lagging};
+
+use klp_types::{MAX_TASKS, Mode, TaskId};
+use std::marker::Model;
+
+/// Tasks that merely lag, in the order of their numbers.
+#[derive(Drop)]
+pub struct Laggards {
+    tasks: [TaskId; MAX_TASKS],
+    count: usize,
+}
+
+impl Model for Laggards {
+    ghost use Rattle.std.specs.Prelude.{ℕ, ◌≤◌, List, take};
+    ghost use Rattle.klp_types.specs.declared.limits.TheConstants.{MAX_TASKS};
+
+    ghost Value = { List ℕ };
+
+    ghost view = { λ l. take l.count l.tasks };
+
+    ghost invariant = { λ l. l.count ≤ MAX_TASKS };
+}
+
+impl Laggards {
+    fn new() -> Laggards
+        ensures { result ≡ [] }
+    {
+        Laggards {
+            tasks: [TaskId(0); MAX_TASKS],
+            count: 0,
+        }
+    }
+
+    fn push(&mut self, task: TaskId)
+        requires { length self.old < MAX_TASKS }
+        ensures { self.new ≡ self.old ++ task ∷ [] }
+    {
+        self.tasks[self.count] = task;
+        self.count += 1;
+    }
+
+    pub fn as_slice(&self) -> &[TaskId]
+        ensures { result.now ≡ self.now }
+    {
+        &self.tasks[..self.count]
+    }
+}
+
+fn is_in(mode: Mode, wait: &Option<Mode>) -> bool
+    ensures { result ≡ is_in mode wait.now }
+{
+    match (wait, mode) {
+        (Some(Mode::User), Mode::User) => true,
+        (Some(Mode::Kernel), Mode::Kernel) => true,
+        (Some(Mode::Asleep), Mode::Asleep) => true,
+        _ => false,
+    }
+}
+
+/// The tasks that merely lag in this mode, where these are all that do.
+pub fn lagging(mode: Mode, waits: &[Option<Mode>; MAX_TASKS]) -> Laggards
+    ensures { result ≡ lagging mode waits.now }
+{
+    let mut tasks = Laggards::new();
+    for task in 0..MAX_TASKS {
+        if is_in(mode, &waits[task]) {
+            tasks.push(TaskId(task as u8));
+        }
+    }
+    tasks
+}
