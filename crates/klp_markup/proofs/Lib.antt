@@ -1,1 +1,2 @@
 pub mod AddsLemmas
+pub mod TasksLemmas

@@ -18,5 +18,5 @@ pub fn a_list_of_tasks_leaves_nobody_out()
     ensures few { (tasks : List ℕ) → length tasks ≤ MAX_NAMED + 1 → tasks_text tasks ≡ each_text tasks }
     ensures many { (tasks : List ℕ) → MAX_NAMED + 1 < length tasks → tasks_text tasks
         ≡ codes "tasks " ++ names_text (length tasks) 0 (take MAX_NAMED tasks)
-        ++ codes " and " ++ decimal (length tasks - MAX_NAMED) ++ codes " more" }
+        ++ (codes " and " ++ decimal (length tasks - MAX_NAMED) ++ codes " more") }
 {}
