@@ -3,7 +3,6 @@ use Rattle.std.specs.Prelude.{ℕ, ◌-◌, ◌==◌, ◌&&◌, nat_lt, true, fa
 use Rattle.klp_types.specs.declared.task.Mode.{Mode}
 use Rattle.klp_types.specs.declared.task.Mode.TheVariants.{User, Kernel, Asleep}
 use Rattle.klp_types.specs.declared.version.Transition.{Transition}
-use Rattle.klp_model.specs.Task.{is_mode}
 use Rattle.klp_timeline.specs.declared.course.Since.{Since}
 use Rattle.klp_timeline.specs.declared.course.Since.TheVariants.{Turned, Undone}
 use Rattle.klp_timeline.specs.declared.course.Course.{Course}
@@ -15,11 +14,13 @@ use Rattle.klp_timeline.specs.declared.moment.Said.TheVariants.{Did, Slept}
 use Rattle.klp_timeline.specs.declared.moment.Sentence.{Sentence}
 use Rattle.klp_timeline.specs.Course.{course_of}
 use Rattle.klp_timeline.specs.Facts.{is_outdated}
+use Rattle.klp_timeline.specs.Lagging.{lagging}
 use Rattle.klp_timeline.specs.Told.{is_lasting}
 use Rattle.klp_catalog.specs.Catalog.{Catalog}
 use Rattle.klp_markup.specs.Names.{version_text}
+use Rattle.klp_markup.specs.Tasks.{plural, tasks_text}
 use Rattle.klp_story.specs.declared.end.TheConstants.{MAX_HOLDERS}
-use Rattle.klp_story.specs.Words.{counted_text, link_text, quoted_text, tasks_text, why}
+use Rattle.klp_story.specs.Words.{counted_text, link_text, quoted_text, why}
 
 abbrev pub way : Bool → List ℕ
 way true = codes " is in transition, patching"
@@ -104,27 +105,27 @@ abbrev pub all_sleepers_text : Catalog → List (Option Stay) → List Sentence 
 all_sleepers_text catalog stays sentences =
     let shown = first_lasting MAX_HOLDERS sentences in sleepers_text catalog shown ++ others_text (count_by is_some stays - sum_by tasks_of shown)
 
-abbrev pub item_text : List ℕ → List ℕ → ℕ → List ℕ
-item_text one more count = if count == 0 then [] else counted_text (codes "<li>") count one more
-
-abbrev pub is_in : Mode → Option Mode → Bool
-is_in mode None = false
-is_in mode (Some own) = is_mode own mode
-
 -- where so many tasks are that merely lag, and when they switch
-abbrev pub lagging_text : Mode → ℕ → List ℕ
-lagging_text User =
-    item_text (codes " task lags in user space: it switches once it has been in the kernel again.\n")
-    (codes " tasks lag in user space: each switches once it has been in the kernel again.\n")
-lagging_text Kernel =
-    item_text (codes " task lags in the kernel: it switches as it leaves.\n") (codes " tasks lag in the kernel: each switches as it leaves.\n")
-lagging_text Asleep =
-    item_text (codes " task lags, asleep elsewhere: the next poll switches it.\n")
-    (codes " tasks lag, asleep elsewhere: the next poll switches them.\n")
+abbrev pub switching : Mode → ℕ → List ℕ
+switching User count =
+    plural count (codes " lags in user space: it switches once it has been in the kernel again.\n")
+    (codes " lag in user space: each switches once it has been in the kernel again.\n")
+switching Kernel count =
+    plural count (codes " lags in the kernel: it switches as it leaves.\n") (codes " lag in the kernel: each switches as it leaves.\n")
+switching Asleep count =
+    plural count (codes " lags, asleep elsewhere: the next poll switches it.\n") (codes " lag, asleep elsewhere: the next poll switches them.\n")
+
+abbrev pub item_text : Mode → List ℕ → List ℕ
+item_text mode [] = []
+item_text mode (task ∷ tasks) =
+    codes "<li><b>" ++ tasks_text (task ∷ tasks) ++ codes "</b>" ++ switching mode (length (task ∷ tasks))
+
+-- who lags there, if anybody does
+abbrev pub lagging_text : Mode → List (Option Mode) → List ℕ
+lagging_text mode waits = item_text mode (lagging mode waits)
 
 abbrev pub all_lagging_text : List (Option Mode) → List ℕ
-all_lagging_text waits =
-    lagging_text User (count_by (is_in User) waits) ++ lagging_text Kernel (count_by (is_in Kernel) waits) ++ lagging_text Asleep (count_by (is_in Asleep) waits)
+all_lagging_text waits = lagging_text User waits ++ lagging_text Kernel waits ++ lagging_text Asleep waits
 
 -- a page's first line
 unfoldable pub first_text : Catalog → View → List Sentence → List ℕ

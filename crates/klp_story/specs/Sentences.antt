@@ -12,7 +12,8 @@ use Rattle.klp_timeline.specs.Told.{told, left_out}
 use Rattle.klp_catalog.specs.Catalog.{Catalog}
 use Rattle.klp_markup.specs.Escaped.{name_text}
 use Rattle.klp_markup.specs.Names.{object_name, version_text}
-use Rattle.klp_story.specs.Words.{plural, counted_text, link_text, quoted_text, tasks_text, why}
+use Rattle.klp_markup.specs.Tasks.{plural, tasks_text}
+use Rattle.klp_story.specs.Words.{counted_text, link_text, quoted_text, why}
 
 -- in the kernel's words
 abbrev pub starting : Bool → List ℕ

@@ -6,14 +6,15 @@ ghost use Rattle.klp_timeline.specs.declared.moment.Said.TheVariants.{Slept};
 ghost use Rattle.klp_timeline.specs.Course.{course_of};
 ghost use Rattle.klp_timeline.specs.Facts.{is_outdated};
 ghost use Rattle.klp_timeline.specs.Told.{is_lasting};
-ghost use Rattle.klp_story.specs.Words.{link_text, tasks_text};
+ghost use Rattle.klp_markup.specs.Tasks.{tasks_text};
+ghost use Rattle.klp_story.specs.Words.{link_text};
 ghost use Rattle.klp_story.specs.End.{reason_text, sleeper_text, sleepers_text, tasks_of, first_lasting, others_text, all_sleepers_text, first_text, end_text};
 
 use crate::lagging::add_all_lagging;
 use crate::state::{add_outdated, add_state};
-use crate::words::{add_counted, add_link, add_tasks, why};
+use crate::words::{add_counted, add_link, why};
 use klp_catalog::Catalog;
-use klp_markup::{Sheet, add_version};
+use klp_markup::{Sheet, add_tasks, add_version};
 use klp_modules::Modules;
 use klp_timeline::{Said, Sentence, Sleepers, Stay, View, is_lasting, latest_course, outdated};
 

@@ -1,10 +1,11 @@
 //! Worked examples of what a page says, by computation. A function here does nothing: its contract is the example, so a
 //! definition that comes to something else isn't proved.
 ghost use Rattle.std.specs.Prelude.{◌≡◌, ◌++◌, ◌∷◌, [], codes, true, false, Some, None};
-ghost use Rattle.klp_types.specs.declared.task.Mode.TheVariants.{User};
+ghost use Rattle.klp_types.specs.declared.task.Mode.TheVariants.{User, Kernel};
 ghost use Rattle.klp_timeline.specs.declared.moment.Fact.TheVariants.{Undoes, Completes};
 ghost use Rattle.klp_catalog.specs.Catalog.{Catalog as AnyCatalog};
-ghost use Rattle.klp_story.specs.Words.{tasks_text, quoted_text};
+ghost use Rattle.klp_markup.specs.Tasks.{tasks_text};
+ghost use Rattle.klp_story.specs.Words.{quoted_text};
 ghost use Rattle.klp_story.specs.Sentences.{fact_text, span_text};
 ghost use Rattle.klp_story.specs.End.{rest_text, held_text, lagging_text};
 
@@ -35,8 +36,10 @@ pub fn stays_are_told_like_this()
     ensures lines { span_text 7 (Some 12) ≡ codes "<li><a href=\"#line-7\">Lines 7</a> to 12: " }
     ensures still { span_text 7 None ≡ codes "<li class=holds>Since <a href=\"#line-7\">line 7</a>, and still: " }
     ensures held { held_text 1 ≡ codes ". 1 task holds it up." }
-    ensures lagging { lagging_text User 2
-        ≡ codes "<li>2 tasks lag in user space: each switches once it has been in the kernel again.\n" }
+    ensures lagging { lagging_text User (None ∷ Some User ∷ Some Kernel ∷ Some User ∷ [])
+        ≡ codes "<li><b>tasks 1 and 3</b> lag in user space: each switches once it has been in the kernel again.\n" }
+    ensures alone { lagging_text Kernel (None ∷ Some User ∷ Some Kernel ∷ Some User ∷ [])
+        ≡ codes "<li><b>task 2</b> lags in the kernel: it switches as it leaves.\n" }
     ensures nothing { (catalog : AnyCatalog) → rest_text catalog []
         ≡ codes "No patch is in transition. No patch is enabled." }
 {}

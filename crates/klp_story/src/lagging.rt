@@ -1,78 +1,63 @@
 //! Who merely lags behind a transition.
-ghost use Rattle.std.specs.Prelude.{◌≡◌, ◌++◌, [], codes, count_by};
-ghost use Rattle.std.specs.Fmt.{decimal};
+ghost use Rattle.std.specs.Prelude.{◌≡◌, ◌++◌, ◌∷◌, [], codes, length};
 ghost use Rattle.klp_markup.specs.Adds.{Adds};
-ghost use Rattle.klp_model.specs.Task.{is_mode};
-ghost use Rattle.klp_story.specs.End.{item_text, is_in, lagging_text, all_lagging_text};
+ghost use Rattle.klp_markup.specs.Tasks.{plural, tasks_text};
+ghost use Rattle.klp_timeline.specs.Lagging.{lagging};
+ghost use Rattle.klp_story.specs.End.{switching, item_text, lagging_text, all_lagging_text};
 
-use crate::words::add_counted;
-use klp_markup::Sheet;
-use klp_types::Mode;
+use klp_markup::{Sheet, add_tasks, plural};
+use klp_timeline::lagging;
+use klp_types::{MAX_TASKS, Mode, TaskId};
 
-fn is_in(mode: Mode, own: &Option<Mode>) -> bool
-    ensures { result ≡ is_in mode own.now }
-{
-    match (own, mode) {
-        (Some(Mode::User), Mode::User) => true,
-        (Some(Mode::Kernel), Mode::Kernel) => true,
-        (Some(Mode::Asleep), Mode::Asleep) => true,
-        _ => false,
-    }
-}
-
-fn lagging(mode: Mode, waits: &[Option<Mode>]) -> usize
-    ensures { result ≡ count_by (is_in mode) waits.now }
-{
-    let mut count = 0;
-    for own in waits {
-        if is_in(mode, own) {
-            count += 1;
-        }
-    }
-    count
-}
-
-fn add_item(sheet: &mut Sheet, one: &'static str, more: &'static str, count: usize)
-    ensures { Adds sheet.old sheet.new (item_text one.now more.now count) }
-{
-    klp_markup::laws::what_is_added_adds_up();
-    if count > 0 {
-        add_counted(sheet, "<li>", count, one, more);
-    }
-}
-
-/// Adds where so many tasks are, and when they switch.
-fn add_lagging(sheet: &mut Sheet, mode: Mode, count: usize)
-    ensures { Adds sheet.old sheet.new (lagging_text mode count) }
+/// Where so many tasks are, and when they switch.
+fn switching(mode: Mode, count: usize) -> &'static str
+    ensures { result.now ≡ switching mode count }
 {
     match mode {
-        Mode::User => add_item(
-            sheet,
-            " task lags in user space: it switches once it has been in the kernel again.\n",
-            " tasks lag in user space: each switches once it has been in the kernel again.\n",
+        Mode::User => plural(
             count,
+            " lags in user space: it switches once it has been in the kernel again.\n",
+            " lag in user space: each switches once it has been in the kernel again.\n",
         ),
-        Mode::Kernel => add_item(
-            sheet,
-            " task lags in the kernel: it switches as it leaves.\n",
-            " tasks lag in the kernel: each switches as it leaves.\n",
+        Mode::Kernel => plural(
             count,
+            " lags in the kernel: it switches as it leaves.\n",
+            " lag in the kernel: each switches as it leaves.\n",
         ),
-        Mode::Asleep => add_item(
-            sheet,
-            " task lags, asleep elsewhere: the next poll switches it.\n",
-            " tasks lag, asleep elsewhere: the next poll switches them.\n",
+        Mode::Asleep => plural(
             count,
+            " lags, asleep elsewhere: the next poll switches it.\n",
+            " lag, asleep elsewhere: the next poll switches them.\n",
         ),
     }
 }
 
-/// Adds how many tasks merely lag, by where they are.
-pub(crate) fn add_all_lagging(sheet: &mut Sheet, waits: &[Option<Mode>])
+/// Adds who lags there, if anybody does.
+fn add_item(sheet: &mut Sheet, mode: Mode, tasks: &[TaskId])
+    ensures { Adds sheet.old sheet.new (item_text mode tasks.now) }
+{
+    klp_markup::laws::what_is_added_adds_up();
+    if tasks.is_empty() {
+        return;
+    }
+    sheet.markup("<li><b>");
+    add_tasks(sheet, tasks);
+    sheet.markup("</b>");
+    sheet.markup(switching(mode, tasks.len()));
+}
+
+fn add_lagging(sheet: &mut Sheet, mode: Mode, waits: &[Option<Mode>; MAX_TASKS])
+    ensures { Adds sheet.old sheet.new (lagging_text mode waits.now) }
+{
+    add_item(sheet, mode, lagging(mode, waits).as_slice());
+}
+
+/// Adds who merely lags, by where they are.
+pub(crate) fn add_all_lagging(sheet: &mut Sheet, waits: &[Option<Mode>; MAX_TASKS])
     ensures { Adds sheet.old sheet.new (all_lagging_text waits.now) }
 {
     klp_markup::laws::what_is_added_adds_up();
-    add_lagging(sheet, Mode::User, lagging(Mode::User, waits));
-    add_lagging(sheet, Mode::Kernel, lagging(Mode::Kernel, waits));
-    add_lagging(sheet, Mode::Asleep, lagging(Mode::Asleep, waits));
+    add_lagging(sheet, Mode::User, waits);
+    add_lagging(sheet, Mode::Kernel, waits);
+    add_lagging(sheet, Mode::Asleep, waits);
 }

@@ -3,13 +3,14 @@ ghost use Rattle.std.specs.Prelude.{◌≡◌, ◌++◌, ◌∷◌, [], codes, l
 ghost use Rattle.std.specs.Fmt.{decimal};
 ghost use Rattle.klp_markup.specs.Adds.{Adds};
 ghost use Rattle.klp_markup.specs.Names.{version_text};
-ghost use Rattle.klp_story.specs.Words.{plural, link_text, quoted_text, tasks_text, why};
+ghost use Rattle.klp_markup.specs.Tasks.{plural, tasks_text};
+ghost use Rattle.klp_story.specs.Words.{link_text, quoted_text, why};
 ghost use Rattle.klp_story.specs.Sentences.{span_text, anchor_text, anchors_text, holding, sleeping, warning, stay_text, said_text};
 ghost use Rattle.klp_timeline.specs.declared.moment.Said.TheVariants.{Slept};
 
-use crate::words::{add_link, add_number, add_patch, add_tasks, plural, why};
+use crate::words::{add_link, add_number, add_patch, why};
 use klp_catalog::Catalog;
-use klp_markup::{Sheet, add_version};
+use klp_markup::{Sheet, add_tasks, add_version, plural};
 use klp_modules::Modules;
 use klp_timeline::{Sleepers, Stay};
 use klp_types::{TaskId, Transition, Version};

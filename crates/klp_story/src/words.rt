@@ -2,6 +2,7 @@
 ghost use Rattle.std.specs.Prelude.{◌≡◌, ◌++◌, codes};
 ghost use Rattle.std.specs.Fmt.{decimal};
 ghost use Rattle.klp_markup.specs.Adds.{Adds};
+ghost use Rattle.klp_markup.specs.Tasks.{plural};
 ghost use Rattle.klp_story.specs.Words.{counted_text, link_text, quoted_text, why};
 
 use klp_catalog::Catalog;

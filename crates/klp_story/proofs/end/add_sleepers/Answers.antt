@@ -1,6 +1,6 @@
 use Rattle.std.proofs.Common.{subst}
 use Rattle.klp_markup.specs.Adds.{Adds}
-use Rattle.klp_story.specs.Words.{tasks_text}
+use Rattle.klp_markup.specs.Tasks.{tasks_text}
 use Rattle.klp_story.proofs.end.add_sleepers.Goals as goal
 
 pub returns : goal.returns

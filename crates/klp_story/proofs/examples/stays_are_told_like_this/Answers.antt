@@ -1,5 +1,6 @@
 use Rattle.std.proofs.Common.{refl}
 use Rattle.std.specs.Fmt.{digits}
+use Rattle.klp_markup.specs.Tasks.{tasks_text}
 use Rattle.klp_story.specs.Words.{link_text}
 use Rattle.klp_story.proofs.examples.stays_are_told_like_this.Goals as goal
 
@@ -20,8 +21,12 @@ unfolding digits
 returns-clause-held c = refl
 
 pub returns-clause-lagging : goal.returns-clause-lagging
-unfolding digits
+unfolding tasks_text digits
 returns-clause-lagging c = refl
+
+pub returns-clause-alone : goal.returns-clause-alone
+unfolding tasks_text digits
+returns-clause-alone c = refl
 
 pub returns-clause-nothing : goal.returns-clause-nothing
 returns-clause-nothing c = λ catalog. refl

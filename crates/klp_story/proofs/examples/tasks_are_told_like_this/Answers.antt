@@ -1,6 +1,6 @@
 use Rattle.std.proofs.Common.{refl}
 use Rattle.std.specs.Fmt.{digits}
-use Rattle.klp_story.specs.Words.{tasks_text}
+use Rattle.klp_markup.specs.Tasks.{tasks_text}
 use Rattle.klp_story.proofs.examples.tasks_are_told_like_this.Goals as goal
 
 pub returns-clause-one : goal.returns-clause-one
