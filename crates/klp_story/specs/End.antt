@@ -1,5 +1,6 @@
 -- How a run ends, in words.
 use Rattle.std.specs.Prelude.{ℕ, ◌-◌, ◌==◌, ◌&&◌, nat_lt, true, false, Bool, List, [], ◌∷◌, ◌++◌, codes, length, count_by, sum_by, Option, Some, None, is_some, if◌then◌else◌}
+use Rattle.std.specs.Fmt.{decimal}
 use Rattle.klp_types.specs.declared.task.Mode.{Mode}
 use Rattle.klp_types.specs.declared.task.Mode.TheVariants.{User, Kernel, Asleep}
 use Rattle.klp_types.specs.declared.version.Transition.{Transition}
@@ -127,12 +128,19 @@ lagging_text mode waits = item_text mode (lagging mode waits)
 abbrev pub all_lagging_text : List (Option Mode) → List ℕ
 all_lagging_text waits = lagging_text User waits ++ lagging_text Kernel waits ++ lagging_text Asleep waits
 
--- a page's first line
-unfoldable pub first_text : Catalog → View → List Sentence → List ℕ
-first_text catalog view sentences =
-    codes "<h1>At the end: " ++ state_text catalog view (course_of sentences) view.moving ++ outdated_text (count_by is_outdated view.stays) ++ codes "</h1>"
+-- where each of so many lines was refused
+abbrev pub refused_text : Option ℕ → List ℕ
+refused_text None = []
+refused_text (Some lines) =
+    if lines == 1 then codes "Nothing was done: the only line was refused. "
+    else codes "Nothing was done: all " ++ decimal lines ++ codes " lines were refused. "
+
+-- a page's first line; the number is that of the lines, where each was refused
+unfoldable pub first_text : Catalog → View → List Sentence → Option ℕ → List ℕ
+first_text catalog view sentences refused =
+    codes "<h1>" ++ refused_text refused ++ codes "At the end: " ++ state_text catalog view (course_of sentences) view.moving ++ outdated_text (count_by is_outdated view.stays) ++ codes "</h1>"
 
 -- and what belongs to it
-abbrev pub end_text : Catalog → View → List Sentence → List ℕ
-end_text catalog view sentences =
-    first_text catalog view sentences ++ codes "<ul class=story>\n" ++ all_sleepers_text catalog view.stays sentences ++ all_lagging_text view.waits ++ codes "</ul>\n"
+abbrev pub end_text : Catalog → View → List Sentence → Option ℕ → List ℕ
+end_text catalog view sentences refused =
+    first_text catalog view sentences refused ++ codes "<ul class=story>\n" ++ all_sleepers_text catalog view.stays sentences ++ all_lagging_text view.waits ++ codes "</ul>\n"

@@ -8,11 +8,11 @@ ghost use Rattle.klp_timeline.specs.Facts.{is_outdated};
 ghost use Rattle.klp_timeline.specs.Told.{is_lasting};
 ghost use Rattle.klp_markup.specs.Tasks.{tasks_text};
 ghost use Rattle.klp_story.specs.Words.{link_text};
-ghost use Rattle.klp_story.specs.End.{reason_text, sleeper_text, sleepers_text, tasks_of, first_lasting, others_text, all_sleepers_text, first_text, end_text};
+ghost use Rattle.klp_story.specs.End.{reason_text, sleeper_text, sleepers_text, tasks_of, first_lasting, others_text, all_sleepers_text, refused_text, first_text, end_text};
 
 use crate::lagging::add_all_lagging;
 use crate::state::{add_outdated, add_state};
-use crate::words::{add_counted, add_link, why};
+use crate::words::{add_counted, add_link, add_number, why};
 use klp_catalog::Catalog;
 use klp_markup::{Sheet, add_tasks, add_version};
 use klp_modules::Modules;
@@ -164,35 +164,61 @@ fn add_all_sleepers(
     add_others(sheet, others(sleeping(stays), sentences));
 }
 
+/// Adds that nothing was done, where each of so many lines was refused.
+fn add_refused(sheet: &mut Sheet, refused: &Option<u64>)
+    ensures { Adds sheet.old sheet.new (refused_text refused.now) }
+{
+    klp_markup::laws::what_is_added_adds_up();
+    match *refused {
+        None => {}
+        Some(1) => sheet.markup("Nothing was done: the only line was refused. "),
+        Some(lines) => add_number(
+            sheet,
+            "Nothing was done: all ",
+            lines,
+            " lines were refused. ",
+        ),
+    }
+}
+
 /// Adds what moves, or that nothing does.
 #[tactic(auto, unfolding(crate::specs::End::first_text))]
-fn add_first(sheet: &mut Sheet, catalog: &Catalog, view: &View, sentences: &[Sentence])
-    ensures { Adds sheet.old sheet.new (first_text catalog.now view.now sentences.now) }
+fn add_first(
+    sheet: &mut Sheet,
+    catalog: &Catalog,
+    view: &View,
+    sentences: &[Sentence],
+    refused: &Option<u64>,
+)
+    ensures { Adds sheet.old sheet.new (first_text catalog.now view.now sentences.now refused.now) }
 {
     klp_markup::laws::what_is_added_adds_up();
     let course = latest_course(sentences);
     let sleepers = outdated(&view.stays);
-    sheet.markup("<h1>At the end: ");
+    sheet.markup("<h1>");
+    add_refused(sheet, refused);
+    sheet.markup("At the end: ");
     add_state(sheet, catalog, view, &course);
     add_outdated(sheet, sleepers);
     sheet.markup("</h1>");
 }
 
 /// Adds how a run ends which ends with this view, and of which this is said: what moves, which way and since when, or which
-/// patches are enabled; who sleeps where it matters; and how many tasks merely lag. The modules are those that the catalog
-/// was assembled over.
+/// patches are enabled; who sleeps where it matters; and who merely lags. `refused` is the number of lines where each was
+/// refused. The modules are those that the catalog was assembled over.
 pub fn add_end(
     sheet: &mut Sheet,
     catalog: &Catalog,
     modules: &Modules,
     view: &View,
     sentences: &[Sentence],
+    refused: &Option<u64>,
 )
     requires { catalog.now.names ≡ modules.now.names }
-    ensures { Adds sheet.old sheet.new (end_text catalog.now view.now sentences.now) }
+    ensures { Adds sheet.old sheet.new (end_text catalog.now view.now sentences.now refused.now) }
 {
     klp_markup::laws::what_is_added_adds_up();
-    add_first(sheet, catalog, view, sentences);
+    add_first(sheet, catalog, view, sentences, refused);
     sheet.markup("<ul class=story>\n");
     add_all_sleepers(sheet, catalog, modules, &view.stays, sentences);
     add_all_lagging(sheet, &view.waits);

@@ -7,7 +7,7 @@ ghost use Rattle.klp_catalog.specs.Catalog.{Catalog as AnyCatalog};
 ghost use Rattle.klp_markup.specs.Tasks.{tasks_text};
 ghost use Rattle.klp_story.specs.Words.{quoted_text};
 ghost use Rattle.klp_story.specs.Sentences.{fact_text, span_text};
-ghost use Rattle.klp_story.specs.End.{rest_text, held_text, lagging_text};
+ghost use Rattle.klp_story.specs.End.{rest_text, held_text, lagging_text, refused_text};
 
 /// Of more than nine tasks eight are named.
 pub fn tasks_are_told_like_this()
@@ -30,7 +30,7 @@ pub fn facts_are_told_like_this()
         ≡ codes "1 event is undone: all is as it was after event 2." }
 {}
 
-/// The lines of a stay, who holds a transition up, and who lags.
+/// The lines of a stay, who holds a transition up, who lags, and that nothing was done.
 pub fn stays_are_told_like_this()
     ensures line { span_text 7 (Some 7) ≡ codes "<li><a href=\"#line-7\">Line 7</a>: " }
     ensures lines { span_text 7 (Some 12) ≡ codes "<li><a href=\"#line-7\">Lines 7</a> to 12: " }
@@ -40,6 +40,8 @@ pub fn stays_are_told_like_this()
         ≡ codes "<li><b>tasks 1 and 3</b> lag in user space: each switches once it has been in the kernel again.\n" }
     ensures alone { lagging_text Kernel (None ∷ Some User ∷ Some Kernel ∷ Some User ∷ [])
         ≡ codes "<li><b>task 2</b> lags in the kernel: it switches as it leaves.\n" }
+    ensures refused { refused_text (Some 12) ≡ codes "Nothing was done: all 12 lines were refused. " }
+    ensures one_refused { refused_text (Some 1) ≡ codes "Nothing was done: the only line was refused. " }
     ensures nothing { (catalog : AnyCatalog) → rest_text catalog []
         ≡ codes "No patch is in transition. No patch is enabled." }
 {}

@@ -28,5 +28,12 @@ pub returns-clause-alone : goal.returns-clause-alone
 unfolding tasks_text digits
 returns-clause-alone c = refl
 
+pub returns-clause-refused : goal.returns-clause-refused
+unfolding digits
+returns-clause-refused c = refl
+
+pub returns-clause-one_refused : goal.returns-clause-one_refused
+returns-clause-one_refused c = refl
+
 pub returns-clause-nothing : goal.returns-clause-nothing
 returns-clause-nothing c = λ catalog. refl
