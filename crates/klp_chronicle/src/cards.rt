@@ -1,9 +1,9 @@
 //! The cards of a line's own act, and of the patches.
 
 use klp_core::Manager;
-use klp_markup::Value::{Markup, Name, Number};
-use klp_markup::{Sheet, object_name, patch_name};
-use klp_timeline::{Fact, View};
+use klp_markup::Value::{Markup, Name};
+use klp_markup::{Sheet, add_tasks, object_name, patch_name, plural};
+use klp_timeline::{Fact, View, lagging};
 use klp_types::{Mode, PatchId};
 
 /// What is said of a patch or a module.
@@ -51,49 +51,47 @@ fn standing(manager: &Manager, view: &View, patch: PatchId) -> (&'static str, &'
     }
 }
 
-/// How many tasks merely lag of those in a mode.
-fn count_waiting(view: &View, mode: Mode) -> u64 {
-    let mut count = 0u64;
-    for waits in &view.waits {
-        if *waits == Some(mode) {
-            count = count.saturating_add(1);
-        }
+/// Where tasks are that lag in a mode, and when they switch.
+fn switching(mode: Mode, count: usize) -> &'static str {
+    match mode {
+        Mode::User => plural(
+            count,
+            " in user space: it switches once it has been in the kernel again",
+            " in user space: each switches once it has been in the kernel again",
+        ),
+        Mode::Kernel => plural(
+            count,
+            " in the kernel: it switches as it leaves",
+            " in the kernel: each switches as it leaves",
+        ),
+        Mode::Asleep => plural(
+            count,
+            " asleep elsewhere: the next poll switches it",
+            " asleep elsewhere: the next poll switches them",
+        ),
     }
-    count
 }
 
-fn add_waiting(sheet: &mut Sheet, count: u64, one: &'static str, many: &'static str) {
-    match count {
-        0 => {}
-        1 => sheet.markup(one),
-        _ => sheet.fill("<li>{}{}", &[Number(count), Markup(many)]),
+/// The tasks that lag in a mode, if one does.
+fn add_waiting(sheet: &mut Sheet, view: &View, mode: Mode) {
+    let laggards = lagging(mode, &view.waits);
+    let tasks = laggards.as_slice();
+    if !tasks.is_empty() {
+        sheet.markup("<li>");
+        add_tasks(sheet, tasks);
+        sheet.markup(switching(mode, tasks.len()));
     }
 }
 
-/// How many tasks lag and don't hold the transition up, where one goes on.
+/// Who lags and doesn't hold the transition up, where one goes on.
 fn add_lagging(sheet: &mut Sheet, view: &View) {
     if view.waits.iter().all(|waits| waits.is_none()) {
         return;
     }
     sheet.markup("<div class=card><b>behind</b><ul>");
-    add_waiting(
-        sheet,
-        count_waiting(view, Mode::User),
-        "<li>1 task in user space: it switches once it has been in the kernel again",
-        " tasks in user space: each switches once it has been in the kernel again",
-    );
-    add_waiting(
-        sheet,
-        count_waiting(view, Mode::Kernel),
-        "<li>1 task in the kernel: it switches as it leaves",
-        " tasks in the kernel: each switches as it leaves",
-    );
-    add_waiting(
-        sheet,
-        count_waiting(view, Mode::Asleep),
-        "<li>1 task asleep elsewhere: the next poll switches it",
-        " tasks asleep elsewhere: the next poll switches them",
-    );
+    add_waiting(sheet, view, Mode::User);
+    add_waiting(sheet, view, Mode::Kernel);
+    add_waiting(sheet, view, Mode::Asleep);
     sheet.markup("</ul></div>");
 }
 

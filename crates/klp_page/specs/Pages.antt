@@ -1,5 +1,5 @@
 -- What a page comes to over a catalog's text and a script.
-use Rattle.std.specs.Prelude.{◌≡◌, ℕ, ◌<◌, List, [], ◌∷◌, ◌++◌, length, count_by, is_some, ◌⊎◌, Option, Result, Ok, Err}
+use Rattle.std.specs.Prelude.{◌≡◌, ℕ, Bool, ◌<◌, List, [], ◌∷◌, ◌++◌, length, count_by, is_some, ◌⊎◌, Option, Result, Ok, Err}
 use Rattle.std.specs.Io.KnownBytes.{Appends}
 use Rattle.klp_types.specs.declared.limits.TheConstants.{MAX_CONSOLE_LINE}
 use Rattle.klp_catalog_text.specs.Plan.{Plan}
@@ -24,10 +24,14 @@ use Rattle.klp_page.specs.declared.row.Row.{Row}
 use Rattle.klp_page.specs.Rows.{AreRows, last_view}
 use Rattle.klp_page.specs.Text.{is_start, page_text}
 
--- the title of a page: its name, how many lines there are, how many transitions started, and whether one goes on at the end
-pub record IsTitle (title : Title) (name : List ℕ) (lines : ℕ) (view : View) (sentences : List Sentence) : Type 0 where
+abbrev pub is_refused : Row → Bool
+is_refused row = row.is_refused
+
+-- the title of a page: its name, how many lines there are and were refused, how many transitions started, and whether one goes on at the end
+pub record IsTitle (title : Title) (name : List ℕ) (rows : List Row) (view : View) (sentences : List Sentence) : Type 0 where
   pub name_is : title.name.now ≡ name
-  pub lines_are : title.lines ≡ lines
+  pub lines_are : title.lines ≡ length rows
+  pub refused_are : title.refused ≡ count_by is_refused rows
   pub transitions_are : title.transitions ≡ count_by is_start sentences
   pub moves : title.is_moving ≡ is_some view.moving
 
@@ -35,7 +39,7 @@ pub record IsTitle (title : Title) (name : List ℕ) (lines : ℕ) (view : View)
 pub record IsPageOfRun (catalog : Catalog) (name : List ℕ) (opening : View) (rows : List Row) (run : List Moment) (page : List ℕ) : Type 0 where
   pub drawing : List ℕ
   pub title : Title
-  pub title_is : IsTitle title name (length rows) (last_view opening run) (sentences_of opening run)
+  pub title_is : IsTitle title name rows (last_view opening run) (sentences_of opening run)
   pub written : page ≡ page_text title catalog (last_view opening run) (sentences_of opening run) drawing rows
 
 -- the page has a row for each line of the script, in order, and is made of these and of what was seen with each

@@ -1,8 +1,9 @@
 -- The text of a page.
-use Rattle.std.specs.Prelude.{ℕ, ◌==◌, ◌+◌, ◌-◌, nat_lt, Bool, true, false, List, [], ◌∷◌, ◌++◌, codes, length, count_by, if◌then◌else◌}
+use Rattle.std.specs.Prelude.{ℕ, ◌==◌, ◌&&◌, ◌+◌, ◌-◌, nat_lt, Bool, true, false, List, [], ◌∷◌, ◌++◌, codes, length, count_by, Option, Some, None, if◌then◌else◌}
 use Rattle.std.specs.Fmt.{decimal}
 use Rattle.klp_catalog.specs.Catalog.{Catalog}
 use Rattle.klp_markup.specs.Escaped.{escaped}
+use Rattle.klp_markup.specs.Tasks.{each_text}
 use Rattle.klp_story.specs.End.{end_text}
 use Rattle.klp_story.specs.Sentences.{story_text}
 use Rattle.klp_timeline.specs.declared.moment.Fact.TheVariants.{Starts}
@@ -44,17 +45,10 @@ use Rattle.klp_page.specs.declared.style.TheConstants.{
   HELD_END,
 }
 
-abbrev pub holder_text : ℕ → List ℕ
-holder_text task = codes " " ++ decimal task
-
-abbrev pub holders_text : List ℕ → List ℕ
-holders_text [] = []
-holders_text (task ∷ tasks) = holder_text task ++ holders_text tasks
-
--- the mark of a line after which these tasks hold the transition up; where there are none it has no mark
+-- the mark of a line after which these tasks hold the transition up, each of them; where there are none it has no mark
 abbrev pub mark_text : List ℕ → List ℕ
 mark_text [] = []
-mark_text (task ∷ tasks) = HELD.now ++ holders_text (task ∷ tasks) ++ HELD_END.now
+mark_text (task ∷ tasks) = HELD.now ++ each_text (task ∷ tasks) ++ HELD_END.now
 
 abbrev pub refused_text : Bool → List ℕ
 refused_text is_refused = if is_refused then REFUSED.now else []
@@ -107,19 +101,26 @@ is_start sentence = is_started sentence.said
 abbrev pub count_text : ℕ → List ℕ → List ℕ → List ℕ
 count_text count one many = decimal count ++ (if count == 1 then one else many)
 
--- what is shown, how much happened, and whether a transition still goes on
+abbrev pub refusals_text : ℕ → List ℕ
+refusals_text count = if count == 0 then [] else decimal count ++ codes " refused, "
+
+-- what is shown, how much happened and was refused, and whether a transition still goes on
 unfoldable pub title_text : Title → List ℕ
 title_text title =
-    escaped title.name.now ++ codes ": " ++ count_text title.lines (codes " line, ") (codes " lines, ")
+    escaped title.name.now ++ codes ": " ++ count_text title.lines (codes " line, ") (codes " lines, ") ++ refusals_text title.refused
     ++ count_text title.transitions (codes " transition") (codes " transitions") ++ (if title.is_moving then codes ", one still under way" else [])
 
 -- the document's beginning with its title and its style
 unfoldable pub opening_text : Title → List ℕ
 opening_text title = HEAD.now ++ title_text title ++ STYLE.now ++ drawing.STYLE.now ++ cards.STYLE.now ++ STYLE_END.now
 
+-- how many lines there are, where there is one and each was refused
+abbrev pub all_refused : Title → Option ℕ
+all_refused title = if nat_lt 0 title.refused && title.refused == title.lines then Some title.lines else None
+
 -- how the run ends, below the document's beginning, and what happened above the sentences
 unfoldable pub front_text : Title → Catalog → View → List Sentence → List ℕ
-front_text title catalog view sentences = opening_text title ++ end_text catalog view sentences ++ COUNTS.now ++ title_text title ++ STORY.now
+front_text title catalog view sentences = opening_text title ++ end_text catalog view sentences (all_refused title) ++ COUNTS.now ++ title_text title ++ STORY.now
 
 -- the sentences, and the drawing
 unfoldable pub story_and_drawing : Catalog → List Sentence → List ℕ → List ℕ

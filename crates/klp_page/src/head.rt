@@ -2,7 +2,7 @@
 ghost use Rattle.std.specs.Prelude.{◌≡◌, [], ◌++◌, codes, count_by, if◌then◌else◌};
 ghost use Rattle.std.specs.Fmt.{decimal};
 ghost use Rattle.klp_markup.specs.Adds.{Adds};
-ghost use Rattle.klp_page.specs.Text.{is_started, is_start, count_text, title_text, opening_text, front_text, story_and_drawing};
+ghost use Rattle.klp_page.specs.Text.{is_started, is_start, count_text, refusals_text, title_text, opening_text, all_refused, front_text, story_and_drawing};
 
 use crate::style::{COUNTS, HEAD, LINES, RUN, STORY, STYLE, STYLE_END};
 use klp_catalog::Catalog;
@@ -11,11 +11,13 @@ use klp_modules::Modules;
 use klp_story::{add_end, add_story};
 use klp_timeline::{Fact, Said, Sentence, View};
 
-/// What is shown, how much happened, and whether a transition still goes on.
+/// What is shown, how much happened and was refused, and whether a transition still goes on.
 #[derive(Clone, Copy)]
 pub(crate) struct Title<'a> {
     pub name: &'a [u8],
     pub lines: u64,
+    /// How many of the lines were refused.
+    pub refused: u64,
     pub transitions: u64,
     pub is_moving: bool,
 }
@@ -48,6 +50,17 @@ fn add_count(sheet: &mut Sheet, count: u64, one: &'static str, many: &'static st
     sheet.markup(if count == 1 { one } else { many });
 }
 
+/// Adds how many lines were refused, if one was.
+fn add_refusals(sheet: &mut Sheet, count: u64)
+    ensures { Adds sheet.old sheet.new (refusals_text count) }
+{
+    klp_markup::laws::what_is_added_adds_up();
+    if count > 0 {
+        sheet.number(count);
+        sheet.markup(" refused, ");
+    }
+}
+
 fn add_under_way(sheet: &mut Sheet, is_moving: bool)
     ensures { Adds sheet.old sheet.new (if is_moving then codes ", one still under way" else []) }
 {
@@ -65,6 +78,7 @@ fn add_title(sheet: &mut Sheet, title: &Title<'_>)
     sheet.text(title.name);
     sheet.markup(": ");
     add_count(sheet, title.lines, " line, ", " lines, ");
+    add_refusals(sheet, title.refused);
     add_count(sheet, title.transitions, " transition", " transitions");
     add_under_way(sheet, title.is_moving);
 }
@@ -83,6 +97,17 @@ fn add_opening(sheet: &mut Sheet, title: &Title<'_>)
     sheet.markup(STYLE_END);
 }
 
+/// How many lines there are, where there is one and each was refused.
+fn all_refused(title: &Title<'_>) -> Option<u64>
+    ensures { result ≡ all_refused title.now }
+{
+    if title.refused > 0 && title.refused == title.lines {
+        Some(title.lines)
+    } else {
+        None
+    }
+}
+
 /// The document's beginning, and how the run ends.
 pub(crate) fn add_front(
     sheet: &mut Sheet,
@@ -96,7 +121,14 @@ pub(crate) fn add_front(
     ensures { Adds sheet.old sheet.new (front_text title.now catalog.now view.now sentences.now) }
 {
     add_opening(sheet, title);
-    add_end(sheet, catalog, modules, view, sentences);
+    add_end(
+        sheet,
+        catalog,
+        modules,
+        view,
+        sentences,
+        &all_refused(title),
+    );
     sheet.markup(COUNTS);
     add_title(sheet, title);
     sheet.markup(STORY);

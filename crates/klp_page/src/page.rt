@@ -1,9 +1,9 @@
 //! A manager is booted over a catalog's text, and a script is shown by it.
-ghost use Rattle.std.specs.Prelude.{◌≡◌, [], ◌∷◌, length, map, string_bytes, Some, None, IfOk, IfErr, MatchResult};
+ghost use Rattle.std.specs.Prelude.{◌≡◌, [], ◌∷◌, length, count_by, map, string_bytes, Some, None, IfOk, IfErr, MatchResult};
 ghost use Rattle.klp_catalog_text.specs.Within.{AreTargetsWithin};
 ghost use Rattle.klp_page.specs.Rows.{last_view};
 ghost use Rattle.klp_page.specs.Text.{page_text};
-ghost use Rattle.klp_page.specs.Pages.{IsPage, IsPageOfRun, IsScriptFault, IsPageOver, IsFaultOver, IsPageOf, IsFaultOf, Writes};
+ghost use Rattle.klp_page.specs.Pages.{is_refused, IsPage, IsPageOfRun, IsScriptFault, IsPageOver, IsFaultOver, IsPageOf, IsFaultOf, Writes};
 ghost use Rattle.klp_program.specs.Asked.{two_files};
 
 use crate::head::{Title, add_front, add_story_and_drawing, transitions};
@@ -49,6 +49,19 @@ fn written(
     sheet.into_bytes()
 }
 
+/// How many of the lines were refused.
+fn refused(rows: &[Row]) -> u64
+    ensures { result ≡ count_by is_refused rows.now }
+{
+    let mut count = 0usize;
+    for row in rows {
+        if row.is_refused {
+            count += 1;
+        }
+    }
+    count as u64
+}
+
 /// The page of what was recorded.
 fn page_of(
     alloc: Global,
@@ -66,6 +79,7 @@ fn page_of(
     let title = Title {
         name,
         lines: recorded.rows.len() as u64,
+        refused: refused(&recorded.rows),
         transitions: transitions(&sentences),
         is_moving: view.moving.is_some(),
     };

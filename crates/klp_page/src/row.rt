@@ -1,14 +1,14 @@
 //! The rows of a page.
-ghost use Rattle.std.specs.Prelude.{◌≡◌, ◌<◌, ◌+◌, ◌-◌, ◌^◌, ◌++◌, codes, length};
+ghost use Rattle.std.specs.Prelude.{◌≡◌, ◌<◌, ◌+◌, ◌-◌, ◌^◌, ◌++◌, length};
 ghost use Rattle.std.specs.Fmt.{decimal};
 ghost use Rattle.klp_markup.specs.Adds.{Adds};
-ghost use Rattle.klp_page.specs.Text.{holders_text, mark_text, refused_text, open_text, told_text, start_text, row_text, fold_start, fold_end, rows_text};
+ghost use Rattle.klp_page.specs.Text.{mark_text, refused_text, open_text, told_text, start_text, row_text, fold_start, fold_end, rows_text};
 
 use crate::style::{
     ANSWER, ANSWER_END, CARD_NUMBER, CARD_ROW, CARDS, CARDS_END, FOLD, FOLD_END, FOLDED, HELD,
     HELD_END, ID, LINE, NUMBER, OPEN, PLAIN_END, PLAIN_ROW, QUIET_ROWS, REFUSED,
 };
-use klp_markup::Sheet;
+use klp_markup::{Sheet, add_each_task};
 use klp_types::TaskId;
 
 /// What a page shows of a line.
@@ -27,23 +27,6 @@ pub(crate) struct Row {
     pub cards: Sheet,
 }
 
-fn add_holder(sheet: &mut Sheet, task: TaskId)
-    ensures { Adds sheet.old sheet.new (codes " " ++ decimal task) }
-{
-    klp_markup::laws::what_is_added_adds_up();
-    sheet.markup(" ");
-    sheet.number(u64::from(task.0));
-}
-
-fn add_holders(sheet: &mut Sheet, tasks: &[TaskId])
-    ensures { Adds sheet.old sheet.new (holders_text tasks.now) }
-{
-    klp_markup::laws::what_is_added_adds_up();
-    for task in tasks {
-        add_holder(sheet, *task);
-    }
-}
-
 fn add_mark(sheet: &mut Sheet, tasks: &[TaskId])
     ensures { Adds sheet.old sheet.new (mark_text tasks.now) }
 {
@@ -52,7 +35,7 @@ fn add_mark(sheet: &mut Sheet, tasks: &[TaskId])
         return;
     }
     sheet.markup(HELD);
-    add_holders(sheet, tasks);
+    add_each_task(sheet, tasks);
     sheet.markup(HELD_END);
 }
 

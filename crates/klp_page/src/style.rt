@@ -90,6 +90,6 @@ pub(crate) const FOOT: &str =
     "<p class=soft>A click on a line with \u{25b8} shows what it changed.</p></html>\n";
 
 /// The mark of a line after which others hold the transition up, and its end.
-pub(crate) const HELD: &str = "<b class=held>held up by task";
+pub(crate) const HELD: &str = "<b class=held>held up by ";
 
 pub(crate) const HELD_END: &str = "</b>";
