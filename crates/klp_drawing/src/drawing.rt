@@ -1,10 +1,11 @@
 //! The drawing of a whole run: a table with a row for each patch and each task, over the lines of the script.
 
+use crate::axis::{Axis, axis_of};
 use crate::bars::{Bars, LANES};
 use crate::held::{Held, add_areas, add_labels, all_held};
 use crate::idle::add_idle;
 use crate::lane::{add_bars, add_words};
-use crate::pen::{LANE, LETTER, add_text_start, number_width};
+use crate::pen::{LANE, add_text_start, number_width};
 use crate::scale::CUT;
 use crate::strips::strips_of;
 use crate::style::{LEGEND, PATTERNS};
@@ -28,6 +29,7 @@ struct Board<'a> {
     sentences: &'a [Sentence],
     held: Vec<Held>,
     stops: Vec<Stop>,
+    axis: Axis,
     width: u64,
 }
 
@@ -67,19 +69,6 @@ fn add_signs(sheet: &mut Sheet, bars: &Bars) {
     }
 }
 
-/// The numbers of the lines in which something changes, as far as there is room.
-fn add_numbers(sheet: &mut Sheet, bars: &Bars, y: u64) {
-    let mut free = 0;
-    for line in bars.changed() {
-        let x = bars.scale.x(*line);
-        if x >= free {
-            add_text_start(sheet, "soft", x, y);
-            sheet.fill("{}</text>", &[Number(*line)]);
-            free = x.saturating_add(number_width(*line)).saturating_add(LETTER);
-        }
-    }
-}
-
 /// The marks of one lane, which all lanes use: a line down where something happens to a transition.
 fn add_marks(sheet: &mut Sheet, places: &[u64]) {
     sheet.markup("<g id=marks><path class=mark d=\"M0 0");
@@ -112,7 +101,7 @@ fn add_head(sheet: &mut Sheet, board: &Board<'_>, marks: &[u64]) {
     add_cuts(sheet, board.bars);
     sheet.markup("</defs>");
     add_signs(sheet, board.bars);
-    add_numbers(sheet, board.bars, 30);
+    board.axis.add_numbers(sheet, &board.bars.scale, 30);
     sheet.markup("</svg></td></tr></thead>");
 }
 
@@ -122,7 +111,7 @@ fn add_foot(sheet: &mut Sheet, board: &Board<'_>) {
         "<tfoot><tr><th></th><td><svg width=\"{}\" height=\"18\" aria-hidden=true>",
         &[Number(board.width)],
     );
-    add_numbers(sheet, board.bars, 13);
+    board.axis.add_numbers(sheet, &board.bars.scale, 13);
     sheet.markup("</svg></td></tr></tfoot></table></div>\n");
 }
 
@@ -201,6 +190,7 @@ pub fn add_drawing(
         sentences,
         held: all_held(alloc, &bars.scale, sentences)?,
         stops: stops(alloc, bars, &marks)?,
+        axis: axis_of(alloc, bars, sentences)?,
         width: bars.scale.end().saturating_add(44),
     };
     add_head(sheet, &board, &marks);
@@ -210,10 +200,10 @@ pub fn add_drawing(
             add_lane(alloc, sheet, &board, lane)?;
         }
     }
+    add_idle(sheet, bars);
     sheet.markup("</tbody>");
     add_foot(sheet, &board);
     sheet.markup(LEGEND);
-    add_idle(sheet, bars);
     add_note(sheet, bars);
     Ok(())
 }

@@ -2,7 +2,7 @@
 
 use crate::pen::{Area, BAR, TOP, add_rect, add_text_start, digits};
 use crate::scale::Scale;
-use crate::words::{Stop, free_place};
+use crate::words::{Stop, free_place, last_place};
 use klp_core::Manager;
 use klp_markup::Value::{Markup, Number, Text};
 use klp_markup::{Sheet, function_name, object_name, patch_name};
@@ -29,6 +29,8 @@ pub(crate) struct Held {
     is_told: bool,
     /// Whether the task holds the transition up.
     is_holding: bool,
+    /// Whether it is still so at the end.
+    is_lasting: bool,
     from: u64,
     to: u64,
 }
@@ -74,6 +76,7 @@ impl Gathered {
                 sentence,
                 is_told,
                 is_holding: matches!(sleepers.stay, Stay::Holds(_, _)),
+                is_lasting: sleepers.to.is_none(),
                 from,
                 to: to.max(from.saturating_add(FEWEST)),
             })?;
@@ -221,15 +224,27 @@ fn add_link(sheet: &mut Sheet, held: &Held, line: u64) {
     }
 }
 
-/// How much room a label of so many letters takes, which are smaller than others, with its border.
+/// How much room a label of so many letters takes, with its border.
 fn label_width(letters: usize) -> u64 {
-    (letters as u64).saturating_mul(27).saturating_add(43) / 4
+    (letters as u64).saturating_mul(30).saturating_add(43) / 4
+}
+
+/// Where a label of this width stands: first in its stay, but last in one that lasts, since of a drawing that is too wide for
+/// a screen the end is seen. Some of the stay is left in sight beside it.
+fn place_of_label(stops: &[Stop], held: &Held, width: u64) -> Option<u64> {
+    let room = width.saturating_add(SHOWN);
+    if held.is_lasting {
+        let place = last_place(stops, held.from, held.to, room)?;
+        Some(place.saturating_add(SHOWN))
+    } else {
+        free_place(stops, held.from, held.to, room)
+    }
 }
 
 /// Begins a label of so many letters, if there is room for it. Answers whether there is.
 fn add_plate(sheet: &mut Sheet, held: &Held, stops: &[Stop], letters: usize) -> bool {
     let width = label_width(letters);
-    let Some(place) = free_place(stops, held.from, held.to, width.saturating_add(SHOWN)) else {
+    let Some(place) = place_of_label(stops, held, width) else {
         return false;
     };
     let plate = Area {

@@ -1,4 +1,4 @@
-//! The tasks that do nothing, which have no lane in the drawing.
+//! The tasks that do nothing, which have one line in the drawing for them all.
 
 use crate::bars::Bars;
 use klp_markup::Sheet;
@@ -49,13 +49,13 @@ pub(crate) fn add_idle(sheet: &mut Sheet, bars: &Bars) {
     match count {
         0 => return,
         1 => sheet.markup(
-            "<p class=soft>1 task does nothing, and isn't drawn: it stays in user space. It is task ",
+            "<tr><td colspan=2><p class=idle><b>1 task does nothing</b>, and isn't drawn: it stays in user space. It is task ",
         ),
         _ => sheet.fill(
-            "<p class=soft>{} tasks do nothing, and aren't drawn: they stay in user space. They are tasks ",
+            "<tr><td colspan=2><p class=idle><b>{} tasks do nothing</b>, and aren't drawn: they stay in user space. They are tasks ",
             &[Number(count)],
         ),
     }
     add_numbers(sheet, bars);
-    sheet.markup(".</p>\n");
+    sheet.markup(".</p></td></tr>\n");
 }

@@ -11,6 +11,7 @@
 //! `--focus`.
 #![tactic(auto)]
 
+mod axis;
 mod bars;
 mod drawing;
 mod held;

@@ -1,17 +1,21 @@
 //! The style of a drawing, its patterns and its legend.
 
 /// What a page's style needs for a drawing. Blue and orange are told apart by colour-blind people, and by their
-/// lightness in grey. Whatever is to be seen in print is drawn or has a border, since print has no backgrounds.
+/// lightness in grey. Whatever is to be seen in print is drawn or has a border, since print has no backgrounds. There letters
+/// are 7 points high, for which names have less room. On a narrow screen, where the drawing scrolls, it begins with its end,
+/// which matters most: a box of the other direction does.
 pub const STYLE: &str =
     ":root{--old:#004070;--oldink:#fff;--new:#c98200;--newink:#111;--rest:#7a848e}
 @media screen and (prefers-color-scheme:dark){:root{--old:#2f7ab8;--oldink:#111;--new:#ffcf66;--rest:#8a949e}}
-.run{overflow-x:auto;border:1px solid var(--rule);border-radius:.5rem;padding:.6rem;background:var(--card)}
+.run{overflow-x:auto;border:1px solid var(--rule);border-radius:.5rem;padding:.6rem .6rem .6rem 0;background:var(--card)}
 .run table{border-spacing:0}.run th,.run td{padding:0;vertical-align:top}.run td svg{display:block}
-.run th{position:sticky;left:0;z-index:1;width:8rem;min-width:4.2rem;padding:3px .5rem 3px 0;text-align:left;
+.run th{position:sticky;left:0;z-index:1;width:8rem;min-width:4.2rem;padding:3px .5rem 3px .6rem;text-align:left;
 background:var(--card);border-right:1px solid var(--rule);font:12px/20px ui-monospace,\"DejaVu Sans Mono\",monospace;
 overflow-wrap:break-word}
 .run svg text{fill:var(--ink);font:12px ui-monospace,\"DejaVu Sans Mono\",monospace;paint-order:stroke;stroke-width:3px}
-.run svg text.name{font-size:11px}.run svg text.soft{fill:var(--soft)}.run svg text.above,.run svg text.gone{stroke:var(--card)}
+
+.run .idle{position:sticky;left:.6rem;width:fit-content;max-width:calc(100vw - 4rem);margin:.3rem .6rem;font-size:.9rem}
+.run svg text.soft{fill:var(--soft)}.run svg text.above,.run svg text.gone{stroke:var(--card)}
 .run rect,.legend rect{shape-rendering:crispEdges}
 .old{fill:var(--old)}.new,.enabled{fill:var(--new)}.rest{fill:var(--card);stroke:var(--rest);stroke-width:2}
 .coming,.leaving,.forced{fill:var(--card);stroke:var(--ink);stroke-width:2}.leaving{stroke-dasharray:5 3}
@@ -26,10 +30,12 @@ stroke-dasharray:none;stroke-width:3px}
 .gap{fill:var(--card)}.zig,.mark{stroke:var(--ink);fill:none}.mark{stroke-dasharray:2 4.5}
 .legend{display:flex;flex-wrap:wrap;gap:.2rem 1.2rem;margin:.5rem 0 0;padding:0;list-style:none;font-size:.9rem}
 .legend li{break-inside:avoid}.legend svg{vertical-align:-4px;margin-right:.4rem}
-@media screen and (max-width:60rem){.run::before{content:\"The drawing scrolls sideways \\2192\";display:block;position:sticky;
-left:0;width:fit-content;font-size:.9rem;color:var(--soft)}}
+@media screen and (max-width:60rem){.run{direction:rtl}.run table,.run::before{direction:ltr}.run table{margin:0 auto 0 0}
+.run::before{content:\"\\2190\\00a0Earlier lines: the drawing scrolls sideways\";display:block;position:sticky;left:.6rem;
+width:fit-content;font-size:.9rem;color:var(--soft)}}
 @media(max-width:40rem){.run th{width:4.2rem;line-height:16px}}
-@media print{.run{overflow:visible;zoom:.72}.run rect{shape-rendering:auto}.run tr{break-inside:avoid}.run th{position:static}}
+@media print{.run{overflow:visible;zoom:.78;border:0;padding:0}.run .idle{max-width:none}.run rect{shape-rendering:auto}.run tr{break-inside:avoid}
+.run th{position:static;width:4.2rem;padding-left:0}}
 ";
 
 /// What holds a transition up, and what isn't called now. Both are black and white, so that they are seen on each colour.

@@ -35,6 +35,24 @@ pub(crate) fn width_of(letters: usize) -> u64 {
     (letters as u64).saturating_mul(15).saturating_add(16) / 2
 }
 
+/// The last place between two others where there is so much room and no stop.
+pub(crate) fn last_place(stops: &[Stop], from: u64, to: u64, width: u64) -> Option<u64> {
+    let mut end = to;
+    for stop in stops.iter().rev() {
+        if stop.from < end {
+            if stop.to.max(from).saturating_add(width) <= end {
+                return Some(end.saturating_sub(width));
+            }
+            end = stop.from;
+        }
+    }
+    if from.saturating_add(width) <= end {
+        Some(end.saturating_sub(width))
+    } else {
+        None
+    }
+}
+
 /// The first place between two others where there is so much room and no stop.
 pub(crate) fn free_place(stops: &[Stop], from: u64, to: u64, width: u64) -> Option<u64> {
     let mut place = from;

@@ -27,12 +27,13 @@ code,samp{overflow-wrap:anywhere}
 gap:0 .6rem;padding:.35rem .2rem}
 summary{cursor:pointer;list-style:none;break-after:avoid}summary::-webkit-details-marker{display:none}
 .n{color:var(--soft);text-align:right;font-size:.86em}
-.row>summary .n::before{content:\"\\25b8 \"}.row[open]>summary .n::before{content:\"\\25be \"}
+.plus,.row>summary .n::before,.more>summary::before{content:\"+\";display:inline-block;width:1.05em;margin-right:.4em;
+border:1px solid;border-radius:.2em;line-height:1;text-align:center}.plus{margin:0}
+.row[open]>summary .n::before,.more[open]>summary::before{content:\"\\2212\"}
 div.row{color:var(--soft)}samp{white-space:pre-wrap}.no samp{color:var(--hold);font-weight:600}
 .held{grid-column:2/-1;justify-self:start;color:var(--hold);font-size:.86em}
 .fold{position:relative;border-top:1px solid var(--rule)}
 .more>summary{min-height:2.2rem;padding:.35rem .2rem .35rem 3rem}
-.more>summary::before{content:\"\\25b8 \"}.more[open]>summary::before{content:\"\\25be \"}
 .folded{position:absolute;top:.35rem;left:4rem;right:0;margin:0;color:var(--soft);pointer-events:none}
 @media(max-width:40rem){.row>summary,div.row{grid-template-columns:2.6rem minmax(0,1fr)}
 .row>summary samp,div.row samp{grid-column:2}.more>summary{min-height:3.6rem;padding-left:2.2rem}.folded{left:3.2rem}}
@@ -87,7 +88,7 @@ pub(crate) const FOLD_END: &str = "</details><p class=folded>";
 pub(crate) const FOLDED: &str = " more: no patch and no holder changes</p></div>\n";
 
 pub(crate) const FOOT: &str =
-    "<p class=soft>A click on a line with \u{25b8} shows what it changed.</p></html>\n";
+    "<p class=soft>A click on a line with <span class=plus>+</span> shows what it changed.</p></html>\n";
 
 /// The mark of a line after which others hold the transition up, and its end.
 pub(crate) const HELD: &str = "<b class=held>held up by ";
