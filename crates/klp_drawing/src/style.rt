@@ -31,9 +31,9 @@ stroke-dasharray:none;stroke-width:3px}
 .legend{display:flex;flex-wrap:wrap;gap:.2rem 1.2rem;margin:.5rem 0 0;padding:0;list-style:none;font-size:.9rem}
 .legend li{break-inside:avoid}.legend svg{vertical-align:-4px;margin-right:.4rem}
 @media screen and (max-width:60rem){.run{direction:rtl}.run table,.run::before{direction:ltr}.run table{margin:0 auto 0 0}
-.run::before{content:\"\\2190\\00a0Earlier lines: the drawing scrolls sideways\";display:block;position:sticky;left:.6rem;
+.run::before{content:\"\\2190  Earlier lines: the drawing scrolls sideways\";display:block;position:sticky;left:.6rem;
 width:fit-content;font-size:.9rem;color:var(--soft)}}
-@media(max-width:40rem){.run th{width:4.2rem;line-height:16px}}
+@media(max-width:40rem){.run th{width:4.7rem;line-height:16px}}
 @media print{.run{overflow:visible;zoom:.78;border:0;padding:0}.run .idle{max-width:none}.run rect{shape-rendering:auto}.run tr{break-inside:avoid}
 .run th{position:static;width:4.2rem;padding-left:0}}
 ";

@@ -1,3 +1,4 @@
+pub mod FaithfulLemmas
 pub mod PageLemmas
 pub mod RecordLemmas
 pub mod RowLemmas

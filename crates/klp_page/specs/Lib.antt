@@ -1,3 +1,4 @@
+pub mod Faithful
 pub mod Pages
 pub mod Rows
 pub mod Text

@@ -11,10 +11,12 @@
 #![tactic(auto)]
 
 mod head;
+mod laws;
 mod layout;
 mod page;
 mod record;
 mod row;
 mod style;
 
+pub use laws::a_page_is_true_to_its_run;
 pub use page::{page_over, page_words, write_page};

@@ -1,1 +1,2 @@
+pub mod StayLemmas
 pub mod ViewLemmas

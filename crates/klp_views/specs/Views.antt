@@ -15,6 +15,7 @@ use Rattle.klp_model.specs.declared.event.Reply.TheVariants as reply
 use Rattle.klp_model.specs.Blocked.{is_version}
 use Rattle.klp_model.specs.Pick.{pick_by}
 use Rattle.klp_model.specs.State.{State, installed_patches}
+use Rattle.klp_model.specs.Task.{task_at}
 use Rattle.klp_core.specs.declared.holders.Lag.{Lag}
 use Rattle.klp_core.specs.declared.holders.Lag.TheVariants as lag
 use Rattle.klp_core.specs.Holders.{is_blocked, lag_at, holders}
@@ -25,6 +26,7 @@ use Rattle.klp_timeline.specs.declared.moment.Fact.TheVariants.{Forces, PreFaile
 use Rattle.klp_timeline.specs.declared.moment.Stay.{Stay}
 use Rattle.klp_timeline.specs.declared.moment.Stay.TheVariants.{Holds, Outdated}
 use Rattle.klp_timeline.specs.declared.moment.View.{View}
+use Rattle.klp_timeline.specs.Stays.{stay_at}
 
 -- the site whose calls a version answers
 abbrev pub site_of : Setting → Version → Option ℕ
@@ -74,6 +76,11 @@ pub record IsView (setting : Setting) (state : State) (view : View) : Type 0 whe
   pub installed : view.installed.items ≡ installed_patches state
   pub stays : view.stays ≡ map (stay_in setting state) state.tasks
   pub waits : view.waits ≡ map wait_by (holders setting state)
+
+-- a view has of each number why it matters where its task sleeps
+abbrev pub IsStayAtEach : Type 0
+IsStayAtEach = (setting : Setting) (state : State) (view : View) (task : ℕ) → IsView setting state view
+    → stay_at view.stays task ≡ stay_in setting state (task_at state.tasks task)
 
 abbrev pub forces : Option Transition → Option Fact
 forces moving = option_map Forces moving
