@@ -5,7 +5,7 @@ use crate::bars::{Bars, LANES};
 use crate::held::{Held, add_areas, add_labels, all_held};
 use crate::idle::add_idle;
 use crate::lane::{add_bars, add_words};
-use crate::pen::{LANE, add_text_start, number_width};
+use crate::pen::{LANE, MARGIN, add_text_start, number_width};
 use crate::scale::CUT;
 use crate::strips::strips_of;
 use crate::style::{LEGEND, PATTERNS};
@@ -191,7 +191,7 @@ pub fn add_drawing(
         held: all_held(alloc, &bars.scale, sentences)?,
         stops: stops(alloc, bars, &marks)?,
         axis: axis_of(alloc, bars, sentences)?,
-        width: bars.scale.end().saturating_add(44),
+        width: bars.scale.end().saturating_add(MARGIN),
     };
     add_head(sheet, &board, &marks);
     sheet.markup("<tbody>");

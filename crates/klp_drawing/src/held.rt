@@ -1,6 +1,6 @@
 //! Who holds a transition up, or sleeps in code that isn't called now, in the lanes of the drawing.
 
-use crate::pen::{Area, BAR, TOP, add_rect, add_text_start, digits};
+use crate::pen::{Area, BAR, MARGIN, TOP, add_rect, add_text_start, digits};
 use crate::scale::Scale;
 use crate::words::{Stop, free_place, last_place};
 use klp_core::Manager;
@@ -230,15 +230,18 @@ fn label_width(letters: usize) -> u64 {
 }
 
 /// Where a label of this width stands: first in its stay, but last in one that lasts, since of a drawing that is too wide for
-/// a screen the end is seen. Some of the stay is left in sight beside it.
+/// a screen the end is seen. There it may stand over the end too. Some of the stay is left in sight beside it.
 fn place_of_label(stops: &[Stop], held: &Held, width: u64) -> Option<u64> {
     let room = width.saturating_add(SHOWN);
-    if held.is_lasting {
-        let place = last_place(stops, held.from, held.to, room)?;
-        Some(place.saturating_add(SHOWN))
-    } else {
-        free_place(stops, held.from, held.to, room)
+    if !held.is_lasting {
+        return free_place(stops, held.from, held.to, room);
     }
+    let behind = held.to.saturating_add(MARGIN).saturating_sub(FEWEST);
+    let place = match last_place(stops, held.from, held.to, room) {
+        Some(place) => place,
+        None => last_place(stops, held.from, behind, room)?,
+    };
+    Some(place.saturating_add(SHOWN))
 }
 
 /// Begins a label of so many letters, if there is room for it. Answers whether there is.

@@ -11,6 +11,9 @@ pub(crate) const TOP: u64 = 3;
 
 pub(crate) const BAR: u64 = 20;
 
+/// How much room there is behind the end of a lane.
+pub(crate) const MARGIN: u64 = 44;
+
 /// How wide a letter is at most.
 pub(crate) const LETTER: u64 = 8;
 
