@@ -9,7 +9,7 @@ pub const STYLE: &str =
 @media screen and (prefers-color-scheme:dark){:root{--old:#2f7ab8;--oldink:#111;--new:#ffcf66;--rest:#8a949e}}
 .run{overflow-x:auto;border:1px solid var(--rule);border-radius:.5rem;padding:.6rem .6rem .6rem 0;background:var(--card)}
 .run table{border-spacing:0}.run th,.run td{padding:0;vertical-align:top}.run td svg{display:block}
-.run th{position:sticky;left:0;z-index:1;width:8rem;min-width:4.2rem;padding:3px .5rem 3px .6rem;text-align:left;
+.run th{position:sticky;left:0;z-index:1;width:8rem;min-width:4.9rem;padding:3px .5rem 3px .6rem;text-align:left;
 background:var(--card);border-right:1px solid var(--rule);font:12px/20px ui-monospace,\"DejaVu Sans Mono\",monospace;
 overflow-wrap:break-word}
 .run svg text{fill:var(--ink);font:12px ui-monospace,\"DejaVu Sans Mono\",monospace;paint-order:stroke;stroke-width:3px}
@@ -33,9 +33,9 @@ stroke-dasharray:none;stroke-width:3px}
 @media screen and (max-width:60rem){.run{direction:rtl}.run table,.run::before{direction:ltr}.run table{margin:0 auto 0 0}
 .run::before{content:\"\\2190  Earlier lines: the drawing scrolls sideways\";display:block;position:sticky;left:.6rem;
 width:fit-content;font-size:.9rem;color:var(--soft)}}
-@media(max-width:40rem){.run th{width:4.7rem;line-height:16px}}
+@media(max-width:40rem){.run th{width:4.9rem;line-height:16px}}
 @media print{.run{overflow:visible;zoom:.78;border:0;padding:0}.run .idle{max-width:none}.run rect{shape-rendering:auto}.run tr{break-inside:avoid}
-.run th{position:static;width:4.2rem;padding-left:0}}
+.run th{position:static;width:4.9rem;padding-left:0}}
 ";
 
 /// What holds a transition up, and what isn't called now. Both are black and white, so that they are seen on each colour.
