@@ -5,8 +5,9 @@ import subprocess
 TOP = os.path.dirname(os.path.dirname(os.path.abspath(__file__)))
 EXAMPLES = f"{TOP}/examples"
 PROGRAMS = ("klpsim", "klpwatch", "klppage")
-# What ./klpsim says on standard error of a program that isn't proved, beside what the program says itself.
-DOOR = (": what follows isn't proved;", ": it is compiled first,", ": it is still being compiled,")
+# What ./klpsim says on standard error, of a program that isn't proved and of words that are refused, beside what the program
+# says itself.
+DOOR = (": what follows isn't proved;", ": it is compiled first,", ": it is still being compiled,", ": how it is called,")
 # How long a run may take, and one that compiles first, on a machine that does much else.
 SECONDS, COMPILE_SECONDS = 300, 3600
 
