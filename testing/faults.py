@@ -24,6 +24,9 @@ OWN_SYMBOL = "wanted is one symbol of the catalog, as .klp.sym.OBJECT.SYMBOL,POS
 FRAME = "wanted is .klp.sym.OBJECT.SYMBOL,POSITION or PATCH:INDEX, of the catalog"
 FILE = "wanted is /sys/kernel/livepatch/PATCH/enabled or force, of a known patch"
 MARK = "wanted is ASCII alone, and no byte-order mark in front"
+WIDE = "UTF-16, by its first two bytes: wanted is ASCII or UTF-8"
+SCRIPT_LINE = "a line of a script, where a trace is wanted: klppage takes scripts"
+TRACE_LINE = "a line of a trace, where a script is wanted: klpwatch takes traces"
 F = ".klp.sym.vmlinux.f,0"
 # Lines behind the five of PATCH, and what is told of the last one.
 FAULTY = [
@@ -67,6 +70,8 @@ CATALOGS = [
     ("", "line 0: Missing: wanted are a handler and an object"),
     (f"\ufeff{KERNEL}", f"line 1: NotAscii: '\\u{{feff}}handler ffffffff81000000': {MARK}"),
     (f"{KERNEL}\ufeffobject m\n", f"line 4: NotAscii: '\\u{{feff}}object m': {MARK}"),
+    (b"\xfe\xffx\n", "line 1: NotAscii: '\\xfe\\xffx': wanted is ASCII alone, and this is UTF-16"),
+    (b"\xff\xfex\n", "line 1: NotAscii: '\\xff\\xfex': wanted is ASCII alone, and this is UTF-16"),
     (f"{KERNEL}object vmlinux\n", "line 4: Twice: 'vmlinux': wanted is a name that no object has"),
     (f"{HANDLER}{HANDLER}", "line 2: Twice: 'handler': wanted is one handler"),
     (
@@ -88,13 +93,17 @@ CATALOGS = [
     (
         f"{PATCH}func .klp.sym.vmlinux.g,0 g_p 0\nfunc .klp.sym.vmlinux.f,1 f_p 0\n"
         "func .klp.sym.vmlinux.g,0 g_q 0\nfunc .klp.sym.vmlinux.f,0 f_q 0\n",
-        "SameSite: f_p and f_q of patch p are both for f of vmlinux",
+        "line 6: hint: '.klp.sym.vmlinux.g,0': wanted is a symbol of vmlinux, which has no g, but f; "
+        "else load p is refused (NoSymbol)\nSameSite: f_p and f_q of patch p are both for f of vmlinux",
     ),
 ]
 # A catalog with two symbols of one name, a module and a patch.
 MORE = f"""{KERNEL}symbol d ffffffff81002000 e800000000\nsymbol d ffffffff81003000 e800000000
 object m\nsymbol g ffffffffa0000000 e800000000\npatch p\ntarget vmlinux\nfunc {F} f_p ffffffffc0001000
 """
+NO_SYMBOL = "wanted is a symbol of vmlinux, which has no"
+NO_OBJECT = "wanted is an object of the catalog, which has no"
+TWO = "vmlinux has 2 symbols d"
 # Lines of a trace over MORE that are no items, and what is told of them.
 ITEMS = [
     ("", "wanted is an item on each line"),
@@ -102,10 +111,13 @@ ITEMS = [
     (f"call 1 {F} 2", f"'call 1 {F} 2': wanted is call TASK SYMBOL"),
     (f"call x {F}", "'x': wanted is a task, from 0 to 63"),
     ("call 1 f", f"'f': {OWN_SYMBOL}"),
-    ("call 1 .klp.sym.vmlinux.nope,0", f"'.klp.sym.vmlinux.nope,0': {OWN_SYMBOL}"),
-    ("call 1 .klp.sym.nope.f,0", f"'.klp.sym.nope.f,0': {OWN_SYMBOL}"),
-    ("call 1 .klp.sym.vmlinux.d,0", f"'.klp.sym.vmlinux.d,0': {OWN_SYMBOL}"),
-    ("call 1 .klp.sym.vmlinux.d,3", f"'.klp.sym.vmlinux.d,3': {OWN_SYMBOL}"),
+    ("call 1 .klp.sym.vmlinux.nope,0", f"'.klp.sym.vmlinux.nope,0': {NO_SYMBOL} nope"),
+    ("call 1 .klp.sym.m.d,0", "'.klp.sym.m.d,0': wanted is a symbol of m, which has no d, but g"),
+    ("call 1 .klp.sym.nope.f,0", f"'.klp.sym.nope.f,0': {NO_OBJECT} nope"),
+    ("call 1 .klp.sym.vmlinx.f,0", f"'.klp.sym.vmlinx.f,0': {NO_OBJECT} vmlinx, but vmlinux"),
+    ("call 1 .klp.sym.vmlinux.d,0", f"'.klp.sym.vmlinux.d,0': wanted is a position from 1 to 2: {TWO}"),
+    ("call 1 .klp.sym.vmlinux.d,3", f"'.klp.sym.vmlinux.d,3': wanted is a position up to 2: {TWO}"),
+    ("call 1 .klp.sym.vmlinux.f,2", "'.klp.sym.vmlinux.f,2': wanted is position 0 or 1: vmlinux has one symbol f"),
     ("return", "'return': wanted is return TASK"),
     ("return 64", "'64': wanted is a task, from 0 to 63"),
     ("load z", "'z': wanted is a patch of the catalog"),
@@ -125,17 +137,37 @@ ITEMS = [
     ("task fork 1", "'task fork 1': wanted is task fork TASK TASK"),
     ("task goes 1", "'goes': wanted is new, end, enter, exit, wake, fork or sleep"),
     ("task sleep", "'task sleep': wanted is task sleep TASK FRAME .."),
-    ("task sleep 1 .klp.sym.vmlinux.nope,0", f"'.klp.sym.vmlinux.nope,0': {FRAME}"),
+    ("task sleep 1 .klp.sym.vmlinux.nope,0", f"'.klp.sym.vmlinux.nope,0': {NO_SYMBOL} nope"),
+    ("task sleep 1 p:0 .klp.sym.vmlinux.d,0", f"'.klp.sym.vmlinux.d,0': wanted is a position from 1 to 2: {TWO}"),
+    ("task sleep 1 f", f"'f': {FRAME}"),
     ("task sleep 1 .klp.sym.vmlinux.d,2 p:1 z:0", f"'z:0': {FRAME}"),
     ("task sleep 1 p:65536", f"'p:65536': {FRAME}"),
     (f"task sleep 1{33 * ' p:0'}", f"'task sleep 1{13 * ' p:0'}'..: wanted are 32 functions at most"),
-    ("shadow get 1 2", f"'shadow get 1 2': {ITEM}"),
-    ("text vmlinux", f"'text vmlinux': {ITEM}"),
+    ("shadow put 1 2", f"'shadow put 1 2': {ITEM}"),
+]
+# Symbols of much the same names, those that are asked for, and the one that is told as near.
+ALIKE = ("shop_two", "show_one", "show_two", "stop_one")
+NEAR = [
+    ("show_tw", "show_two"),
+    ("show_ne", "show_one"),
+    ("xshow_one", "show_one"),
+    ("shoW_one", "show_one"),
+    ("shwo_one", "show_one"),
+    ("sho_on", "show_one"),
+    ("st_one", "stop_one"),
+    ("stip_two", "shop_two"),
+    ("show", None),
+    ("show_three", None),
+    ("swoh_one1", None),
 ]
 # Traces over KERNEL, and what is told of their line that is no item.
 TRACES = [
     ("task new 1\n\n", "line 2: BadItem: wanted is an item on each line"),
-    ("text vmlinux\r\n", f"line 1: hint: {DROPPED}\nline 1: BadItem: 'text vmlinux': {ITEM}"),
+    ("call\r\n", f"line 1: hint: {DROPPED}\nline 1: BadItem: 'call': wanted is call TASK SYMBOL"),
+    ("task new 1\ntext vmlinux\n", f"line 2: hint: {SCRIPT_LINE}\nline 2: BadItem: 'text vmlinux': {ITEM}"),
+    ("shadow get 1 2\n", f"line 1: hint: {SCRIPT_LINE}\nline 1: BadItem: 'shadow get 1 2': {ITEM}"),
+    (b"\xff\xfep\r\n", f"line 1: hint: {WIDE}\nline 1: BadItem: '\\xff\\xfep': {ITEM}"),
+    (b"\xfe\xffp\n", f"line 1: hint: {WIDE}\nline 1: BadItem: '\\xfe\\xffp': {ITEM}"),
     (KERNEL, f"line 1: hint: a catalog, where a trace is wanted\nline 1: BadItem: 'handler ffffffff81000000': {ITEM}"),
 ]
 # Traces over MORE, and what is told of their last line, which isn't honest.
@@ -143,7 +175,8 @@ IN = "task new 1\ntask enter 1\n"
 D, G = ".klp.sym.vmlinux.d,1", ".klp.sym.m.g,0"
 OUTSIDE = f"NoCall: task 1 calls {F}, and isn't running in the kernel"
 UNLOADED = f"NoCall: task 1 calls {G}, whose object isn't loaded"
-SLEEP = "wanted is each function that the task is inside of, a patch's as PATCH:INDEX; its calls are of"
+SLEEP = "wanted is each function that the task is inside of:"
+F1 = ".klp.sym.vmlinux.f,1"
 DISHONEST = [
     (f"call 1 {F}", OUTSIDE),
     (f"task new 1\ncall 1 {F}", OUTSIDE),
@@ -153,13 +186,50 @@ DISHONEST = [
     (f"{IN}call 1 {G}", UNLOADED),
     (f"task new 1\ncall 1 {G}", UNLOADED),
     (f"insmod m\nrmmod m\n{IN}call 1 {G}", UNLOADED),
-    (f"{IN}call 1 {F}\ntask sleep 1", f"Frames: 'task sleep 1': {SLEEP} {F}"),
-    (f"{IN}task sleep 1 {F}", f"Frames: 'task sleep 1 {F}': {SLEEP} no function"),
-    (f"{IN}call 1 {F}\nreturn 1\ncall 1 {D}\ncall 1 {F}\ntask sleep 1 {D}", f"Frames: 'task sleep 1 {D}': {SLEEP} {D} {F}"),
-    (f"load p\npoll\n{IN}call 1 {F}\ntask sleep 1 {F}", f"Frames: 'task sleep 1 {F}': {SLEEP} {F}"),
-    (f"{IN}{4 * f'call 1 {F}{chr(10)}'}task sleep 1", f"Frames: 'task sleep 1': {SLEEP}{4 * f' {F}'}"),
-    (f"{IN}{5 * f'call 1 {F}{chr(10)}'}task sleep 1", f"Frames: 'task sleep 1': {SLEEP}{4 * f' {F}'} .."),
+    (f"{IN}call 1 {F}\ntask sleep 1", f"Frames: 'task sleep 1': {SLEEP} {F1}"),
+    (f"{IN}task sleep 1 {F}", f"Frames: 'task sleep 1 {F}': {SLEEP} none"),
+    (f"{IN}call 1 {F}\nreturn 1\ncall 1 {D}\ncall 1 {F}\ntask sleep 1 {D}", f"Frames: 'task sleep 1 {D}': {SLEEP} {D} {F1}"),
+    (f"load p\npoll\n{IN}call 1 {F}\ntask sleep 1 {F}", f"Frames: 'task sleep 1 {F}': {SLEEP} p:0 (f_p)"),
+    # one version is older than the patch, and one is the patch's
+    (f"{IN}call 1 {F}\nload p\n{IN.replace('1', '2')}call 2 {F}\ntask sleep 2", f"Frames: 'task sleep 2': {SLEEP} p:0 (f_p)"),
+    (f"{IN}call 1 {F}\nload p\ntask sleep 1 p:0", f"Frames: 'task sleep 1 p:0': {SLEEP} {F1}"),
+    (f"{IN}{4 * f'call 1 {F}{chr(10)}'}task sleep 1", f"Frames: 'task sleep 1': {SLEEP}{4 * f' {F1}'}"),
+    (f"{IN}{5 * f'call 1 {F}{chr(10)}'}task sleep 1", f"Frames: 'task sleep 1': {SLEEP}{4 * f' {F1}'} .."),
 ]
+# A patch with two targets, the second function of which is in the second one.
+TWICE = f"{MORE}target m\nfunc {G} g_p ffffffffc0002000\n"
+IN_MODULE = f"insmod m\nload p\npoll\n{IN}call 1 {G}\ntask sleep 1\n"
+# Honest traces over KERNEL, and what is told of their refused events.
+REFUSED_EVENTS = [
+    ("task new 1\n", ""),
+    ("task end 5\n", "line 1: hint: 'task end 5': NoTask; 1 of 1 events refused, which is no fault"),
+    (
+        f"{IN}call 1 {F}\ntask new 1\nreturn 1\npoll\ntask exit 1\n",
+        "line 4: hint: 'task new 1': TaskThere; 2 of 5 events refused, which is no fault",
+    ),
+]
+# A function behind PATCH, or the target that it is in, a trace, and what is told of it. All traces are honest.
+NOPE, LATER = ".klp.sym.vmlinux.nope,0", ".klp.sym.vmlinux.f,2"
+UNLOADABLE = [
+    ("func .klp.sym.vmlinux.d,2 f_p 0", "task new 1\n", ""),
+    (f"func {NOPE} f_p 0", "task new 1\n", f"line 11: hint: '{NOPE}': {NO_SYMBOL} nope; else load p is refused (NoSymbol)"),
+    (
+        f"func {LATER} f_p 0",
+        "task new 1\n",
+        f"line 11: hint: '{LATER}': wanted is position 0 or 1: vmlinux has one symbol f; else load p is refused (NoSymbol)",
+    ),
+    (
+        "target m\nfunc .klp.sym.m.h,0 f_p 0",
+        "task new 1\n",
+        "line 12: hint: '.klp.sym.m.h,0': wanted is a symbol of m, which has no h, but g; "
+        "else load p or insmod m is refused (NoSymbol)",
+    ),
+    ("func .klp.sym.vmlinux.d,0 f_p 0", "task new 1\n", ""),
+]
+AMBIGUOUS = (
+    f"line 11: hint: '.klp.sym.vmlinux.d,0': wanted is a position from 1 to 2: {TWO}; else load p is refused (NoSymbol)"
+)
+LOADED = "line 1: hint: 'load p': NoSymbol; 1 of 1 events refused, which is no fault"
 # Scripts over KERNEL, with the status, and what is told of them.
 SCRIPTS = [
     (f"mark\n{'x' * 257}\n", 1, f"line 2: LineTooLong: '{64 * 'x'}'..: wanted are 256 bytes at most"),
@@ -170,6 +240,11 @@ SCRIPTS = [
     ("mark\tmark\n\tmark\n", 0, "line 1: hint: a tab, which is part of a word: spaces separate words"),
     ("mark\n mark #\n#\n", 0, "line 3: hint: a line that begins with #, and is no comment here"),
     (KERNEL, 0, "line 1: hint: a catalog, where a script is wanted"),
+    (f"task new 1\ncall 1 {F}\nreturn 1\n", 0, f"line 2: hint: {TRACE_LINE}"),
+    ("return 1\n", 0, f"line 1: hint: {TRACE_LINE}"),
+    ("text vmlinux\nshadow get 1 2\n", 0, ""),
+    (b"\xff\xfem\t\r\n# a", 0, f"line 1: hint: {WIDE}"),
+    (b"\xfe\xffm\n", 0, f"line 1: hint: {WIDE}"),
 ]
 # How the programs say that they are called, and words that they refuse.
 USAGE = {"klpwatch": "CATALOG TRACE", "klppage": "CATALOG SCRIPT"}
@@ -181,7 +256,7 @@ def told(program, texts, status, said):
     with tempfile.TemporaryDirectory(prefix="faults-") as room:
         for name, text in texts.items():
             with open(f"{room}/{name}", "wb") as it:
-                it.write(text.encode("latin-1" if "\x80" in text else "utf-8"))
+                it.write(text if isinstance(text, bytes) else text.encode("latin-1" if "\x80" in text else "utf-8"))
         came, _, err = finish(start([f"{TOP}/{program}", *texts], room))
         return fault((came, own(err)), (status, said))
 
@@ -213,6 +288,22 @@ def last_line(trace, status, said):
     return case("klpwatch", MORE, f"{trace}\n", status, f"line {number}: {said}", of="trace")
 
 
+def near_name(name, near):
+    """A case of what klpwatch tells of a symbol that isn't there, where there are some of much the same names."""
+    catalog = f"{HANDLER}object vmlinux\n"
+    for number, own in enumerate(ALIKE):
+        catalog += f"symbol {own} ffffffff8100{number}000 e800000000\n"
+    word = f".klp.sym.vmlinux.{name},0"
+    said = f"line 1: BadItem: '{word}': {NO_SYMBOL} {name}{f', but {near}' if near else ''}"
+    return case("klpwatch", catalog, f"call 1 {word}\n", 1, said, of="trace")
+
+
+def ambiguous():
+    """A function that is for several symbols is told where its patch is loaded."""
+    texts = {"a.catalog": f"{MORE}func .klp.sym.vmlinux.d,0 f_p 0\n", "a.trace": "load p\n"}
+    return told("klpwatch", texts, 0, f"klpwatch: a.catalog: {AMBIGUOUS}\nklpwatch: a.trace: {LOADED}\n")
+
+
 def cases():
     made = []
     for line, said in FAULTY:
@@ -222,7 +313,13 @@ def cases():
     made += [case("klppage", catalog, "poll\n", 1, said) for catalog, said in CATALOGS]
     made += [case("klpwatch", KERNEL, trace, 1, said, of="trace") for trace, said in TRACES]
     made += [last_line(line, 1, f"BadItem: {said}") for line, said in ITEMS]
+    made += [near_name(*row) for row in NEAR]
     made += [last_line(trace, 3, said) for trace, said in DISHONEST]
+    made.append(case("klpwatch", TWICE, IN_MODULE, 3, f"line 7: Frames: 'task sleep 1': {SLEEP} p:1 (g_p)", of="trace"))
+    made += [case("klpwatch", KERNEL, trace, 0, said, of="trace") for trace, said in REFUSED_EVENTS]
+    for program, (line, second, said) in itertools.product(USAGE, UNLOADABLE):
+        made.append(case(program, f"{MORE}{line}\n", second, 0, said))
+    made.append(("klpwatch, an ambiguous function", ambiguous))
     made += [case("klppage", KERNEL, script, status, said, of="script") for script, status, said in SCRIPTS]
     for program, words in itertools.product(USAGE, REFUSED):
         made.append((f"{program}, the words {words}", functools.partial(not_called_so, program, words)))

@@ -1,17 +1,11 @@
 //! What tasks are inside of, by the calls of a trace.
 
-use crate::escaped::Escaped;
 use crate::item::Item;
 use klp_catalog_text::Lines;
 use std::alloc::{AllocError, Global};
-use std::io;
-use std::io::Write;
 
 /// In front of a symbol's object, in its spelling.
 const SPELLING: &[u8] = b".klp.sym.";
-
-/// How many of a task's are told.
-const TOLD: usize = 4;
 
 /// A call that wasn't returned from.
 #[derive(Clone, Copy)]
@@ -73,22 +67,6 @@ impl<'a> Calls<'a> {
     pub(crate) fn last_of(&self, task: u64) -> Option<&'a [u8]> {
         let call = self.open.iter().rfind(|call| call.task == task)?;
         Some(call.symbol)
-    }
-
-    /// Writes the symbols that the task called to the end of a line, the first ones of many.
-    pub(crate) fn write_of<E: Write>(&self, task: u64, err: &mut E) -> io::Result<()> {
-        let mut count: usize = 0;
-        for call in &self.open {
-            if call.task == task && count < TOLD {
-                write!(err, " {}", Escaped(call.symbol))?;
-            }
-            count = count.saturating_add(usize::from(call.task == task));
-        }
-        match count {
-            0 => writeln!(err, " no function"),
-            1..=TOLD => writeln!(err),
-            _ => writeln!(err, " .."),
-        }
     }
 
     /// The first task that is inside of a module, with the symbol of it that it called last.

@@ -11,6 +11,9 @@ use klp_words::{
 };
 use std::alloc::Global;
 
+/// A byte-order mark of UTF-16 in front of a text.
+const WIDE_MARKS: [[u8; 2]; 2] = [[0xfe, 0xff], [0xff, 0xfe]];
+
 /// How many digits a byte of a body has.
 const DIGITS: usize = 2;
 
@@ -25,6 +28,18 @@ pub(crate) fn begins_as_catalog(text: &[u8]) -> bool {
         }
     }
     false
+}
+
+/// Whether a text is UTF-16, by its first two bytes.
+pub(crate) fn begins_as_wide(text: &[u8]) -> bool {
+    WIDE_MARKS.iter().any(|mark| text.starts_with(mark))
+}
+
+/// The first two words of a line; an empty one where there is none.
+pub(crate) fn first_words(line: &[u8]) -> (&[u8], &[u8]) {
+    let mut words = words_of(line.strip_suffix(b"\r").unwrap_or(line));
+    let first = words.next().unwrap_or(&[]);
+    (first, words.next().unwrap_or(&[]))
 }
 
 fn is_body(word: &[u8]) -> bool {
@@ -139,6 +154,9 @@ pub(crate) fn wrong_of(alloc: Global, catalog: &[u8], fault: TextFault) -> Wrong
     match fault.kind {
         TextFaultKind::Missing => Wrong::Lacking("are a handler and an object"),
         TextFaultKind::NoMemory => Wrong::Lacking("is more memory"),
+        TextFaultKind::NotAscii if begins_as_wide(catalog) => {
+            Wrong::Word(line, "is ASCII alone, and this is UTF-16")
+        }
         TextFaultKind::NotAscii if line.starts_with(&BYTE_ORDER_MARK) => {
             Wrong::Word(line, "is ASCII alone, and no byte-order mark in front")
         }

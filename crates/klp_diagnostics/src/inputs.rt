@@ -3,14 +3,16 @@ ghost use Rattle.std.specs.Prelude.{◌≡◌, IfErr};
 
 use crate::act::act_of;
 use crate::calls::Calls;
-use crate::catalog_line::begins_as_catalog;
-use crate::escaped::Escaped;
+use crate::catalog_line::{begins_as_catalog, begins_as_wide};
+use crate::escaped::{Escaped, Quoted};
 use crate::item::Item;
 use crate::lack::lack_of;
 use crate::lines::line_at;
 use crate::names::Names;
+use crate::replay::{Replay, replay_of};
 use crate::same_site::first_pair;
-use crate::stray::STRAYS;
+use crate::stray::{STRAYS, Stray};
+use crate::unpicked::first_unloadable;
 use crate::wrong::Wrong;
 use crate::{catalog_line, image, item};
 use klp_catalog::{AssembleFault, Catalog};
@@ -28,7 +30,7 @@ use std::rt::Files;
 const FAULT: u8 = 1;
 
 /// What is wanted of a task that falls asleep.
-const SLEEP: &str = "is each function that the task is inside of, a patch's as PATCH:INDEX";
+const SLEEP: &str = "is each function that the task is inside of";
 
 /// A file that a program was given: what it is called, and its bytes.
 #[derive(Clone, Copy)]
@@ -73,15 +75,15 @@ pub fn file_in<R: Files + AllocGlobal, E: Write>(
     }
 }
 
-/// What is wrong in a line of a trace over this plan.
-fn wrong_item(mut plan: Plan, line: &[u8]) -> Wrong<'_> {
+/// What is wrong in a line of a trace over the plan of this catalog.
+fn wrong_item<'a>(mut plan: Plan, line: &'a [u8], catalog: &'a [u8]) -> Wrong<'a> {
     let objects = plan.take_objects();
     let (patches, _names) = plan.into_patches();
     let names = Names {
         objects: &objects,
         patches: &patches,
     };
-    item::wrong_of(line, &names)
+    item::wrong_of(line, &names, catalog)
 }
 
 impl<'a> FileText<'a> {
@@ -96,25 +98,25 @@ impl<'a> FileText<'a> {
 }
 
 impl<'a> Inputs<'a> {
-    /// Hints at what stands in the file beside the catalog and may be meant otherwise than it is, in its first line of each
-    /// kind. Of swapped files the fault tells all.
+    /// Hints at a function of the catalog whose symbol isn't picked, and at what stands in the file beside the catalog and
+    /// may be meant otherwise than it is, in its first line of each kind. Of swapped files the fault tells all.
     pub fn hint<E: Write>(&self, err: &mut E) {
         if self.are_swapped() {
             return;
         }
+        let _ = self.write_unloadable(err);
         for stray in STRAYS {
-            if let Some(line) = stray.first_line(self.second.bytes) {
-                let _ = self.second.write_place(self.program, line as u64, err);
-                let _ = writeln!(err, "hint: {}", stray.hint(self.kind));
-            }
+            let _ = self.write_stray(stray, err);
         }
     }
 
-    /// Tells where a trace isn't honest: the task, and the function that it is inside of.
+    /// Tells where a trace isn't honest: the task, and the function that it is inside of. Of an honest one it hints at the
+    /// events that are refused.
     pub fn tell_verdict<E: Write>(&self, alloc: Global, verdict: Verdict, err: &mut E) {
-        if let Verdict::Dishonest(fault) = verdict {
-            let _ = self.write_item(alloc, fault, err);
-        }
+        let _ = match verdict {
+            Verdict::Honest(_) => self.write_refused(alloc, err),
+            Verdict::Dishonest(fault) => self.write_item(alloc, fault, err),
+        };
     }
 
     /// Tells a fault, and answers its exit status.
@@ -123,6 +125,53 @@ impl<'a> Inputs<'a> {
     {
         let _ = self.write_fault(alloc, fault, err);
         FAULT
+    }
+
+    fn write_unloadable<E: Write>(&self, err: &mut E) -> io::Result<()> {
+        match first_unloadable(self.catalog.bytes, self.second.bytes) {
+            Some(found) => {
+                self.catalog
+                    .write_place(self.program, found.line as u64, err)?;
+                writeln!(err, "hint: {found}")
+            }
+            None => Ok(()),
+        }
+    }
+
+    /// What is UTF-16 has lines of another kind, of which nothing else is told.
+    fn write_stray<E: Write>(&self, stray: Stray, err: &mut E) -> io::Result<()> {
+        let text = self.second.bytes;
+        let is_told = matches!(stray, Stray::Wide) || !begins_as_wide(text);
+        match (stray.first_line(text), stray.hint(self.kind)) {
+            (Some(line), Some(hint)) if is_told => {
+                self.second.write_place(self.program, line as u64, err)?;
+                writeln!(err, "hint: {hint}")
+            }
+            _ => Ok(()),
+        }
+    }
+
+    /// How many events of an honest trace are refused, if any are.
+    fn write_refused<E: Write>(&self, alloc: Global, err: &mut E) -> io::Result<()> {
+        let trace = self.second.bytes;
+        match replay_of(alloc, self.catalog.bytes, trace, trace.len() as u64) {
+            Some(replay) => self.write_first_refused(&replay, err),
+            None => Ok(()),
+        }
+    }
+
+    fn write_first_refused<E: Write>(&self, replay: &Replay<'_>, err: &mut E) -> io::Result<()> {
+        let Some(first) = replay.first else {
+            return Ok(());
+        };
+        let event = Quoted(line_at(self.second.bytes, first.line));
+        let (refused, events) = (replay.refused, replay.events);
+        self.second.write_place(self.program, first.line, err)?;
+        writeln!(
+            err,
+            "hint: {event}: {}; {refused} of {events} events refused, which is no fault",
+            first.refusal
+        )
     }
 
     fn write_item<E: Write>(&self, alloc: Global, fault: NotHonest, err: &mut E) -> io::Result<()> {
@@ -147,14 +196,32 @@ impl<'a> Inputs<'a> {
         let line = line_at(self.second.bytes, number);
         match (fault.cause, Item::read(line)) {
             (Cause::Frames, Some(Item::Sleep(task))) => {
-                write!(err, "{}; its calls are of", Wrong::Word(line, SLEEP))?;
-                calls.write_of(task, err)
+                write!(err, "{}:", Wrong::Word(line, SLEEP))?;
+                self.write_versions(alloc, number.saturating_sub(1), task, err)
             }
             (Cause::NoCall, Some(Item::Call(task, symbol))) => {
                 let lack = lack_of(alloc, self, number, task);
                 writeln!(err, "task {task} calls {}, {lack}", Escaped(symbol))
             }
             (cause, item) => writeln!(err, "{}", act_of(cause, item, calls)),
+        }
+    }
+
+    /// What a task is inside of behind so many lines.
+    fn write_versions<E: Write>(
+        &self,
+        alloc: Global,
+        lines: u64,
+        task: u64,
+        err: &mut E,
+    ) -> io::Result<()> {
+        let replay = replay_of(alloc, self.catalog.bytes, self.second.bytes, lines);
+        match (replay, Catalog::read(alloc, self.catalog.bytes)) {
+            (Some(replay), Ok(plan)) => {
+                let (patches, _names) = plan.into_patches();
+                replay.write_versions(task, &patches, err)
+            }
+            _ => writeln!(err, " there is no memory to find them"),
         }
     }
 
@@ -226,7 +293,11 @@ impl<'a> Inputs<'a> {
         let line = line_at(self.second.bytes, fault.line);
         self.second.write_place(self.program, fault.line, err)?;
         match Catalog::read(alloc, self.catalog.bytes) {
-            Ok(plan) => writeln!(err, "BadItem: {}", wrong_item(plan, line)),
+            Ok(plan) => writeln!(
+                err,
+                "BadItem: {}",
+                wrong_item(plan, line, self.catalog.bytes)
+            ),
             Err(_) => writeln!(err, "BadItem"),
         }
     }

@@ -1,7 +1,7 @@
 //! The lines of a trace, as far as they tell of one task, and one that is no item.
 
 use crate::lines::word_at;
-use crate::names::{Kind, Names};
+use crate::names::{Kind, Names, wrong_word};
 use crate::wrong::Wrong;
 use klp_types::MAX_FRAMES;
 use klp_words::{Separators, Words, number64};
@@ -98,22 +98,27 @@ fn begins_as(form: &[u8], line: &[u8]) -> bool {
     first == word(line, 1) && (!has_verb || second == word(line, 2))
 }
 
-/// What is wanted in place of a word, if it isn't what this word of a form stands for.
-fn in_place_of(part: &[u8], word: &[u8], names: &Names<'_>) -> Option<&'static str> {
+/// What a word has to be, if it isn't what this word of a form stands for.
+fn in_place_of(part: &[u8], word: &[u8], names: &Names<'_>) -> Option<Kind> {
     let (_, kind) = KINDS.iter().find(|row| row.0.as_bytes() == part)?;
-    (!names.has(*kind, word)).then_some(kind.wanted())
+    (!names.has(*kind, word)).then_some(*kind)
 }
 
 /// The first word of a line that isn't what the form has there. A line that fits and is no item has too many functions, or
 /// asks for no event.
-fn wrong_in<'a>(form: &'static str, line: &'a [u8], names: &Names<'_>) -> Wrong<'a> {
+fn wrong_in<'a>(
+    form: &'static str,
+    line: &'a [u8],
+    names: &Names<'_>,
+    catalog: &'a [u8],
+) -> Wrong<'a> {
     let (mut parts, mut words) = (words_of(form.as_bytes()), words_of(line));
     let mut part = parts.next();
     for _ in 0..=line.len() {
         match (part, words.next()) {
             (Some(part), Some(word)) => {
-                if let Some(wanted) = in_place_of(part, word, names) {
-                    return Wrong::Word(word, wanted);
+                if let Some(kind) = in_place_of(part, word, names) {
+                    return wrong_word(kind, word, catalog);
                 }
             }
             (Some(b"FRAME"), None) => return Wrong::Most(line, MAX_FRAMES, "functions"),
@@ -142,10 +147,10 @@ fn formless(line: &[u8]) -> Wrong<'_> {
     }
 }
 
-/// What is wrong in a line of a trace that is no item, by the names of the catalog.
-pub(crate) fn wrong_of<'a>(line: &'a [u8], names: &Names<'_>) -> Wrong<'a> {
+/// What is wrong in a line of a trace that is no item, by the names of the catalog and its text.
+pub(crate) fn wrong_of<'a>(line: &'a [u8], names: &Names<'_>, catalog: &'a [u8]) -> Wrong<'a> {
     match FORMS.iter().find(|form| begins_as(form.as_bytes(), line)) {
-        Some(form) => wrong_in(form, line, names),
+        Some(form) => wrong_in(form, line, names, catalog),
         None => formless(line),
     }
 }

@@ -4,8 +4,11 @@
 //! what is at fault in them ([`Inputs`]): the word of a catalog's line (`src/catalog_line.rt`) or of a trace's
 //! (`item.rt`, by the names of the catalog, `names.rt`), the symbols that make no image (`image.rt`), and the functions
 //! that are for one site (`same_site.rt`). Of a trace that isn't honest the task is told, and the function that it is
-//! inside of (`calls.rt`), or what its call lacks (`lack.rt`); and what means something in other files and nothing here
-//! is hinted at (`stray.rt`).
+//! inside of (`calls.rt`), or what its call lacks (`lack.rt`). What a trace doesn't show, a manager does that takes its
+//! events once more (`replay.rt`): which versions a task is inside of, and which events are refused.
+//!
+//! Hinted at is what means something in other files and nothing here (`stray.rt`), and a function of the catalog whose
+//! symbol isn't picked (`unpicked.rt`), with a name that is spelled nearly so (`near.rt`).
 //!
 //! What is told is for people, and has no contract. No file drives a terminal by it (`escaped.rt`), and each call is
 //! done with any files.
@@ -22,8 +25,11 @@ mod item;
 mod lack;
 mod lines;
 mod names;
+mod near;
+mod replay;
 mod same_site;
 mod stray;
+mod unpicked;
 mod wrong;
 
 pub use inputs::{FileText, Inputs, Kind, file_in};

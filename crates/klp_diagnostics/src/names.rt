@@ -1,6 +1,8 @@
 //! The names of a catalog, and the words of a trace that have to be among them.
 
 use crate::same_site::position_in;
+use crate::unpicked::unpicked_by;
+use crate::wrong::Wrong;
 use klp_catalog_text::PlanPatch;
 use klp_types::{MAX_INDEX, MAX_TASKS, ObjectText};
 use klp_words::{cut, number64, spelling_of};
@@ -38,6 +40,18 @@ impl Kind {
 pub(crate) struct Names<'a> {
     pub(crate) objects: &'a [ObjectText],
     pub(crate) patches: &'a [PlanPatch],
+}
+
+/// What is wrong with a word that isn't of this kind, by the text of the catalog.
+pub(crate) fn wrong_word<'a>(kind: Kind, word: &'a [u8], catalog: &'a [u8]) -> Wrong<'a> {
+    let spelling = match kind {
+        Kind::Symbol | Kind::Frame => spelling_of(word),
+        _ => None,
+    };
+    match spelling.and_then(|wanted| unpicked_by(catalog, wanted)) {
+        Some(unpicked) => Wrong::Unpicked(word, unpicked),
+        None => Wrong::Word(word, kind.wanted()),
+    }
 }
 
 fn is_number_to(most: u64, word: &[u8]) -> bool {

@@ -1,6 +1,6 @@
 //! What means something in other files and nothing here. It is no fault, and means what it means.
 
-use crate::catalog_line::begins_as_catalog;
+use crate::catalog_line::{begins_as_catalog, begins_as_wide, first_words};
 use crate::inputs::Kind;
 
 /// The bytes of a byte-order mark.
@@ -10,6 +10,12 @@ pub(crate) const BYTE_ORDER_MARK: [u8; 3] = [0xef, 0xbb, 0xbf];
 pub(crate) enum Stray {
     /// All of the file.
     Catalog,
+    /// All of the file, by a line that asks for no event.
+    Script,
+    /// All of the file, by a line that is a call or a return.
+    Trace,
+    /// All of the file.
+    Wide,
     /// In front of the first line.
     ByteOrderMark,
     CarriageReturn,
@@ -18,18 +24,42 @@ pub(crate) enum Stray {
     Comment,
 }
 
-pub(crate) const STRAYS: [Stray; 5] = [
+/// The first of these tells all, where it is UTF-16.
+pub(crate) const STRAYS: [Stray; 8] = [
+    Stray::Wide,
     Stray::Catalog,
+    Stray::Script,
+    Stray::Trace,
     Stray::ByteOrderMark,
     Stray::CarriageReturn,
     Stray::Tab,
     Stray::Comment,
 ];
 
+/// The words that begin a line of a script which asks for no event.
+const QUERIES: [&str; 9] = [
+    "cat", "ls", "text", "stack", "pick", "runs", "mark", "rewind", "seal",
+];
+
+/// Whether a line is one of a script, and asks for no event.
+fn is_query(line: &[u8]) -> bool {
+    match first_words(line) {
+        (b"shadow", second) => second == b"get".as_slice(),
+        (first, _) => QUERIES.iter().any(|own| own.as_bytes() == first),
+    }
+}
+
+fn is_call(line: &[u8]) -> bool {
+    matches!(first_words(line), (b"call" | b"return", _))
+}
+
 impl Stray {
     fn is_in(self, line: &[u8]) -> bool {
         match self {
             Stray::Catalog => begins_as_catalog(line),
+            Stray::Script => is_query(line),
+            Stray::Trace => is_call(line),
+            Stray::Wide => begins_as_wide(line),
             Stray::ByteOrderMark => line.starts_with(&BYTE_ORDER_MARK),
             Stray::CarriageReturn => line.contains(&b'\r'),
             Stray::Tab => line.contains(&b'\t'),
@@ -41,16 +71,25 @@ impl Stray {
     pub(crate) fn first_line(self, text: &[u8]) -> Option<usize> {
         let mut lines = text.split(|b| *b == b'\n');
         let place = match self {
-            Stray::Catalog | Stray::ByteOrderMark => self.is_in(text).then_some(0),
+            Stray::Wide | Stray::Catalog | Stray::ByteOrderMark => self.is_in(text).then_some(0),
             _ => lines.position(|line| self.is_in(line)),
         };
         Some(place?.saturating_add(1))
     }
 
-    pub(crate) fn hint(self, kind: Kind) -> &'static str {
-        match (self, kind) {
+    /// What is told of it in a file of this kind, if it is none of that kind's own.
+    pub(crate) fn hint(self, kind: Kind) -> Option<&'static str> {
+        Some(match (self, kind) {
             (Stray::Catalog, Kind::Script) => "a catalog, where a script is wanted",
             (Stray::Catalog, Kind::Trace) => "a catalog, where a trace is wanted",
+            (Stray::Script, Kind::Trace) => {
+                "a line of a script, where a trace is wanted: klppage takes scripts"
+            }
+            (Stray::Trace, Kind::Script) => {
+                "a line of a trace, where a script is wanted: klpwatch takes traces"
+            }
+            (Stray::Script, Kind::Script) | (Stray::Trace, Kind::Trace) => return None,
+            (Stray::Wide, _) => "UTF-16, by its first two bytes: wanted is ASCII or UTF-8",
             (Stray::ByteOrderMark, _) => "a byte-order mark, which is part of the first word",
             (Stray::CarriageReturn, Kind::Script) => "a carriage return, which is part of a word",
             (Stray::CarriageReturn, Kind::Trace) => {
@@ -58,6 +97,6 @@ impl Stray {
             }
             (Stray::Tab, _) => "a tab, which is part of a word: spaces separate words",
             (Stray::Comment, _) => "a line that begins with #, and is no comment here",
-        }
+        })
     }
 }

@@ -1,6 +1,7 @@
 //! What is wrong in a file, behind the name of its fault.
 
 use crate::escaped::{Escaped, Quoted};
+use crate::unpicked::Unpicked;
 use std::fmt;
 
 /// A symbol, and its object.
@@ -26,6 +27,8 @@ pub(crate) enum Wrong<'a> {
     Lacking(&'static str),
     /// A word, or a whole line, stands where this is wanted.
     Word(&'a [u8], &'static str),
+    /// A word spells a symbol that isn't picked.
+    Unpicked(&'a [u8], Unpicked<'a>),
     /// A line stands where one of this form is wanted.
     Form(&'a [u8], &'static str),
     /// It is one more than there may be of these.
@@ -65,6 +68,7 @@ impl<'a> fmt::Display for Wrong<'a> {
         match *self {
             Wrong::Lacking(wanted) => write!(f, "wanted {wanted}"),
             Wrong::Word(word, wanted) => write!(f, "{}: wanted {wanted}", Quoted(word)),
+            Wrong::Unpicked(word, unpicked) => write!(f, "{}: {unpicked}", Quoted(word)),
             Wrong::Form(line, form) => write!(f, "{}: wanted is {form}", Quoted(line)),
             Wrong::Most(word, most, what) => {
                 write!(f, "{}: wanted are {most} {what} at most", Quoted(word))

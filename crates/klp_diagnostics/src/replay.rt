@@ -1,0 +1,231 @@
+//! A trace, whose events a manager takes once more: which are refused, and which versions a task is inside of.
+ghost use Rattle.std.specs.Prelude.{◌≤◌, length};
+ghost use Rattle.klp_catalog_text.specs.Within.{AreTargetsWithin};
+
+use crate::escaped::Escaped;
+use crate::item::Item;
+use klp_callback::Boxed;
+use klp_catalog::Catalog;
+use klp_catalog_text::{Lines, Plan, PlanFunction, PlanPatch};
+use klp_console::{event_of, site_of};
+use klp_core::Manager;
+use klp_model::Refusal;
+use klp_program::{Fault, boot, close, scripted};
+use klp_types::{MAX_GROUPS, MAX_RECORDS, TaskId, Version};
+use klp_words::cut;
+use std::alloc::{AllocError, Global};
+use std::io;
+use std::io::Write;
+
+/// How many of a task's versions are told.
+const TOLD: usize = 4;
+
+/// A version that a task called and hasn't returned from.
+#[derive(Clone, Copy)]
+struct Entered<'a> {
+    task: u64,
+    /// The symbol as the call spells it, and its position.
+    symbol: &'a [u8],
+    position: u32,
+    version: Version,
+}
+
+/// The first event that is refused.
+#[derive(Clone, Copy)]
+pub(crate) struct Refused {
+    pub(crate) line: u64,
+    pub(crate) refusal: Refusal,
+}
+
+/// What came of the lines of a trace.
+#[derive(Drop)]
+pub(crate) struct Replay<'a> {
+    pub(crate) events: usize,
+    pub(crate) refused: usize,
+    pub(crate) first: Option<Refused>,
+    entered: Vec<Entered<'a>>,
+}
+
+/// The function of this number, over all targets of a patch.
+fn function_at(patch: &PlanPatch, number: u16) -> Option<&PlanFunction> {
+    let mut left = usize::from(number);
+    for target in &patch.targets {
+        if let Some(function) = target.functions.get(left) {
+            return Some(function);
+        }
+        left = left.saturating_sub(target.functions.len());
+    }
+    None
+}
+
+impl<'a> Entered<'a> {
+    /// Writes it behind a blank, as a line of the console names it, a patch's with the name of its function.
+    fn write<E: Write>(&self, patches: &[PlanPatch], err: &mut E) -> io::Result<()> {
+        match self.version {
+            Version::Original(_) => {
+                let (symbol, _) = cut(self.symbol, b',');
+                write!(err, " {},{}", Escaped(symbol), self.position)
+            }
+            Version::New(patch, number) => match patches.get(usize::from(patch.0)) {
+                Some(patch) => write_new(patch, number, err),
+                None => Ok(()),
+            },
+        }
+    }
+}
+
+fn write_new<E: Write>(patch: &PlanPatch, number: u16, err: &mut E) -> io::Result<()> {
+    write!(err, " {}:{number}", patch.name)?;
+    match function_at(patch, number) {
+        Some(function) => write!(err, " ({})", function.new_name),
+        None => Ok(()),
+    }
+}
+
+/// Seals the journal where one more event might find no room in it.
+fn make_room(manager: &mut Manager) {
+    if manager.mark() >= MAX_GROUPS as u32 || manager.records_free() < MAX_RECORDS as u32 {
+        manager.seal();
+    }
+}
+
+/// The version that a task gets where it calls a symbol now, if it can.
+fn called<'a>(manager: &Manager, task: u64, symbol: &'a [u8]) -> Option<Entered<'a>> {
+    let number = u8::try_from(task).ok()?;
+    let site = site_of(symbol, manager)?;
+    let target = manager.pick(TaskId(number), site)?;
+    let (_, _, position) = manager.modules().symbol(site)?;
+    Some(Entered {
+        task,
+        symbol,
+        position,
+        version: target.version,
+    })
+}
+
+impl<'a> Replay<'a> {
+    fn new(alloc: Global) -> Self {
+        Self {
+            events: 0,
+            refused: 0,
+            first: None,
+            entered: Vec::new(alloc),
+        }
+    }
+
+    fn take(&mut self, manager: &mut Manager, line: u64, text: &[u8]) {
+        let Some(event) = event_of(text, manager) else {
+            return;
+        };
+        make_room(manager);
+        self.events = self.events.saturating_add(1);
+        if let Err(refusal) = manager.apply(event) {
+            self.refused = self.refused.saturating_add(1);
+            if self.first.is_none() {
+                self.first = Some(Refused { line, refusal });
+            }
+        }
+    }
+
+    /// Does one line.
+    fn see(&mut self, manager: &mut Manager, line: u64, text: &'a [u8]) -> Result<(), AllocError> {
+        match Item::read(text) {
+            Some(Item::Call(task, symbol)) => {
+                if let Some(entered) = called(manager, task, symbol) {
+                    self.entered.push(entered)?;
+                }
+            }
+            Some(Item::Return(task)) => {
+                if let Some(place) = self.entered.iter().rposition(|own| own.task == task) {
+                    self.entered.remove(place);
+                }
+            }
+            _ => self.take(manager, line, text),
+        }
+        Ok(())
+    }
+
+    /// Does so many lines.
+    fn see_all(
+        &mut self,
+        manager: &mut Manager,
+        trace: &'a [u8],
+        lines: u64,
+    ) -> Result<(), AllocError> {
+        let mut rest = Lines::new(trace);
+        for number in 0..lines {
+            let Some(text) = rest.next() else {
+                break;
+            };
+            self.see(manager, number.saturating_add(1), text)?;
+        }
+        Ok(())
+    }
+
+    /// Writes what the task is inside of to the end of a line, outermost first, the first ones of many.
+    pub(crate) fn write_versions<E: Write>(
+        &self,
+        task: u64,
+        patches: &[PlanPatch],
+        err: &mut E,
+    ) -> io::Result<()> {
+        let mut count: usize = 0;
+        for entered in &self.entered {
+            if entered.task == task && count < TOLD {
+                entered.write(patches, err)?;
+            }
+            count = count.saturating_add(usize::from(entered.task == task));
+        }
+        match count {
+            0 => writeln!(err, " none"),
+            1..=TOLD => writeln!(err),
+            _ => writeln!(err, " .."),
+        }
+    }
+}
+
+// The manager goes then.
+fn replay_by<'a>(
+    mut manager: Manager,
+    alloc: Global,
+    trace: &'a [u8],
+    lines: u64,
+) -> Option<Replay<'a>> {
+    let mut replay = Replay::new(alloc);
+    let ended = replay.see_all(&mut manager, trace, lines);
+    close(manager);
+    match ended {
+        Ok(()) => Some(replay),
+        Err(_) => None,
+    }
+}
+
+// Boots a manager over a plan, and does the lines by it. The callbacks are made here, as where a trace is watched.
+fn replay_plan<'a>(
+    alloc: Global,
+    plan: Plan,
+    trace: &'a [u8],
+    lines: u64,
+) -> Result<Option<Replay<'a>>, Fault>
+    requires { AreTargetsWithin (length plan.objects) plan.patches }
+{
+    let mut callbacks = Vec::new(alloc);
+    while let Some(callback) = scripted(alloc, &plan, callbacks.len())? {
+        callbacks.push(Boxed::new(callback))?;
+    }
+    let manager = boot(alloc, plan, callbacks)?;
+    Ok(replay_by(manager, alloc, trace, lines))
+}
+
+/// What comes of so many lines of a trace over a catalog. `None` where there is no memory to find out.
+pub(crate) fn replay_of<'a>(
+    alloc: Global,
+    catalog: &[u8],
+    trace: &'a [u8],
+    lines: u64,
+) -> Option<Replay<'a>> {
+    let Ok(plan) = Catalog::read(alloc, catalog) else {
+        return None;
+    };
+    replay_plan(alloc, plan, trace, lines).ok()?
+}

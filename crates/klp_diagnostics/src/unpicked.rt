@@ -1,0 +1,186 @@
+//! A symbol that a name and a position don't pick: there is none of the name, there are several, or there are fewer.
+
+use crate::catalog_line::first_words;
+use crate::escaped::{Escaped, Quoted};
+use crate::near::nearer;
+use klp_words::{Spelling, spelling_of};
+use std::fmt;
+
+/// The object that is always loaded.
+const KERNEL: &[u8] = b"vmlinux";
+
+/// Why a symbol isn't picked.
+#[derive(Clone, Copy)]
+pub(crate) enum Why<'a> {
+    /// The catalog has no such object, but maybe one of a name that is nearly so.
+    NoObject(Option<&'a [u8]>),
+    /// The object has no such symbol, but maybe one of a name that is nearly so.
+    NoSymbol(Option<&'a [u8]>),
+    /// It has so many.
+    Several(usize),
+    /// It has no more than so many.
+    Fewer(usize),
+}
+
+/// What a spelling asks for that isn't picked.
+#[derive(Clone, Copy)]
+pub(crate) struct Unpicked<'a> {
+    object: &'a str,
+    symbol: &'a str,
+    pub(crate) why: Why<'a>,
+}
+
+/// A function of a catalog whose symbol isn't picked, in this line.
+#[derive(Clone, Copy)]
+pub(crate) struct Unloadable<'a> {
+    pub(crate) line: usize,
+    word: &'a [u8],
+    patch: &'a [u8],
+    unpicked: Unpicked<'a>,
+}
+
+/// What the lines of a catalog have in place of a symbol.
+#[derive(Clone, Copy)]
+struct Found<'a> {
+    has_object: bool,
+    /// How many symbols of the object have the name.
+    count: usize,
+    near_object: Option<&'a [u8]>,
+    near_symbol: Option<&'a [u8]>,
+}
+
+fn write_but<W: fmt::Write>(f: &mut fmt::Formatter<W>, near: Option<&[u8]>) -> fmt::Result {
+    match near {
+        Some(name) => write!(f, ", but {}", Escaped(name)),
+        None => Ok(()),
+    }
+}
+
+impl<'a> fmt::Display for Unpicked<'a> {
+    fn fmt<W: fmt::Write>(&self, f: &mut fmt::Formatter<W>) -> fmt::Result {
+        let (object, symbol) = (self.object, self.symbol);
+        match self.why {
+            Why::NoObject(near) => {
+                write!(
+                    f,
+                    "wanted is an object of the catalog, which has no {object}"
+                )?;
+                write_but(f, near)
+            }
+            Why::NoSymbol(near) => {
+                write!(f, "wanted is a symbol of {object}, which has no {symbol}")?;
+                write_but(f, near)
+            }
+            Why::Several(count) => write!(
+                f,
+                "wanted is a position from 1 to {count}: {object} has {count} symbols {symbol}"
+            ),
+            Why::Fewer(1) => write!(
+                f,
+                "wanted is position 0 or 1: {object} has one symbol {symbol}"
+            ),
+            Why::Fewer(count) => write!(
+                f,
+                "wanted is a position up to {count}: {object} has {count} symbols {symbol}"
+            ),
+        }
+    }
+}
+
+impl<'a> fmt::Display for Unloadable<'a> {
+    fn fmt<W: fmt::Write>(&self, f: &mut fmt::Formatter<W>) -> fmt::Result {
+        let (patch, object) = (Escaped(self.patch), self.unpicked.object);
+        write!(
+            f,
+            "{}: {}; else load {patch}",
+            Quoted(self.word),
+            self.unpicked
+        )?;
+        if object.as_bytes() != KERNEL {
+            write!(f, " or insmod {object}")?;
+        }
+        write!(f, " is refused (NoSymbol)")
+    }
+}
+
+/// What the catalog has in place of this symbol. Its objects and symbols stand in front of the first patch.
+fn found_in<'a>(catalog: &'a [u8], wanted: &Spelling<'_>) -> Found<'a> {
+    let (object, symbol) = (wanted.object.as_bytes(), wanted.symbol.as_bytes());
+    let mut found = Found {
+        has_object: false,
+        count: 0,
+        near_object: None,
+        near_symbol: None,
+    };
+    let mut is_inside = false;
+    for line in catalog.split(|b| *b == b'\n') {
+        let (first, name) = first_words(line);
+        if first == b"patch".as_slice() {
+            break;
+        } else if first == b"object".as_slice() {
+            is_inside = name == object;
+            found.has_object = found.has_object || is_inside;
+            found.near_object = nearer(found.near_object, name, object);
+        } else if first == b"symbol".as_slice() && is_inside {
+            found.count = found.count.saturating_add(usize::from(name == symbol));
+            found.near_symbol = nearer(found.near_symbol, name, symbol);
+        }
+    }
+    found
+}
+
+/// Why a spelling picks no symbol of a catalog, if it picks none.
+pub(crate) fn unpicked_by<'a>(catalog: &'a [u8], wanted: Spelling<'a>) -> Option<Unpicked<'a>> {
+    let found = found_in(catalog, &wanted);
+    let why = match (found.count, wanted.sympos as usize) {
+        _ if !found.has_object => Why::NoObject(found.near_object),
+        (0, _) => Why::NoSymbol(found.near_symbol),
+        (1, 0) => return None,
+        (count, 0) => Why::Several(count),
+        (count, position) if position > count => Why::Fewer(count),
+        _ => return None,
+    };
+    Some(Unpicked {
+        object: wanted.object,
+        symbol: wanted.symbol,
+        why,
+    })
+}
+
+/// Whether a script or a trace loads a patch.
+fn is_loaded(text: &[u8], patch: &[u8]) -> bool {
+    text.split(|b| *b == b'\n')
+        .any(|line| first_words(line) == (b"load".as_slice(), patch))
+}
+
+/// Whether it is worth a word: nobody asks for a symbol that isn't there, but of several symbols only where a patch is loaded.
+fn is_told(unpicked: &Unpicked<'_>, patch: &[u8], second: &[u8]) -> bool {
+    match unpicked.why {
+        Why::NoSymbol(_) | Why::Fewer(_) => true,
+        Why::Several(_) => is_loaded(second, patch),
+        Why::NoObject(_) => false,
+    }
+}
+
+/// The first function of a catalog whose symbol isn't picked, where that is worth a word over a script or a trace.
+pub(crate) fn first_unloadable<'a>(catalog: &'a [u8], second: &[u8]) -> Option<Unloadable<'a>> {
+    let mut patch: &[u8] = &[];
+    for (number, line) in catalog.split(|b| *b == b'\n').enumerate() {
+        let (first, word) = first_words(line);
+        if first == b"patch".as_slice() {
+            patch = word;
+        } else if first == b"func".as_slice() {
+            if let Some(unpicked) = spelling_of(word).and_then(|it| unpicked_by(catalog, it)) {
+                if is_told(&unpicked, patch, second) {
+                    return Some(Unloadable {
+                        line: number.saturating_add(1),
+                        word,
+                        patch,
+                        unpicked,
+                    });
+                }
+            }
+        }
+    }
+    None
+}
