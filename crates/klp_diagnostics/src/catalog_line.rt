@@ -12,7 +12,7 @@ use klp_words::{
 use std::alloc::Global;
 
 /// A byte-order mark of UTF-16 in front of a text.
-const WIDE_MARKS: [[u8; 2]; 2] = [[0xfe, 0xff], [0xff, 0xfe]];
+const UTF16_MARKS: [[u8; 2]; 2] = [[0xfe, 0xff], [0xff, 0xfe]];
 
 /// How many digits a byte of a body has.
 const DIGITS: usize = 2;
@@ -31,8 +31,8 @@ pub(crate) fn begins_as_catalog(text: &[u8]) -> bool {
 }
 
 /// Whether a text is UTF-16, by its first two bytes.
-pub(crate) fn begins_as_wide(text: &[u8]) -> bool {
-    WIDE_MARKS.iter().any(|mark| text.starts_with(mark))
+pub(crate) fn begins_as_utf16(text: &[u8]) -> bool {
+    UTF16_MARKS.iter().any(|mark| text.starts_with(mark))
 }
 
 /// The first two words of a line; an empty one where there is none.
@@ -154,7 +154,7 @@ pub(crate) fn wrong_of(alloc: Global, catalog: &[u8], fault: TextFault) -> Wrong
     match fault.kind {
         TextFaultKind::Missing => Wrong::Lacking("are a handler and an object"),
         TextFaultKind::NoMemory => Wrong::Lacking("is more memory"),
-        TextFaultKind::NotAscii if begins_as_wide(catalog) => {
+        TextFaultKind::NotAscii if begins_as_utf16(catalog) => {
             Wrong::Word(line, "is ASCII alone, and this is UTF-16")
         }
         TextFaultKind::NotAscii if line.starts_with(&BYTE_ORDER_MARK) => {

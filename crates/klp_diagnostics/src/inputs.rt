@@ -3,7 +3,7 @@ ghost use Rattle.std.specs.Prelude.{◌≡◌, IfErr};
 
 use crate::act::act_of;
 use crate::calls::Calls;
-use crate::catalog_line::{begins_as_catalog, begins_as_wide};
+use crate::catalog_line::{begins_as_catalog, begins_as_utf16};
 use crate::escaped::{Escaped, Quoted};
 use crate::item::Item;
 use crate::lack::lack_of;
@@ -141,7 +141,7 @@ impl<'a> Inputs<'a> {
     /// What is UTF-16 has lines of another kind, of which nothing else is told.
     fn write_stray<E: Write>(&self, stray: Stray, err: &mut E) -> io::Result<()> {
         let text = self.second.bytes;
-        let is_told = matches!(stray, Stray::Wide) || !begins_as_wide(text);
+        let is_told = matches!(stray, Stray::Utf16) || !begins_as_utf16(text);
         match (stray.first_line(text), stray.hint(self.kind)) {
             (Some(line), Some(hint)) if is_told => {
                 self.second.write_place(self.program, line as u64, err)?;

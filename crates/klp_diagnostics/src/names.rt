@@ -44,11 +44,11 @@ pub(crate) struct Names<'a> {
 
 /// What is wrong with a word that isn't of this kind, by the text of the catalog.
 pub(crate) fn wrong_word<'a>(kind: Kind, word: &'a [u8], catalog: &'a [u8]) -> Wrong<'a> {
-    let spelling = match kind {
-        Kind::Symbol | Kind::Frame => spelling_of(word),
+    let unpicked = match kind {
+        Kind::Symbol | Kind::Frame => unpicked_by(catalog, word),
         _ => None,
     };
-    match spelling.and_then(|wanted| unpicked_by(catalog, wanted)) {
+    match unpicked {
         Some(unpicked) => Wrong::Unpicked(word, unpicked),
         None => Wrong::Word(word, kind.wanted()),
     }

@@ -1,6 +1,6 @@
 //! What means something in other files and nothing here. It is no fault, and means what it means.
 
-use crate::catalog_line::{begins_as_catalog, begins_as_wide, first_words};
+use crate::catalog_line::{begins_as_catalog, begins_as_utf16, first_words};
 use crate::inputs::Kind;
 
 /// The bytes of a byte-order mark.
@@ -15,7 +15,7 @@ pub(crate) enum Stray {
     /// All of the file, by a line that is a call or a return.
     Trace,
     /// All of the file.
-    Wide,
+    Utf16,
     /// In front of the first line.
     ByteOrderMark,
     CarriageReturn,
@@ -26,7 +26,7 @@ pub(crate) enum Stray {
 
 /// The first of these tells all, where it is UTF-16.
 pub(crate) const STRAYS: [Stray; 8] = [
-    Stray::Wide,
+    Stray::Utf16,
     Stray::Catalog,
     Stray::Script,
     Stray::Trace,
@@ -59,7 +59,7 @@ impl Stray {
             Stray::Catalog => begins_as_catalog(line),
             Stray::Script => is_query(line),
             Stray::Trace => is_call(line),
-            Stray::Wide => begins_as_wide(line),
+            Stray::Utf16 => begins_as_utf16(line),
             Stray::ByteOrderMark => line.starts_with(&BYTE_ORDER_MARK),
             Stray::CarriageReturn => line.contains(&b'\r'),
             Stray::Tab => line.contains(&b'\t'),
@@ -71,7 +71,7 @@ impl Stray {
     pub(crate) fn first_line(self, text: &[u8]) -> Option<usize> {
         let mut lines = text.split(|b| *b == b'\n');
         let place = match self {
-            Stray::Wide | Stray::Catalog | Stray::ByteOrderMark => self.is_in(text).then_some(0),
+            Stray::Utf16 | Stray::Catalog | Stray::ByteOrderMark => self.is_in(text).then_some(0),
             _ => lines.position(|line| self.is_in(line)),
         };
         Some(place?.saturating_add(1))
@@ -89,7 +89,7 @@ impl Stray {
                 "a line of a trace, where a script is wanted: klpwatch takes traces"
             }
             (Stray::Script, Kind::Script) | (Stray::Trace, Kind::Trace) => return None,
-            (Stray::Wide, _) => "UTF-16, by its first two bytes: wanted is ASCII or UTF-8",
+            (Stray::Utf16, _) => "UTF-16, by its first two bytes: wanted is ASCII or UTF-8",
             (Stray::ByteOrderMark, _) => "a byte-order mark, which is part of the first word",
             (Stray::CarriageReturn, Kind::Script) => "a carriage return, which is part of a word",
             (Stray::CarriageReturn, Kind::Trace) => {

@@ -129,8 +129,9 @@ fn found_in<'a>(catalog: &'a [u8], wanted: &Spelling<'_>) -> Found<'a> {
     found
 }
 
-/// Why a spelling picks no symbol of a catalog, if it picks none.
-pub(crate) fn unpicked_by<'a>(catalog: &'a [u8], wanted: Spelling<'a>) -> Option<Unpicked<'a>> {
+/// What a word spells that picks no symbol of a catalog, if it spells one and picks none.
+pub(crate) fn unpicked_by<'a>(catalog: &'a [u8], word: &'a [u8]) -> Option<Unpicked<'a>> {
+    let wanted = spelling_of(word)?;
     let found = found_in(catalog, &wanted);
     let why = match (found.count, wanted.sympos as usize) {
         _ if !found.has_object => Why::NoObject(found.near_object),
@@ -170,7 +171,7 @@ pub(crate) fn first_unloadable<'a>(catalog: &'a [u8], second: &[u8]) -> Option<U
         if first == b"patch".as_slice() {
             patch = word;
         } else if first == b"func".as_slice() {
-            if let Some(unpicked) = spelling_of(word).and_then(|it| unpicked_by(catalog, it)) {
+            if let Some(unpicked) = unpicked_by(catalog, word) {
                 if is_told(&unpicked, patch, second) {
                     return Some(Unloadable {
                         line: number.saturating_add(1),
