@@ -160,7 +160,7 @@ impl<'a> Inputs<'a> {
         }
     }
 
-    fn write_first_refused<E: Write>(&self, replay: &Replay<'_>, err: &mut E) -> io::Result<()> {
+    fn write_first_refused<E: Write>(&self, replay: &Replay, err: &mut E) -> io::Result<()> {
         let Some(first) = replay.first else {
             return Ok(());
         };
@@ -219,7 +219,7 @@ impl<'a> Inputs<'a> {
         match (replay, Catalog::read(alloc, self.catalog.bytes)) {
             (Some(replay), Ok(plan)) => {
                 let (patches, _names) = plan.into_patches();
-                replay.write_versions(task, &patches, err)
+                replay.write_versions(task, self.second.bytes, &patches, err)
             }
             _ => writeln!(err, " there is no memory to find them"),
         }

@@ -1,9 +1,11 @@
 //! A trace, whose events a manager takes once more: which are refused, and which versions a task is inside of.
 ghost use Rattle.std.specs.Prelude.{◌≤◌, length};
 ghost use Rattle.klp_catalog_text.specs.Within.{AreTargetsWithin};
+ghost use Rattle.klp_core.specs.Journaled.{Stands};
 
 use crate::escaped::Escaped;
 use crate::item::Item;
+use crate::lines::{line_at, word_at};
 use klp_callback::Boxed;
 use klp_catalog::Catalog;
 use klp_catalog_text::{Lines, Plan, PlanFunction, PlanPatch};
@@ -12,7 +14,7 @@ use klp_core::Manager;
 use klp_model::Refusal;
 use klp_program::{Fault, boot, close, scripted};
 use klp_types::{MAX_GROUPS, MAX_RECORDS, TaskId, Version};
-use klp_words::cut;
+use klp_words::{Separators, Words, cut};
 use std::alloc::{AllocError, Global};
 use std::io;
 use std::io::Write;
@@ -22,10 +24,11 @@ const TOLD: usize = 4;
 
 /// A version that a task called and hasn't returned from.
 #[derive(Clone, Copy)]
-struct Entered<'a> {
+struct Entered {
     task: u64,
-    /// The symbol as the call spells it, and its position.
-    symbol: &'a [u8],
+    /// The line of the call.
+    line: u64,
+    /// That of its symbol.
     position: u32,
     version: Version,
 }
@@ -39,11 +42,11 @@ pub(crate) struct Refused {
 
 /// What came of the lines of a trace.
 #[derive(Drop)]
-pub(crate) struct Replay<'a> {
+pub(crate) struct Replay {
     pub(crate) events: usize,
     pub(crate) refused: usize,
     pub(crate) first: Option<Refused>,
-    entered: Vec<Entered<'a>>,
+    entered: Vec<Entered>,
 }
 
 /// The function of this number, over all targets of a patch.
@@ -58,13 +61,19 @@ fn function_at(patch: &PlanPatch, number: u16) -> Option<&PlanFunction> {
     None
 }
 
-impl<'a> Entered<'a> {
+/// The symbol that a line calls, as it is spelled but for its position.
+fn symbol_in(line: &[u8]) -> &[u8] {
+    let (symbol, _) = cut(word_at(Words::new(line, Separators::Spaces), 3), b',');
+    symbol
+}
+
+impl Entered {
     /// Writes it behind a blank, as a line of the console names it, a patch's with the name of its function.
-    fn write<E: Write>(&self, patches: &[PlanPatch], err: &mut E) -> io::Result<()> {
+    fn write<E: Write>(&self, trace: &[u8], patches: &[PlanPatch], err: &mut E) -> io::Result<()> {
         match self.version {
             Version::Original(_) => {
-                let (symbol, _) = cut(self.symbol, b',');
-                write!(err, " {},{}", Escaped(symbol), self.position)
+                let symbol = Escaped(symbol_in(line_at(trace, self.line)));
+                write!(err, " {symbol},{}", self.position)
             }
             Version::New(patch, number) => match patches.get(usize::from(patch.0)) {
                 Some(patch) => write_new(patch, number, err),
@@ -83,27 +92,27 @@ fn write_new<E: Write>(patch: &PlanPatch, number: u16, err: &mut E) -> io::Resul
 }
 
 /// Seals the journal where one more event might find no room in it.
-fn make_room(manager: &mut Manager) {
+fn make_room(manager: &mut Manager)
+    requires { Stands manager.old }
+    ensures { Stands manager.new }
+{
     if manager.mark() >= MAX_GROUPS as u32 || manager.records_free() < MAX_RECORDS as u32 {
         manager.seal();
     }
 }
 
-/// The version that a task gets where it calls a symbol now, if it can.
-fn called<'a>(manager: &Manager, task: u64, symbol: &'a [u8]) -> Option<Entered<'a>> {
+/// The version that a task gets where it calls a symbol now, if it can, and the symbol's position.
+fn called(manager: &Manager, task: u64, symbol: &[u8]) -> Option<(Version, u32)> {
     let number = u8::try_from(task).ok()?;
     let site = site_of(symbol, manager)?;
     let target = manager.pick(TaskId(number), site)?;
-    let (_, _, position) = manager.modules().symbol(site)?;
-    Some(Entered {
-        task,
-        symbol,
-        position,
-        version: target.version,
-    })
+    match manager.modules().symbol(site) {
+        Some((_, _, position)) => Some((target.version, position)),
+        None => None,
+    }
 }
 
-impl<'a> Replay<'a> {
+impl Replay {
     fn new(alloc: Global) -> Self {
         Self {
             events: 0,
@@ -113,7 +122,11 @@ impl<'a> Replay<'a> {
         }
     }
 
-    fn take(&mut self, manager: &mut Manager, line: u64, text: &[u8]) {
+    /// An event is taken, or refused.
+    fn take(&mut self, manager: &mut Manager, line: u64, text: &[u8])
+        requires { Stands manager.old }
+        ensures { Stands manager.new }
+    {
         let Some(event) = event_of(text, manager) else {
             return;
         };
@@ -127,33 +140,50 @@ impl<'a> Replay<'a> {
         }
     }
 
+    fn enter(
+        &mut self,
+        manager: &Manager,
+        line: u64,
+        task: u64,
+        symbol: &[u8],
+    ) -> Result<(), AllocError> {
+        if let Some((version, position)) = called(manager, task, symbol) {
+            self.entered.push(Entered {
+                task,
+                line,
+                position,
+                version,
+            })?;
+        }
+        Ok(())
+    }
+
+    fn leave(&mut self, task: u64) {
+        if let Some(place) = self.entered.iter().rposition(|own| own.task == task) {
+            self.entered.remove(place);
+        }
+    }
+
     /// Does one line.
-    fn see(&mut self, manager: &mut Manager, line: u64, text: &'a [u8]) -> Result<(), AllocError> {
+    fn see(&mut self, manager: &mut Manager, line: u64, text: &[u8]) -> Result<(), AllocError>
+        requires { Stands manager.old }
+        ensures { Stands manager.new }
+    {
         match Item::read(text) {
-            Some(Item::Call(task, symbol)) => {
-                if let Some(entered) = called(manager, task, symbol) {
-                    self.entered.push(entered)?;
-                }
-            }
-            Some(Item::Return(task)) => {
-                if let Some(place) = self.entered.iter().rposition(|own| own.task == task) {
-                    self.entered.remove(place);
-                }
-            }
+            Some(Item::Call(task, symbol)) => self.enter(manager, line, task, symbol)?,
+            Some(Item::Return(task)) => self.leave(task),
             _ => self.take(manager, line, text),
         }
         Ok(())
     }
 
     /// Does so many lines.
-    fn see_all(
-        &mut self,
-        manager: &mut Manager,
-        trace: &'a [u8],
-        lines: u64,
-    ) -> Result<(), AllocError> {
+    fn see_all(&mut self, manager: &mut Manager, trace: &[u8], lines: u64) -> Result<(), AllocError>
+        requires { Stands manager.old }
+    {
         let mut rest = Lines::new(trace);
         for number in 0..lines {
+            let _standing = manager.mark();
             let Some(text) = rest.next() else {
                 break;
             };
@@ -166,13 +196,14 @@ impl<'a> Replay<'a> {
     pub(crate) fn write_versions<E: Write>(
         &self,
         task: u64,
+        trace: &[u8],
         patches: &[PlanPatch],
         err: &mut E,
     ) -> io::Result<()> {
         let mut count: usize = 0;
         for entered in &self.entered {
             if entered.task == task && count < TOLD {
-                entered.write(patches, err)?;
+                entered.write(trace, patches, err)?;
             }
             count = count.saturating_add(usize::from(entered.task == task));
         }
@@ -185,13 +216,9 @@ impl<'a> Replay<'a> {
 }
 
 // The manager goes then.
-fn replay_by<'a>(
-    mut manager: Manager,
-    alloc: Global,
-    trace: &'a [u8],
-    lines: u64,
-) -> Option<Replay<'a>> {
+fn replay_by(mut manager: Manager, alloc: Global, trace: &[u8], lines: u64) -> Option<Replay> {
     let mut replay = Replay::new(alloc);
+    let _standing = manager.mark();
     let ended = replay.see_all(&mut manager, trace, lines);
     close(manager);
     match ended {
@@ -201,12 +228,7 @@ fn replay_by<'a>(
 }
 
 // Boots a manager over a plan, and does the lines by it. The callbacks are made here, as where a trace is watched.
-fn replay_plan<'a>(
-    alloc: Global,
-    plan: Plan,
-    trace: &'a [u8],
-    lines: u64,
-) -> Result<Option<Replay<'a>>, Fault>
+fn replay_plan(alloc: Global, plan: Plan, trace: &[u8], lines: u64) -> Result<Option<Replay>, Fault>
     requires { AreTargetsWithin (length plan.objects) plan.patches }
 {
     let mut callbacks = Vec::new(alloc);
@@ -218,12 +240,7 @@ fn replay_plan<'a>(
 }
 
 /// What comes of so many lines of a trace over a catalog. `None` where there is no memory to find out.
-pub(crate) fn replay_of<'a>(
-    alloc: Global,
-    catalog: &[u8],
-    trace: &'a [u8],
-    lines: u64,
-) -> Option<Replay<'a>> {
+pub(crate) fn replay_of(alloc: Global, catalog: &[u8], trace: &[u8], lines: u64) -> Option<Replay> {
     let Ok(plan) = Catalog::read(alloc, catalog) else {
         return None;
     };
