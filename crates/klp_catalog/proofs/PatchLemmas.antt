@@ -1,5 +1,5 @@
 -- The patch of a number, as a look-up finds it.
-use Rattle.std.proofs.Common.{◌≡◌, ℕ, ◌<◌, ◌≤◌, ◌==◌, List, [], ◌∷◌, length, map, slice_get, Some, None, Option, refl, sym, ap, subst, ◌∙◌, arith, Bor, Bool, true, ◌&&◌, option_map}
+use Rattle.std.proofs.Common.{◌≡◌, ℕ, ◌≤◌, ◌==◌, List, [], ◌∷◌, length, map, slice_get, Some, None, Option, refl, sym, ap, subst, ◌∙◌, arith, Bor, Bool, true, ◌&&◌, option_map}
 use Rattle.std.specs.Prelude.{position, MatchOption, option_and_then}
 use Rattle.std.specs.List.{list_all}
 use Rattle.std.specs.Slice.{IsItemAt}

@@ -1,5 +1,5 @@
 -- What is known of the patch of a number, which is looked up once and then asked.
-use Rattle.std.specs.Prelude.{◌≡◌, ℕ, ◌<◌, ◌≤◌, ◌==◌, false, List, [], length, map, position}
+use Rattle.std.specs.Prelude.{◌≡◌, ℕ, ◌<◌, ◌≤◌, ◌==◌, false, [], length, map, position}
 use Rattle.std.specs.List.{All, count_by}
 use Rattle.klp_types.specs.declared.limits.TheConstants.{MAX_TARGETS, MAX_FUNCTIONS, MAX_STATES}
 use Rattle.klp_types.specs.Setting.{PatchObject, all_functions}

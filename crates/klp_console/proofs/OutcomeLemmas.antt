@@ -1,5 +1,5 @@
 -- What became of a line, and its answer.
-use Rattle.std.proofs.Common.{◌≡◌, Bool, true, false, Some, None, Ok, Err, Option, Result, refl, sym, ap}
+use Rattle.std.proofs.Common.{◌≡◌, Bool, true, false, Some, None, Ok, Err, Option, Result, refl, ap}
 use Rattle.std.proofs.lemmas.Option.{same_Some, none-some}
 use Rattle.klp_model.specs.declared.event.Event.{Event}
 use Rattle.klp_console_commands.specs.declared.request.Request.{Request}

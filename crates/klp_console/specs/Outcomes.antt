@@ -1,5 +1,5 @@
 -- What became of a line that was answered.
-use Rattle.std.specs.Prelude.{◌≡◌, Bool, true, false, is_err, Option, Some, None, Result, Ok, Err}
+use Rattle.std.specs.Prelude.{◌≡◌, Bool, true, false, is_err, Option, Some, None, Result, Ok}
 use Rattle.klp_model.specs.declared.event.Event.{Event}
 use Rattle.klp_model.specs.declared.event.Reply.{Reply}
 use Rattle.klp_model.specs.declared.event.Refusal.{Refusal}

@@ -108,11 +108,7 @@ fn has_still(
 ) -> bool
     ensures { result ≡ are_some (still_at moving.now catalog.now patch place which) }
 {
-    if is_in_transition(moving, patch) {
-        false
-    } else {
-        catalog.has_callback(patch, place, which)
-    }
+    !is_in_transition(moving, patch) && catalog.has_callback(patch, place, which)
 }
 
 /// Whether the patch has a callback that may run when the module comes.

@@ -1,5 +1,5 @@
 -- The patch and its object are found; the kinds of the object's callbacks tell how far the one that is meant is behind the first.
-use Rattle.std.proofs.Common.{◌≡◌, ◌+◌, ℕ, List, Some, None, Option, slice_get, option_map, refl, sym, ap, ◌∙◌, rules, tests}
+use Rattle.std.proofs.Common.{◌≡◌, ◌+◌, ℕ, Some, None, Option, slice_get, option_map, refl, sym, ap, ◌∙◌, rules, tests}
 use Rattle.std.specs.Prelude.{position}
 use Rattle.std.proofs.lemmas.Iterator.{YieldsList-from_slice}
 use Rattle.std.proofs.lemmas.Iterator.Search.{position_from_yields_List}

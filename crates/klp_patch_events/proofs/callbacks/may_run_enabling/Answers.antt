@@ -1,4 +1,4 @@
-use Rattle.std.proofs.Common.{◌≡◌, ◌++◌, sym, ap, ◌∙◌}
+use Rattle.std.proofs.Common.{◌≡◌, sym, ap, ◌∙◌}
 use Rattle.std.specs.Prelude.{◌||◌}
 use Rattle.klp_types.specs.declared.callback.Which.TheVariants.{Pre, PostUn}
 use Rattle.klp_types.specs.Callbacks.{calls_of}
