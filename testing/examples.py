@@ -98,6 +98,22 @@ def refused_catalogs():
     return [(f"refused.catalogs, {said}", functools.partial(refused, catalog, said)) for said, catalog in cases]
 
 
+# The greatest length of a catalog's line.
+MAX_LINE = 4096
+# The forms in which each faulty line is refused: how long it is at least, its end, and its fault where that isn't its own. It
+# is refused as well where it is as long as a line may be, and two faults come before all others.
+FORMS = (0, b"", None), (MAX_LINE, b"\r\n", None), (MAX_LINE + 1, b"", "LineTooLong"), (0, b"\x80", "NotAscii"), (MAX_LINE + 1, b"\x80", "NotAscii")
+
+
+def faulty_line(start, kind, line):
+    for length, end, other in FORMS:
+        said = f"klpsim: line {len(start.splitlines()) + 1}: {other or kind}"
+        wrong = refused(start.encode() + line.encode().ljust(length) + end, said)
+        if wrong:
+            return wrong
+    return None
+
+
 def faulty_lines():
     cases = []
     for block in read("faulty.lines").decode().split("=== ")[1:]:
@@ -106,8 +122,7 @@ def faulty_lines():
         for row in rows.splitlines():
             kind, _, line = row.partition(" ")
             if not row.startswith("#"):
-                said = f"klpsim: line {len(start.splitlines()) + 1}: {kind}"
-                cases.append((f"faulty.lines, {row}", functools.partial(refused, f"{start}{line}".encode(), said)))
+                cases.append((f"faulty.lines, {row}", functools.partial(faulty_line, start, kind, line)))
     return cases
 
 

@@ -1,4 +1,4 @@
-//! An example: what is served or watched over a catalog, and what has to be answered.
+//! An example: the script that is served over a catalog, and what has to be answered.
 
 use klp_program::catalog_in;
 use std::rt::Files;
@@ -7,7 +7,7 @@ use std::{fs, io};
 /// What stands for the catalog that is served where no file is named.
 const BUILT_IN: &str = "-";
 
-/// A catalog, what is put in over it, and what has to be written.
+/// A catalog, the script over it, and what has to be written.
 #[derive(Drop)]
 pub(crate) struct Case {
     pub(crate) catalog: Vec<u8>,
@@ -34,15 +34,11 @@ fn file_of<R: Files + AllocGlobal>(rt: &R, name: &str, ending: &str) -> io::Resu
 }
 
 impl Case {
-    /// The example of a line: its name and that of its catalog, or one name for both. Its input has this ending.
-    pub(crate) fn read<R: Files + AllocGlobal>(
-        rt: &R,
-        line: &str,
-        ending: &str,
-    ) -> io::Result<Case> {
+    /// The example of a line: its name and that of its catalog, or one name for both.
+    pub(crate) fn read<R: Files + AllocGlobal>(rt: &R, line: &str) -> io::Result<Case> {
         let (name, catalog) = line.split_once(' ').unwrap_or((line, line));
         let catalog = catalog_of(rt, catalog)?;
-        let input = file_of(rt, name, ending)?;
+        let input = file_of(rt, name, "script")?;
         let output = file_of(rt, name, "output")?;
         Ok(Case {
             catalog,
@@ -54,19 +50,6 @@ impl Case {
     /// Whether a run ended with what has to be written, and nothing else.
     pub(crate) fn is_met(&self, status: u8, out: &[u8], err: &[u8]) -> bool {
         status == 0 && out == self.output.as_slice() && err.is_empty()
-    }
-
-    /// Whether a run ended with a verdict, or with a fault, and with what has to be told behind it: the status is that of
-    /// what was written.
-    pub(crate) fn is_told(&self, status: u8, out: &[u8], err: &[u8]) -> bool {
-        let wanted = if out.is_empty() {
-            1
-        } else if out.starts_with(b"honest ") {
-            0
-        } else {
-            3
-        };
-        status == wanted && self.output.as_slice().strip_prefix(out) == Some(err)
     }
 
     /// How many bytes have to be written.

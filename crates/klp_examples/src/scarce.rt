@@ -2,13 +2,18 @@
 //! Then each allocation that needs more than there was before is refused in its turn.
 
 use crate::hoard::Hoard;
-use crate::refused::{CATALOG_MARK, CATALOGS};
 use crate::starved::Room;
 use crate::tally::Tally;
 use klp_program::console;
 use std::alloc::{AllocError, Global};
 use std::rt::Files;
 use std::{fs, io};
+
+/// Catalogs that are refused, each behind a line of what is written to standard error, with a mark in front. A line feed
+/// before a mark isn't the catalog's, so an empty line ends its last line, and else that has no end.
+const CATALOGS: &str = "refused.catalogs";
+
+const CATALOG_MARK: &str = "\n=== ";
 
 /// How much memory is left at most, which is more than is taken over the largest catalog.
 const SPAN: usize = 10_752 * 1024;

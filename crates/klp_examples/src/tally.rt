@@ -26,20 +26,6 @@ impl Tally {
         }
     }
 
-    /// Counts a case, and tells it if it doesn't hold.
-    pub(crate) fn tell_case<R: Print>(
-        &mut self,
-        rt: &R,
-        case: &str,
-        holds: bool,
-    ) -> io::Result<()> {
-        self.count(holds);
-        if holds {
-            return Ok(());
-        }
-        println!(rt; "differs: {case}")
-    }
-
     /// Tells how many hold and how many don't, and answers whether all do.
     pub(crate) fn tell<R: Print>(self, rt: &R, hold: &str, differ: &str) -> io::Result<bool> {
         println!(rt; "{} {hold}, {} {differ}", self.held, self.differing)?;
