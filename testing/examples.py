@@ -7,7 +7,7 @@ import glob
 import os
 import tempfile
 
-from testing.run import EXAMPLES, TOP, fault, read, run
+from testing.run import EXAMPLES, TOP, fault, read, run, run_itself
 
 # What klpwatch ends with where a trace isn't honest.
 DISHONEST = 3
@@ -84,7 +84,7 @@ def pages():
     return [(f"pages/{name}.html", functools.partial(page, f"pages/{name}")) for name in names]
 
 
-def refused(catalog, said):
+def refused(catalog, said, run=run):
     """A catalog is refused before anything is answered."""
     with tempfile.NamedTemporaryFile(suffix=".catalog") as it:
         it.write(catalog)
@@ -108,7 +108,7 @@ FORMS = (0, b"", None), (MAX_LINE, b"\r\n", None), (MAX_LINE + 1, b"", "LineTooL
 def faulty_line(start, kind, line):
     for length, end, other in FORMS:
         said = f"klpsim: line {len(start.splitlines()) + 1}: {other or kind}"
-        wrong = refused(start.encode() + line.encode().ljust(length) + end, said)
+        wrong = refused(start.encode() + line.encode().ljust(length) + end, said, run_itself)
         if wrong:
             return wrong
     return None

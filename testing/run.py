@@ -8,6 +8,8 @@ PROGRAMS = ("klpsim", "klpwatch", "klppage")
 # What ./klpsim says on standard error, of a program that isn't proved and of words that are refused, beside what the program
 # says itself.
 DOOR = (": what follows isn't proved;", ": it is compiled first,", ": it is still being compiled,", ": how it is called,")
+# Whether the programs are those that the gate has built.
+IS_BUILT = False
 # How long a run may take, and one that compiles first, on a machine that does much else.
 SECONDS, COMPILE_SECONDS = 300, 3600
 
@@ -39,6 +41,12 @@ def run(words, given=b"", seconds=SECONDS):
     """The status and the output of the program that the first word names, and what it wrote to standard error itself."""
     status, out, err = finish(start([f"{TOP}/{words[0]}", *words[1:]]), given, seconds)
     return status, out, own(err)
+
+
+def run_itself(words, given=b"", seconds=SECONDS):
+    """The same of the program that its script has built or compiled: what is called a thousand times takes no script."""
+    built, kept = f"{TOP}/crates/{words[0]}/out/{words[0]}", f"{TOP}/out/unproved/{words[0]}"
+    return finish(start([built if IS_BUILT else kept, *words[1:]]), given, seconds)
 
 
 def fault(came, wanted):
