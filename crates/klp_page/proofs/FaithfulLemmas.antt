@@ -1,24 +1,21 @@
 -- What a page promises of its run.
-use Rattle.std.proofs.Common.{◌≡◌, ℕ, zero, suc, ◌<◌, List, [], ◌∷◌, ◌++◌, length, Option, Some, None, refl, sym, ap, subst, ◌∙◌, append_assoc, append-nil, arith}
+use Rattle.std.proofs.Common.{◌≡◌, ℕ, zero, suc, ◌<◌, List, [], ◌∷◌, ◌++◌, length, Some, refl, sym, ap, subst, ◌∙◌, append_assoc, arith}
 use Rattle.std.proofs.lemmas.Option.{same_Some, none-some}
-use Rattle.std.specs.Prelude.{slice_get, codes, Contains}
+use Rattle.std.specs.Prelude.{slice_get}
 use Rattle.klp_catalog.specs.Catalog.{Catalog}
 use Rattle.klp_manager_state.specs.Managed.{setting_of}
 use Rattle.klp_core.specs.Journaled.{Journaled}
 use Rattle.klp_console.specs.Lines.{lines_of}
-use Rattle.klp_program.specs.Booted.{IsBootedOver}
 use Rattle.klp_story.specs.End.{first_text, end_text}
 use Rattle.klp_story.specs.Sentences.{story_text}
 use Rattle.klp_timeline.specs.declared.moment.Moment.{Moment}
 use Rattle.klp_timeline.specs.declared.moment.Said.TheVariants.{Slept}
 use Rattle.klp_timeline.specs.declared.moment.Sentence.{Sentence}
-use Rattle.klp_timeline.specs.declared.moment.Sleepers.{Sleepers}
-use Rattle.klp_timeline.specs.declared.moment.Stay.{Stay}
 use Rattle.klp_timeline.specs.declared.moment.View.{View}
 use Rattle.klp_timeline.specs.Sentences.{sentences_of}
-use Rattle.klp_timeline.specs.Telling.{seen_after, Spans, IsTold, IsQuiet}
+use Rattle.klp_timeline.specs.Telling.{seen_after, IsQuiet}
 use Rattle.klp_timeline.proofs.TellingLemmas.{no_sleeper_left_out, none_made_up}
-use Rattle.klp_views.specs.Views.{IsView, stay_in}
+use Rattle.klp_views.specs.Views.{IsView}
 use Rattle.klp_views.proofs.StayLemmas.{stay_seen, quiet_at_first}
 use Rattle.klp_page.specs.declared.head.Title.{Title}
 use Rattle.klp_page.specs.declared.row.Row.{Row}

@@ -3,7 +3,7 @@ use Rattle.std.proofs.Common.{◌≡◌, ℕ, suc, ◌==◌, false, true, List, 
 use Rattle.std.proofs.lemmas.Bool.{both_ways, eqb-true}
 use Rattle.std.proofs.lemmas.List.{nil_from_length}
 use Rattle.std.proofs.lemmas.Option.{same_Some, none-some}
-use Rattle.std.specs.Prelude.{slice_get, ◌-◌, ◌+◌, Some}
+use Rattle.std.specs.Prelude.{slice_get, ◌-◌, Some}
 use Rattle.klp_core.specs.Journaled.{Journaled}
 use Rattle.klp_console.specs.Lines.{whole, lines_of}
 use Rattle.klp_timeline.specs.declared.moment.Moment.{Moment}

@@ -1,7 +1,6 @@
 -- What a page promises of the run that it shows.
-use Rattle.std.specs.Prelude.{◌≡◌, ℕ, suc, List, [], ◌∷◌, ◌++◌, Option, Some, None, Contains, slice_get, Result, Ok}
+use Rattle.std.specs.Prelude.{◌≡◌, ℕ, suc, List, [], ◌∷◌, ◌++◌, Option, Some, Contains, slice_get, Ok}
 use Rattle.klp_model.specs.Task.{task_at}
-use Rattle.klp_catalog.specs.Catalog.{Catalog}
 use Rattle.klp_catalog_text.specs.Plan.{Plan}
 use Rattle.klp_catalog_text.specs.Text.{plan_of}
 use Rattle.klp_manager_state.specs.Managed.{setting_of}

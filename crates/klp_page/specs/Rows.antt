@@ -1,5 +1,5 @@
 -- What the rows of a page show of a script, and the moments that are seen with them.
-use Rattle.std.specs.Prelude.{◌≡◌, ℕ, ◌+◌, ◌&&◌, Bool, true, false, not, List, [], ◌∷◌, ◌++◌, length, Option, Some, None, if◌then◌else◌}
+use Rattle.std.specs.Prelude.{◌≡◌, ℕ, ◌+◌, ◌&&◌, Bool, not, List, [], ◌∷◌, ◌++◌, length, Option, Some, if◌then◌else◌}
 use Rattle.klp_console_commands.specs.Lines.{request_of}
 use Rattle.klp_console.specs.declared.outcome.Outcome.{Outcome}
 use Rattle.klp_console.specs.Answered.{Answer, IsAnswered, names_in}
@@ -8,7 +8,7 @@ use Rattle.klp_core.specs.Journaled.{Journaled}
 use Rattle.klp_manager_state.specs.Managed.{setting_of}
 use Rattle.klp_timeline.specs.declared.moment.Moment.{Moment}
 use Rattle.klp_timeline.specs.declared.moment.Stay.{Stay}
-use Rattle.klp_timeline.specs.declared.moment.Stay.TheVariants.{Holds, Outdated}
+use Rattle.klp_timeline.specs.declared.moment.Stay.TheVariants.{Holds}
 use Rattle.klp_timeline.specs.declared.moment.View.{View}
 use Rattle.klp_timeline.specs.Still.{are_same, is_still}
 use Rattle.klp_views.specs.Views.{IsView, act_of}

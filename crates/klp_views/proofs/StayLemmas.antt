@@ -1,6 +1,6 @@
 -- What a view has of each number.
-use Rattle.std.proofs.Common.{◌≡◌, ℕ, zero, suc, List, [], ◌∷◌, map, Option, Some, None, refl, sym, ap, subst, ◌∙◌}
-use Rattle.std.specs.Prelude.{slice_index_or, replicate}
+use Rattle.std.proofs.Common.{◌≡◌, ℕ, zero, suc, List, [], ◌∷◌, map, Option, Some, None, refl, sym, ap, ◌∙◌}
+use Rattle.std.specs.Prelude.{replicate}
 use Rattle.klp_types.specs.declared.limits.TheConstants.{MAX_TASKS}
 use Rattle.klp_types.specs.declared.task.Task.{Task}
 use Rattle.klp_types.specs.declared.version.Transition.{Transition}

@@ -1,5 +1,5 @@
 -- Rows that are filled one by one.
-use Rattle.std.proofs.Common.{◌≡◌, ℕ, ◌+◌, ◌<◌, Bool, true, false, List, length, map, get_or, refl, sym, ap, subst, ◌∙◌, arith}
+use Rattle.std.proofs.Common.{◌≡◌, ℕ, ◌+◌, ◌<◌, Bool, true, false, List, length, map, get_or, refl, sym, ap, ◌∙◌, arith}
 use Rattle.std.specs.Prelude.{◌==◌, slice_set, ◌∷◌, Option, Some, None, if◌then◌else◌}
 use Rattle.klp_types.specs.declared.version.Version.{Version}
 use Rattle.klp_views.specs.Views.{else_of, innermost_outside}

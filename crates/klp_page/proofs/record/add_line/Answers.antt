@@ -1,4 +1,4 @@
-use Rattle.std.proofs.Common.{sym, ap, subst, ◌∙◌}
+use Rattle.std.proofs.Common.{ap, subst, ◌∙◌}
 use Rattle.klp_timeline.specs.declared.moment.View.{View}
 use Rattle.klp_page.specs.Rows.{IsRowOf, last_view}
 use Rattle.klp_page.proofs.record.add_line.Goals as goal

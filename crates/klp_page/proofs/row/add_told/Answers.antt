@@ -1,4 +1,4 @@
-use Rattle.std.proofs.Common.{◌++◌, ap, subst, ◌∙◌}
+use Rattle.std.proofs.Common.{◌++◌, subst}
 use Rattle.std.specs.Fmt.{decimal}
 use Rattle.klp_markup.specs.Adds.{Adds}
 use Rattle.klp_markup.specs.Escaped.{escaped}
