@@ -46,15 +46,19 @@ pub(crate) fn add_idle(sheet: &mut Sheet, bars: &Bars) {
             count = count.saturating_add(1);
         }
     }
-    match count {
-        0 => return,
-        1 => sheet.markup(
-            "<tr><td colspan=2><p class=idle><b>1 task does nothing</b>, and isn't drawn: it stays in user space. It is task ",
-        ),
-        _ => sheet.fill(
-            "<tr><td colspan=2><p class=idle><b>{} tasks do nothing</b>, and aren't drawn: they stay in user space. They are tasks ",
+    if count == 0 {
+        return;
+    }
+    sheet.markup("<tr><td colspan=2><p class=idle><b>");
+    if count == 1 {
+        sheet.markup(
+            "1 task does nothing</b>, and isn't drawn: it stays in user space. It is task ",
+        );
+    } else {
+        sheet.fill(
+            "{} tasks do nothing</b>, and aren't drawn: they stay in user space. They are tasks ",
             &[Number(count)],
-        ),
+        );
     }
     add_numbers(sheet, bars);
     sheet.markup(".</p></td></tr>\n");
