@@ -6,8 +6,9 @@ pub(crate) const QUIET_ROWS: usize = 10;
 pub(crate) const HEAD: &str = "<!doctype html><html lang=en><meta charset=utf-8>
 <meta name=viewport content=\"width=device-width,initial-scale=1\"><title>";
 
-/// The page's own colours, its sentences and its rows. Those of the drawing and of cards follow. Print has no backgrounds, so
-/// what has to be seen there is drawn or has a border.
+/// The page's own colours, its sentences and its rows. Those of the drawing and of cards follow. A name is broken only where
+/// it doesn't fit on a line. Print has no backgrounds, so what has to be seen there is drawn or has a border, and an open row
+/// takes room for its first cards with it, so that no page ends with a row alone.
 pub(crate) const STYLE: &str = "</title><style>
 :root{color-scheme:light dark;--paper:#fff;--ink:#1b1f24;--soft:#57606a;--rule:#d9dee4;--card:#f5f7f9;--hold:#b3261e;
 --focus:#0072b2}
@@ -18,7 +19,7 @@ body{margin:0 auto;max-width:64rem;padding:1.5rem 1rem 4rem;background:var(--pap
 font:16px/1.5 system-ui,\"DejaVu Sans\",sans-serif}
 h1{font-size:1.35rem;margin:0 0 .25rem}h2{font-size:1.05rem;margin:1.8rem 0 .5rem}h1,h2{break-after:avoid}
 code,samp,.m{font-family:ui-monospace,\"DejaVu Sans Mono\",monospace;font-size:.86em}
-code,samp{overflow-wrap:anywhere}
+code,samp,h1,.story{overflow-wrap:anywhere}h1 wbr,.story wbr{display:none}
 .soft{color:var(--soft);margin:.2rem 0}a{color:inherit}
 .story{margin:.2rem 0;padding:0 0 0 1.1rem}.story li{margin:.15rem 0}.holds{color:var(--hold)}
 .row:target,.story li:has(:target){outline:3px solid var(--focus);outline-offset:2px}
@@ -34,10 +35,11 @@ div.row{color:var(--soft)}samp{white-space:pre-wrap}.no samp{color:var(--hold);f
 .held{grid-column:2/-1;justify-self:start;color:var(--hold);font-size:.86em}
 .fold{position:relative;border-top:1px solid var(--rule)}
 .more>summary{min-height:2.2rem;padding:.35rem .2rem .35rem 3rem}
-.folded{position:absolute;top:.35rem;left:4rem;right:0;margin:0;color:var(--soft);pointer-events:none}
+.folded{position:absolute;top:.35rem;left:4.6rem;right:0;margin:0;color:var(--soft);pointer-events:none}
 @media(max-width:40rem){.row>summary,div.row{grid-template-columns:2.6rem minmax(0,1fr)}
-.row>summary samp,div.row samp{grid-column:2}.more>summary{min-height:3.6rem;padding-left:2.2rem}.folded{left:3.2rem}}
+.row>summary samp,div.row samp{grid-column:2}.more>summary{min-height:3.6rem;padding-left:2.2rem}.folded{left:3.8rem}}
 @media print{body{max-width:none;padding:0;font-size:10.5pt}.row>summary,div.row,.story li{break-inside:avoid}
+.row[open]>summary{padding-bottom:7rem;margin-bottom:-7rem}
 a{text-decoration:none}}
 ";
 

@@ -30,7 +30,7 @@ way false = codes " is in transition, unpatching"
 abbrev pub since_text : Option Since → List ℕ
 since_text None = []
 since_text (Some (Turned line)) = codes " since " ++ link_text (codes "line ") line
-since_text (Some (Undone line)) = codes " at least since " ++ link_text (codes "line ") line
+since_text (Some (Undone line)) = codes " since " ++ link_text (codes "line ") line ++ codes " at least, where events were undone"
 
 abbrev pub forced_text : Bool → List ℕ
 forced_text is_forced = if is_forced then codes ", and was forced" else []

@@ -36,7 +36,7 @@ meaning target sleepers =
     (codes " tasks slept on in code that wasn't called then.")
 
 abbrev pub undone_text : ℕ → List ℕ
-undone_text count = counted_text [] count (codes " event is undone: all is as it was after event ") (codes " events are undone: all is as it was after event ")
+undone_text count = counted_text [] count (codes " event is undone: all is as it was at mark ") (codes " events are undone: all is as it was at mark ")
 
 abbrev pub fact_text : Catalog → Fact → List ℕ
 fact_text catalog (Forces move) = quoted_text catalog move.patch ++ codes ": the transition is forced, so consistency isn't promised from here on."

@@ -27,7 +27,7 @@ pub fn facts_are_told_like_this()
         ≡ quoted_text catalog 0 ++ codes ": unpatching complete"
         ++ codes ", but 2 tasks slept on in code that wasn't called then." }
     ensures undone { (catalog : AnyCatalog) → fact_text catalog (Undoes 3 2)
-        ≡ codes "1 event is undone: all is as it was after event 2." }
+        ≡ codes "1 event is undone: all is as it was at mark 2." }
 {}
 
 /// The lines of a stay, who holds a transition up, who lags, and that nothing was done.

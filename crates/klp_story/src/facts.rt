@@ -111,8 +111,8 @@ fn add_undone(sheet: &mut Sheet, from: u32, to: u32)
         sheet,
         "",
         count as usize,
-        " event is undone: all is as it was after event ",
-        " events are undone: all is as it was after event ",
+        " event is undone: all is as it was at mark ",
+        " events are undone: all is as it was at mark ",
     );
     sheet.number(u64::from(to));
     sheet.markup(".");

@@ -34,8 +34,9 @@ fn add_since(sheet: &mut Sheet, since: &Option<Since>)
             add_link(sheet, "line ", line);
         }
         Some(Since::Undone(line)) => {
-            sheet.markup(" at least since ");
+            sheet.markup(" since ");
             add_link(sheet, "line ", line);
+            sheet.markup(" at least, where events were undone");
         }
     }
 }
