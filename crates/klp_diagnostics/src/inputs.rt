@@ -110,6 +110,17 @@ impl<'a> Inputs<'a> {
         }
     }
 
+    /// Hints at the first line of a script that may be misspelled. It is answered as refused, among many that are meant so.
+    pub fn hint_line<E: Write>(&self, alloc: Global, err: &mut E) {
+        let text = self.second.bytes;
+        if begins_as_catalog(text) || begins_as_utf16(text) {
+            return;
+        }
+        if let Ok(plan) = Catalog::read(alloc, self.catalog.bytes) {
+            let _ = self.write_misspelled(plan, err);
+        }
+    }
+
     /// Tells where a trace isn't honest: the task, and the function that it is inside of. Of an honest one it hints at the
     /// events that are refused.
     pub fn tell_verdict<E: Write>(&self, alloc: Global, verdict: Verdict, err: &mut E) {
@@ -136,6 +147,28 @@ impl<'a> Inputs<'a> {
             }
             None => Ok(()),
         }
+    }
+
+    fn write_misspelled<E: Write>(&self, mut plan: Plan, err: &mut E) -> io::Result<()> {
+        let objects = plan.take_objects();
+        let (patches, _names) = plan.into_patches();
+        let names = Names {
+            objects: &objects,
+            patches: &patches,
+        };
+        self.write_first_misspelled(&names, err)
+    }
+
+    fn write_first_misspelled<E: Write>(&self, names: &Names<'_>, err: &mut E) -> io::Result<()> {
+        let mut number = 0u64;
+        for line in self.second.bytes.split(|b| *b == b'\n') {
+            number = number.saturating_add(1);
+            if let Some(wrong) = item::misspelled_in(line, names, self.catalog.bytes) {
+                self.second.write_place(self.program, number, err)?;
+                return writeln!(err, "hint: {wrong}");
+            }
+        }
+        Ok(())
     }
 
     /// What is UTF-16 has lines of another kind, of which nothing else is told.

@@ -1,7 +1,9 @@
-//! The lines of a trace, as far as they tell of one task, and one that is no item.
+//! The lines of a trace, as far as they tell of one task, and one that is no item; and a line of a script that may be
+//! misspelled.
 
 use crate::lines::word_at;
 use crate::names::{Kind, Names, wrong_word};
+use crate::stray::{is_query, is_told_elsewhere};
 use crate::wrong::Wrong;
 use klp_types::MAX_FRAMES;
 use klp_words::{Separators, Words, number64};
@@ -39,6 +41,9 @@ static KINDS: [(&str, Kind); 7] = [
 /// What is wanted where a line has none of these forms, or one that asks for no event.
 const ITEM: &str =
     "is call TASK SYMBOL, return TASK, or a line of the console that asks for an event";
+
+/// What is wanted where a line of a script has none of the console's forms.
+const LINE: &str = "is a line of the console";
 
 /// What a line of a trace says of a task, or of a module that goes.
 #[derive(Clone, Copy)]
@@ -104,36 +109,44 @@ fn in_place_of(part: &[u8], word: &[u8], names: &Names<'_>) -> Option<Kind> {
     (!names.has(*kind, word)).then_some(*kind)
 }
 
-/// The first word of a line that isn't what the form has there. A line that fits and is no item has too many functions, or
-/// asks for no event.
+/// The first word of a line that isn't what the form has there, if the line doesn't fit. One that fits and is no item has too
+/// many functions, or asks for no event.
 fn wrong_in<'a>(
     form: &'static str,
     line: &'a [u8],
     names: &Names<'_>,
     catalog: &'a [u8],
-) -> Wrong<'a> {
+) -> Option<Wrong<'a>> {
     let (mut parts, mut words) = (words_of(form.as_bytes()), words_of(line));
     let mut part = parts.next();
     for _ in 0..=line.len() {
         match (part, words.next()) {
             (Some(part), Some(word)) => {
                 if let Some(kind) = in_place_of(part, word, names) {
-                    return wrong_word(kind, word, catalog);
+                    return Some(wrong_word(kind, word, catalog));
                 }
             }
-            (Some(b"FRAME"), None) => return Wrong::Most(line, MAX_FRAMES, "functions"),
-            (None, None) => return Wrong::Word(line, ITEM),
+            (Some(b"FRAME") | None, None) => return None,
             _ => break,
         }
         if part != Some(b"FRAME".as_slice()) {
             part = parts.next();
         }
     }
-    Wrong::Form(line, form)
+    Some(Wrong::Form(line, form))
 }
 
-/// What is wrong in a line that has none of the forms.
-fn formless(line: &[u8]) -> Wrong<'_> {
+/// What is wrong with an item that fits its form.
+fn wrong_though_fitting<'a>(form: &'static str, line: &'a [u8]) -> Wrong<'a> {
+    if form.ends_with("..") {
+        Wrong::Most(line, MAX_FRAMES, "functions")
+    } else {
+        Wrong::Word(line, ITEM)
+    }
+}
+
+/// What is wrong in a line that has none of the forms, and where this is wanted.
+fn formless<'a>(line: &'a [u8], wanted: &'static str) -> Wrong<'a> {
     let first = word(line, 1);
     if first.is_empty() {
         Wrong::Lacking("is an item on each line")
@@ -143,14 +156,38 @@ fn formless(line: &[u8]) -> Wrong<'_> {
             "is new, end, enter, exit, wake, fork or sleep",
         )
     } else {
-        Wrong::Word(line, ITEM)
+        Wrong::Word(line, wanted)
     }
+}
+
+/// The form that a line has by its first words.
+fn form_of(line: &[u8]) -> Option<&'static str> {
+    let form = FORMS.iter().find(|form| begins_as(form.as_bytes(), line))?;
+    Some(*form)
 }
 
 /// What is wrong in a line of a trace that is no item, by the names of the catalog and its text.
 pub(crate) fn wrong_of<'a>(line: &'a [u8], names: &Names<'_>, catalog: &'a [u8]) -> Wrong<'a> {
-    match FORMS.iter().find(|form| begins_as(form.as_bytes(), line)) {
+    match form_of(line) {
+        Some(form) => wrong_in(form, line, names, catalog).unwrap_or_else(|| wrong_though_fitting(
+            form, line,
+        )),
+        None => formless(line, ITEM),
+    }
+}
+
+/// What may be misspelled in a line of a script: it is none of the console's, or has a name that the catalog lacks. Queries
+/// and shadow variables aren't looked into.
+pub(crate) fn misspelled_in<'a>(
+    line: &'a [u8],
+    names: &Names<'_>,
+    catalog: &'a [u8],
+) -> Option<Wrong<'a>> {
+    if is_told_elsewhere(line) || is_query(line) {
+        return None;
+    }
+    match form_of(line) {
         Some(form) => wrong_in(form, line, names, catalog),
-        None => formless(line),
+        None => Some(formless(line, LINE)),
     }
 }

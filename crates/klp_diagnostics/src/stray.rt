@@ -2,6 +2,7 @@
 
 use crate::catalog_line::{begins_as_catalog, begins_as_utf16, first_words};
 use crate::inputs::Kind;
+use klp_types::MAX_CONSOLE_LINE;
 
 /// The bytes of a byte-order mark.
 pub(crate) const BYTE_ORDER_MARK: [u8; 3] = [0xef, 0xbb, 0xbf];
@@ -42,7 +43,7 @@ const QUERIES: [&str; 9] = [
 ];
 
 /// Whether a line is one of a script, and asks for no event.
-fn is_query(line: &[u8]) -> bool {
+pub(crate) fn is_query(line: &[u8]) -> bool {
     match first_words(line) {
         (b"shadow", second) => second == b"get".as_slice(),
         (first, _) => QUERIES.iter().any(|own| own.as_bytes() == first),
@@ -51,6 +52,16 @@ fn is_query(line: &[u8]) -> bool {
 
 fn is_call(line: &[u8]) -> bool {
     matches!(first_words(line), (b"call" | b"return", _))
+}
+
+/// Whether a line of a script has no words, is hinted at otherwise or told as a fault, or is about shadow variables, which
+/// have no names.
+pub(crate) fn is_told_elsewhere(line: &[u8]) -> bool {
+    let (first, _) = first_words(line);
+    let has_stray = line.iter().any(|b| matches!(*b, b'\r' | b'\t'));
+    let is_marked = line.first() == Some(&b'#') || line.starts_with(&BYTE_ORDER_MARK);
+    let is_known = first.is_empty() || first == b"shadow".as_slice() || is_call(line);
+    has_stray || is_marked || is_known || line.len() > MAX_CONSOLE_LINE
 }
 
 impl Stray {
