@@ -148,7 +148,7 @@ fn run_large<R: Clock + Files + Print + AllocGlobal>(rt: &R, rounds: u32) -> io:
 }
 
 fn run_small<R: Clock + Files + Print + AllocGlobal>(rt: &R, rounds: u32) -> io::Result<()> {
-    let case = Case::read(rt, SMALL, "script")?;
+    let case = Case::read(rt, SMALL)?;
     let input = case.input.repeat(rt.alloc(), TIMES)?;
     measure_small(rt, rt.alloc(), &case.catalog, &input, rounds)
 }
