@@ -3,3 +3,5 @@ pub mod TaskLemmas
 pub mod ListedLemmas
 pub mod ToldLemmas
 pub mod FrameLemmas
+pub mod NumberLemmas
+pub mod WalkLemmas

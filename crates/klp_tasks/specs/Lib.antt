@@ -1,3 +1,4 @@
 pub mod Changes
 pub mod Members
+pub mod Numbers
 pub mod Sleepers

@@ -13,6 +13,7 @@
 #![tactic(auto)]
 
 pub mod laws;
+mod numbers;
 mod tasks;
 mod version_set;
 

@@ -14,6 +14,7 @@ ghost use Rattle.klp_tasks.specs.Members.{has, ArePassing, IsSetOf};
 ghost use Rattle.klp_tasks.specs.Sleepers.{sleeps_where};
 ghost use Rattle.klp_tasks.specs.Changes.{Changes, changed, record_of, record_if_switched, records_switched, IsSwitchNoted, put_back, undone};
 
+use crate::numbers::TaskNumbers;
 use crate::version_set::VersionSet;
 use arrayvec::ArrayVec;
 use klp_record_words::{FrameWords, Records, SwitchedTask};
@@ -24,13 +25,16 @@ use std::marker::Model;
 /// The tasks by their numbers, of which there are [`MAX_TASKS`].
 ///
 /// All room is taken by [`Tasks::new`]. Each change of one task takes the same time however many tasks there are; who
-/// makes it logs the row before, by [`Tasks::log_row`].
+/// makes it logs the row before, by [`Tasks::log_row`]. What goes over the tasks costs what those that are there cost,
+/// and next to nothing where there is none; [`Tasks::states`] alone looks at all rows.
 #[derive(Drop)]
 pub struct Tasks {
     rows: Vec<Option<Task>>,
     /// For each number the words of the task's frames. They are put together when it falls asleep, so that to log it and
     /// to put it back takes them as they are.
     frames: Vec<FrameWords>,
+    /// The numbers that a task has, so that a walk over all tasks costs what those that are there cost.
+    numbers: TaskNumbers,
 }
 
 impl Model for Tasks {
@@ -38,13 +42,14 @@ impl Model for Tasks {
     ghost use Rattle.klp_types.specs.declared.task.Task.{Task};
     ghost use Rattle.klp_types.specs.declared.limits.TheConstants.{MAX_TASKS};
     ghost use Rattle.klp_types.specs.Frames.{frames_of};
+    ghost use Rattle.klp_tasks.specs.Numbers.{AreTaken};
 
     ghost Value = { List (Option Task) };
 
     ghost view = { λ t. t.rows.items };
 
     ghost invariant = { λ t. (vec_len t.rows ≡ MAX_TASKS) × (vec_len t.frames ≡ MAX_TASKS)
-        × (t.frames.items ≡ map frames_of t.rows.items) };
+        × (t.frames.items ≡ map frames_of t.rows.items) × AreTaken t.numbers.bits t.rows.items };
 }
 
 /// Whether a task isn't at the target. A number without a task never lags, so an empty table lets every
@@ -113,6 +118,7 @@ impl Tasks {
         Ok(Self {
             rows: vec![in alloc; None; MAX_TASKS]?,
             frames: vec![in alloc; FrameWords::new(); MAX_TASKS]?,
+            numbers: TaskNumbers::new(),
         })
     }
 
@@ -139,15 +145,22 @@ impl Tasks {
         states
     }
 
-    /// How many tasks aren't at the target: 0 is what completes a transition. It looks at all rows.
+    /// How many tasks aren't at the target: 0 is what completes a transition. It looks at no row without a task.
     pub fn lagging(&self, target: bool) -> u8
         ensures { result ≡ count_by (lags target) self.now }
     {
-        self.rows.iter().filter(|row| lags(*row, target)).count() as u8
+        let mut count = 0;
+        let mut left = self.numbers;
+        while let Some(number) = left.take_lowest() {
+            if lags(&self.rows[usize::from(number)], target) {
+                count += 1;
+            }
+        }
+        count
     }
 
-    /// Whether a task sleeps inside of one of the versions, asked without switching anybody. It looks at
-    /// all rows and their frames.
+    /// Whether a task sleeps inside of one of the versions, asked without switching anybody. It looks at no row without
+    /// a task, and at the frames of sleepers alone.
     pub fn sleeps_in(&self, versions: &VersionSet) -> bool
         ensures { (test : AnyVersion → Bool) → ArePassing versions.now test
             → result ≡ list_any (sleeps_where test) self.now }
@@ -280,7 +293,7 @@ impl Tasks {
 
     /// A sleeping task is brought to the target where none of its frames is blocked (stack checking of
     /// sleeping tasks). Nothing is logged of a task that stays as it was, nor of a number that no task has.
-    /// It looks at no more than the task's frames.
+    /// It looks at no more than the task's frames, and at none of a task that is at the target.
     pub fn switch_if_clear(
         &mut self,
         task: TaskId,
@@ -293,18 +306,23 @@ impl Tasks {
             → self.new ≡ changed self.old task (switched versions target) }
         ensures noted { IsSwitchNoted self.old self.new task log.old log.new }
     {
+        let state = target_state(target);
         let Some(row) = self.get(task) else {
             return;
         };
+        // first, since it costs less than to look at the frames
+        if has_state(row, state) {
+            return;
+        }
         if !is_free(row, blocked) {
             return;
         }
-        self.set_state(task, target_state(target), log);
+        self.set_state(task, state, log);
     }
 
     /// Each sleeping task that is inside of nothing blocked is brought to the target (the kernel's
     /// `klp_try_switch_task`, for sleepers). Each task that changed is logged, in the order of their
-    /// numbers. It looks at all rows.
+    /// numbers. It looks at no row without a task, and at the frames of those sleepers alone that aren't at the target.
     pub fn try_all(&mut self, blocked: &VersionSet, target: bool, log: &mut Records)
         requires { length self.old ≤ spare_of log.old }
         ensures tasks { (versions : List AnyVersion) → IsSetOf blocked.now versions
@@ -312,14 +330,15 @@ impl Tasks {
         ensures records { log.new ≡ record log.old { noted = log.old.noted ++ records_switched 0 self.old self.new } }
         ensures undo { undone self.new (records_switched 0 self.old self.new) ≡ self.old }
     {
-        for number in 0..self.rows.len() as u8 {
+        let mut left = self.numbers;
+        while let Some(number) = left.take_lowest() {
             self.switch_if_clear(TaskId(number), blocked, target, log);
         }
     }
 
     /// Every task gets the state, whatever it is inside of: at a transition's start and end, and where one
     /// is forced. Each task whose state was another is logged, in the order of their numbers. It looks at
-    /// all rows.
+    /// no row without a task.
     pub fn set_all(&mut self, state: PatchState, log: &mut Records)
         requires { length (records_switched 0 self.old (all_in state self.old)) ≤ spare_of log.old }
         ensures tasks { self.new ≡ all_in state self.old }
@@ -327,7 +346,8 @@ impl Tasks {
             ≡ record log.old { noted = log.old.noted ++ records_switched 0 self.old (all_in state self.old) } }
         ensures undo { undone self.new (records_switched 0 self.old (all_in state self.old)) ≡ self.old }
     {
-        for number in 0..self.rows.len() as u8 {
+        let mut left = self.numbers;
+        while let Some(number) = left.take_lowest() {
             self.set_state(TaskId(number), state, log);
         }
     }
@@ -406,7 +426,13 @@ impl Tasks {
     fn holds_sleeper(&self, versions: &VersionSet) -> bool
         ensures { result ≡ list_any (sleeps_where (has versions.now)) self.now }
     {
-        self.rows.iter().any(|row| sleeps_inside(row, versions))
+        let mut left = self.numbers;
+        while let Some(number) = left.take_lowest() {
+            if sleeps_inside(&self.rows[usize::from(number)], versions) {
+                return true;
+            }
+        }
+        false
     }
 
     /// A task that is there. The other case can't come up, by what the caller has to show.
@@ -434,10 +460,11 @@ impl Tasks {
     fn put(&mut self, task: TaskId, row: Option<Task>)
         ensures { self.new ≡ with_task self.old task row }
     {
-        let task = usize::from(task.0);
-        if task < MAX_TASKS {
-            set_words(&mut self.frames[task], &row);
-            self.rows[task] = row;
+        let number = usize::from(task.0);
+        if number < MAX_TASKS {
+            self.numbers.set(task.0, row.is_some());
+            set_words(&mut self.frames[number], &row);
+            self.rows[number] = row;
         }
     }
 
@@ -450,7 +477,7 @@ impl Tasks {
 
     /// A task gets the state, if it is there. Its row is logged before, and only where its state was another, since no
     /// record is kept of an unchanged row. It is lent to the list, and so not copied, but for what it says. It is called
-    /// for each number that a task may have, of which most have none.
+    /// for each task that is there, of which most have the state.
     #[inline(always)]
     fn set_state(&mut self, task: TaskId, state: PatchState, log: &mut Records)
         requires { is_some (record_if_switched task (task_at self.old task)

@@ -7,6 +7,7 @@ use Rattle.klp_model.specs.TaskStep.{exited}
 use Rattle.std.specs.Prelude.{Some}
 use Rattle.klp_tasks.proofs.TaskLemmas.{is_changed}
 use Rattle.klp_tasks.proofs.FrameLemmas.{frames_stay}
+use Rattle.klp_tasks.proofs.NumberLemmas.{taken_stay}
 use Rattle.klp_tasks.proofs.tasks.Tasks.leave.Goals as goal
 use Rattle.klp_tasks.proofs.tasks.Tasks.leave.Goals.{in-Some-moving, in_default-moving}
 
@@ -18,7 +19,7 @@ invariant_of-self c =
       | in-Some-moving w ↦ ap (λ (r : Task). r.frames) w.row-is
       | in_default-moving w ↦ ap (λ (r : Task). r.frames) w.row-is
     ] in
-    (c.self.invariant.0, c.self.invariant.1, c.self.invariant.2 ∙ frames_stay c.self.inside.rows.items c.from.result c.in-Some.row _ there same)
+    (c.self.invariant.0, c.self.invariant.1, c.self.invariant.2 ∙ frames_stay c.self.inside.rows.items c.from.result c.in-Some.row _ there same, taken_stay c.self.inside.numbers.bits c.self.inside.rows.items c.from.result c.in-Some.row _ there c.self.invariant.3)
 
 pub returns : goal.returns
 returns c =

@@ -6,15 +6,18 @@ use Rattle.klp_model.specs.Task.{task_at}
 use Rattle.std.specs.Prelude.{Some}
 use Rattle.klp_tasks.proofs.TaskLemmas.{is_changed}
 use Rattle.klp_tasks.proofs.FrameLemmas.{frames_put}
+use Rattle.klp_tasks.proofs.NumberLemmas.{taken_stay}
 use Rattle.klp_tasks.proofs.tasks.Tasks.sleep.Goals as goal
 
 pub invariant_of-self : goal.invariant_of-self
 invariant_of-self c =
-    let own = c.set.new.self in (
+    let own = c.set.new.self in
+    let there : task_at c.self.inside.rows.items c.from.result ≡ Some c.in-Some.row = grind (arith, common_steps, rules) in (
       c.self.invariant.0,
       c.self.invariant.1,
       ap (λ n. set c.self.inside.frames.items n own) (c.from-2.ensures ∙ sym c.from.ensures)
           ∙ frames_put c.self.inside.rows.items c.self.inside.frames.items c.from.result _ own c.self.invariant.2 c.set.ensures,
+      taken_stay c.self.inside.numbers.bits c.self.inside.rows.items c.from.result c.in-Some.row _ there c.self.invariant.3,
     )
 
 pub returns : goal.returns
