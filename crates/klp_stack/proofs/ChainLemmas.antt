@@ -1,10 +1,10 @@
 -- Slots that are linked, and the entries that they have.
-use Rattle.std.proofs.Common.{◌≡◌, ℕ, zero, suc, ◌-◌, ◌<◌, ◌≤◌, true, false, List, ◌∷◌, length, get_or, refl, sym, ap, subst, ◌∙◌, arith, Some, None}
+use Rattle.std.proofs.Common.{◌≡◌, ℕ, zero, suc, ◌-◌, ◌<◌, ◌≤◌, true, false, ◌||◌, List, ◌∷◌, length, get_or, refl, sym, ap, subst, ◌∙◌, arith, Some, None}
 use Rattle.std.specs.Prelude.{slice_get, ◌==◌}
 use Rattle.std.proofs.lemmas.Bool.{cond-true, cond-false}
 use Rattle.std.proofs.lemmas.List.{get_or_default}
 use Rattle.klp_stack.specs.declared.slot.Slot.{Slot}
-use Rattle.klp_stack.specs.Stack.{place_of}
+use Rattle.klp_stack.specs.Stack.{has_entry, place_of}
 use Rattle.klp_stack.specs.Pool.{slot_at, slot_below, entries_from, IsLinked}
 
 module _ (slots : List Slot) where
@@ -76,3 +76,31 @@ module _ (slots : List Slot) where
         let s = step index number at slot here left some in
         let same = slot_read number at slot here s.within ∙ sym (slot_read number at tested here s.within) in
         sym (ap (place_of patch) s.entries ∙ cond-false _ _ _ (ap (λ (t : Slot). t.entry.patch == patch) same ∙ other))
+
+    -- the same where no other is read of it
+    pub in_others : ((get_or slots at slot).entry.patch == patch) ≡ false
+        → place_of patch (entries_from slots (index - 1) (slot_at slots number).older) ≡ place_of patch (entries_from slots index number)
+    in_others other =
+        let s = step index number at slot here left some in
+        ap (λ (t : Slot). place_of patch (entries_from slots (index - 1) t.older)) (sym (slot_read number at slot here s.within)) ∙ in_rest slot other
+
+  -- one slot at least is linked
+  pub one_linked : (index number : ℕ) → IsLinked slots index number → 0 < index → IsLinked slots (suc (index - 1)) number
+  one_linked zero number linked some = absurd (omega arith)
+  one_linked (suc n) number linked some = let one : n ≡ suc n - 1 = omega arith in subst (λ k. IsLinked slots (suc k) number) one linked
+
+  -- a slot with the entry of another patch is passed
+  pub record Passed (patch index number : ℕ) (slot : Slot) : Type 0 where
+    pub linked : IsLinked slots (index - 1) slot.older
+    pub has : has_entry patch (entries_from slots (index - 1) slot.older) ≡ has_entry patch (entries_from slots index number)
+    pub older : slot.older ≡ (slot_at slots number).older
+
+  pub passed : (patch index number at : ℕ) (slot : Slot) → at ≡ number → IsLinked slots index number → 0 < index → slot ≡ get_or slots at slot
+      → (slot.entry.patch == patch) ≡ false → Passed patch index number slot
+  passed patch index number at slot here linked some is other =
+      let s = subst (Step index number) (sym is) (step index number at slot here linked some) in
+      record {
+        linked = s.linked;
+        has = sym (ap (has_entry patch) s.entries ∙ ap (λ b. b || has_entry patch (entries_from slots (index - 1) slot.older)) other);
+        older = ap (λ (t : Slot). t.older) (is ∙ slot_read number at slot here s.within);
+      }

@@ -1,16 +1,17 @@
 -- The entry of a patch on a stack, by its place.
-use Rattle.std.proofs.Common.{◌≡◌, ℕ, suc, ◌+◌, ◌-◌, ◌<◌, ◌≤◌, Bool, true, false, not, ◌&&◌, ltb, leb, List, [], ◌∷◌, ◌++◌, length, take, drop, refl, sym, ap, subst, ◌∙◌, arith, length-append, Option, Some, None}
+use Rattle.std.proofs.Common.{◌≡◌, ◌≢◌, ℕ, suc, ◌+◌, ◌-◌, ◌<◌, ◌≤◌, Bool, true, false, not, ◌&&◌, ltb, leb, List, [], ◌∷◌, ◌++◌, length, take, drop, refl, sym, ap, subst, ◌∙◌, arith, length-append, Option, Some, None}
 use Rattle.std.specs.Bool.{◌==◌}
 use Rattle.std.specs.Prelude.{if◌then◌else◌, option_map, is_some, slice_get}
 use Rattle.std.specs.Option.{option_to_list}
 use Rattle.std.specs.List.{find, insert, remove}
-use Rattle.std.proofs.lemmas.Bool.{eqb-true, lt-ltb, le-leb, leb-true, ltb-true, not-true, not-false, not_from_false, and_parts, and_from, or_from, cond-true, cond-false}
+use Rattle.std.proofs.lemmas.Bool.{eqb-true, eq-eqb, ne_eqb, lt-ltb, le-leb, leb-true, ltb-true, ltb-false, not-true, not-false, not_from_false, and_parts, and_from, or_from, cond-true, cond-false}
 use Rattle.std.proofs.lemmas.List.{take_at, take-append-drop}
 use Rattle.std.proofs.lemmas.List.Folds.{list_any-append}
 use Rattle.klp_types.specs.declared.limits.TheConstants.{MAX_PATCHES}
 use Rattle.klp_types.specs.declared.record.Place.{Place}
 use Rattle.klp_types.specs.declared.version.Entry.{Entry}
 use Rattle.klp_types.specs.declared.version.Transition.{Transition}
+use Rattle.klp_types.specs.Entries.{is_empty}
 use Rattle.klp_types.specs.Pick.{newest_version}
 use Rattle.klp_model.specs.Blocked.{held_version, blocked_among}
 use Rattle.klp_stack.specs.Stack.{has_entry, entries_of_others, place_of, IsStack}
@@ -138,6 +139,7 @@ put_between_at i entry newer older is =
 pub record Taken (patch : ℕ) (entries rest : List Entry) (was : Option Place) : Type 0 where
   pub stack : IsStack rest
   pub others : rest ≡ entries_of_others patch entries
+  pub fewer : length rest ≡ length entries - 1
   pub undo : put_entry patch was (entries_of_others patch entries) ≡ entries
 
 removed_between : (newer older : List Entry) (entry : Entry) (n : ℕ) → n ≡ length newer → remove (newer ++ entry ∷ older) n ≡ newer ++ older
@@ -166,6 +168,7 @@ taken patch entries rest place stack is left =
     record {
       stack = subst IsStack (sym parts) there.rest;
       others = parts ∙ sym others;
+      fewer = omega (arith, ap length parts, length-append at.newer at.older, long);
       undo =
           ap (put_entry patch (Some place)) others
           ∙ put_there patch place.index place.func (at.newer ++ at.older) (subst (λ p. p < MAX_PATCHES) same there.number) none_left
@@ -217,3 +220,45 @@ index_within patch entries place there =
     let at = found patch entries place there in
     let long = ap length at.is ∙ length-append at.newer (at.entry ∷ at.older) in
     omega (arith, long, at.count)
+
+-- whether there are entries
+pub empty_is : (entries : List Entry) (n : ℕ) → n ≡ length entries → (n == 0) ≡ is_empty entries
+empty_is [] n none = eq-eqb n 0 none
+empty_is (entry ∷ older) n more = ne_eqb n 0 (λ none. let no : ⊥ = omega (arith, more, none) in no)
+
+pub put_some : (newer older : List Entry) (entry : Entry) → is_empty (newer ++ entry ∷ older) ≡ false
+put_some [] older entry = refl
+put_some (first ∷ newer) older entry = refl
+
+-- an entry that gets its place is the only one where there was none
+pub first_put : (entries : List Entry) (i : ℕ) (entry : Entry) → is_empty entries ≡ (is_empty entries && not (is_empty (put_at i entry entries)))
+first_put entries i entry = by (is_empty entries) (is_empty (put_at i entry entries)) (put_some (take (length entries - i) entries) (drop (length entries - i) entries) entry)
+  where
+    by : (was now : Bool) → now ≡ false → was ≡ (was && not now)
+    by true now some = ap not (sym some)
+    by false now some = refl
+
+-- an entry may stand on top, or below another, where the patch has none
+pub may_on_top : (patch index n : ℕ) (entries : List Entry) → patch < MAX_PATCHES → index ≡ n → n ≡ length entries → has_entry patch entries ≡ false → true ≡ may_stand patch index entries
+may_on_top patch index n entries number top count none =
+    sym (and_from _ _ (and_from _ _ (lt-ltb patch MAX_PATCHES number) (not_from_false _ none)) (le-leb index (length entries) (omega (arith, top, count))))
+
+pub may_below : (patch index n : ℕ) (entries : List Entry) → patch < MAX_PATCHES → index ≢ n → n ≡ length entries
+    → (not (has_entry patch entries) && ltb index n) ≡ may_stand patch index entries
+may_below patch index n entries number below count =
+    ap (λ b. not (has_entry patch entries) && b) (lower (length entries) count)
+    ∙ ap (λ b. b && not (has_entry patch entries) && leb index (length entries)) (sym (lt-ltb patch MAX_PATCHES number))
+  where
+    lower : (long : ℕ) → n ≡ long → ltb index n ≡ leb index long
+    lower long same = elim (ltb index n) as (λ b. ltb index n ≡ b → b ≡ leb index long) [
+      | true ↦ λ less. let low = ltb-true index n less in sym (le-leb index long (omega (arith, low, same)))
+      | false ↦ λ not_less. elim (leb index long) as (λ b. leb index long ≡ b → false ≡ b) [
+        | true ↦ λ le. let high = ltb-false index n not_less in let low = leb-true index long le in absurd (below (omega (arith, high, low, same)))
+        | false ↦ λ not_le. refl
+      ] refl
+    ] refl
+
+pub only_others : (patch : ℕ) (entries : List Entry) (n : ℕ) (has : Bool) → n ≡ length entries → 0 < n → has ≡ has_entry patch entries
+    → not has ≡ (not (is_empty entries) && not (has_entry patch entries))
+only_others patch [] n has count some is = absurd (omega (arith, count, some))
+only_others patch (entry ∷ older) n has count some is = ap not is

@@ -1,21 +1,24 @@
 -- The steps of the pool, as changes of the stacks.
-use Rattle.std.proofs.Common.{◌≡◌, ◌≢◌, ℕ, zero, suc, ◌+◌, ◌-◌, ◌<◌, ◌≤◌, true, false, List, [], ◌∷◌, length, map, get_or, set, ltb, refl, sym, ap, subst, ◌∙◌, arith, Option}
+use Rattle.std.proofs.Common.{◌≡◌, ◌≢◌, ℕ, zero, suc, ◌+◌, ◌-◌, ◌<◌, ◌≤◌, true, false, not, ◌&&◌, List, [], ◌∷◌, length, map, get_or, set, ltb, refl, sym, ap, subst, ◌∙◌, arith, Option, Some}
+use Rattle.std.specs.Bool.{◌==◌}
 use Rattle.std.specs.List.{insert, remove}
 use Rattle.std.proofs.lemmas.Bool.{ltb-true, ltb-false}
-use Rattle.std.proofs.lemmas.List.{length-map, get_or-map, get_or_default}
+use Rattle.std.proofs.lemmas.List.{length-map, get_or-map, get_or_default, get_or-set_same}
 use Rattle.std.proofs.lemmas.List.Sums.{sum_by-set}
 use Rattle.klp_types.specs.declared.limits.TheConstants.{MAX_PATCHES}
 use Rattle.klp_types.specs.declared.record.Place.{Place}
 use Rattle.klp_types.specs.declared.version.Entry.{Entry}
+use Rattle.klp_types.specs.Entries.{is_empty}
 use Rattle.klp_stack.specs.declared.slot.Slot.{Slot}
 use Rattle.klp_stack.specs.declared.slot.TheConstants.{MAX_ENTRIES}
 use Rattle.klp_stack.specs.declared.chain.Chain.{Chain}
-use Rattle.klp_stack.specs.Stack.{IsStack, entries_at, has_entry, place_of}
-use Rattle.klp_stack.specs.Undo.{may_stand, put_at}
+use Rattle.klp_stack.specs.Stack.{IsStack, entries_at, has_entry, entries_of_others, place_of}
+use Rattle.klp_stack.specs.Undo.{may_stand, put_at, put_entry}
 use Rattle.klp_stack.specs.Spare.{held, spare_in}
 use Rattle.klp_stack.specs.Pool.{slot_at, slot_below, entries_from, entries_of, chain_at, IsLinked, IsOwned, IsPool}
 use Rattle.klp_stack.specs.Linking.{linked_to, filled, IsTaken, IsPutIn}
 use Rattle.klp_stack.proofs.EntryLemmas.{few_entries}
+use Rattle.klp_stack.proofs.StackLemmas.{taken, put_in, empty_is, first_put}
 use Rattle.klp_stack.proofs.ChainLemmas.{length_entries}
 use Rattle.klp_stack.proofs.PoolLemmas.{more, more-add, linked, owned_below, stacks_after, pool_after}
 use Rattle.klp_stack.proofs.LinkLemmas.{Changed, put_on_top, put_below, take_top, take_below}
@@ -162,6 +165,18 @@ module _ (slots : List Slot) (chains : List Chain) (free spare : ℕ) (pool : Is
         count = sym (length_entries slots (chain_at chains site).len (chain_at chains site).newest) ∙ ap length its;
       })
 
+  -- the stack of a site as it is looked up to be changed
+  pub record Looked (now : List Entries) (at site : ℕ) (chain : Chain) : Type 0 where
+    pub within : site < length now
+    pub is : chain ≡ get_or chains at chain
+
+  pub looked : (now : List Entries) → map (entries_of slots) chains ≡ now → (seen : List Chain) (at site : ℕ) (chain : Chain) → seen ≡ chains → at ≡ site → at < length seen
+      → chain ≡ get_or seen at chain → Looked now at site chain
+  looked now view seen at site chain same here within is = record {
+    within = omega (arith, within, here, ap length same, ap length view, length-map chains (entries_of slots));
+    is = is ∙ ap (λ cs. get_or cs at chain) same;
+  }
+
   -- the stack of a site as it is changed
   module _ (now : List Entries) (view : map (entries_of slots) chains ≡ now) (at site : ℕ) (chain : Chain) (here : at ≡ site) (within : site < length now) (is : chain ≡ get_or chains at chain) where
     in_chains : site < length chains
@@ -251,13 +266,53 @@ module _ (slots : List Slot) (chains : List Chain) (free spare : ℕ) (pool : Is
         (subst (λ s. Left site in_chains slots_now (record { newest = result.newest; len = n - 1 }) free_now s (remove (entries_at now site) (length (entries_at now site) - 1 - i))) (sym more_spare)
         (subst (Left site in_chains slots_now (record { newest = result.newest; len = n - 1 }) free_now (spare + 1)) same is_left)))
 
-    -- whether an entry may stand there
-    module _ (seen : List Slot) (same : seen ≡ slots) (patch : ℕ) where
-      pub may : (i : ℕ) → may_stand patch i (entries_from seen chain.len chain.newest) ≡ true → may_stand patch i (entries_at now site) ≡ true
-      may i is_so = sym (ap (λ s. may_stand patch i (entries_from s chain.len chain.newest)) same ∙ ap (may_stand patch i) found_there.entries_are) ∙ is_so
+    -- where its entry is
+    pub is_place : (patch : ℕ) (place : Option Place) → place ≡ place_of patch (entries_of slots chain) → place ≡ place_of patch (entries_at now site)
+    is_place patch place is_so = is_so ∙ ap (place_of patch) found_there.entries_are
 
-      pub may_not : (i : ℕ) → may_stand patch i (entries_from seen chain.len chain.newest) ≡ false → may_stand patch i (entries_at now site) ≡ false
-      may_not i is_so = sym (ap (λ s. may_stand patch i (entries_from s chain.len chain.newest)) same ∙ ap (may_stand patch i) found_there.entries_are) ∙ is_so
+    -- the entry of a patch is taken out
+    pub record TakenOut (patch : ℕ) (slots_now : List Slot) (left : Chain) (free_now spare_now : ℕ) : Type 0 where
+      pub invariant : IsPool slots_now (set chains at left) free_now spare_now
+      pub stacks : map (entries_of slots_now) (set chains at left) ≡ set now site (entries_of_others patch (entries_at now site))
+      pub undo : put_entry patch (place_of patch (entries_at now site)) (entries_of_others patch (entries_at now site)) ≡ entries_at now site
+      pub last : (left.len == 0) ≡ is_empty (entries_of_others patch (entries_at now site))
 
-      pub is_place : (place : Option Place) → place ≡ place_of patch (entries_from seen chain.len chain.newest) → place ≡ place_of patch (entries_at now site)
-      is_place place is_so = is_so ∙ ap (λ s. place_of patch (entries_from s chain.len chain.newest)) same ∙ ap (place_of patch) found_there.entries_are
+    pub taken_out : (patch : ℕ) (place : Place) (slots_now : List Slot) (left : Chain) (free_now spare_now : ℕ) → Some place ≡ place_of patch (entries_of slots chain)
+        → place.index < chain.len → left.len ≡ chain.len - 1 → IsTaken slots slots_now chain place.index free left.newest free_now → spare_now ≡ spare + 1
+        → TakenOut patch slots_now left free_now spare_now
+    taken_out patch place slots_now left free_now spare_now there low short links more_spare =
+        let es = entries_at now site in
+        let is = sym (is_place patch (Some place) there) in
+        let was = taken patch es (remove es (length es - 1 - place.index)) place found_there.is_stack is refl in
+        let done = take_done place.index slots_now left free_now spare_now low was.stack links short more_spare in
+        record {
+          invariant = done.invariant;
+          stacks = done.stacks ∙ ap (set now site) was.others;
+          undo = ap (λ w. put_entry patch w (entries_of_others patch es)) is ∙ was.undo;
+          last =
+              empty_is (remove es (length es - 1 - place.index)) left.len (omega (arith, short, found_there.count, was.fewer))
+              ∙ ap is_empty was.others;
+        }
+
+    -- it gets its place again
+    pub record PutBack (patch : ℕ) (place : Place) (slots_now : List Slot) (result : Chain) (free_now spare_now : ℕ) : Type 0 where
+      pub invariant : IsPool slots_now (set chains at result) free_now spare_now
+      pub stacks : map (entries_of slots_now) (set chains at result) ≡ set now site (put_entry patch (Some place) (entries_at now site))
+      pub first : (chain.len == 0) ≡ (is_empty (entries_at now site) && not (is_empty (entries_at (map (entries_of slots_now) (set chains at result)) site)))
+
+    pub put_again : 0 < spare_in now → (patch : ℕ) (place : Place) (slots_now : List Slot) (result : Chain) (free_now spare_now : ℕ) → true ≡ may_stand patch place.index (entries_of slots chain)
+        → IsPutIn slots slots_now chain place.index (record { patch = patch; func = place.func }) free result.newest → result.len ≡ chain.len + 1
+        → free_now ≡ (slot_at slots free).older → spare_now ≡ spare - 1 → PutBack patch place slots_now result free_now spare_now
+    put_again room patch place slots_now result free_now spare_now may links long frees fewer =
+        let es = entries_at now site in
+        let entry : Entry = record { patch = patch; func = place.func } in
+        let put = put_in es place.index patch place.func found_there.is_stack (sym (may ∙ ap (may_stand patch place.index) found_there.entries_are)) in
+        let done = put_done room place.index entry slots_now result free_now spare_now (omega (arith, put.within, found_there.count)) put.stack links long frees fewer in
+        let seen : entries_at (map (entries_of slots_now) (set chains at result)) site ≡ put_at place.index entry es =
+        ap (λ s. entries_at s site) done.stacks ∙ get_or-set_same now site (put_at place.index entry es) [] within
+        in
+        record {
+          invariant = done.invariant;
+          stacks = done.stacks ∙ ap (set now site) put.is;
+          first = empty_is es chain.len found_there.count ∙ first_put es place.index entry ∙ sym (ap (λ s. is_empty es && not (is_empty s)) seen);
+        }

@@ -3,6 +3,7 @@ use Rattle.std.specs.Prelude.{◌≡◌, ℕ, ◌+◌, ◌-◌, ◌<◌, List, s
 use Rattle.klp_types.specs.declared.version.Entry.{Entry}
 use Rattle.klp_stack.specs.declared.slot.Slot.{Slot}
 use Rattle.klp_stack.specs.declared.chain.Chain.{Chain}
+use Rattle.klp_stack.specs.declared.pool.Pool.{Pool}
 use Rattle.klp_stack.specs.Pool.{slot_at, slot_below}
 
 -- a slot is linked to another
@@ -26,6 +27,13 @@ pub record IsTaken (slots now : List Slot) (chain : Chain) (index free newest fr
       (now ≡ linked_to (linked_to slots above (slot_at slots number).older) number free)
       × (newest ≡ chain.newest) × (free_now ≡ number)
 
+-- the entry of a stack that has so many older ones is taken out of the pool, and this stack is left
+pub record IsTakenOut (before after : Pool) (chain : Chain) (index : ℕ) (left : Chain) : Type 0 where
+  pub within : index < chain.len
+  pub len : left.len ≡ chain.len - 1
+  pub links : IsTaken before.slots.items after.slots.items chain index before.free left.newest after.free
+  pub spare : after.spare ≡ before.spare + 1
+
 -- the same once an entry is put in, with so many older ones: its slot was the first of the free list
 pub record IsPutIn (slots now : List Slot) (chain : Chain) (index : ℕ) (entry : Entry) (free newest : ℕ) : Type 0 where
   -- on top
@@ -33,3 +41,10 @@ pub record IsPutIn (slots now : List Slot) (chain : Chain) (index : ℕ) (entry 
   -- below another
   pub below : index < chain.len → let above = slot_below slots (chain.len - 1 - index) chain.newest in
       (now ≡ linked_to (filled slots free entry (slot_at slots above).older) above free) × (newest ≡ chain.newest)
+
+-- the entry is put into a stack of the pool, and this is the stack then
+pub record IsPutInto (before after : Pool) (chain : Chain) (index : ℕ) (entry : Entry) (grown : Chain) : Type 0 where
+  pub len : grown.len ≡ chain.len + 1
+  pub links : IsPutIn before.slots.items after.slots.items chain index entry before.free grown.newest
+  pub free : after.free ≡ (slot_at before.slots.items before.free).older
+  pub spare : after.spare ≡ before.spare - 1

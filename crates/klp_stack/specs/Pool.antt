@@ -1,5 +1,5 @@
 -- The pool that has the entries of all stacks, as slots that are linked.
-use Rattle.std.specs.Prelude.{◌≡◌, ℕ, zero, suc, ◌+◌, ◌<◌, List, [], ◌∷◌, length, map, slice_index_or, None}
+use Rattle.std.specs.Prelude.{◌≡◌, ℕ, zero, suc, ◌+◌, ◌-◌, ◌<◌, List, [], ◌∷◌, length, map, slice_index_or, None}
 use Rattle.klp_types.specs.declared.version.Entry.{Entry}
 use Rattle.klp_stack.specs.declared.slot.Slot.{Slot}
 use Rattle.klp_stack.specs.declared.slot.TheConstants.{MAX_ENTRIES}
@@ -34,6 +34,10 @@ chain_at chains site = slice_index_or chains site (record { newest = 0; len = 0 
 -- its entries, newest first
 abbrev pub entries_of : List Slot → Chain → List Entry
 entries_of slots chain = entries_from slots chain.len chain.newest
+
+-- those below the newest
+abbrev pub entries_below : List Slot → Chain → List Entry
+entries_below slots chain = entries_from slots (chain.len - 1) (slot_at slots chain.newest).older
 
 -- all slots are in the free list, in order
 pub record IsFree (slots : List Slot) (free spare : ℕ) : Type 0 where

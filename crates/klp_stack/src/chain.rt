@@ -1,13 +1,12 @@
 //! The stack of one site, as slots of the pool that are linked: what is read of it.
-ghost use Rattle.std.specs.Prelude.{◌≡◌, ◌<◌, ◌≤◌, ◌==◌, find, length, slice_get};
+ghost use Rattle.std.specs.Prelude.{◌≡◌, ◌+◌, ◌-◌, ◌<◌, ◌≤◌, ◌==◌, ◌&&◌, not, nat_lt, find, length, slice_get, is_some, option_map, IfSome};
 ghost use Rattle.std.specs.Option.{option_to_list};
 ghost use Rattle.klp_types.specs.declared.version.Entry.{Entry as AnyEntry};
 ghost use Rattle.klp_model.specs.Blocked.{blocked_among};
 ghost use Rattle.klp_model.specs.Rows.{word_of};
 ghost use Rattle.klp_types.specs.declared.limits.TheConstants.{MAX_PATCHES};
 ghost use Rattle.klp_stack.specs.Stack.{has_entry, place_of};
-ghost use Rattle.klp_stack.specs.Undo.{may_stand};
-ghost use Rattle.klp_stack.specs.Pool.{IsLinked, entries_from, slot_below};
+ghost use Rattle.klp_stack.specs.Pool.{IsLinked, entries_from, entries_below, slot_below};
 
 use crate::handler::version_of;
 use crate::slot::Slot;
@@ -22,6 +21,13 @@ pub(crate) struct Chain {
     pub(crate) newest: u16,
     /// How many entries there are: 0 is what unhooks the site.
     pub(crate) len: u16,
+}
+
+/// An entry below the newest, and the number of the slot above it, by which it is taken out.
+#[derive(Clone, Copy)]
+pub(crate) struct Lower {
+    pub(crate) above: u16,
+    pub(crate) place: Place,
 }
 
 impl Chain {
@@ -71,6 +77,60 @@ impl Chain {
             number = older;
         }
         None
+    }
+
+    /// The place of a patch's entry below the newest one, if it has one there.
+    pub(crate) fn lower(self, slots: &[Slot], patch: PatchId) -> Option<Lower>
+        requires linked { IsLinked slots.now self.len self.newest }
+        requires some { 0 < self.len }
+        requires few { self.len ≤ MAX_PATCHES }
+        ensures place { option_map (λ lower. lower.place) result ≡ place_of patch (entries_below slots.now self) }
+        ensures above { IfSome result
+            (λ lower. (lower.place.index + 1 < self.len)
+            × (lower.above ≡ slot_below slots.now (self.len - 2 - lower.place.index) self.newest)) }
+    {
+        let mut above = self.newest;
+        for index in (0..self.len - 1).rev() {
+            let number = slots[usize::from(above)].older;
+            let entry = slots[usize::from(number)].entry;
+            if entry.patch == patch {
+                let place = Place {
+                    index: index as u8,
+                    func: entry.func,
+                };
+                return Some(Lower { above, place });
+            }
+            above = number;
+        }
+        None
+    }
+
+    /// The number of the slot that has so many older ones: above it an entry with so many would come, which is to be put
+    /// below it. There is none where the stack isn't so high, and where the patch has an entry already.
+    pub(crate) fn above(self, slots: &[Slot], patch: PatchId, index: u8) -> Option<u16>
+        requires linked { IsLinked slots.now self.len self.newest }
+        requires few { self.len ≤ MAX_PATCHES }
+        ensures may { is_some result
+            ≡ (not (has_entry patch (entries_from slots.now self.len self.newest)) && nat_lt index self.len) }
+        ensures above { IfSome result
+            (λ above. (index < self.len) × (above ≡ slot_below slots.now (self.len - 1 - index) self.newest)) }
+    {
+        if u16::from(index) >= self.len {
+            return None;
+        }
+        let mut above = self.newest;
+        let mut number = self.newest;
+        for left in (0..self.len).rev() {
+            let slot = slots[usize::from(number)];
+            if slot.entry.patch == patch {
+                return None;
+            }
+            if left == u16::from(index) {
+                above = number;
+            }
+            number = slot.older;
+        }
+        Some(above)
     }
 
     /// The entries, newest first, in an array, so that none is lent.
@@ -141,24 +201,13 @@ impl Chain {
         Some(version_of(site, entry))
     }
 
-    fn has(self, slots: &[Slot], patch: PatchId) -> bool
+    /// Whether a patch has an entry.
+    #[inline(always)]
+    pub(crate) fn has(self, slots: &[Slot], patch: PatchId) -> bool
         requires linked { IsLinked slots.now self.len self.newest }
         requires few { self.len ≤ MAX_PATCHES }
         ensures { result ≡ has_entry patch (entries_from slots.now self.len self.newest) }
     {
-        self.place(slots, patch).is_some()
-    }
-
-    /// Whether an entry of the patch may get this place from the oldest. A record that fits no more, which
-    /// undoing never meets, is left alone, so that the stack stays one.
-    #[tactic(auto, using(crate::proofs::ChainLemmas::length_entries))]
-    pub(crate) fn may_stand(self, slots: &[Slot], patch: PatchId, index: u8) -> bool
-        requires linked { IsLinked slots.now self.len self.newest }
-        requires few { self.len ≤ MAX_PATCHES }
-        ensures { result ≡ may_stand patch index (entries_from slots.now self.len self.newest) }
-    {
-        usize::from(patch.0) < MAX_PATCHES
-            && !self.has(slots, patch)
-            && u16::from(index) <= self.len
+        self.len > 0 && self.place(slots, patch).is_some()
     }
 }

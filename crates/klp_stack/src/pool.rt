@@ -1,11 +1,13 @@
 //! The pool of all entries: the steps that give a stack a slot or take one from it.
-ghost use Rattle.std.specs.Prelude.{◌≡◌, ◌+◌, ◌-◌, ◌<◌, ◌≤◌, length};
-ghost use Rattle.klp_stack.specs.Pool.{IsLinked, slot_at};
-ghost use Rattle.klp_stack.specs.Linking.{IsPutIn, IsTaken, filled, linked_to};
+ghost use Rattle.std.specs.Prelude.{◌≡◌, ◌+◌, ◌-◌, ◌<◌, ◌≤◌, ◌&&◌, not, nat_lt, length, is_some, option_map, IfSome, IfNone};
+ghost use Rattle.klp_stack.specs.Stack.{has_entry, place_of};
+ghost use Rattle.klp_stack.specs.Undo.{may_stand};
+ghost use Rattle.klp_stack.specs.Pool.{IsLinked, slot_at, entries_of, entries_below};
+ghost use Rattle.klp_stack.specs.Linking.{IsPutInto, IsTakenOut, filled, linked_to};
 
-use crate::chain::Chain;
+use crate::chain::{Chain, Lower};
 use crate::slot::{MAX_ENTRIES, Slot};
-use klp_types::Entry;
+use klp_types::{Entry, MAX_PATCHES, PatchId, Place};
 
 /// The slots of all stacks, and those that are free, as a list of their own.
 #[derive(Drop)]
@@ -21,6 +23,7 @@ pub(crate) struct Pool {
 impl Pool {
     /// Takes the first slot out of the free list, for an entry that is above this slot, and answers its
     /// number.
+    #[inline(always)]
     fn fill(&mut self, entry: Entry, older: u16) -> u16
         requires spare { 0 < self.old.spare }
         requires there { self.old.free < length self.old.slots.items }
@@ -37,6 +40,7 @@ impl Pool {
     }
 
     /// Makes a slot the first of the free list.
+    #[inline(always)]
     fn release(&mut self, number: u16)
         requires spare { self.old.spare < MAX_ENTRIES }
         requires there { number < length self.old.slots.items }
@@ -50,6 +54,7 @@ impl Pool {
     }
 
     /// Puts an entry on top of a stack, and answers the stack.
+    #[inline(always)]
     pub(crate) fn push(&mut self, chain: Chain, entry: Entry) -> Chain
         requires spare { 0 < self.old.spare }
         requires there { self.old.free < length self.old.slots.items }
@@ -83,6 +88,7 @@ impl Pool {
     }
 
     /// Takes the newest entry off a stack, and answers the stack.
+    #[inline(always)]
     fn pop(&mut self, chain: Chain) -> Chain
         requires spare { self.old.spare < MAX_ENTRIES }
         requires some { 0 < chain.len }
@@ -118,51 +124,95 @@ impl Pool {
         self.release(number);
     }
 
-    /// Takes the entry out of a stack that has so many older ones, and answers the stack. The cost is how
-    /// many newer ones there are.
-    pub(crate) fn take(&mut self, chain: Chain, index: u8) -> Chain
+    /// Takes the entry of a patch out of a stack, if it has one there, and answers its place and the stack that is left.
+    /// The newest entry is tried first, since most are taken while nothing is above them.
+    #[inline(always)]
+    pub(crate) fn take(&mut self, chain: Chain, patch: PatchId) -> Option<(Place, Chain)>
         requires linked { IsLinked self.old.slots.items chain.len chain.newest }
-        requires within { index < chain.len }
-        requires spare { self.old.spare < MAX_ENTRIES }
-        ensures len { result.len ≡ chain.len - 1 }
-        ensures taken { IsTaken self.old.slots.items self.new.slots.items chain index self.old.free result.newest
-            self.new.free }
-        ensures spare { self.new.spare ≡ self.old.spare + 1 }
+        requires few { chain.len ≤ MAX_PATCHES }
+        requires spare { 0 < chain.len → self.old.spare < MAX_ENTRIES }
+        ensures place { option_map (λ taken. taken.0) result
+            ≡ place_of patch (entries_of self.old.slots.items chain) }
+        ensures taken { IfSome result (λ taken. IsTakenOut self.old self.new chain taken.0.index taken.1) }
+        ensures unchanged { IfNone result (self.new ≡ self.old) }
     {
-        let newer = chain.len - 1 - u16::from(index);
-        if newer == 0 {
-            return self.pop(chain);
+        if chain.len == 0 {
+            return None;
         }
-        let above = chain.slot(&self.slots, newer - 1);
-        self.take_below(above);
-        Chain {
-            newest: chain.newest,
-            len: chain.len - 1,
+        let newest = self.slots[usize::from(chain.newest)].entry;
+        if newest.patch != patch {
+            return self.take_lower(chain, patch);
         }
+        let place = Place {
+            index: (chain.len - 1) as u8,
+            func: newest.func,
+        };
+        Some((place, self.pop(chain)))
     }
 
-    /// Puts an entry into a stack where it has so many older ones, and answers the stack. The cost is how
-    /// many newer ones there are.
-    pub(crate) fn put(&mut self, chain: Chain, index: u8, entry: Entry) -> Chain
+    /// The same where the newest entry isn't the patch's. The cost is how many newer ones there are.
+    #[cold]
+    fn take_lower(&mut self, chain: Chain, patch: PatchId) -> Option<(Place, Chain)>
         requires linked { IsLinked self.old.slots.items chain.len chain.newest }
-        requires within { index ≤ chain.len }
-        requires few { chain.len < MAX_ENTRIES }
+        requires some { 0 < chain.len }
+        requires few { chain.len ≤ MAX_PATCHES }
+        requires spare { self.old.spare < MAX_ENTRIES }
+        ensures place { option_map (λ taken. taken.0) result
+            ≡ place_of patch (entries_below self.old.slots.items chain) }
+        ensures taken { IfSome result (λ taken. IsTakenOut self.old self.new chain taken.0.index taken.1) }
+        ensures unchanged { IfNone result (self.new ≡ self.old) }
+    {
+        let Lower { above, place } = chain.lower(&self.slots, patch)?;
+        self.take_below(above);
+        let left = Chain {
+            newest: chain.newest,
+            len: chain.len - 1,
+        };
+        Some((place, left))
+    }
+
+    /// Puts an entry into a stack where it has so many older ones, and answers the stack. There is none, and nothing
+    /// changes, where the entry may not stand there: a record that fits no more, which undoing never meets, is left
+    /// alone, so that the stack stays one.
+    #[inline(always)]
+    pub(crate) fn put(&mut self, chain: Chain, index: u8, entry: Entry) -> Option<Chain>
+        requires linked { IsLinked self.old.slots.items chain.len chain.newest }
+        requires few { chain.len ≤ MAX_PATCHES }
         requires spare { 0 < self.old.spare }
         requires there { self.old.free < length self.old.slots.items }
-        ensures len { result.len ≡ chain.len + 1 }
-        ensures put { IsPutIn self.old.slots.items self.new.slots.items chain index entry self.old.free result.newest }
-        ensures free { self.new.free ≡ (slot_at self.old.slots.items self.old.free).older }
-        ensures spare { self.new.spare ≡ self.old.spare - 1 }
+        ensures may { is_some result ≡ may_stand entry.patch index (entries_of self.old.slots.items chain) }
+        ensures put { IfSome result (λ grown. IsPutInto self.old self.new chain index entry grown) }
+        ensures unchanged { IfNone result (self.new ≡ self.old) }
     {
-        let newer = chain.len - u16::from(index);
-        if newer == 0 {
-            return self.push(chain, entry);
+        if usize::from(entry.patch.0) >= MAX_PATCHES {
+            return None;
         }
-        let above = chain.slot(&self.slots, newer - 1);
+        if u16::from(index) != chain.len {
+            return self.put_lower(chain, index, entry);
+        }
+        if chain.has(&self.slots, entry.patch) {
+            return None;
+        }
+        Some(self.push(chain, entry))
+    }
+
+    /// The same where the entry doesn't come on top. The cost is the stack's height.
+    #[cold]
+    fn put_lower(&mut self, chain: Chain, index: u8, entry: Entry) -> Option<Chain>
+        requires linked { IsLinked self.old.slots.items chain.len chain.newest }
+        requires few { chain.len ≤ MAX_PATCHES }
+        requires spare { 0 < self.old.spare }
+        requires there { self.old.free < length self.old.slots.items }
+        ensures may { is_some result
+            ≡ (not (has_entry entry.patch (entries_of self.old.slots.items chain)) && nat_lt index chain.len) }
+        ensures put { IfSome result (λ grown. IsPutInto self.old self.new chain index entry grown) }
+        ensures unchanged { IfNone result (self.new ≡ self.old) }
+    {
+        let above = chain.above(&self.slots, entry.patch, index)?;
         self.put_below(above, entry);
-        Chain {
+        Some(Chain {
             newest: chain.newest,
             len: chain.len + 1,
-        }
+        })
     }
 }

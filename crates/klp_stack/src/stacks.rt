@@ -1,12 +1,13 @@
-ghost use Rattle.std.specs.Prelude.{◌≡◌, ◌<◌, ◌≤◌, ◌==◌, find, true, false, [], ◌∷◌, length, replicate, slice_set, Some, None, is_some, IfOk};
+ghost use Rattle.std.specs.Prelude.{◌≡◌, ◌<◌, ◌≤◌, ◌==◌, ◌&&◌, not, find, true, false, [], ◌∷◌, length, replicate, slice_set, Some, None, is_some, option_map, IfOk, IfSome, IfNone};
 ghost use Rattle.std.specs.Option.{option_to_list};
 ghost use Rattle.klp_model.specs.Blocked.{blocked_among};
 ghost use Rattle.klp_model.specs.Rows.{word_of};
 ghost use Rattle.klp_types.specs.declared.version.Entry.{Entry as AnyEntry};
+ghost use Rattle.klp_types.specs.Entries.{is_empty};
 ghost use Rattle.klp_stack.specs.Stack.{IsStack, entries_at, has_entry, entries_of_others, place_of};
 ghost use Rattle.klp_stack.specs.Pool.{IsFree};
 ghost use Rattle.klp_stack.specs.Spare.{spare_in};
-ghost use Rattle.klp_stack.specs.Undo.{put_back, put_entry, takes_room};
+ghost use Rattle.klp_stack.specs.Undo.{put_back, takes_room};
 ghost use Rattle.klp_stack.specs.Changes.{Changes};
 
 use crate::chain::Chain;
@@ -22,13 +23,22 @@ use std::marker::Model;
 /// The function stacks of all sites (the kernel's `func_stack` of each `klp_ops`).
 ///
 /// All room is taken by [`Stacks::new`], for [`MAX_ENTRIES`] entries of all sites together. Each change
-/// answers a record of the one entry that it changes, as it was. To put these records back, newest first,
+/// is of one entry, and there is a record of it, as it was. To put these records back, newest first,
 /// gives the stacks before the changes.
 #[derive(Drop)]
 pub struct Stacks {
     pool: Pool,
     /// By site, so that no look-up is needed.
     chains: Vec<Chain>,
+}
+
+/// What was taken out of a stack.
+#[derive(Clone, Copy)]
+pub struct Taken {
+    /// Where the entry was, and what it does.
+    pub place: Place,
+    /// Whether the stack has no entry any more.
+    pub is_last: bool,
 }
 
 impl Model for Stacks {
@@ -82,76 +92,71 @@ impl Stacks {
         self.pool.spare
     }
 
-    /// Puts an entry on top of a site's stack, at a constant cost. The record says that it wasn't there.
-    pub fn push(&mut self, site: Site, entry: Entry) -> Record
+    /// Puts an entry on top of a site's stack, at a constant cost, and answers whether it is the only one there. The
+    /// record of it is that the patch had none.
+    #[inline(always)]
+    pub fn push(&mut self, site: Site, entry: Entry) -> bool
         requires there { site < length self.old }
         requires fresh { has_entry entry.patch (entries_at self.old site) ≡ false }
         requires number { entry.patch < MAX_PATCHES }
         requires room { 0 < spare_in self.old }
-        ensures row { result ≡ Record.StackEntry site entry.patch None }
-        ensures changes { Changes self.old self.new result
+        ensures first { result ≡ is_empty (entries_at self.old site) }
+        ensures changes { Changes self.old self.new (Record.StackEntry site entry.patch None)
             (slice_set self.old site (entry ∷ entries_at self.old site)) }
     {
-        let Entry { patch, func: _ } = entry;
         let number = usize::from(site.0);
         let chain = self.chains[number];
         self.chains[number] = self.pool.push(chain, entry);
-        Record::StackEntry {
-            site,
-            patch,
-            was: None,
-        }
+        chain.len == 0
     }
 
-    /// Takes the entry of a patch out of a site's stack, also from below newer ones. The cost is its place:
-    /// how many newer ones there are.
-    pub fn take(&mut self, site: Site, patch: PatchId) -> Record
-        requires { has_entry patch (entries_at self.old site) ≡ true }
-        ensures row { result ≡ Record.StackEntry site patch (place_of patch (entries_at self.old site)) }
-        ensures changes { Changes self.old self.new result
-            (slice_set self.old site (entries_of_others patch (entries_at self.old site))) }
-        // so that the entry can be put back
-        ensures room { 0 < spare_in self.new }
-    {
-        let was = self.take_out(site, patch);
-        Record::StackEntry { site, patch, was }
-    }
-
-    /// Takes the entry of a patch out of a site's stack, if it has one, and answers where it was: with that
-    /// it can be put back below entries that are newer.
+    /// Takes the entry of a patch out of a site's stack, if it has one there, also from below newer ones. The record of
+    /// it is where it was, with which it can be put back below entries that are newer. The cost is its place: how many
+    /// newer ones there are.
     #[inline(always)]
-    fn take_out(&mut self, site: Site, patch: PatchId) -> Option<Place>
-        requires { site < length self.old }
-        ensures place { result ≡ place_of patch (entries_at self.old site) }
-        ensures stacks { self.new ≡ slice_set self.old site (entries_of_others patch (entries_at self.old site)) }
-        ensures undo { put_entry patch result (entries_of_others patch (entries_at self.old site))
-            ≡ entries_at self.old site }
+    pub fn take(&mut self, site: Site, patch: PatchId) -> Option<Taken>
+        ensures place { option_map (λ taken. taken.place) result ≡ place_of patch (entries_at self.old site) }
+        ensures last { IfSome result
+            (λ taken. taken.is_last ≡ is_empty (entries_of_others patch (entries_at self.old site))) }
+        ensures changes { Changes self.old self.new
+            (Record.StackEntry site patch (place_of patch (entries_at self.old site)))
+            (slice_set self.old site (entries_of_others patch (entries_at self.old site))) }
+        ensures unchanged { IfNone result (self.new ≡ self.old) }
+        // so that the entry can be put back
         ensures room { is_some result ≡ true → 0 < spare_in self.new }
     {
         let number = usize::from(site.0);
-        let chain = self.chains[number];
-        let place = chain.place(&self.pool.slots, patch)?;
-        self.chains[number] = self.pool.take(chain, place.index);
-        Some(place)
+        let chain = *self.chains.get(number)?;
+        let (place, left) = self.pool.take(chain, patch)?;
+        self.chains[number] = left;
+        Some(Taken {
+            place,
+            is_last: left.len == 0,
+        })
     }
 
-    /// Gives an entry its place from the oldest again, where it may stand there.
-    fn put_in(&mut self, site: Site, patch: PatchId, place: Place)
-        requires there { site < length self.old }
-        requires room { 0 < spare_in self.old }
-        ensures { self.new ≡ slice_set self.old site (put_entry patch (Some place) (entries_at self.old site)) }
+    /// Gives an entry its place from the oldest again, where it may stand there, and answers whether it is the only one
+    /// then. An entry that can't have its place stays away, because a row that doesn't fit must do no harm; none is met
+    /// where the records of changes are put back newest first. The cost is at most the stack's height.
+    #[inline(always)]
+    pub fn put(&mut self, site: Site, patch: PatchId, place: Place) -> bool
+        requires { 0 < spare_in self.old }
+        ensures first { result ≡ is_empty (entries_at self.old site) && not (is_empty (entries_at self.new site)) }
+        ensures stacks { self.new ≡ put_back self.old (Record.StackEntry site patch (Some place)) }
     {
         let number = usize::from(site.0);
-        let chain = self.chains[number];
+        let Some(&chain) = self.chains.get(number) else {
+            return false;
+        };
         let Place { index, func } = place;
-        if chain.may_stand(&self.pool.slots, patch, index) {
-            self.chains[number] = self.pool.put(chain, index, Entry { patch, func });
-        }
+        let Some(grown) = self.pool.put(chain, index, Entry { patch, func }) else {
+            return false;
+        };
+        self.chains[number] = grown;
+        chain.len == 0
     }
 
-    /// Gives one entry what the record has; a record of another kind changes nothing. An entry that can't
-    /// have its place stays away, because a row that doesn't fit must do no harm; none is met where the
-    /// records of changes are put back newest first. The cost is the entry's place.
+    /// Gives one entry what the record has; a record of another kind changes nothing.
     pub fn put_back(&mut self, row: Record)
         requires { takes_room row ≡ true → 0 < spare_in self.old }
         ensures { self.new ≡ put_back self.old row }
@@ -159,25 +164,25 @@ impl Stacks {
         let Record::StackEntry { site, patch, was } = row else {
             return;
         };
-        if usize::from(site.0) >= self.chains.len() {
-            return;
-        }
         match was {
-            Some(place) => self.put_in(site, patch, place),
+            Some(place) => {
+                self.put(site, patch, place);
+            }
             None => {
-                self.take_out(site, patch);
+                self.take(site, patch);
             }
         }
     }
 
-    /// How many entries a site has, nops among them; a site that isn't there has none. It is hooked while
-    /// it has one. The cost is constant.
-    pub fn hooks(&self, site: Site) -> u16
-        ensures { result ≡ length (entries_at self.now site) }
+    /// Whether a site has entries, and none of the patch: so a nop of the patch would change what runs there. A site that
+    /// isn't there has none. The cost is at most the stack's height.
+    pub fn has_only_others(&self, site: Site, patch: PatchId) -> bool
+        ensures { result
+            ≡ (not (is_empty (entries_at self.now site)) && not (has_entry patch (entries_at self.now site))) }
     {
         match self.chains.get(usize::from(site.0)) {
-            Some(chain) => chain.len,
-            None => 0,
+            Some(chain) => chain.len > 0 && !chain.has(&self.pool.slots, patch),
+            None => false,
         }
     }
 

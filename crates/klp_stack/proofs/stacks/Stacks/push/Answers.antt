@@ -1,6 +1,7 @@
 use Rattle.std.proofs.Common.{◌∷◌, ◌∙◌, None, arith}
 use Rattle.klp_stack.specs.Stack.{entries_at}
 use Rattle.klp_stack.proofs.ChangeLemmas.{made, pushed_undo}
+use Rattle.klp_stack.proofs.StackLemmas.{empty_is}
 use Rattle.klp_stack.proofs.StepLemmas.{found_there, some_free, free_there, push_done}
 use Rattle.klp_stack.proofs.stacks.Stacks.push.Goals as goal
 
@@ -27,3 +28,7 @@ returns-clause-changes c =
     c.push.ensures.slots c.push.ensures.free c.push.ensures.spare in
     made c.args.self.now _ c.args.site c.args.entry.patch None (c.args.entry ∷ entries_at c.args.self.now c.args.site) c.requires.there pushed.stacks
     (pushed_undo c.args.entry (entries_at c.args.self.now c.args.site) c.requires.fresh)
+
+pub returns-clause-first : goal.returns-clause-first
+returns-clause-first c =
+    empty_is (entries_at c.args.self.now c.args.site) c.index-chain.result.now.len (found_there c.self.inside.pool.slots.items c.self.inside.chains.items c.self.inside.pool.free c.self.inside.pool.spare c.self.invariant c.args.self.now c.self.view_is c.from-number.result c.args.site c.index-chain.result.now (c.from-number.ensures ∙ c.site.view_is) c.requires.there c.index-chain.ensures).count
