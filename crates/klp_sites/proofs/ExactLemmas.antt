@@ -1,5 +1,5 @@
 -- Records that tell what changed, one list behind another.
-use Rattle.std.proofs.Common.{◌≡◌, ℕ, ◌<◌, Bool, true, false, not, ◌&&◌, cond, eqb, get_or, set, List, [], ◌∷◌, ◌++◌, length, Option, Some, None, refl, sym, ap, ◌∙◌}
+use Rattle.std.proofs.Common.{◌≡◌, ℕ, ◌<◌, Bool, true, false, not, ◌&&◌, cond, eqb, get_or, set, List, [], ◌∷◌, ◌++◌, length, Option, Some, None, refl, sym, ap, subst, ◌∙◌, append-nil}
 use Rattle.std.specs.Bool.{beq}
 use Rattle.std.specs.Prelude.{is_none}
 use Rattle.std.proofs.lemmas.Bool.{and_parts, and_from, eq-eqb}
@@ -12,9 +12,11 @@ use Rattle.klp_types.specs.Entries.{is_empty}
 use Rattle.klp_types.specs.Records.{RecordList}
 use Rattle.klp_stack.specs.Stack.{entries_at, has_entry, entries_of_others, place_of}
 use Rattle.klp_sites.specs.Table.{SiteTable, is_stacked, is_hooked_at}
-use Rattle.klp_sites.specs.Changes.{Changes, pushed, taken, rows_of_push, rows_of_take}
+use Rattle.klp_stack.proofs.ChangeLemmas.{site_there}
+use Rattle.klp_stack.proofs.StackLemmas.{has_place}
+use Rattle.klp_sites.specs.Changes.{Changes, pushed, taken, rows_of_push, rows_of_taken, rows_of_take}
 use Rattle.klp_sites.specs.Undo.{put_back, undone, is_due, are_due, first_hook, is_its_hook, is_exact, are_exact, tells, tell_changes}
-use Rattle.klp_sites.proofs.StepLemmas.{hooked_now, hooked_with}
+use Rattle.klp_sites.proofs.StepLemmas.{Entries, hooked_now, hooked_with}
 
 -- the newer records first, and then the older ones
 pub undone_both : (table : SiteTable) (older newer : List Record) → undone table (older ++ newer) ≡ undone (undone table newer) older
@@ -129,22 +131,42 @@ none_of_others patch (entry ∷ older) = elim (eqb entry.patch patch) as (λ b. 
   | false ↦ λ is. rw (is, none_of_others patch older) refl
 ] refl
 
+-- a take notes nothing where the patch has no entry
+pub none_noted : (before after : SiteTable) (log : RecordList) (site patch : ℕ) → None ≡ place_of patch (entries_at before.stacks site) → after ≡ taken before site patch → after ≡ before
+    → Changes before after log log (taken before site patch) (rows_of_take before site patch)
+none_noted before after log site patch none is same =
+    subst (λ w. Changes before after log log (taken before site patch) (rows_of_taken site patch w (is_empty (entries_of_others patch (entries_at before.stacks site))))) none
+    (record { table = is; records = ap (λ rows. record log { noted = rows }) (sym (append-nil log.noted)); undo = same; due = refl })
+
 -- what a take notes
-pub take_told : (before after : SiteTable) (l0 l1 : RecordList) (site patch : ℕ) → site < length before.stacks → has_entry patch (entries_at before.stacks site) ≡ true
-    → Changes before after l0 l1 (taken before site patch) (rows_of_take before site patch) → tell_changes after (rows_of_take before site patch) ≡ true
-take_told before after l0 l1 site patch there has change =
-    let seen = entries_at before.stacks site in
-    let others = entries_of_others patch seen in
-    let was = place_of patch seen in
-    let hooked = hooked_with patch seen has in
-    let left : entries_at after.stacks site ≡ others = ap (λ (t : SiteTable). entries_at t.stacks site) change.table ∙ get_or-set_same before.stacks site others [] there in
-    let turns : has_entry patch seen ≡ not (has_entry patch (entries_at after.stacks site)) = has ∙ sym (ap (λ es. not (has_entry patch es)) left ∙ ap not (none_of_others patch seen)) in
-    elim (is_empty others) as (λ b. is_empty others ≡ b → undone after (StackEntry site patch was ∷ cond b (HookFlag site true ∷ []) []) ≡ before
-    → are_due after (StackEntry site patch was ∷ cond b (HookFlag site true ∷ []) []) ≡ true
-    → tell_changes after (StackEntry site patch was ∷ cond b (HookFlag site true ∷ []) []) ≡ true) [
-      | true ↦ λ none undo due. told_with before after site patch was undo (and_parts (is_due after (StackEntry site patch was)) _ due).0 turns true hooked (ap is_stacked left ∙ ap not none)
-      | false ↦ λ some undo due. told_alone before after site patch was undo (and_parts (is_due after (StackEntry site patch was)) _ due).0 turns (ap is_stacked left ∙ ap not some ∙ sym hooked)
+pub take_told : (before after : SiteTable) (l0 l1 : RecordList) (site patch : ℕ) → Changes before after l0 l1 (taken before site patch) (rows_of_take before site patch)
+    → tell_changes after (rows_of_take before site patch) ≡ true
+take_told before after l0 l1 site patch change =
+    elim (place_of patch seen) as (λ w. place_of patch seen ≡ w → undone after (rows_of_taken site patch w (is_empty others)) ≡ before
+    → are_due after (rows_of_taken site patch w (is_empty others)) ≡ true → tell_changes after (rows_of_taken site patch w (is_empty others)) ≡ true) [
+      | None ↦ λ none undo due. refl
+      | (Some place) ↦ λ there undo due. some place (sym (has_place patch seen (Some place) (sym there))) (is_empty others) refl undo due
     ] refl change.undo change.due
+  where
+    seen : Entries
+    seen = entries_at before.stacks site
+
+    others : Entries
+    others = entries_of_others patch seen
+
+    some : (place : Place) → has_entry patch seen ≡ true → (last : Bool) → is_empty others ≡ last → undone after (rows_of_taken site patch (Some place) last) ≡ before
+        → are_due after (rows_of_taken site patch (Some place) last) ≡ true → tell_changes after (rows_of_taken site patch (Some place) last) ≡ true
+    some place has last is undo due =
+        let left : entries_at after.stacks site ≡ others =
+        ap (λ (t : SiteTable). entries_at t.stacks site) change.table ∙ get_or-set_same before.stacks site others [] (site_there patch before.stacks site has)
+        in
+        let hooked = hooked_with patch seen has in
+        let turns : has_entry patch seen ≡ not (has_entry patch (entries_at after.stacks site)) = has ∙ sym (ap (λ es. not (has_entry patch es)) left ∙ ap not (none_of_others patch seen)) in
+        elim last as (λ b. is_empty others ≡ b → undone after (rows_of_taken site patch (Some place) b) ≡ before
+        → are_due after (rows_of_taken site patch (Some place) b) ≡ true → tell_changes after (rows_of_taken site patch (Some place) b) ≡ true) [
+          | true ↦ λ none undo due. told_with before after site patch (Some place) undo (and_parts (is_due after (StackEntry site patch (Some place))) _ due).0 turns true hooked (ap is_stacked left ∙ ap not none)
+          | false ↦ λ some undo due. told_alone before after site patch (Some place) undo (and_parts (is_due after (StackEntry site patch (Some place))) _ due).0 turns (ap is_stacked left ∙ ap not some ∙ sym hooked)
+        ] is undo due
 
 -- an object is loaded that wasn't, or unloaded that was
 pub loaded_told : (table after : SiteTable) (object : ℕ) (flag was : Bool) → object < length table.loaded → after ≡ record table { loaded = set table.loaded object flag } → was ≡ not flag

@@ -1,11 +1,13 @@
 -- The image and the stacks stay in step where the stack of one site changes.
-use Rattle.std.proofs.Common.{◌≤◌, ◌≡◌, ℕ, zero, suc, Bool, true, false, not, List, [], ◌∷◌, length, get_or, map, replicate, set, ◌<◌, refl, sym, ap, ◌∙◌, arith, ltb}
-use Rattle.std.proofs.Math.Bool.{beq}
-use Rattle.std.proofs.lemmas.Bool.{lt-ltb}
+use Rattle.std.proofs.Common.{◌≡◌, ◌-◌, ℕ, zero, suc, Bool, true, false, not, ◌&&◌, cond, List, [], ◌∷◌, length, get_or, map, replicate, set, take, drop, ◌<◌, refl, sym, ap, ◌∙◌, Some}
 use Rattle.std.proofs.lemmas.List.{length-replicate, length-set, get_or-set_same, set-get_or}
+use Rattle.klp_types.specs.declared.record.Place.{Place}
 use Rattle.klp_types.specs.declared.version.Entry.{Entry}
+use Rattle.klp_types.specs.Entries.{is_empty}
 use Rattle.klp_text.specs.TextImage.{TextImage, site_count}
-use Rattle.klp_stack.specs.Stack.{has_entry}
+use Rattle.klp_stack.specs.Stack.{entries_at, has_entry, place_of}
+use Rattle.klp_stack.specs.Undo.{may_stand, put_at, put_entry}
+use Rattle.klp_stack.proofs.StackLemmas.{put_some}
 use Rattle.klp_sites.specs.Table.{is_stacked, is_hooked_at, IsInStep}
 
 abbrev pub Entries : Type 0
@@ -23,18 +25,22 @@ flags_set [] site new = refl
 flags_set (first ∷ stacks) zero new = refl
 flags_set (first ∷ stacks) (suc site) new = ap (λ rest. is_stacked first ∷ rest) (flags_set stacks site new)
 
-pub hooked_from : (entries : Entries) (n : ℕ) → n ≡ length entries → ltb 0 n ≡ is_stacked entries
-hooked_from [] n e = ap (ltb 0) e
-hooked_from (entry ∷ older) n e = lt-ltb 0 n (omega arith)
+-- the hook of a site whose stack is made anew
+pub unhooked_by : (stacks : List Entries) (site : ℕ) (new : Entries) (to : List Entries) → to ≡ set stacks site new → is_empty new ≡ true → is_hooked_at to site ≡ false
+unhooked_by stacks site new to is none = ap (λ s. is_hooked_at s site) is ∙ by stacks site
+  where
+    by : (stacks : List Entries) (site : ℕ) → is_hooked_at (set stacks site new) site ≡ false
+    by [] site = refl
+    by (first ∷ stacks) zero = ap not none
+    by (first ∷ stacks) (suc site) = by stacks site
 
--- a site has an entry exactly where it has more than none
-pub stacked_from : (entries : Entries) (n : ℕ) → n ≡ length entries → 0 < n → is_stacked entries ≡ true
-stacked_from [] n e more = absurd (omega arith)
-stacked_from (entry ∷ older) n e more = refl
-
-pub empty_from : (entries : Entries) (n : ℕ) → n ≡ length entries → n ≤ 0 → is_stacked entries ≡ false
-empty_from [] n e none = refl
-empty_from (entry ∷ older) n e none = absurd (omega arith)
+pub hooked_by : (stacks : List Entries) (site : ℕ) (new : Entries) (to : List Entries) → to ≡ set stacks site new → is_hooked_at stacks site ≡ true → is_empty new ≡ false → is_hooked_at to site ≡ true
+hooked_by stacks site new to is before some = ap (λ s. is_hooked_at s site) is ∙ by stacks site before
+  where
+    by : (stacks : List Entries) (site : ℕ) → is_hooked_at stacks site ≡ true → is_hooked_at (set stacks site new) site ≡ true
+    by [] site before = cc
+    by (first ∷ stacks) zero before = ap not some
+    by (first ∷ stacks) (suc site) before = by stacks site before
 
 -- the stack of a site changes, and its hook to that of the new stack
 module _ (image : TextImage) (stacks : List Entries) (kept : IsInStep image stacks) (site : ℕ) (new : Entries) (to : List Entries) (is : to ≡ set stacks site new) where
@@ -62,11 +68,25 @@ pub hooked_with : (patch : ℕ) (entries : Entries) → has_entry patch entries 
 hooked_with patch [] there = cc
 hooked_with patch (entry ∷ older) there = refl
 
-pub same_flag : (a b : Bool) → not (beq a b) ≡ false → a ≡ b
-same_flag true true e = refl
-same_flag true false e = cc
-same_flag false true e = cc
-same_flag false false e = refl
+pub hooked_at : (patch : ℕ) (entries : Entries) (place : Place) → place_of patch entries ≡ Some place → is_stacked entries ≡ true
+hooked_at patch [] place there = cc
+hooked_at patch (entry ∷ older) place there = refl
+
+-- an entry is put back, and it isn't the first
+put_to_some : (patch : ℕ) (place : Place) (entries : Entries) → is_empty entries ≡ false → is_empty (put_entry patch (Some place) entries) ≡ false
+put_to_some patch place entries some =
+    elim (may_stand patch place.index entries) as (λ b. is_empty (cond b (put_at place.index (record { patch = patch; func = place.func }) entries) entries) ≡ false) [
+      | true ↦ put_some (take (length entries - place.index) entries) (drop (length entries - place.index) entries) (record { patch = patch; func = place.func })
+      | false ↦ some
+    ]
+
+pub same_hook : (patch : ℕ) (place : Place) (stacks : List Entries) (site : ℕ) (to : List Entries) → to ≡ set stacks site (put_entry patch (Some place) (entries_at stacks site))
+    → (is_empty (entries_at stacks site) && not (is_empty (entries_at to site))) ≡ false → is_hooked_at to site ≡ is_hooked_at stacks site
+same_hook patch place stacks site to is turned =
+    elim (is_empty (entries_at stacks site)) as (λ b. is_empty (entries_at stacks site) ≡ b → (b && not (is_empty (entries_at to site))) ≡ false → is_hooked_at to site ≡ not b) [
+      | true ↦ λ none left. left
+      | false ↦ λ some left. hooked_by stacks site (put_entry patch (Some place) (entries_at stacks site)) to is (ap not some) (put_to_some patch place (entries_at stacks site) some)
+    ] refl turned
 
 flags_resting : (n : ℕ) → replicate n false ≡ map is_stacked (replicate n [])
 flags_resting zero = refl

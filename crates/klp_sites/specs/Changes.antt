@@ -1,5 +1,6 @@
 -- What a change of the table is, and the rows that it changes.
-use Rattle.std.specs.Prelude.{◌≡◌, ℕ, true, false, List, [], ◌∷◌, ◌++◌, slice_set, None, if◌then◌else◌}
+use Rattle.std.specs.Prelude.{◌≡◌, ℕ, Bool, true, false, List, [], ◌∷◌, ◌++◌, slice_set, Option, Some, None, if◌then◌else◌}
+use Rattle.klp_types.specs.declared.record.Place.{Place}
 use Rattle.klp_types.specs.declared.record.Record.{Record}
 use Rattle.klp_types.specs.declared.record.Record.TheVariants.{StackEntry, HookFlag}
 use Rattle.klp_types.specs.declared.version.Entry.{Entry}
@@ -26,11 +27,17 @@ abbrev pub rows_of_push : SiteTable → ℕ → Entry → List Record
 rows_of_push table site entry =
     StackEntry site entry.patch None ∷ (if is_empty (entries_at table.stacks site) then HookFlag site false ∷ [] else [])
 
--- what a take notes: the patch's entry, with its place; and where it is the site's last, the site was hooked
+-- what the coming out of an entry notes: the entry, with its place; and where it is the site's last, the site was hooked.
+-- Where the patch has none, nothing comes out
+abbrev pub rows_of_taken : ℕ → ℕ → Option Place → Bool → List Record
+rows_of_taken site patch None is_last = []
+rows_of_taken site patch (Some place) is_last = StackEntry site patch (Some place) ∷ (if is_last then HookFlag site true ∷ [] else [])
+
+-- what a take of a patch's entry notes
 abbrev pub rows_of_take : SiteTable → ℕ → ℕ → List Record
 rows_of_take table site patch =
-    StackEntry site patch (place_of patch (entries_at table.stacks site))
-    ∷ (if is_empty (entries_of_others patch (entries_at table.stacks site)) then HookFlag site true ∷ [] else [])
+    let entries = entries_at table.stacks site in
+    rows_of_taken site patch (place_of patch entries) (is_empty (entries_of_others patch entries))
 
 -- records with these behind them
 abbrev pub noting : RecordList → List Record → RecordList

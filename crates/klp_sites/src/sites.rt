@@ -1,12 +1,13 @@
-ghost use Rattle.std.specs.Prelude.{◌≡◌, ◌<◌, ◌≤◌, ◌==◌, find, true, false, length, replicate, option_map, slice_index_or, slice_set, is_some, IfOk};
+ghost use Rattle.std.specs.Prelude.{◌≡◌, ◌<◌, ◌≤◌, ◌==◌, ◌&&◌, not, find, true, false, length, replicate, option_map, slice_index_or, slice_set, is_some, IfOk, IfSome, IfNone};
 ghost use Rattle.std.specs.Option.{option_to_list};
+ghost use Rattle.klp_types.specs.Entries.{is_empty};
 ghost use Rattle.klp_types.specs.Records.{spare_of};
 ghost use Rattle.klp_text.specs.TextImage.{site_count};
 ghost use Rattle.klp_model.specs.Blocked.{blocked_among};
 ghost use Rattle.klp_model.specs.Rows.{word_of};
 ghost use Rattle.klp_types.specs.declared.version.Entry.{Entry as AnyEntry};
 ghost use Rattle.klp_stack.specs.Spare.{spare_in};
-ghost use Rattle.klp_stack.specs.Stack.{IsStack, entries_at, has_entry};
+ghost use Rattle.klp_stack.specs.Stack.{IsStack, entries_at, has_entry, entries_of_others, place_of};
 ghost use Rattle.klp_stack.specs.Undo as of_stacks;
 ghost use Rattle.klp_sites.specs.Table.{bytes_at, image_of, is_hooked_at, opening};
 ghost use Rattle.klp_sites.specs.Changes.{Changes, pushed, taken, rows_of_push, rows_of_take};
@@ -14,7 +15,7 @@ ghost use Rattle.klp_sites.specs.Undo.{put_back, put_loaded, is_due};
 
 use arrayvec::ArrayVec;
 use klp_record_words::Records;
-use klp_stack::Stacks;
+use klp_stack::{Stacks, Taken};
 use klp_text::Image;
 use klp_types::{
     Entry, MAX_PATCHES, ObjId, PatchId, Place, Record, Site, SiteWord, Transition, Version,
@@ -66,6 +67,7 @@ impl Sites {
 
     /// Puts an entry on top of a site's stack, and hooks the site with its first, as the kernel registers
     /// its `ftrace_ops` with the first function of a stack. The cost is constant.
+    #[inline(always)]
     pub fn push(&mut self, site: Site, entry: Entry, log: &mut Records)
         requires there { site < length self.old.stacks }
         requires fresh { has_entry entry.patch (entries_at self.old.stacks site) ≡ false }
@@ -76,28 +78,58 @@ impl Sites {
             (rows_of_push self.old site entry) }
     {
         // A nop is an entry too, because it has to be run by the handler.
-        let was_hooked = self.stacks.hooks(site) > 0;
-        log.note(self.stacks.push(site, entry));
-        if !was_hooked {
+        let Entry { patch, func: _ } = entry;
+        let is_first = self.stacks.push(site, entry);
+        log.note(Record::StackEntry {
+            site,
+            patch,
+            was: None,
+        });
+        if is_first {
             self.image.hook(site);
             log.note(Record::HookFlag { site, was: false });
         }
     }
 
-    /// Takes the entry of a patch out of a site's stack, and unhooks the site with its last, so that a
-    /// function without patches pays for none. The cost is the entry's place.
+    /// Takes the entry of a patch out of a site's stack, if it has one there, and unhooks the site with its
+    /// last, so that a function without patches pays for none. The cost is the entry's place.
+    #[inline(always)]
     pub fn take(&mut self, site: Site, patch: PatchId, log: &mut Records)
-        requires there { has_entry patch (entries_at self.old.stacks site) ≡ true }
         requires records { length (rows_of_take self.old site patch) ≤ spare_of log.old }
         ensures changes { Changes self.old self.new log.old log.new (taken self.old site patch)
             (rows_of_take self.old site patch) }
     {
-        log.note(self.stacks.take(site, patch));
-        let is_hooked = self.stacks.hooks(site) > 0;
-        if !is_hooked {
-            self.image.unhook(site);
+        let Some(Taken { place, is_last }) = self.take_out(site, patch) else {
+            return;
+        };
+        log.note(Record::StackEntry {
+            site,
+            patch,
+            was: Some(place),
+        });
+        if is_last {
             log.note(Record::HookFlag { site, was: true });
         }
+    }
+
+    /// The same without a record of it. Undoing has this part of the change's code.
+    #[inline(always)]
+    fn take_out(&mut self, site: Site, patch: PatchId) -> Option<Taken>
+        ensures place { option_map (λ taken. taken.place) result
+            ≡ place_of patch (entries_at self.old.stacks site) }
+        ensures last { IfSome result
+            (λ taken. taken.is_last ≡ is_empty (entries_of_others patch (entries_at self.old.stacks site))) }
+        ensures table { self.new ≡ taken self.old site patch }
+        ensures undo { put_back self.new
+            (Record.StackEntry site patch (place_of patch (entries_at self.old.stacks site))) ≡ self.old }
+        ensures unchanged { IfNone result (self.new ≡ self.old) }
+        ensures room { is_some result ≡ true → 0 < spare_in self.new.stacks }
+    {
+        let taken = self.stacks.take(site, patch)?;
+        if taken.is_last {
+            self.image.unhook(site);
+        }
+        Some(taken)
     }
 
     /// Makes an object loaded, and answers whether it was. Its sites stay hooked or unhooked as they are,
@@ -139,21 +171,20 @@ impl Sites {
 
     /// Puts an entry of the site back, or takes it out, as `put_back` of its record does. The hook is written only
     /// where it changes, which is with the first entry and the last. The cost is at most the stack's height.
+    #[inline(always)]
     pub fn put_entry(&mut self, site: Site, patch: PatchId, was: Option<Place>)
         requires { is_some was ≡ true → 0 < spare_in self.old.stacks }
         ensures { let row = Record.StackEntry site patch was in
             self.new ≡ record self.old { stacks = of_stacks.put_back self.old.stacks row } }
     {
-        // A nop is an entry too, because it has to be run by the handler.
-        let was_hooked = self.stacks.hooks(site) > 0;
-        self.stacks
-            .put_back(Record::StackEntry { site, patch, was });
-        let is_hooked = self.stacks.hooks(site) > 0;
-        if is_hooked != was_hooked {
-            if is_hooked {
-                self.image.hook(site);
-            } else {
-                self.image.unhook(site);
+        match was {
+            Some(place) => {
+                if self.stacks.put(site, patch, place) {
+                    self.image.hook(site);
+                }
+            }
+            None => {
+                self.take_out(site, patch);
             }
         }
     }
@@ -208,12 +239,13 @@ impl Sites {
         self.image.bytes(object, number)
     }
 
-    /// How many entries a site has, nops among them; a site that isn't there has none. It is hooked while
-    /// it has one, so this is how to ask for its hook. The cost is constant.
-    pub fn hooks(&self, site: Site) -> u16
-        ensures { result ≡ length (entries_at self.now.stacks site) }
+    /// Whether a site has entries, and none of the patch: so a nop of the patch would change what runs there.
+    /// The cost is at most the stack's height.
+    pub fn has_only_others(&self, site: Site, patch: PatchId) -> bool
+        ensures { let entries = entries_at self.now.stacks site in
+            result ≡ (not (is_empty entries) && not (has_entry patch entries)) }
     {
-        self.stacks.hooks(site)
+        self.stacks.has_only_others(site, patch)
     }
 
     /// How many sites there are, at a constant cost: one for each symbol of the image.

@@ -1,26 +1,22 @@
-use Rattle.std.proofs.Common.{true, ◌∷◌, arith}
-use Rattle.std.proofs.lemmas.Grind.{common_steps}
+use Rattle.std.proofs.Common.{true, ◌∷◌, ap, not, sym, ◌∙◌}
 use Rattle.klp_stack.specs.Stack.{entries_at}
-use Rattle.klp_sites.proofs.StepLemmas.{turned, unturned, stacked_from, hooked_now}
+use Rattle.klp_sites.proofs.StepLemmas.{turned, unturned, hooked_now}
 use Rattle.klp_sites.proofs.sites.Sites.push.Goals as goal
 
 pub invariant_of-self : goal.invariant_of-self
 invariant_of-self c =
     let seen = c.self.inside.stacks in
     let older = entries_at seen c.args.site in
-    let is = c.push.ensures.changes.stacks in
+    let is = c.push-is_first.ensures.changes.stacks in
     let there = rw (← c.self.view_is) at c.requires.there in
-    turned c.self.inside.image seen c.self.invariant c.args.site (c.args.entry ∷ older) c.push.new.self is true
-    (hooked_now seen c.args.site c.args.entry older c.push.new.self is there) c.hook.new.self c.hook.ensures
+    turned c.self.inside.image seen c.self.invariant c.args.site (c.args.entry ∷ older) c.push-is_first.new.self is true
+    (hooked_now seen c.args.site c.args.entry older c.push-is_first.new.self is there) c.hook.new.self c.hook.ensures
 
-pub invariant_of-self-else-not-was_hooked : goal.invariant_of-self-else-not-was_hooked
-invariant_of-self-else-not-was_hooked c =
+pub invariant_of-self-else-is_first : goal.invariant_of-self-else-is_first
+invariant_of-self-else-is_first c =
     let seen = c.self.inside.stacks in
     let older = entries_at seen c.args.site in
-    let is = c.push.ensures.changes.stacks in
+    let is = c.push-is_first.ensures.changes.stacks in
     let there = rw (← c.self.view_is) at c.requires.there in
-    unturned c.self.inside.image seen c.self.invariant c.args.site (c.args.entry ∷ older) c.push.new.self is true
-    (stacked_from older c.hooks-was_hooked.result c.hooks-was_hooked.ensures c.if-not-was_hooked.false) (hooked_now seen c.args.site c.args.entry older c.push.new.self is there)
-
-pub returns-then-not-was_hooked : goal.returns-then-not-was_hooked
-returns-then-not-was_hooked c = grind (arith, common_steps)
+    unturned c.self.inside.image seen c.self.invariant c.args.site (c.args.entry ∷ older) c.push-is_first.new.self is true
+    (ap not (sym c.push-is_first.ensures.first ∙ c.if-is_first.false)) (hooked_now seen c.args.site c.args.entry older c.push-is_first.new.self is there)
