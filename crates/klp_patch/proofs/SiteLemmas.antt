@@ -1,11 +1,11 @@
 -- The entries of one site change.
-use Rattle.std.proofs.Common.{◌≡◌, ℕ, zero, suc, ◌+◌, ◌<◌, ◌≤◌, Bool, true, false, not, ◌&&◌, ◌||◌, List, [], ◌∷◌, length, refl, sym, ap, subst, ◌∙◌, arith, Option, Some, None, eqb}
+use Rattle.std.proofs.Common.{◌≡◌, ℕ, ◌+◌, ◌<◌, ◌≤◌, Bool, true, false, not, ◌&&◌, ◌||◌, List, [], ◌∷◌, length, set, refl, sym, ap, subst, ◌∙◌, arith, Option, Some, None, eqb}
 use Rattle.std.specs.Prelude.{cond, find}
 use Rattle.std.specs.Option.{is_some, is_none}
-use Rattle.std.proofs.lemmas.Bool.{eqb-true, or_parts, not_from_false, cond-true, cond-false}
-use Rattle.std.specs.List.{All}
+use Rattle.std.proofs.lemmas.Bool.{eqb-true, or_parts, not_from_false, cond-true}
+use Rattle.std.specs.List.{All, count_by}
 use Rattle.std.proofs.lemmas.List.Elements.{All-nil, All-cons}
-use Rattle.std.proofs.lemmas.List.{length-set}
+use Rattle.std.proofs.lemmas.List.{length-set, set-get_or}
 use Rattle.std.proofs.lemmas.List.Sums.{sum_by-set, count_by-le-length}
 use Rattle.klp_types.specs.declared.limits.TheConstants.{MAX_SITES}
 use Rattle.klp_types.specs.declared.record.Place.{Place}
@@ -15,7 +15,9 @@ use Rattle.klp_types.specs.declared.version.Entry.{Entry}
 use Rattle.klp_types.specs.Entries.{is_empty}
 use Rattle.klp_stack.specs.Stack.{entries_at, has_entry, entries_of_others, place_of, IsStack}
 use Rattle.klp_sites.specs.Table.{SiteTable, is_stacked}
-use Rattle.klp_sites.specs.Changes.{pushed, taken, rows_of_push, rows_of_take}
+use Rattle.klp_stack.proofs.ChangeLemmas.{site_there}
+use Rattle.klp_stack.proofs.StackLemmas.{has_place, not_taken}
+use Rattle.klp_sites.specs.Changes.{pushed, taken, rows_of_push, rows_of_taken, rows_of_take}
 use Rattle.klp_sites.specs.Undo.{is_of_sites}
 use Rattle.klp_patch.specs.Changes.{AreMade, with_nop, without_nop, hooked_count}
 
@@ -40,9 +42,11 @@ push_of_sites table site entry =
     All-cons OfSites (StackEntry site entry.patch None) _ refl (hook_of_site (is_empty (entries_at table.stacks site)) false site)
 
 pub take_of_sites : (table : SiteTable) (site patch : ℕ) → All OfSites (rows_of_take table site patch)
-take_of_sites table site patch =
-    All-cons OfSites (StackEntry site patch (place_of patch (entries_at table.stacks site))) _ refl
-    (hook_of_site (is_empty (entries_of_others patch (entries_at table.stacks site))) true site)
+take_of_sites table site patch = by (place_of patch (entries_at table.stacks site)) (is_empty (entries_of_others patch (entries_at table.stacks site)))
+  where
+    by : (was : Option Place) (last : Bool) → All OfSites (rows_of_taken site patch was last)
+    by None last = none_of_sites
+    by (Some place) last = All-cons OfSites (StackEntry site patch (Some place)) _ refl (hook_of_site last true site)
 
 -- what is made of the entries of one site may be said otherwise
 pub made_alike : (before after : SiteTable) (site : ℕ) (make change : ℕ → Entries → Entries) → AreMade before after (λ other. eqb site other) make
@@ -76,20 +80,27 @@ push_few table site entry there =
     few_pushed site entry.patch (entries_at table.stacks site) (hooked_count table) (hooked_count (pushed table site entry))
     (sum_by-set (λ es. cond (is_stacked es) 1 0) table.stacks site (entry ∷ entries_at table.stacks site) [] there)
 
--- A take notes one row more exactly where it unhooks the site.
-few_taken : (site patch : ℕ) (was : Option Place) (entries others : Entries) (before after : ℕ) → has_entry patch entries ≡ true
-    → after + cond (is_stacked entries) 1 0 ≡ before + cond (is_stacked others) 1 0
-    → length (StackEntry site patch was ∷ cond (is_empty others) (HookFlag site true ∷ []) []) + after ≤ 1 + before
-few_taken site patch was [] others before after there count = cc
-few_taken site patch was (entry ∷ older) [] before after there count = omega (arith, count)
-few_taken site patch was (entry ∷ older) (other ∷ others) before after there count = omega (arith, count)
+-- A take notes one row more exactly where it unhooks the site, and none where the patch has no entry.
+few_taken : (site patch : ℕ) (place : Place) (entries others : Entries) (before after : ℕ) → place_of patch entries ≡ Some place
+    → after + cond (is_stacked entries) 1 0 ≡ before + cond (is_stacked others) 1 0 → length (rows_of_taken site patch (Some place) (is_empty others)) + after ≤ 1 + before
+few_taken site patch place [] others before after there count = cc
+few_taken site patch place (entry ∷ older) [] before after there count = omega (arith, count)
+few_taken site patch place (entry ∷ older) (other ∷ others) before after there count = omega (arith, count)
 
-pub take_few : (table : SiteTable) (site patch : ℕ) → site < length table.stacks → has_entry patch (entries_at table.stacks site) ≡ true
-    → length (rows_of_take table site patch) + hooked_count (taken table site patch) ≤ 1 + hooked_count table
-take_few table site patch there has =
-    few_taken site patch (place_of patch (entries_at table.stacks site)) (entries_at table.stacks site) (entries_of_others patch (entries_at table.stacks site)) (hooked_count table)
-    (hooked_count (taken table site patch)) has
-    (sum_by-set (λ es. cond (is_stacked es) 1 0) table.stacks site (entries_of_others patch (entries_at table.stacks site)) [] there)
+pub take_few : (table : SiteTable) (site patch : ℕ) → length (rows_of_take table site patch) + hooked_count (taken table site patch) ≤ 1 + hooked_count table
+take_few table site patch =
+    let seen = entries_at table.stacks site in
+    let others = entries_of_others patch seen in
+    elim (place_of patch seen) as (λ w. place_of patch seen ≡ w → length (rows_of_taken site patch w (is_empty others)) + hooked_count (taken table site patch) ≤ 1 + hooked_count table) [
+      | None ↦ λ none.
+          let same : set table.stacks site others ≡ table.stacks = ap (set table.stacks site) (not_taken patch seen none) ∙ set-get_or table.stacks site [] in
+          let count = ap (count_by is_stacked) same in
+          omega (arith, count)
+      | (Some place) ↦ λ there.
+          let within = site_there patch table.stacks site (sym (has_place patch seen (Some place) (sym there))) in
+          few_taken site patch place seen others (hooked_count table) (hooked_count (taken table site patch)) there
+          (sum_by-set (λ es. cond (is_stacked es) 1 0) table.stacks site others [] within)
+    ] refl
 
 pub push_fits : (table : SiteTable) (site : ℕ) (entry : Entry) (spare : ℕ) → site < length table.stacks → length table.stacks ≤ MAX_SITES → 1 + MAX_SITES ≤ spare + hooked_count table
     → length (rows_of_push table site entry) ≤ spare
@@ -97,12 +108,6 @@ push_fits table site entry spare there sites room =
     let count = count_by-le-length is_stacked (pushed table site entry).stacks in
     let same = length-set table.stacks site (entry ∷ entries_at table.stacks site) in
     omega (arith, push_few table site entry there, count, same)
-
--- a patch that has an entry at a site has a site
-pub site_there : (patch : ℕ) (stacks : List Entries) (site : ℕ) → has_entry patch (entries_at stacks site) ≡ true → site < length stacks
-site_there patch [] site there = cc
-site_there patch (first ∷ stacks) zero there = omega arith
-site_there patch (first ∷ stacks) (suc site) there = let later = site_there patch stacks site there in omega arith
 
 -- What a look for the entry of a patch tells.
 pub found_is : (patch : ℕ) (entries : Entries) → is_some (find (λ (e : Entry). eqb e.patch patch) entries) ≡ has_entry patch entries
@@ -166,15 +171,7 @@ function_stays patch (first ∷ older) entry stack found nop = elim (eqb first.p
     first_function : (first entry : Entry) → Some first ≡ Some entry → is_none entry.func ≡ false → is_none first.func ≡ false
     first_function first entry is nop = cc
 
--- a nop is put on entries without one of the patch
-pub nop_put : (patch : ℕ) (entries : Entries) → 0 < length entries → has_entry patch entries ≡ false → with_nop patch entries ≡ record { patch = patch; func = None } ∷ entries
-nop_put patch [] some none = absurd (omega arith)
-nop_put patch (entry ∷ older) some none = cond-false _ _ _ none
-
-pub nop_not_on_none : (patch : ℕ) (entries : Entries) → length entries ≤ 0 → with_nop patch entries ≡ entries
-nop_not_on_none patch [] none = refl
-nop_not_on_none patch (entry ∷ older) none = absurd (omega arith)
-
+-- a nop isn't put on a patch's own entry
 pub nop_not_on_own : (patch : ℕ) (entries : Entries) → has_entry patch entries ≡ true → with_nop patch entries ≡ entries
 nop_not_on_own patch [] own = refl
 nop_not_on_own patch (entry ∷ older) own = cond-true _ _ _ own

@@ -11,6 +11,7 @@ use klp_sites::Sites;
 use klp_types::{Entry, MAX_PATCHES, MAX_SITES, PatchId, Site};
 
 /// Puts an entry on top of a site's stack. Its clauses count records as those of all sites are added up.
+#[inline(always)]
 pub(crate) fn put(sites: &mut Sites, site: Site, entry: Entry, log: &mut Records)
     requires there { site < length sites.old.stacks }
     requires sites { length sites.old.stacks ≤ MAX_SITES }
@@ -37,23 +38,21 @@ pub(crate) fn put_nop(sites: &mut Sites, site: Site, patch: PatchId, log: &mut R
     ensures entries { AreMade sites.old sites.new (λ other. site == other) (λ other entries. with_nop patch entries) }
     ensures notes { Notes sites.old sites.new log.old log.new 1 (hooked_count sites.old) (hooked_count sites.new) }
 {
-    if sites.hooks(site) > 0 && sites.entry(site, patch).is_none() {
+    if sites.has_only_others(site, patch) {
         put(sites, site, Entry { patch, func: None }, log);
     }
 }
 
 /// Takes the entry of a patch out of a site's stack, if it has one there: a walk over all sites meets many
 /// without.
-#[tactic(auto, using(crate::proofs::SiteLemmas::none_of_sites, crate::proofs::SiteLemmas::take_of_sites))]
+#[inline(always)]
 pub(crate) fn take(sites: &mut Sites, site: Site, patch: PatchId, log: &mut Records)
     requires { 1 + hooked_count sites.old ≤ spare_of log.old }
     ensures entries { AreMade sites.old sites.new (λ other. site == other)
         (λ other entries. entries_of_others patch entries) }
     ensures notes { Notes sites.old sites.new log.old log.new 1 (hooked_count sites.new) (hooked_count sites.old) }
 {
-    if sites.entry(site, patch).is_some() {
-        sites.take(site, patch, log);
-    }
+    sites.take(site, patch, log);
 }
 
 /// Takes the nop of a patch out of a site's stack, if it has one there, and leaves a function of the patch.

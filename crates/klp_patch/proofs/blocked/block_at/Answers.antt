@@ -3,7 +3,8 @@ use Rattle.std.proofs.lemmas.List.{append-nil}
 use Rattle.klp_types.specs.declared.version.Version.{Version}
 use Rattle.klp_stack.specs.Stack.{entries_at}
 use Rattle.klp_tasks.specs.Members.{IsSetOf}
-use Rattle.klp_patch.proofs.SiteLemmas.{looked, site_there}
+use Rattle.klp_stack.proofs.ChangeLemmas.{site_there}
+use Rattle.klp_patch.proofs.SiteLemmas.{looked}
 use Rattle.klp_patch.proofs.BlockLemmas.{none_blocked, blocked_within}
 use Rattle.klp_patch.proofs.blocked.block_at.Goals as goal
 
