@@ -1,5 +1,5 @@
 //! What an event logged is put back. No step is turned round, since the rows have all that there was.
-ghost use Rattle.std.specs.Prelude.{◌≡◌, true, false, [], length};
+ghost use Rattle.std.specs.Prelude.{◌≡◌, ◌<◌, true, false, [], length};
 ghost use Rattle.klp_record_words.specs.Small.{row_of};
 ghost use Rattle.klp_manager_state.specs.Rows.{rows_in, put_back, undone, is_due, are_due};
 ghost use Rattle.klp_manager_state.specs.Undoing.{IsOneBack};
@@ -36,6 +36,9 @@ impl ManagerState {
         ensures none { result ≡ false → (self.old.log.noted ≡ []) × (self.new ≡ self.old) }
         ensures blocked { self.new.blocked ≡ self.old.blocked }
     {
+        if self.log.noted() == 0 {
+            return false;
+        }
         if let Some(newest) = self.log.take_small() {
             self.put_small_back(newest);
             return true;
@@ -44,11 +47,25 @@ impl ManagerState {
             self.tasks.put_switched(was.task, was.state, was.mode);
             return true;
         }
+        self.put_other_back();
+        true
+    }
+
+    /// The same of a record that is there, and of a kind that few events log: it is handed on whole. It isn't part of its
+    /// caller, which would clear the room for a record at each turn.
+    #[cold]
+    fn put_other_back(&mut self)
+        requires some { 0 < length self.old.log.noted }
+        requires modules { self.old.modules.loaded ≡ self.old.sites.loaded }
+        requires objects { length self.old.sites.loaded ≡ length self.old.sites.image.objects }
+        requires due { are_due (rows_in self.old) self.old.log.noted ≡ true }
+        ensures one { IsOneBack self.old self.new }
+        ensures blocked { self.new.blocked ≡ self.old.blocked }
+    {
         let Some(newest) = self.log.take_newest() else {
-            return false;
+            unreachable!();
         };
         self.put_back(&newest);
-        true
     }
 
     /// Gives one row what its record has, which is a small one. A hook's own changes nothing, since the hook went back

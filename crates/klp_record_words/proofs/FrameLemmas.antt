@@ -1,10 +1,12 @@
 -- Words of frames that a table keeps.
-use Rattle.std.proofs.Common.{◌≡◌, ℕ, ◌+◌, ◌<◌, ◌≤◌, List, length, map, take, get_or, sym, ap, subst, ◌∙◌, arith}
-use Rattle.std.proofs.lemmas.List.{take_more_same}
+use Rattle.std.proofs.Common.{◌≡◌, ℕ, ◌+◌, ◌<◌, ◌≤◌, List, length, map, take, get_or, Option, sym, ap, subst, ◌∙◌, arith}
+use Rattle.std.proofs.lemmas.List.{take_more_same, get_or-map}
 use Rattle.std.proofs.lemmas.Nat.{le_or_l, le_or_r}
 use Rattle.std.specs.Int.Bits.{bit_or, bit_xor}
 use Rattle.std.specs.List.{All}
 use Rattle.klp_types.specs.declared.version.Version.{Version}
+use Rattle.klp_types.specs.declared.task.Task.{Task}
+use Rattle.klp_types.specs.Frames.{frames_of}
 use Rattle.klp_record_words.specs.Words.{frame_word, IsFrame, AreFramesOf}
 use Rattle.klp_record_words.specs.Decoded.{frame_of}
 use Rattle.klp_record_words.proofs.WordLemmas.{frames_back}
@@ -31,3 +33,9 @@ pub same_so_far : (words others : List ℕ) (k before : ℕ) → k < length word
 same_so_far words others k before here there same none =
     let both = none_differ before (get_or words k 0) (get_or others k 0) none in
     take_more_same words others k 0 here there (same both.0) both.1
+
+-- the frames that a table of tasks keeps beside a row
+pub own_frames : (tasks : List (Option Task)) (kept : List (List Version)) (k : ℕ) (row : Option Task) (own : List Version) → kept ≡ map frames_of tasks → k < length tasks → row ≡ get_or tasks k row
+    → own ≡ get_or kept k own → own ≡ frames_of row
+own_frames tasks kept k row own same within is at =
+    at ∙ ap (λ xs. get_or xs k own) same ∙ get_or-map frames_of tasks k row own within ∙ ap frames_of (sym is)

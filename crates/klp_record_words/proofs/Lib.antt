@@ -5,7 +5,6 @@ pub mod PartLemmas
 pub mod RecordsLemmas
 pub mod PlaceLemmas
 pub mod StoredLemmas
-pub mod KindLemmas
 pub mod SplitLemmas
 pub mod LastLemmas
 pub mod FrameLemmas

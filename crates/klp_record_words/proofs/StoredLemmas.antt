@@ -3,7 +3,7 @@ use Rattle.std.proofs.Common.{◌≡◌, ℕ, zero, suc, ◌+◌, ◌-◌, ◌*�
 use Rattle.std.proofs.lemmas.List.{take_at, take-take, length-take-le}
 use Rattle.klp_types.specs.declared.record.Record.{Record}
 use Rattle.klp_record_words.specs.Words.{words_before_tag, words_of, IsRecord}
-use Rattle.klp_record_words.specs.Stored.{last_tag, last_begins, last_record, words_before, records_in, AreWords}
+use Rattle.klp_record_words.specs.Stored.{last_tag, last_begins, last_record, words_before, records_in, AreWords, EndWithRecord}
 use Rattle.klp_record_words.proofs.ReadLemmas.{known}
 use Rattle.klp_record_words.proofs.BackLemmas.{tag_count, every, long_enough, last_is, too_long}
 use Rattle.klp_record_words.proofs.RecordsLemmas.{few}
@@ -127,3 +127,8 @@ pub room_for_all : (count more room end length_of : ℕ) (words others : List �
     → end + length_of ≤ 36 * room
 room_for_all count more room end length_of words others are these long own fits =
     omega (arith, few_words count words are, few_words more others these, long, own)
+
+-- where there are records, the words end with those of one
+pub end_with : (count : ℕ) (words : List ℕ) → 0 < count → AreWords count words → EndWithRecord words
+end_with zero words some are = absurd (omega (arith, some))
+end_with (suc count) words some are = (are.0, are.1.0)

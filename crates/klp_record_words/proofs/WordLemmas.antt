@@ -254,3 +254,11 @@ record_back (HookFlag site was) h = ap (HookFlag site) (flag_back was)
 record_back (Moving was) h = ap (λ f. Moving (record { patch = was.patch; target = f })) (flag_back was.target)
 record_back NothingMoving h = refl
 record_back (PinnedFlag patch was) h = ap (PinnedFlag patch) (flag_back was)
+
+-- a task's record, where it has two words or more
+pub task_read : (body : List ℕ) (state : ℤ) (mode : Mode) (frames : List Version) → 2 ≤ length body → state ≡ state_of (get_or body 1 0 % 4) → mode ≡ mode_of (get_or body 1 0 / 4)
+    → map frame_of (drop 2 body) ≡ frames → TaskRow (get_or body 0 0) (record { state = state; mode = mode; frames = frames }) ≡ record_of 1 body
+unfolding record_of
+task_read body state mode frames long s m f =
+    ap (TaskRow (get_or body 0 0)) (same_task _ _ _ _ _ _ s m (sym f))
+    ∙ sym (if_no (eqb (length body) 1) _ _ (longer 1 (length body) (omega (arith, long))))

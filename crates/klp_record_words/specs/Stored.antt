@@ -1,7 +1,7 @@
 -- Records as they are stored: their words, one record's behind another's, and how many records that are.
 use Rattle.std.specs.Prelude.{◌≡◌, ℕ, zero, suc, ◌-◌, ◌/◌, ◌%◌, List, [], ◌∷◌, ◌++◌, length, take, drop}
 use Rattle.klp_types.specs.declared.record.Record.{Record}
-use Rattle.klp_record_words.specs.Words.{words_of, IsRecord}
+use Rattle.klp_record_words.specs.Words.{words_of, IsRecord, IsBody}
 use Rattle.klp_record_words.specs.Decoded.{word_at, record_of}
 
 -- records, oldest first, and how many there is room for
@@ -35,3 +35,11 @@ abbrev pub AreWords : ℕ → List ℕ → Type 0
 AreWords zero words = words ≡ []
 AreWords (suc count) words =
     (words ≡ words_before words ++ words_of (last_record words)) × (IsRecord (last_record words) × AreWords count (words_before words))
+
+-- words end with those of a record
+abbrev pub EndWithRecord : List ℕ → Type 0
+EndWithRecord words = (words ≡ words_before words ++ words_of (last_record words)) × IsRecord (last_record words)
+
+-- words are those of a record of this kind, without its tag
+abbrev pub AreOfKind : ℕ → List ℕ → Type 0
+AreOfKind kind words = (row : Record) × IsBody kind words row

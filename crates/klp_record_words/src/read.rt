@@ -2,9 +2,9 @@
 ghost use Rattle.std.specs.Prelude.{◌≡◌, ℕ, ◌+◌, ◌*◌, ◌^◌, ◌<◌, ◌≤◌, List, ◌++◌, length, drop, Some, IfSome};
 ghost use Rattle.std.specs.List.{All};
 ghost use Rattle.klp_types.specs.declared.record.Record.{Record};
-ghost use Rattle.klp_record_words.specs.Words.{mode_word, func_word, words_of, IsBelow, IsRecord, IsStateOf, IsFrameOf, AreFramesOf, IsTaskOf, IsPlaceOf, IsValueOf, IsBody};
+ghost use Rattle.klp_record_words.specs.Words.{mode_word, words_of, IsBelow, IsRecord, IsStateOf, IsFrameOf, AreFramesOf, IsTaskOf, IsPlaceOf, IsValueOf, IsBody};
 ghost use Rattle.klp_types.specs.Finds.{Finds};
-ghost use Rattle.klp_record_words.specs.Decoded.{bytes_in};
+ghost use Rattle.klp_record_words.specs.Decoded.{state_of, mode_of, func_of, bytes_in};
 
 use klp_types::{
     Frames, MAX_VALUE_BYTES, Mode, ObjId, PatchId, PatchState, Place, Record, ShadowKey,
@@ -54,8 +54,7 @@ fn read_body(kind: u64, body: &[u64]) -> Option<Record>
     }
 }
 
-#[inline(always)]
-pub(crate) fn read_state(word: u64) -> Option<PatchState>
+fn read_state(word: u64) -> Option<PatchState>
     ensures { Finds (IsStateOf word) result }
 {
     match word {
@@ -66,8 +65,7 @@ pub(crate) fn read_state(word: u64) -> Option<PatchState>
     }
 }
 
-#[inline(always)]
-pub(crate) fn read_mode(word: u64) -> Option<Mode>
+fn read_mode(word: u64) -> Option<Mode>
     ensures { Finds (λ mode. mode_word mode ≡ word) result }
 {
     match word {
@@ -75,6 +73,44 @@ pub(crate) fn read_mode(word: u64) -> Option<Mode>
         1 => Some(Mode::Kernel),
         2 => Some(Mode::Asleep),
         _ => None,
+    }
+}
+
+/// The state that a word says which is known to say one.
+#[inline(always)]
+pub(crate) fn state_of(word: u64) -> PatchState
+    requires { word ≤ 2 }
+    ensures { result ≡ state_of word }
+{
+    match word {
+        0 => PatchState::UNDEFINED,
+        1 => PatchState::UNPATCHED,
+        _ => PatchState::PATCHED,
+    }
+}
+
+/// The mode, likewise.
+#[inline(always)]
+pub(crate) fn mode_of(word: u64) -> Mode
+    ensures { result ≡ mode_of word }
+{
+    match word {
+        0 => Mode::User,
+        1 => Mode::Kernel,
+        _ => Mode::Asleep,
+    }
+}
+
+/// The function of an entry, likewise.
+#[inline(always)]
+pub(crate) fn func_of(word: u64) -> Option<u16>
+    requires { word ≤ 65536 }
+    ensures { result ≡ func_of word }
+{
+    if word == 0 {
+        None
+    } else {
+        Some((word - 1) as u16)
     }
 }
 
@@ -274,15 +310,6 @@ fn read_installed(body: &[u64]) -> Option<Record>
 fn read_entry(body: &[u64]) -> Option<Record>
     ensures { Finds (IsBody 7 body.now) result }
 {
-    let (site, patch, was) = read_entry_parts(body)?;
-    Some(Record::StackEntry { site, patch, was })
-}
-
-/// The site and the patch of an entry, and where it was.
-#[inline(always)]
-pub(crate) fn read_entry_parts(body: &[u64]) -> Option<(Site, PatchId, Option<Place>)>
-    ensures { Finds (λ parts. IsBody 7 body.now (Record.StackEntry parts.0 parts.1 parts.2)) result }
-{
     if body.len() < 2 {
         return None;
     }
@@ -294,15 +321,22 @@ pub(crate) fn read_entry_parts(body: &[u64]) -> Option<(Site, PatchId, Option<Pl
     let site = Site(place as u16);
     let patch = PatchId(number as u8);
     if body.len() == 2 {
-        return Some((site, patch, None));
+        return Some(Record::StackEntry {
+            site,
+            patch,
+            was: None,
+        });
     }
     match read_place(&body[2..]) {
-        Some(was) => Some((site, patch, Some(was))),
+        Some(was) => Some(Record::StackEntry {
+            site,
+            patch,
+            was: Some(was),
+        }),
         None => None,
     }
 }
 
-#[inline(always)]
 fn read_place(words: &[u64]) -> Option<Place>
     ensures { Finds (IsPlaceOf words.now) result }
 {
@@ -316,34 +350,12 @@ fn read_place(words: &[u64]) -> Option<Place>
     }
     Some(Place {
         index: index as u8,
-        func: read_func(func),
+        func: func_of(func),
     })
-}
-
-#[inline(always)]
-fn read_func(word: u64) -> Option<u16>
-    requires { word ≤ 65536 }
-    ensures value { func_word result ≡ word }
-    ensures range { IsBelow 65536 result }
-{
-    if word == 0 {
-        None
-    } else {
-        Some((word - 1) as u16)
-    }
 }
 
 fn read_hook(body: &[u64]) -> Option<Record>
     ensures { Finds (IsBody 8 body.now) result }
-{
-    let (site, was) = read_hook_parts(body)?;
-    Some(Record::HookFlag { site, was })
-}
-
-/// The site of a hook, and whether it was hooked.
-#[inline(always)]
-pub(crate) fn read_hook_parts(body: &[u64]) -> Option<(Site, bool)>
-    ensures { Finds (λ parts. IsBody 8 body.now (Record.HookFlag parts.0 parts.1)) result }
 {
     if body.len() != 2 {
         return None;
@@ -353,7 +365,10 @@ pub(crate) fn read_hook_parts(body: &[u64]) -> Option<(Site, bool)>
     if site > 65535 || flag > 1 {
         return None;
     }
-    Some((Site(site as u16), flag == 1))
+    Some(Record::HookFlag {
+        site: Site(site as u16),
+        was: flag == 1,
+    })
 }
 
 fn read_moving(body: &[u64]) -> Option<Record>

@@ -136,6 +136,7 @@ impl StoredRecords {
     /// Takes the newest record out as a small one, where it can be. Where it can't, nothing is taken out.
     #[inline(always)]
     pub(crate) fn take_small(&mut self) -> Option<SmallRecord>
+        requires { 0 < length self.old.rows }
         ensures newest { IfSome result
             (λ newest. self.old ≡ record self.new { rows = self.new.rows ++ row_of newest ∷ [] }) }
         ensures unchanged { IfNone result (self.new ≡ self.old) }
@@ -156,6 +157,7 @@ impl StoredRecords {
         tasks: &[Option<Task>],
         frames: &[FrameWords],
     ) -> Option<SwitchedTask>
+        requires some { 0 < length self.old.rows }
         requires frames { frames.now ≡ map frames_of tasks.now }
         ensures newest { IfSome result (λ was. (now : AnyTask) × ((slice_get tasks.now was.task ≡ Some (Some now))
             × (self.old ≡ record self.new {

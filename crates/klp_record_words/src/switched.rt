@@ -1,13 +1,15 @@
 //! A task of which the state or the mode alone changed, as undoing takes it. Its frames are still what its record says, so
 //! none has to be read and handed on.
-ghost use Rattle.std.specs.Prelude.{◌≡◌, true, ℕ, List, ◌++◌, length, map, slice_get, Some, IfSome};
+ghost use Rattle.std.specs.Prelude.{◌≡◌, ◌≤◌, true, ℕ, List, ◌++◌, length, map, slice_get, Some, IfSome};
 ghost use Rattle.klp_types.specs.declared.record.Record.TheVariants.{TaskRow};
 ghost use Rattle.klp_types.specs.declared.task.Task.{Task as AnyTask};
-ghost use Rattle.klp_record_words.specs.Words.{words_of, IsTaskOf, IsRecord, IsBody};
+ghost use Rattle.klp_record_words.specs.Words.{words_of, IsRecord};
+ghost use Rattle.klp_record_words.specs.Decoded.{frame_of, record_of};
+ghost use Rattle.klp_record_words.specs.Stored.{EndWithRecord, AreOfKind};
 ghost use Rattle.klp_types.specs.Frames.{frames_of};
 
 use crate::frame_words::FrameWords;
-use crate::read::{read_mode, read_state};
+use crate::read::{mode_of, state_of};
 use klp_types::{Mode, PatchState, Task, TaskId};
 
 /// How far a task was, and where.
@@ -31,73 +33,64 @@ fn are_same(words: &[u64], others: &[u64]) -> bool
     differing == 0
 }
 
-/// How far a task was and where, by its words, where it was inside of what it is inside of now: where the words of its
-/// frames are those that its table keeps.
-fn switched_row(
-    word: u64,
-    frames: &[u64],
-    now: &Task,
-    own: &FrameWords,
-) -> Option<(PatchState, Mode)>
-    requires { own.now ≡ now.now.frames }
-    ensures { IfSome result (λ was. IsTaskOf word frames.now (record now.now { state = was.0; mode = was.1 })) }
+/// Whether words are those of frames which a table keeps.
+#[inline(always)]
+fn are_kept(words: &[u64], own: &FrameWords) -> bool
+    ensures { result ≡ true → map frame_of words.now ≡ own.now }
 {
-    let state = read_state(word % 4)?;
-    let mode = read_mode(word / 4)?;
     let own = own.as_words();
-    if frames.len() != own.len() || !are_same(frames, own) {
-        return None;
-    }
-    Some((state, mode))
+    words.len() == own.len() && are_same(words, own)
 }
 
-/// The same, of the words before the tag.
+/// How far a task was and where, by the words before the tag, where it was inside of what it is inside of now: where the
+/// words of its frames are those that its table keeps.
+#[inline(always)]
 fn switched_body(
     body: &[u64],
     tasks: &[Option<Task>],
     frames: &[FrameWords],
 ) -> Option<SwitchedTask>
-    requires { frames.now ≡ map frames_of tasks.now }
+    requires kind { AreOfKind 1 body.now }
+    requires count { 2 ≤ length body.now }
+    requires frames { frames.now ≡ map frames_of tasks.now }
     ensures { IfSome result (λ was. (now : AnyTask) × ((slice_get tasks.now was.task ≡ Some (Some now))
-        × IsBody 1 body.now (TaskRow was.task (record now { state = was.state; mode = was.mode })))) }
+        × (TaskRow was.task (record now { state = was.state; mode = was.mode }) ≡ record_of 1 body.now))) }
 {
-    if body.len() < 2 {
+    let task = TaskId(body[0] as u8);
+    let Some(Some(_now)) = tasks.get(usize::from(task.0)) else {
+        return None;
+    };
+    if !are_kept(&body[2..], &frames[usize::from(task.0)]) {
         return None;
     }
-    let number = body[0];
-    if number > 255 {
-        return None;
-    }
-    let task = TaskId(number as u8);
-    let now = tasks.get(usize::from(task.0))?.as_ref()?;
-    let own = &frames[usize::from(task.0)];
-    let (state, mode) = switched_row(body[1], &body[2..], now, own)?;
-    Some(SwitchedTask { task, state, mode })
+    Some(SwitchedTask {
+        task,
+        state: state_of(body[1] % 4),
+        mode: mode_of(body[1] / 4),
+    })
 }
 
-/// A task of which the state or the mode alone changed, by the tasks as they are now, if the list ends with the record of
-/// one, and how many words that has with its tag.
+/// A task of which the state or the mode alone changed, by the tasks as they are now, if the last record of these words is
+/// that of one, and how many words that has with its tag. The words are known to be those of records.
 #[inline(always)]
 pub(crate) fn switched(
     words: &[u64],
     tasks: &[Option<Task>],
     frames: &[FrameWords],
 ) -> Option<(SwitchedTask, usize)>
-    requires { frames.now ≡ map frames_of tasks.now }
+    requires record { EndWithRecord words.now }
+    requires frames { frames.now ≡ map frames_of tasks.now }
     ensures { IfSome result (λ found. (now : AnyTask) × ((slice_get tasks.now found.0.task ≡ Some (Some now))
         × ((older : List ℕ) × ((words.now ≡ older ++ words_of (TaskRow found.0.task (record now { state = found.0.state; mode = found.0.mode })))
         × (found.1 ≡ length (words_of (TaskRow found.0.task (record now { state = found.0.state; mode = found.0.mode }))))
         × IsRecord (TaskRow found.0.task (record now { state = found.0.state; mode = found.0.mode })))))) }
 {
-    if words.is_empty() {
-        return None;
-    }
     let last = words.len() - 1;
     let tag = words[last];
-    let count = tag / 256;
-    if tag % 256 != 1 || count > last as u64 {
+    let count = (tag / 256) as usize;
+    if tag % 256 != 1 || count < 2 {
         return None;
     }
-    let was = switched_body(&words[last - count as usize..last], tasks, frames)?;
-    Some((was, count as usize + 1))
+    let was = switched_body(&words[last - count..last], tasks, frames)?;
+    Some((was, count + 1))
 }

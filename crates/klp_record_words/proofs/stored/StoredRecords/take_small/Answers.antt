@@ -1,9 +1,17 @@
-use Rattle.std.proofs.Common.{◌≡◌, ◌-◌, ◌≤◌, ◌++◌, [], ◌∷◌, take, refl, sym, ap, subst, ◌∙◌, arith}
+use Rattle.std.proofs.Common.{◌≡◌, ◌-◌, ◌<◌, ◌≤◌, ◌++◌, [], ◌∷◌, length, take, refl, sym, ap, subst, ◌∙◌, arith}
 use Rattle.klp_record_words.specs.Small.{row_of}
 use Rattle.klp_record_words.specs.Words.{words_of}
-use Rattle.klp_record_words.specs.Stored.{StoredList, AreWords, records_in}
-use Rattle.klp_record_words.proofs.StoredLemmas.{are_fewer, front_taken}
+use Rattle.klp_record_words.specs.Stored.{StoredList, AreWords, EndWithRecord, records_in}
+use Rattle.klp_record_words.proofs.StoredLemmas.{are_fewer, front_taken, length-records_in, end_with}
 use Rattle.klp_record_words.proofs.stored.StoredRecords.take_small.Goals as goal
+
+-- there is a record
+pub small-requires : goal.small-requires
+small-requires c =
+    let count = length-records_in c.self.inside.count (take c.self.inside.end c.self.inside.words.items) in
+    let many = ap (λ (r : StoredList). length r.rows) c.self.view_is in
+    let some : 0 < c.self.inside.count = omega (arith, count, many, c.requires) in
+    subst EndWithRecord (ap (take c.self.inside.end) (sym c.deref.ensures.value)) (end_with c.self.inside.count _ some c.self.invariant.0)
 
 -- the words are those of the records before the newest, and those of the newest
 parted : (c : goal.After-self-2-1) → take c.self.inside.end c.self.inside.words.items ≡ c.in-Some.ensures.0 ++ words_of (row_of c.in-Some.newest)

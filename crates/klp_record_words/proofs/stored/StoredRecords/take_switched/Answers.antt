@@ -1,10 +1,18 @@
-use Rattle.std.proofs.Common.{◌≡◌, ◌-◌, ◌≤◌, ◌++◌, [], ◌∷◌, take, refl, sym, ap, subst, ◌∙◌, arith}
+use Rattle.std.proofs.Common.{◌≡◌, ◌-◌, ◌<◌, ◌≤◌, ◌++◌, [], ◌∷◌, length, take, refl, sym, ap, subst, ◌∙◌, arith}
 use Rattle.klp_types.specs.declared.record.Record.{Record}
 use Rattle.klp_types.specs.declared.record.Record.TheVariants.{TaskRow}
 use Rattle.klp_record_words.specs.Words.{words_of}
-use Rattle.klp_record_words.specs.Stored.{StoredList, AreWords, records_in}
-use Rattle.klp_record_words.proofs.StoredLemmas.{are_fewer, front_taken}
+use Rattle.klp_record_words.specs.Stored.{StoredList, AreWords, EndWithRecord, records_in}
+use Rattle.klp_record_words.proofs.StoredLemmas.{are_fewer, front_taken, length-records_in, end_with}
 use Rattle.klp_record_words.proofs.stored.StoredRecords.take_switched.Goals as goal
+
+-- there is a record
+pub switched-requires-clause-record : goal.switched-requires-clause-record
+switched-requires-clause-record c =
+    let count = length-records_in c.self.inside.count (take c.self.inside.end c.self.inside.words.items) in
+    let many = ap (λ (r : StoredList). length r.rows) c.self.view_is in
+    let some : 0 < c.self.inside.count = omega (arith, count, many, c.requires.some) in
+    subst EndWithRecord (ap (take c.self.inside.end) (sym c.deref.ensures.value)) (end_with c.self.inside.count _ some c.self.invariant.0)
 
 -- the record
 abbrev row : (c : goal.After-self-2-1) → Record
