@@ -1,9 +1,10 @@
 //! One line is done and answered: what it asks for is read first, so that the manager can be borrowed for
 //! it alone.
-ghost use Rattle.std.specs.Prelude.{◌≡◌, ℕ, ◌+◌, ◌<◌, ◌≤◌, ◌^◌, ◌⊎◌, true, false, cond, List, [], ◌∷◌, ◌++◌, length};
+ghost use Rattle.std.specs.Prelude.{◌≡◌, ℕ, ◌+◌, ◌<◌, ◌≤◌, ◌^◌, ◌⊎◌, true, false, cond, List, [], ◌∷◌, ◌++◌, length, is_err};
 ghost use Rattle.klp_types.specs.declared.limits.TheConstants.{MAX_CONSOLE_LINE};
 ghost use Rattle.klp_console_io.specs.declared.marks.TheConstants.{MARKS_ROOM};
 ghost use Rattle.klp_console_commands.specs.Lines as asked;
+ghost use Rattle.klp_core.specs.Taking.{IsTaken};
 ghost use Rattle.klp_console.specs.Answered.{IsRewoundAs, IsTakenAs, IsDoneIf, IsAnswered, names_in};
 ghost use Rattle.klp_console.specs.Outcomes.{is_refusal, IsEventOutcome, IsOutcome};
 ghost use Rattle.klp_console.specs.Back as back;
@@ -19,7 +20,7 @@ use crate::served::Served;
 use klp_console_commands::{LineFault, Request, request_of};
 use klp_console_io::{Answers, Failed, Marks, Sink};
 use klp_core::Manager;
-use klp_model::Event;
+use klp_model::{Event, Refusal, Reply};
 
 /// The events behind the mark are undone. Answers whether there are fewer than it, so that nothing was.
 fn rewind<W: Sink>(manager: &mut Manager, mark: u32, answers: &mut Answers, writer: &mut W) -> bool
@@ -39,7 +40,27 @@ fn rewind<W: Sink>(manager: &mut Manager, mark: u32, answers: &mut Answers, writ
     }
 }
 
-/// Takes an event, and says what it is answered.
+/// Takes an event, says what it is answered, and tells it. It becomes part of who calls it, so that none of them pays for
+/// a reply that it doesn't look at.
+#[inline(always)]
+fn answer_event<W: Sink>(
+    manager: &mut Manager,
+    event: &Event,
+    answers: &mut Answers,
+    writer: &mut W,
+) -> Result<Reply, Refusal>
+    requires { answers.old.has_failed ≡ false }
+    ensures said { IsSaid (IsTakenAs manager.old manager.new event.now) (answers.old, W.written writer.old)
+        (answers.new, W.written writer.new) (is_err result) }
+    ensures taken { IsTaken manager.old manager.new event.now result }
+{
+    let reply = manager.apply_lent(event);
+    let catalog = manager.catalog();
+    say_answer(answers, writer, catalog, manager.modules(), &reply);
+    reply
+}
+
+/// Takes an event, and tells what became of it.
 fn take<W: Sink>(
     manager: &mut Manager,
     event: &Event,
@@ -51,10 +72,7 @@ fn take<W: Sink>(
         (answers.new, W.written writer.new) (is_refusal result) }
     ensures outcome { IsEventOutcome manager.old manager.new event.now result }
 {
-    let reply = manager.apply(*event);
-    let catalog = manager.catalog();
-    say_answer(answers, writer, catalog, manager.modules(), &reply);
-    Outcome::Answered(*event, reply)
+    Outcome::Answered(*event, answer_event(manager, event, answers, writer))
 }
 
 /// Does what a line asks for. Answers whether it was refused, by which the line is counted; what was refused
@@ -77,7 +95,9 @@ fn done<W: Sink>(
             say_fault(answers, writer, fault);
             true
         }
-        Some(Ok(Request::Take(ref event))) => take(manager, event, answers, writer).is_refusal(),
+        Some(Ok(Request::Take(ref event))) => {
+            answer_event(manager, event, answers, writer).is_err()
+        }
         Some(Ok(Request::Rewind(mark))) => rewind(manager, mark, answers, writer),
         Some(Ok(Request::ForceNothing(patch))) => {
             say_force_nothing(answers, writer, manager, patch).is_err()

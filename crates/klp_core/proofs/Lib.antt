@@ -1,5 +1,4 @@
 pub mod BootLemmas
-pub mod BriefLemmas
 pub mod EventLemmas
 pub mod PlacedLemmas
 pub mod ViewLemmas

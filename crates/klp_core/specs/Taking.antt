@@ -2,6 +2,7 @@
 use Rattle.std.specs.Prelude.{◌≡◌, ℕ, Bool, true, false, List, [], ◌∷◌, ◌++◌, map, count_by, is_ok, is_err, Some, Result, Ok, Err, IfOk, OnErr}
 use Rattle.klp_types.specs.Setting.{Setting}
 use Rattle.klp_model.specs.declared.event.Event.{Event}
+use Rattle.klp_model.specs.declared.event.Event.TheVariants.{Wake, ShadowGetOrAlloc}
 use Rattle.klp_model.specs.declared.event.Reply.{Reply}
 use Rattle.klp_model.specs.declared.event.Refusal.{Refusal}
 use Rattle.klp_model.specs.declared.event.Refusal.TheVariants.{JournalFull}
@@ -45,6 +46,12 @@ pub record IsTaken (before after : Journaled) (event : Event) (result : Result R
   pub answered : result ≡ answer_in (setting_of before.managed) before.managed.state before.groups event
   pub accepted : IfOk result (λ reply. Appends before after event reply)
   pub refused : OnErr result (after ≡ before)
+
+-- the reply to an event has neither the frames of a task nor the value of a variable
+abbrev pub is_brief : Event → Bool
+is_brief (Wake task) = false
+is_brief (ShadowGetOrAlloc key value) = false
+is_brief other = true
 
 -- what became of an event: the group that it left, or why it was refused
 abbrev pub Outcome : Type 0

@@ -1,21 +1,25 @@
 //! Accepted events are appended to the journal, and taken back. Both are here, since each has to leave the
 //! journal and the state in step.
-ghost use Rattle.std.specs.Prelude.{◌≡◌, ◌-◌, ◌<◌, ◌≤◌, ◌++◌, ◌∷◌, [], true, length, take};
+ghost use Rattle.std.specs.Prelude.{◌≡◌, ◌-◌, ◌<◌, ◌≤◌, ◌++◌, ◌∷◌, [], true, false, length, take, Err, IfOk, IfErr};
 ghost use Rattle.klp_types.specs.declared.limits.TheConstants.{MAX_RECORDS};
 ghost use Rattle.klp_text.specs.TextImage.{site_count};
 ghost use Rattle.klp_journal.specs.Journal.{counted, has_room, Keeps};
+ghost use Rattle.klp_manager_state.specs.Managed.{setting_in, state_in};
 ghost use Rattle.klp_manager_state.specs.Rows.{rows_in};
 ghost use Rattle.klp_core.specs.Journaled.{rows_before_all, journaled_of, groups_in, AreInStep};
-ghost use Rattle.klp_core.specs.Taking.{IsTaken};
+ghost use Rattle.klp_core.specs.Taking.{IsTaken, answer_in, is_brief};
 
-use crate::take::{refused, take, take_brief};
+use crate::take::{is_brief, refused, take_brief, take_long};
 use klp_catalog::Catalog;
 use klp_journal::Journal;
-use klp_manager_state::ManagerState;
+use klp_manager_state::{BriefReply, ManagerState};
 use klp_model::{Event, Refusal, Reply};
+use std::marker::Model;
+use std::snapshot::Snapshot;
 
 /// Appends an accepted event with its reply and all that it logged, which stays where it is (docs/DECISIONS.md, "Which
 /// records an event leaves").
+#[inline(always)]
 fn append(state: &mut ManagerState, journal: &mut Journal, event: &Event, reply: &Reply)
     requires all { counted journal.old ≡ length state.old.log.older }
     requires room { has_room (groups_in state.old journal.old) ≡ true }
@@ -34,6 +38,41 @@ fn append(state: &mut ManagerState, journal: &mut Journal, event: &Event, reply:
     journal.append(event, reply, &mut state.log);
 }
 
+/// A reply that nobody asks for: contracts alone know it, so that it takes no memory.
+#[derive(Drop)]
+pub struct Unasked {
+    reply: Snapshot<Reply>,
+}
+
+impl Model for Unasked {
+    ghost use Rattle.klp_model.specs.declared.event.Reply.{Reply};
+
+    ghost Value = { Reply };
+
+    ghost view = { λ u. u.reply.value };
+}
+
+/// Why the event is refused where the journal has no room for another: it refuses what nothing else does. This is asked
+/// first, so that the usual way costs one comparison: a full journal alone has to know why else the event would be
+/// refused (docs/DECISIONS.md, "Room in the journal").
+#[inline(always)]
+fn ask_for_room(
+    state: &ManagerState,
+    catalog: &Catalog,
+    journal: &Journal,
+    event: &Event,
+) -> Result<(), Refusal>
+    requires { AreInStep state.now catalog.now journal.now }
+    ensures room { IfOk result (λ _. has_room (groups_in state.now journal.now) ≡ true) }
+    ensures full { IfErr result (λ refusal. answer_in (setting_in state.now catalog.now)
+        (state_in state.now catalog.now) (groups_in state.now journal.now) event.now ≡ Err refusal) }
+{
+    if !journal.has_room(&state.log) {
+        return Err(refused(state, catalog, event).unwrap_or(Refusal::JournalFull));
+    }
+    Ok(())
+}
+
 /// Takes an event, and appends it where it is accepted. A journal without room refuses what nothing else
 /// does.
 pub(crate) fn take_and_append(
@@ -47,36 +86,74 @@ pub(crate) fn take_and_append(
     ensures taken { IsTaken (journaled_of state.old catalog.old (groups_in state.old journal.old))
         (journaled_of state.new catalog.new (groups_in state.new journal.new)) event.now result }
 {
-    // Asked first, so that the usual way costs one comparison: a full journal alone has to know why else
-    // the event would be refused (docs/DECISIONS.md, "Room in the journal").
-    if !journal.has_room(&state.log) {
-        return Err(refused(state, catalog, event).unwrap_or(Refusal::JournalFull));
+    ask_for_room(state, catalog, journal, event)?;
+    if is_brief(event) {
+        let brief = append_brief(state, catalog, journal, event)?;
+        return Ok(brief.reply());
     }
-    let Some(refusal) = take_brief(state, event) else {
-        return take_any(state, catalog, journal, event);
-    };
-    if let Some(refusal) = refusal {
-        return Err(refusal);
-    }
-    append(state, journal, event, &Reply::Done);
-    Ok(Reply::Done)
+    append_long(state, catalog, journal, event)
 }
 
-/// The same of any event, by a journal with room. It is a function of its own, since one clears all its room for replies
-/// when it begins, which a brief event needs none of.
-fn take_any(
+/// The same of an event whose reply nobody asks for.
+pub(crate) fn take_unasked(
     state: &mut ManagerState,
     catalog: &mut Catalog,
     journal: &mut Journal,
     event: &Event,
-) -> Result<Reply, Refusal>
+) -> Result<Unasked, Refusal>
+    requires { AreInStep state.old catalog.old journal.old }
+    ensures kept { AreInStep state.new catalog.new journal.new }
+    ensures taken { IsTaken (journaled_of state.old catalog.old (groups_in state.old journal.old))
+        (journaled_of state.new catalog.new (groups_in state.new journal.new)) event.now result }
+{
+    ask_for_room(state, catalog, journal, event)?;
+    if is_brief(event) {
+        let brief = append_brief(state, catalog, journal, event)?;
+        return Ok(Unasked {
+            reply: Snapshot::of(&brief.reply()),
+        });
+    }
+    let reply = append_long(state, catalog, journal, event)?;
+    Ok(Unasked {
+        reply: Snapshot::of(&reply),
+    })
+}
+
+/// The same of an event that is answered in brief, by a journal with room.
+fn append_brief(
+    state: &mut ManagerState,
+    catalog: &mut Catalog,
+    journal: &mut Journal,
+    event: &Event,
+) -> Result<BriefReply, Refusal>
+    requires brief { is_brief event.now ≡ true }
     requires kept { AreInStep state.old catalog.old journal.old }
     requires room { has_room (groups_in state.old journal.old) ≡ true }
     ensures kept { AreInStep state.new catalog.new journal.new }
     ensures taken { IsTaken (journaled_of state.old catalog.old (groups_in state.old journal.old))
         (journaled_of state.new catalog.new (groups_in state.new journal.new)) event.now result }
 {
-    let reply = take(state, catalog, event)?;
+    let brief = take_brief(state, catalog, event)?;
+    append(state, journal, event, &brief.reply());
+    Ok(brief)
+}
+
+/// The same of an event whose reply has frames or a value. It is a function of its own, since one clears all its room for
+/// replies when it begins, which a brief event needs none of.
+fn append_long(
+    state: &mut ManagerState,
+    catalog: &mut Catalog,
+    journal: &mut Journal,
+    event: &Event,
+) -> Result<Reply, Refusal>
+    requires long { is_brief event.now ≡ false }
+    requires kept { AreInStep state.old catalog.old journal.old }
+    requires room { has_room (groups_in state.old journal.old) ≡ true }
+    ensures kept { AreInStep state.new catalog.new journal.new }
+    ensures taken { IsTaken (journaled_of state.old catalog.old (groups_in state.old journal.old))
+        (journaled_of state.new catalog.new (groups_in state.new journal.new)) event.now result }
+{
+    let reply = take_long(state, catalog, event)?;
     append(state, journal, event, &reply);
     Ok(reply)
 }

@@ -15,7 +15,7 @@ ghost use Rattle.klp_core.specs.Withdrawal.{LeavesNoTrace};
 
 use crate::boot::parts_over;
 use crate::fault::{BadMark, BootFault};
-use crate::journal::{rewind_to, take_and_append};
+use crate::journal::{Unasked, rewind_to, take_and_append, take_unasked};
 use crate::laws::what_is_withdrawn_leaves_no_trace;
 use klp_catalog::Catalog;
 use klp_journal::Journal;
@@ -110,10 +110,9 @@ impl Manager {
         self.apply_lent(&event)
     }
 
-    /// The same of an event that is lent, and so not copied, though it has room for the frames of a sleeper. It
-    /// becomes part of who calls it, so that no reply is handed on to one who doesn't look at it.
+    /// The same of an event that is lent, and so not copied, though it has room for the frames of a sleeper.
     #[inline(always)]
-    fn apply_lent(&mut self, event: &Event) -> Result<Reply, Refusal>
+    pub fn apply_lent(&mut self, event: &Event) -> Result<Reply, Refusal>
         ensures taken { IsTaken self.old self.new event.now result }
         ensures counts { IfOk result
             (λ reply. AreCounted self.old.managed.catalog self.new.managed.catalog
@@ -123,6 +122,20 @@ impl Manager {
     {
         klp_catalog::laws::counts_grow_by_runs();
         take_and_append(&mut self.state, &mut self.catalog, &mut self.journal, event)
+    }
+
+    /// The same of an event whose reply nobody asks for: none is made, and it is known to contracts alone.
+    #[inline(always)]
+    pub fn apply_unasked(&mut self, event: &Event) -> Result<Unasked, Refusal>
+        ensures taken { IsTaken self.old self.new event.now result }
+        ensures counts { IfOk result
+            (λ reply. AreCounted self.old.managed.catalog self.new.managed.catalog
+            (callbacks_of (setting_of self.old.managed) self.old.managed.state event.now)) }
+        ensures setting { setting_of self.new.managed ≡ setting_of self.old.managed }
+        ensures stands { Stands self.new }
+    {
+        klp_catalog::laws::counts_grow_by_runs();
+        take_unasked(&mut self.state, &mut self.catalog, &mut self.journal, event)
     }
 
     /// Takes events in order, and answers how many of them were accepted and how many refused. A refused
@@ -141,7 +154,7 @@ impl Manager {
         let mut accepted = 0;
         let mut refused = 0;
         for event in events {
-            match self.apply_lent(event) {
+            match self.apply_unasked(event) {
                 Ok(_) => accepted += 1,
                 Err(_) => refused += 1,
             }

@@ -1,15 +1,13 @@
-ghost use Rattle.std.specs.Prelude.{◌≡◌, true, length, IfOk, IfSome, IfNone};
-ghost use Rattle.klp_types.specs.declared.limits.TheConstants.{MAX_RECORDS};
-ghost use Rattle.klp_types.specs.FirstOf.{unless};
-ghost use Rattle.klp_model.specs.declared.event.Reply.TheVariants.{Done};
+ghost use Rattle.std.specs.Prelude.{◌≡◌, true, false, length, IfOk};
 ghost use Rattle.klp_manager_state.specs.Invariant.{Invariant};
 ghost use Rattle.klp_manager_state.specs.Managed.{refused_in};
-ghost use Rattle.klp_manager_state.specs.Events.{TakesEvent, TakesEventAlone};
+ghost use Rattle.klp_manager_state.specs.Events.{TakesEvent};
 ghost use Rattle.klp_manager_state.specs.Rows.{IsNoted};
 ghost use Rattle.klp_core.specs.Journaled.{is_of_a_task};
+ghost use Rattle.klp_core.specs.Taking.{is_brief};
 
 use klp_catalog::Catalog;
-use klp_manager_state::ManagerState;
+use klp_manager_state::{BriefReply, ManagerState};
 use klp_model::{Event, Refusal, Reply};
 use klp_patch_events::{
     coming, coming_refusal, enable, enable_refusal, force, force_refusal, going, going_refusal,
@@ -17,58 +15,67 @@ use klp_patch_events::{
 };
 use klp_task_events::{shadow, tasks};
 
-/// Takes an event of a task that answers no more than that it was done, and tells why it was refused, if it was; nothing
-/// where it is another event. Such events are most, and the answer alone of one would cost more than all that it does,
-/// since a reply has room for the frames of a sleeper. Where it took none, `take` would.
-#[tactic(auto, using(crate::proofs::BriefLemmas::brief_noted, crate::proofs::BriefLemmas::brief_one))]
-pub(crate) fn take_brief(state: &mut ManagerState, event: &Event) -> Option<Option<Refusal>>
-    requires room { state.old.log.room ≡ MAX_RECORDS }
-    ensures taken { IfSome result (λ refusal. TakesEventAlone state.old state.new event.now (unless refusal Done)) }
-    ensures noted { IfSome result (λ refusal. IsNoted state.old state.new (unless refusal Done)) }
-    ensures one { IfSome result (λ refusal. IfNone refusal (length state.new.log.noted ≡ 1)) }
-    ensures unchanged { IfNone result (state.new ≡ state.old) }
+/// Whether the reply to an event has neither the frames of a task nor the value of a variable, as most have none.
+#[inline(always)]
+pub(crate) fn is_brief(event: &Event) -> bool
+    ensures { result ≡ is_brief event.now }
 {
-    match *event {
-        Event::NewTask(task) => Some(tasks::new_task(state, task).err()),
-        Event::Fork(parent, child) => Some(tasks::fork(state, parent, child).err()),
-        Event::EndTask(task) => Some(tasks::end_task(state, task).err()),
-        Event::EnterKernel(task) => Some(tasks::enter_kernel(state, task).err()),
-        Event::ExitToUser(task) => Some(tasks::exit_to_user(state, task).err()),
-        _ => None,
+    match event {
+        Event::Wake(_) | Event::ShadowGetOrAlloc(_, _) => false,
+        _ => true,
     }
 }
 
-/// Each event goes to its own step. It is lent, since one has room for the frames of a sleeper.
-pub(crate) fn take(
+/// Each event that is answered in brief goes to its own step. It is lent, since one has room for the frames of a sleeper.
+pub(crate) fn take_brief(
     state: &mut ManagerState,
     catalog: &mut Catalog,
     event: &Event,
-) -> Result<Reply, Refusal>
-    requires { Invariant state.old catalog.old }
+) -> Result<BriefReply, Refusal>
+    requires brief { is_brief event.now ≡ true }
+    requires kept { Invariant state.old catalog.old }
     ensures taken { TakesEvent state.old state.new catalog.old catalog.new event.now result }
     ensures noted { IsNoted state.old state.new result }
     ensures one { is_of_a_task event.now ≡ true → IfOk result (λ reply. length state.new.log.noted ≡ 1) }
 {
-    match *event {
-        Event::Enable(patch) => enable(state, catalog, patch),
-        Event::SetEnabled(patch, value) => set_enabled(state, catalog, patch, value),
-        Event::Force(patch) => force(state, catalog, patch),
+    match event {
+        Event::Enable(patch) => enable(state, catalog, *patch),
+        Event::SetEnabled(patch, value) => set_enabled(state, catalog, *patch, *value),
+        Event::Force(patch) => force(state, catalog, *patch),
         Event::Poll => poll(state, catalog),
-        Event::Coming(object) => coming(state, catalog, object),
-        Event::Going(object) => going(state, catalog, object),
-        Event::NewTask(task) => tasks::new_task(state, task),
-        Event::Fork(parent, child) => tasks::fork(state, parent, child),
-        Event::EndTask(task) => tasks::end_task(state, task),
-        Event::EnterKernel(task) => tasks::enter_kernel(state, task),
-        Event::ExitToUser(task) => tasks::exit_to_user(state, task),
-        Event::Sleep(task, frames) => tasks::sleep(state, catalog, task, frames),
-        Event::Wake(task) => tasks::wake(state, task),
-        Event::ShadowAlloc(key, value) => shadow::shadow_alloc(state, catalog, key, value),
+        Event::Coming(object) => coming(state, catalog, *object),
+        Event::Going(object) => going(state, catalog, *object),
+        Event::NewTask(task) => tasks::new_task(state, *task),
+        Event::Fork(parent, child) => tasks::fork(state, *parent, *child),
+        Event::EndTask(task) => tasks::end_task(state, *task),
+        Event::EnterKernel(task) => tasks::enter_kernel(state, *task),
+        Event::ExitToUser(task) => tasks::exit_to_user(state, *task),
+        Event::Sleep(task, frames) => tasks::sleep(state, catalog, *task, frames),
+        Event::ShadowAlloc(key, value) => shadow::shadow_alloc(state, catalog, *key, value),
+        Event::ShadowFree(key) => shadow::shadow_free(state, catalog, *key),
+        Event::ShadowFreeAll(id) => shadow::shadow_free_all(state, catalog, *id),
+        Event::Wake(_) | Event::ShadowGetOrAlloc(_, _) => unreachable!(),
+    }
+}
+
+/// The same of each event whose reply has frames or a value.
+pub(crate) fn take_long(
+    state: &mut ManagerState,
+    catalog: &mut Catalog,
+    event: &Event,
+) -> Result<Reply, Refusal>
+    requires long { is_brief event.now ≡ false }
+    requires kept { Invariant state.old catalog.old }
+    ensures taken { TakesEvent state.old state.new catalog.old catalog.new event.now result }
+    ensures noted { IsNoted state.old state.new result }
+    ensures one { is_of_a_task event.now ≡ true → IfOk result (λ reply. length state.new.log.noted ≡ 1) }
+{
+    match event {
+        Event::Wake(task) => tasks::wake(state, *task),
         Event::ShadowGetOrAlloc(key, value) => {
-            shadow::shadow_get_or_alloc(state, catalog, key, value)
+            shadow::shadow_get_or_alloc(state, catalog, *key, *value)
         }
-        Event::ShadowFree(key) => shadow::shadow_free(state, catalog, key),
-        Event::ShadowFreeAll(id) => shadow::shadow_free_all(state, catalog, id),
+        _ => unreachable!(),
     }
 }
 

@@ -6,3 +6,4 @@ pub mod Codes
 pub mod Rows
 pub mod Alone
 pub mod Undoing
+pub mod Brief

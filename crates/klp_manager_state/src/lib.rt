@@ -16,6 +16,7 @@
 //! shadow variables in `klp_task_events`. Read `specs/Managed`, `Events`, `Invariant` and `Rows` first.
 #![tactic(auto)]
 
+mod brief;
 mod inside;
 pub mod laws;
 mod opening;
@@ -24,5 +25,6 @@ mod state;
 mod transition;
 mod undo;
 
+pub use brief::{Brief, BriefReply};
 pub use pins::Pins;
 pub use state::ManagerState;

@@ -28,8 +28,8 @@ ghost use Rattle.klp_manager_state.specs.Rows.{rows_before, rows_now, IsNoted};
 
 use crate::replacing::{drop_older, older_than, unpatch_each};
 use klp_catalog::Catalog;
-use klp_manager_state::ManagerState;
-use klp_model::{Refusal, Reply};
+use klp_manager_state::{Brief, BriefReply, ManagerState};
+use klp_model::Refusal;
 use klp_patch::{allocs, block, drop_nops, run_callbacks, unpatch_sites};
 use klp_types::{
     MAX_FUNCTIONS, MAX_PATCHES, MAX_SITES, MAX_VARIABLES, PatchId, PatchState, Transition, Which,
@@ -47,7 +47,7 @@ pub(crate) fn end_of(target: bool) -> Which
 /// target, and where no task lags it is completed. Nothing completes by itself, while a kernel tries
 /// every second; where there are no tasks the first try completes it (docs/DECISIONS.md, "When
 /// transitions complete").
-pub fn poll(manager: &mut ManagerState, catalog: &mut Catalog) -> Result<Reply, Refusal>
+pub fn poll(manager: &mut ManagerState, catalog: &mut Catalog) -> Result<BriefReply, Refusal>
     requires { Invariant manager.old catalog.old }
     ensures taken { TakesEvent manager.old manager.new catalog.old catalog.new Poll result }
     ensures noted { IsNoted manager.old manager.new result }
@@ -83,7 +83,7 @@ pub fn poll_refusal(manager: &ManagerState, catalog: &Catalog) -> Option<Refusal
 }
 
 /// A transition that nothing refuses is tried. A task that lags leaves all else as it was.
-fn try_once_more(manager: &mut ManagerState, catalog: &mut Catalog) -> Reply
+fn try_once_more(manager: &mut ManagerState, catalog: &mut Catalog) -> BriefReply
     requires kept { Invariant manager.old catalog.old }
     requires free { refused_in manager.old catalog.old Poll ≡ None }
     requires records { records_of (may_run_in manager.old catalog.old Poll) ≤ MAX_KIND_RECORDS }
@@ -93,14 +93,14 @@ fn try_once_more(manager: &mut ManagerState, catalog: &mut Catalog) -> Reply
     klp_manager_state::laws::steps_keep();
     let Some(moving) = manager.moving else {
         // Can't be: where nothing moves, the poll is refused.
-        return Reply::Completed(false);
+        return BriefReply(Brief::Completed(false));
     };
     let left = try_tasks(manager, catalog, &moving);
     if left > 0 {
-        return Reply::Pending(left);
+        return BriefReply(Brief::Pending(left));
     }
     complete(manager, catalog, &moving);
-    Reply::Completed(moving.target)
+    BriefReply(Brief::Completed(moving.target))
 }
 
 /// Brings sleepers to the target that are inside of nothing blocked, and answers how many tasks lag

@@ -13,8 +13,8 @@ ghost use Rattle.klp_manager_state.specs.Events.{TakesEvent, AcceptsEvent};
 ghost use Rattle.klp_manager_state.specs.Rows.{rows_before, rows_now, IsNoted};
 
 use klp_catalog::Catalog;
-use klp_manager_state::ManagerState;
-use klp_model::{Refusal, Reply};
+use klp_manager_state::{Brief, BriefReply, ManagerState};
+use klp_model::Refusal;
 use klp_patch::{allocs, run_callbacks};
 use klp_tasks::target_state;
 use klp_types::{MAX_VARIABLES, PatchId, Transition, Which, is_in_transition};
@@ -27,7 +27,7 @@ pub fn set_enabled(
     catalog: &mut Catalog,
     patch: PatchId,
     value: bool,
-) -> Result<Reply, Refusal>
+) -> Result<BriefReply, Refusal>
     requires { Invariant manager.old catalog.old }
     ensures taken { TakesEvent manager.old manager.new catalog.old catalog.new (SetEnabled patch value) result }
     ensures noted { IsNoted manager.old manager.new result }
@@ -85,7 +85,12 @@ fn lacks_room_to_set(manager: &ManagerState, catalog: &Catalog, patch: PatchId, 
 }
 
 /// A transition turns round, or a disabling starts, by whether the patch moves.
-fn turn(manager: &mut ManagerState, catalog: &mut Catalog, patch: PatchId, value: bool) -> Reply
+fn turn(
+    manager: &mut ManagerState,
+    catalog: &mut Catalog,
+    patch: PatchId,
+    value: bool,
+) -> BriefReply
     requires kept { Invariant manager.old catalog.old }
     requires free { refused_in manager.old catalog.old (SetEnabled patch value) ≡ None }
     requires records { records_of
@@ -100,14 +105,19 @@ fn turn(manager: &mut ManagerState, catalog: &mut Catalog, patch: PatchId, value
             patch,
             target: value,
         }));
-        return Reply::Reversed;
+        return BriefReply(Brief::Reversed);
     }
     disable(manager, catalog, patch, value)
 }
 
 /// A disabling starts. The tasks are at 1, because all of them run the patch, and the entries stay
 /// until the end.
-fn disable(manager: &mut ManagerState, catalog: &mut Catalog, patch: PatchId, value: bool) -> Reply
+fn disable(
+    manager: &mut ManagerState,
+    catalog: &mut Catalog,
+    patch: PatchId,
+    value: bool,
+) -> BriefReply
     requires kept { Invariant manager.old catalog.old }
     requires free { refused_in manager.old catalog.old (SetEnabled patch value) ≡ None }
     requires records { records_of
@@ -132,5 +142,5 @@ fn disable(manager: &mut ManagerState, catalog: &mut Catalog, patch: PatchId, va
         patch,
         target: false,
     }));
-    Reply::Started
+    BriefReply(Brief::Started)
 }

@@ -25,8 +25,8 @@ ghost use Rattle.klp_manager_state.specs.Events.{TakesEvent, AcceptsEvent};
 ghost use Rattle.klp_manager_state.specs.Rows.{rows_before, rows_now, IsNoted};
 
 use klp_catalog::{Catalog, CatalogPatch};
-use klp_manager_state::ManagerState;
-use klp_model::{Refusal, Reply};
+use klp_manager_state::{Brief, BriefReply, ManagerState};
+use klp_model::Refusal;
 use klp_patch::{allocs, patch_sites, run_pre_patch};
 use klp_tasks::target_state;
 use klp_types::{
@@ -51,11 +51,11 @@ fn lacks_symbol(manager: &ManagerState, found: &CatalogPatch) -> bool
 
 /// The reply where a pre-patch callback of the patch refused: for this object, with this status. It is no
 /// refusal, since callbacks ran and were counted.
-fn pre_failed(patch: PatchId, refused: &(ObjId, i32)) -> Reply
+fn pre_failed(patch: PatchId, refused: &(ObjId, i32)) -> BriefReply
     ensures { result ≡ PreFailed patch refused.now.0 refused.now.1 }
 {
     let (object, status) = *refused;
-    Reply::PreFailed(patch, object, status)
+    BriefReply(Brief::PreFailed(patch, object, status))
 }
 
 /// A patch that isn't installed is put last and starts to move to the target 1: pre-patch runs object
@@ -65,7 +65,7 @@ pub fn enable(
     manager: &mut ManagerState,
     catalog: &mut Catalog,
     patch: PatchId,
-) -> Result<Reply, Refusal>
+) -> Result<BriefReply, Refusal>
     requires { Invariant manager.old catalog.old }
     ensures taken { TakesEvent manager.old manager.new catalog.old catalog.new (Enable patch) result }
     ensures noted { IsNoted manager.old manager.new result }
@@ -123,7 +123,7 @@ fn lacks_room_to_enable(manager: &ManagerState, catalog: &Catalog, patch: PatchI
 
 /// A patch that nothing refuses is put last, and starts to move where no pre-patch callback refuses. It
 /// is in the list before they run, so that they can set its states.
-fn install(manager: &mut ManagerState, catalog: &mut Catalog, patch: PatchId) -> Reply
+fn install(manager: &mut ManagerState, catalog: &mut Catalog, patch: PatchId) -> BriefReply
     requires kept { Invariant manager.old catalog.old }
     requires free { refused_in manager.old catalog.old (Enable patch) ≡ None }
     requires records { records_of (may_run_in manager.old catalog.old (Enable patch)) ≤ MAX_ENABLING_RECORDS }
@@ -149,7 +149,7 @@ fn install(manager: &mut ManagerState, catalog: &mut Catalog, patch: PatchId) ->
     ) {
         None => {
             start(manager, catalog, patch);
-            Reply::Started
+            BriefReply(Brief::Started)
         }
         Some(refused) => {
             take_out(manager, patch);

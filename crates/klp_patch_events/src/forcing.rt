@@ -9,8 +9,8 @@ ghost use Rattle.klp_manager_state.specs.Events.{TakesEvent};
 ghost use Rattle.klp_manager_state.specs.Rows.{rows_before, IsNoted};
 
 use klp_catalog::Catalog;
-use klp_manager_state::ManagerState;
-use klp_model::{Refusal, Reply};
+use klp_manager_state::{Brief, BriefReply, ManagerState};
+use klp_model::Refusal;
 use klp_tasks::target_state;
 use klp_types::{MAX_PATCHES, PatchId, Transition, is_in_transition};
 
@@ -22,7 +22,7 @@ pub fn force(
     manager: &mut ManagerState,
     catalog: &Catalog,
     patch: PatchId,
-) -> Result<Reply, Refusal>
+) -> Result<BriefReply, Refusal>
     requires { Invariant manager.old catalog.now }
     ensures taken { TakesEvent manager.old manager.new catalog.now catalog.now (Force patch) result }
     ensures noted { IsNoted manager.old manager.new result }
@@ -40,7 +40,7 @@ pub fn force(
         .tasks
         .set_all(target_state(moving.target), &mut manager.log);
     pin(manager, catalog, moving);
-    Ok(Reply::Done)
+    Ok(BriefReply(Brief::Done))
 }
 
 /// Why a patch isn't forced, if it isn't: the first reason that holds. There is never want of room,

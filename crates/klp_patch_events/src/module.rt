@@ -20,8 +20,8 @@ ghost use Rattle.klp_manager_state.specs.Rows.{rows_before, rows_now, IsNoted};
 use crate::module_sites::{patch_object, unpatch_object};
 use arrayvec::ArrayVec;
 use klp_catalog::{Catalog, CatalogFunction};
-use klp_manager_state::ManagerState;
-use klp_model::{Refusal, Reply};
+use klp_manager_state::{Brief, BriefReply, ManagerState};
+use klp_model::Refusal;
 use klp_patch::{allocs_of_coming, allocs_of_going, run_coming, run_going};
 use klp_types::{MAX_PATCHES, MAX_VARIABLES, ObjId, PatchId};
 
@@ -64,7 +64,7 @@ pub fn coming(
     manager: &mut ManagerState,
     catalog: &mut Catalog,
     object: ObjId,
-) -> Result<Reply, Refusal>
+) -> Result<BriefReply, Refusal>
     requires { Invariant manager.old catalog.old }
     ensures taken { TakesEvent manager.old manager.new catalog.old catalog.new (Coming object) result }
     ensures noted { IsNoted manager.old manager.new result }
@@ -82,7 +82,7 @@ pub fn going(
     manager: &mut ManagerState,
     catalog: &mut Catalog,
     object: ObjId,
-) -> Result<Reply, Refusal>
+) -> Result<BriefReply, Refusal>
     requires { Invariant manager.old catalog.old }
     ensures taken { TakesEvent manager.old manager.new catalog.old catalog.new (Going object) result }
     ensures noted { IsNoted manager.old manager.new result }
@@ -195,7 +195,7 @@ fn installed_patches(manager: &ManagerState, catalog: &Catalog) -> ArrayVec<Patc
 /// A module is loaded that nothing speaks against. Callbacks see no function stack, and an event is one
 /// step, so they all run before the entries come, and a refused module costs no entry
 /// (docs/DECISIONS.md, "Callbacks of a module before its entries").
-fn come(manager: &mut ManagerState, catalog: &mut Catalog, object: ObjId) -> Reply
+fn come(manager: &mut ManagerState, catalog: &mut Catalog, object: ObjId) -> BriefReply
     requires kept { Invariant manager.old catalog.old }
     requires free { refused_in manager.old catalog.old (Coming object) ≡ None }
     requires records { records_of (may_run_in manager.old catalog.old (Coming object))
@@ -214,7 +214,7 @@ fn come(manager: &mut ManagerState, catalog: &mut Catalog, object: ObjId) -> Rep
         &mut manager.world,
         &mut manager.log,
     ) {
-        Some((patch, status)) => Reply::PreFailed(patch, object, status),
+        Some((patch, status)) => BriefReply(Brief::PreFailed(patch, object, status)),
         None => {
             manager.log.note(manager.sites.load(object));
             // the one row is logged by the sites, and by its record both get their flag back
@@ -226,14 +226,14 @@ fn come(manager: &mut ManagerState, catalog: &mut Catalog, object: ObjId) -> Rep
                 object,
                 &mut manager.log,
             );
-            Reply::Done
+            BriefReply(Brief::Done)
         }
     }
 }
 
 /// A module is unloaded that nothing speaks against. The callbacks run before the entries go, as when
 /// one is loaded; the flag goes last, so that undo loads the module before its entries are back.
-fn go(manager: &mut ManagerState, catalog: &mut Catalog, object: ObjId) -> Reply
+fn go(manager: &mut ManagerState, catalog: &mut Catalog, object: ObjId) -> BriefReply
     requires kept { Invariant manager.old catalog.old }
     requires free { refused_in manager.old catalog.old (Going object) ≡ None }
     requires records { records_of (may_run_in manager.old catalog.old (Going object))
@@ -261,5 +261,5 @@ fn go(manager: &mut ManagerState, catalog: &mut Catalog, object: ObjId) -> Reply
     );
     manager.log.note(manager.sites.unload(object));
     manager.modules.set_loaded(object, false);
-    Reply::Done
+    BriefReply(Brief::Done)
 }

@@ -17,7 +17,7 @@ ghost use Rattle.klp_manager_state.specs.Events.{TakesEvent};
 ghost use Rattle.klp_manager_state.specs.Rows.{IsNoted};
 
 use klp_catalog::Catalog;
-use klp_manager_state::ManagerState;
+use klp_manager_state::{Brief, BriefReply, ManagerState};
 use klp_model::{Refusal, Reply};
 use klp_types::{MAX_VARIABLES, ShadowKey, ShadowValue};
 
@@ -27,10 +27,10 @@ pub fn shadow_alloc(
     manager: &mut ManagerState,
     catalog: &Catalog,
     key: ShadowKey,
-    value: ShadowValue,
-) -> Result<Reply, Refusal>
+    value: &ShadowValue,
+) -> Result<BriefReply, Refusal>
     requires { Invariant manager.old catalog.now }
-    ensures taken { TakesEvent manager.old manager.new catalog.now catalog.now (ShadowAlloc key value) result }
+    ensures taken { TakesEvent manager.old manager.new catalog.now catalog.now (ShadowAlloc key value.now) result }
     ensures noted { IsNoted manager.old manager.new result }
 {
     klp_manager_state::laws::steps_keep();
@@ -41,8 +41,8 @@ pub fn shadow_alloc(
         return Err(refusal);
     }
     manager.log.clear();
-    manager.world.alloc(key, value, &mut manager.log);
-    Ok(Reply::Done)
+    manager.world.alloc(key, *value, &mut manager.log);
+    Ok(BriefReply(Brief::Done))
 }
 
 /// Why a variable isn't added, whatever its value: that it is there comes before want of room.
@@ -104,7 +104,7 @@ pub fn shadow_free(
     manager: &mut ManagerState,
     catalog: &Catalog,
     key: ShadowKey,
-) -> Result<Reply, Refusal>
+) -> Result<BriefReply, Refusal>
     requires { Invariant manager.old catalog.now }
     ensures taken { TakesEvent manager.old manager.new catalog.now catalog.now (ShadowFree key) result }
     ensures noted { IsNoted manager.old manager.new result }
@@ -115,7 +115,7 @@ pub fn shadow_free(
     klp_world::laws::what_is_noted_is_of_the_world();
     manager.log.clear();
     let was_there = manager.world.free(key, &mut manager.log);
-    Ok(Reply::Freed(u16::from(was_there)))
+    Ok(BriefReply(Brief::Freed(u16::from(was_there))))
 }
 
 /// All variables of the id are removed (`klp_shadow_free_all`), whatever their parent objects. It walks
@@ -124,7 +124,7 @@ pub fn shadow_free_all(
     manager: &mut ManagerState,
     catalog: &Catalog,
     id: u64,
-) -> Result<Reply, Refusal>
+) -> Result<BriefReply, Refusal>
     requires { Invariant manager.old catalog.now }
     ensures taken { TakesEvent manager.old manager.new catalog.now catalog.now (ShadowFreeAll id) result }
     ensures noted { IsNoted manager.old manager.new result }
@@ -136,7 +136,7 @@ pub fn shadow_free_all(
     klp_world::laws::freed_and_left_are_all();
     manager.log.clear();
     let freed = manager.world.free_all(id, &mut manager.log);
-    Ok(Reply::Freed(freed))
+    Ok(BriefReply(Brief::Freed(freed)))
 }
 
 /// Whether no shadow variable can be added. The limit is our own: it is what memory is in a kernel.

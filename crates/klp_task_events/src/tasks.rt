@@ -24,14 +24,14 @@ ghost use Rattle.klp_manager_state.specs.Events.{TakesEvent, TakesEventAlone};
 ghost use Rattle.klp_manager_state.specs.Rows.{IsNoted};
 
 use klp_catalog::Catalog;
-use klp_manager_state::ManagerState;
+use klp_manager_state::{Brief, BriefReply, ManagerState};
 use klp_model::{Refusal, Reply};
 use klp_record_words::Records;
 use klp_tasks::{Tasks, target_state};
 use klp_types::{Frames, MAX_TASKS, Mode, PatchState, TaskId, Transition, Version};
 
 /// A task begins, in user space, at the target of whatever moves, since it has run nothing yet.
-pub fn new_task(manager: &mut ManagerState, task: TaskId) -> Result<Reply, Refusal>
+pub fn new_task(manager: &mut ManagerState, task: TaskId) -> Result<BriefReply, Refusal>
     requires room { manager.old.log.room ≡ MAX_RECORDS }
     ensures taken { TakesEventAlone manager.old manager.new (NewTask task) result }
     ensures noted { IsNoted manager.old manager.new result }
@@ -45,7 +45,7 @@ pub fn new_task(manager: &mut ManagerState, task: TaskId) -> Result<Reply, Refus
     }
     log_alone(&manager.tasks, task, &mut manager.log);
     manager.tasks.add(task, state_wanted(manager.moving));
-    Ok(Reply::Done)
+    Ok(BriefReply(Brief::Done))
 }
 
 /// Why a task doesn't begin, if it doesn't: there can't be such a number, or the task is there.
@@ -66,7 +66,11 @@ pub fn new_task_refusal(manager: &ManagerState, task: TaskId) -> Option<Refusal>
 
 /// A task in the kernel, the first one, makes another, with its own state: both are in the middle of the
 /// same functions (the kernel's `klp_copy_process`).
-pub fn fork(manager: &mut ManagerState, parent: TaskId, child: TaskId) -> Result<Reply, Refusal>
+pub fn fork(
+    manager: &mut ManagerState,
+    parent: TaskId,
+    child: TaskId,
+) -> Result<BriefReply, Refusal>
     requires room { manager.old.log.room ≡ MAX_RECORDS }
     ensures taken { TakesEventAlone manager.old manager.new (Fork parent child) result }
     ensures noted { IsNoted manager.old manager.new result }
@@ -80,7 +84,7 @@ pub fn fork(manager: &mut ManagerState, parent: TaskId, child: TaskId) -> Result
     }
     log_alone(&manager.tasks, child, &mut manager.log);
     manager.tasks.fork(parent, child);
-    Ok(Reply::Done)
+    Ok(BriefReply(Brief::Done))
 }
 
 /// Why a task doesn't make another, if it doesn't. Both numbers are looked at before the mode, as for other
@@ -104,7 +108,7 @@ pub fn fork_refusal(manager: &ManagerState, parent: TaskId, child: TaskId) -> Op
 }
 
 /// A task that isn't asleep ends. A sleeper has to wake up first, since it is inside of functions.
-pub fn end_task(manager: &mut ManagerState, task: TaskId) -> Result<Reply, Refusal>
+pub fn end_task(manager: &mut ManagerState, task: TaskId) -> Result<BriefReply, Refusal>
     requires room { manager.old.log.room ≡ MAX_RECORDS }
     ensures taken { TakesEventAlone manager.old manager.new (EndTask task) result }
     ensures noted { IsNoted manager.old manager.new result }
@@ -118,7 +122,7 @@ pub fn end_task(manager: &mut ManagerState, task: TaskId) -> Result<Reply, Refus
     }
     log_alone(&manager.tasks, task, &mut manager.log);
     manager.tasks.end(task);
-    Ok(Reply::Done)
+    Ok(BriefReply(Brief::Done))
 }
 
 /// Why a task doesn't end, if it doesn't: it isn't there, or asleep.
@@ -136,7 +140,7 @@ pub fn end_task_refusal(manager: &ManagerState, task: TaskId) -> Option<Refusal>
 }
 
 /// A task enters the kernel. Its state stays as it is: it switches when it leaves.
-pub fn enter_kernel(manager: &mut ManagerState, task: TaskId) -> Result<Reply, Refusal>
+pub fn enter_kernel(manager: &mut ManagerState, task: TaskId) -> Result<BriefReply, Refusal>
     requires room { manager.old.log.room ≡ MAX_RECORDS }
     ensures taken { TakesEventAlone manager.old manager.new (EnterKernel task) result }
     ensures noted { IsNoted manager.old manager.new result }
@@ -151,7 +155,7 @@ pub fn enter_kernel(manager: &mut ManagerState, task: TaskId) -> Result<Reply, R
     }
     log_alone(&manager.tasks, task, &mut manager.log);
     manager.tasks.enter(task);
-    Ok(Reply::Done)
+    Ok(BriefReply(Brief::Done))
 }
 
 /// Why a task doesn't enter the kernel, if it doesn't: it isn't there, or is in the kernel already.
@@ -165,7 +169,7 @@ pub fn enter_kernel_refusal(manager: &ManagerState, task: TaskId) -> Option<Refu
 
 /// A task goes back to user space. It is brought to the target of whatever moves, because it is inside of
 /// no function any more.
-pub fn exit_to_user(manager: &mut ManagerState, task: TaskId) -> Result<Reply, Refusal>
+pub fn exit_to_user(manager: &mut ManagerState, task: TaskId) -> Result<BriefReply, Refusal>
     requires room { manager.old.log.room ≡ MAX_RECORDS }
     ensures taken { TakesEventAlone manager.old manager.new (ExitToUser task) result }
     ensures noted { IsNoted manager.old manager.new result }
@@ -180,7 +184,7 @@ pub fn exit_to_user(manager: &mut ManagerState, task: TaskId) -> Result<Reply, R
     }
     log_alone(&manager.tasks, task, &mut manager.log);
     manager.tasks.leave(task, manager.moving);
-    Ok(Reply::Done)
+    Ok(BriefReply(Brief::Done))
 }
 
 /// Why a task doesn't go back to user space, if it doesn't: a sleeper has to wake up first.
@@ -198,10 +202,10 @@ pub fn sleep(
     manager: &mut ManagerState,
     catalog: &Catalog,
     task: TaskId,
-    frames: Frames,
-) -> Result<Reply, Refusal>
+    frames: &Frames,
+) -> Result<BriefReply, Refusal>
     requires { Invariant manager.old catalog.now }
-    ensures taken { TakesEvent manager.old manager.new catalog.now catalog.now (Sleep task frames) result }
+    ensures taken { TakesEvent manager.old manager.new catalog.now catalog.now (Sleep task frames.now) result }
     ensures noted { IsNoted manager.old manager.new result }
     ensures one { IfOk result (λ reply. length manager.new.log.noted ≡ 1) }
 {
@@ -209,12 +213,12 @@ pub fn sleep(
     klp_manager_state::laws::changes_of_one_kind_are_taken();
     klp_manager_state::laws::what_is_noted_gives_the_rows_back();
     klp_tasks::laws::rows_change_as_the_step_says();
-    if let Some(refusal) = sleep_refusal(manager, catalog, task, &frames) {
+    if let Some(refusal) = sleep_refusal(manager, catalog, task, frames) {
         return Err(refusal);
     }
     log_alone(&manager.tasks, task, &mut manager.log);
-    manager.tasks.sleep(task, frames);
-    Ok(Reply::Done)
+    manager.tasks.sleep(task, *frames);
+    Ok(BriefReply(Brief::Done))
 }
 
 /// Why a task doesn't fall asleep inside of these functions, if it doesn't. The functions are looked at

@@ -1,0 +1,57 @@
+//! A reply in a few bytes.
+ghost use Rattle.std.specs.Prelude.{◌≡◌};
+
+use klp_model::Reply;
+use klp_types::{ObjId, PatchId};
+use std::marker::Model;
+
+/// What a [`BriefReply`] says.
+#[derive(Drop)]
+pub enum Brief {
+    /// [`Reply::Done`].
+    Done,
+    /// [`Reply::Started`].
+    Started,
+    /// [`Reply::Reversed`].
+    Reversed,
+    /// [`Reply::Pending`].
+    Pending(u8),
+    /// [`Reply::Completed`].
+    Completed(bool),
+    /// [`Reply::PreFailed`].
+    PreFailed(PatchId, ObjId, i32),
+    /// [`Reply::Freed`].
+    Freed(u16),
+}
+
+/// A [`Reply`] without the frames of a task and the value of a variable, for which that one has room: most events have
+/// none, and to hand a whole reply on from step to step costs more than a refused event. Contracts see the reply.
+#[derive(Drop)]
+pub struct BriefReply(pub Brief);
+
+impl Model for BriefReply {
+    ghost use Rattle.klp_model.specs.declared.event.Reply.{Reply};
+    ghost use Rattle.klp_manager_state.specs.Brief.{reply_of};
+
+    ghost Value = { Reply };
+
+    ghost view = { λ r. reply_of r.0 };
+}
+
+impl BriefReply {
+    /// The reply that it is.
+    #[inline(always)]
+    pub fn reply(&self) -> Reply
+        ensures { result ≡ self.now }
+    {
+        match self.0 {
+            Brief::Done => Reply::Done,
+            Brief::Started => Reply::Started,
+            Brief::Reversed => Reply::Reversed,
+            Brief::Pending(tasks) => Reply::Pending(tasks),
+            Brief::Completed(target) => Reply::Completed(target),
+            Brief::PreFailed(patch, object, status) => Reply::PreFailed(patch, object, status),
+            Brief::Freed(count) => Reply::Freed(count),
+        }
+    }
+}
