@@ -1,3 +1,4 @@
+pub mod HookedLemmas
 pub mod StepLemmas
 pub mod TableLemmas
 pub mod ExactLemmas

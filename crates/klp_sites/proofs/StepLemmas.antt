@@ -88,6 +88,15 @@ same_hook patch place stacks site to is turned =
       | false ↦ λ some left. hooked_by stacks site (put_entry patch (Some place) (entries_at stacks site)) to is (ap not some) (put_to_some patch place (entries_at stacks site) some)
     ] refl turned
 
+-- no site without an entry is hooked
+pub none_stacked : (n : ℕ) (stacks : List Entries) → stacks ≡ replicate n [] → (site : ℕ) → is_hooked_at stacks site ≡ false
+none_stacked n stacks is site = ap (λ s. is_hooked_at s site) is ∙ by n site
+  where
+    by : (n site : ℕ) → is_hooked_at (replicate n []) site ≡ false
+    by zero site = refl
+    by (suc n) zero = refl
+    by (suc n) (suc site) = by n site
+
 flags_resting : (n : ℕ) → replicate n false ≡ map is_stacked (replicate n [])
 flags_resting zero = refl
 flags_resting (suc n) = ap (λ rest. false ∷ rest) (flags_resting n)

@@ -1,3 +1,4 @@
 pub mod Table
 pub mod Undo
 pub mod Changes
+pub mod Hooked

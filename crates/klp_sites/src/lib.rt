@@ -9,6 +9,7 @@
 //! hooked.
 #![tactic(auto)]
 
+mod hooked;
 mod sites;
 
 pub use sites::Sites;

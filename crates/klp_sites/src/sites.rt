@@ -1,5 +1,6 @@
-ghost use Rattle.std.specs.Prelude.{◌≡◌, ◌<◌, ◌≤◌, ◌==◌, ◌&&◌, not, find, true, false, length, replicate, option_map, slice_index_or, slice_set, is_some, IfOk, IfSome, IfNone};
+ghost use Rattle.std.specs.Prelude.{◌≡◌, ℕ, ◌<◌, ◌≤◌, ◌==◌, ◌&&◌, not, find, true, false, length, replicate, option_map, slice_index_or, slice_set, is_some, IfOk, IfSome, IfNone, MatchOption};
 ghost use Rattle.std.specs.Option.{option_to_list};
+ghost use Rattle.klp_types.specs.declared.limits.TheConstants.{MAX_SITES};
 ghost use Rattle.klp_types.specs.Entries.{is_empty};
 ghost use Rattle.klp_types.specs.Records.{spare_of};
 ghost use Rattle.klp_text.specs.TextImage.{site_count};
@@ -10,9 +11,11 @@ ghost use Rattle.klp_stack.specs.Spare.{spare_in};
 ghost use Rattle.klp_stack.specs.Stack.{IsStack, entries_at, has_entry, entries_of_others, place_of};
 ghost use Rattle.klp_stack.specs.Undo as of_stacks;
 ghost use Rattle.klp_sites.specs.Table.{bytes_at, image_of, is_hooked_at, opening};
+ghost use Rattle.klp_sites.specs.Hooked.{IsNextHooked};
 ghost use Rattle.klp_sites.specs.Changes.{Changes, pushed, taken, rows_of_push, rows_of_take};
 ghost use Rattle.klp_sites.specs.Undo.{put_back, put_loaded, is_due};
 
+use crate::hooked::HookedSites;
 use arrayvec::ArrayVec;
 use klp_record_words::Records;
 use klp_stack::{Stacks, Taken};
@@ -31,21 +34,28 @@ use std::marker::Model;
 pub struct Sites {
     image: Image,
     stacks: Stacks,
+    /// Those with an entry, so that a walk over them costs what they are.
+    hooked: HookedSites,
 }
 
 impl Model for Sites {
+    ghost use Rattle.std.specs.Prelude.{◌≤◌, length};
+    ghost use Rattle.klp_types.specs.declared.limits.TheConstants.{MAX_SITES};
     ghost use Rattle.klp_sites.specs.Table.{SiteTable, IsInStep};
+    ghost use Rattle.klp_sites.specs.Hooked.{AreHooked};
 
     ghost Value = { SiteTable };
 
     ghost view = { λ s. record { image = s.image.image; loaded = s.image.loaded; stacks = s.stacks } };
 
-    ghost invariant = { λ s. IsInStep s.image s.stacks };
+    ghost invariant = { λ s. IsInStep s.image s.stacks × (length s.stacks ≤ MAX_SITES)
+        × AreHooked s.hooked.words s.stacks };
 }
 
 /// How many sites the objects of an image have, loaded or not, since each wants its stack from the start.
 fn count_sites(image: &Image) -> usize
-    ensures { result ≡ site_count image.now.image }
+    ensures value { result ≡ site_count image.now.image }
+    ensures few { result ≤ MAX_SITES }
 {
     let mut sites = 0;
     for object in 0..image.objects() {
@@ -62,7 +72,12 @@ impl Sites {
         ensures { IfOk result (λ sites. sites ≡ opening image) }
     {
         let stacks = Stacks::new(alloc, count_sites(&image))?;
-        Ok(Self { image, stacks })
+        let hooked = HookedSites::new();
+        Ok(Self {
+            image,
+            stacks,
+            hooked,
+        })
     }
 
     /// Puts an entry on top of a site's stack, and hooks the site with its first, as the kernel registers
@@ -87,6 +102,7 @@ impl Sites {
         });
         if is_first {
             self.image.hook(site);
+            self.hooked.insert(site);
             log.note(Record::HookFlag { site, was: false });
         }
     }
@@ -128,6 +144,7 @@ impl Sites {
         let taken = self.stacks.take(site, patch)?;
         if taken.is_last {
             self.image.unhook(site);
+            self.hooked.remove(site);
         }
         Some(taken)
     }
@@ -181,6 +198,7 @@ impl Sites {
             Some(place) => {
                 if self.stacks.put(site, patch, place) {
                     self.image.hook(site);
+                    self.hooked.insert(site);
                 }
             }
             None => {
@@ -246,6 +264,15 @@ impl Sites {
             result ≡ (not (is_empty entries) && not (has_entry patch entries)) }
     {
         self.stacks.has_only_others(site, patch)
+    }
+
+    /// The first site from a number on that has an entry, and so is hooked. It looks at no site that isn't, so who walks
+    /// over all that are hooked by it pays for these alone, and a step for each 64 sites.
+    pub fn next_hooked(&self, from: usize) -> Option<Site>
+        ensures { MatchOption result ((other : ℕ) → from ≤ other → is_hooked_at self.now.stacks other ≡ false)
+            (λ site. IsNextHooked self.now.stacks from site) }
+    {
+        self.hooked.next(from)
     }
 
     /// How many sites there are, at a constant cost: one for each symbol of the image.
