@@ -1,5 +1,5 @@
 -- What is blocked at all sites, and at those of a patch's functions.
-use Rattle.std.proofs.Common.{◌≡◌, ℕ, zero, suc, ◌+◌, ◌<◌, Bool, true, false, List, [], ◌∷◌, ◌++◌, length, get_or, take, map, refl, sym, ap, subst, ◌∙◌, arith, Option, Some, None, eqb, inl, inr, append_assoc}
+use Rattle.std.proofs.Common.{◌≡◌, ℕ, zero, suc, ◌+◌, ◌<◌, ◌≤◌, Bool, true, false, List, [], ◌∷◌, ◌++◌, length, get_or, take, map, refl, sym, ap, subst, ◌∙◌, arith, Option, Some, None, eqb, inl, inr, append_assoc}
 use Rattle.std.specs.Prelude.{cond, option_map}
 use Rattle.std.specs.Option.{is_some, IfSome}
 use Rattle.std.specs.List.{list_any}
@@ -19,6 +19,7 @@ use Rattle.klp_model.specs.Entries.{entries_of}
 use Rattle.klp_model.specs.Blocked.{held_version, blocked_among, blocked_from}
 use Rattle.klp_catalog.specs.Catalog.{CatalogFunction, setting_function}
 use Rattle.klp_stack.specs.Stack.{entries_at, has_entry, IsStack}
+use Rattle.klp_sites.specs.Table.{is_stacked, is_hooked_at}
 use Rattle.klp_tasks.specs.Members.{IsWithin}
 use Rattle.klp_patch.specs.Blocked.{blocked_at, AreFunctions}
 use Rattle.klp_patch.proofs.SiteLemmas.{Entries}
@@ -77,6 +78,25 @@ blocked_more n move (entries ∷ stacks) (suc i) below =
     let next : suc n + i ≡ n + suc i = omega arith in
     ap (λ rest. blocked_among n move entries ++ rest) (blocked_more (suc n) move stacks i (omega arith) ∙ ap (λ k. blocked_at (suc n) move (take i stacks) ++ blocked_among k move (entries_at stacks i)) next)
     ∙ sym (append_assoc (blocked_among n move entries) (blocked_at (suc n) move (take i stacks)) (blocked_among (n + suc i) move (entries_at stacks i)))
+
+-- nothing is blocked where there are no entries
+pub blocked_past : (n : ℕ) (move : Transition) (stacks : List Entries) (from to : ℕ) → from ≤ to → ((site : ℕ) → from ≤ site → site < to → is_hooked_at stacks site ≡ false)
+    → blocked_at n move (take from stacks) ≡ blocked_at n move (take to stacks)
+blocked_past n move [] zero zero le none = refl
+blocked_past n move [] zero (suc to) le none = refl
+blocked_past n move [] (suc from) zero le none = absurd (omega arith)
+blocked_past n move [] (suc from) (suc to) le none = refl
+blocked_past n move (entries ∷ stacks) zero zero le none = refl
+blocked_past n move (entries ∷ stacks) zero (suc to) le none =
+    blocked_past (suc n) move stacks zero to (omega arith) (λ site since below. none (suc site) (omega arith) (omega arith))
+    ∙ ap (λ seen. blocked_among n move seen ++ blocked_at (suc n) move (take to stacks)) (sym (no_entry entries (none 0 (omega arith) (omega arith))))
+  where
+    no_entry : (entries : Entries) → is_stacked entries ≡ false → entries ≡ []
+    no_entry [] none = refl
+    no_entry (entry ∷ older) none = cc
+blocked_past n move (entries ∷ stacks) (suc from) zero le none = absurd (omega arith)
+blocked_past n move (entries ∷ stacks) (suc from) (suc to) le none =
+    ap (λ rest. blocked_among n move entries ++ rest) (blocked_past (suc n) move stacks from to (omega arith) (λ site since below. none (suc site) (omega arith) (omega arith)))
 
 -- Some version that passes a test is blocked.
 module _ (test : Version → Bool) (move : Transition) where

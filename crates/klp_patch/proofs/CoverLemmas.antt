@@ -1,13 +1,13 @@
 -- Which sites a change is about, by the object of a site.
-use Rattle.std.proofs.Common.{◌≡◌, ℕ, zero, suc, ◌+◌, ◌-◌, ◌<◌, ◌≤◌, Bool, true, false, ◌&&◌, List, [], ◌∷◌, ◌++◌, length, drop, get_or, replicate, refl, sym, ap, ◌∙◌, arith, length-append, Option, Some, None, eqb, ltb, add-one}
-use Rattle.std.specs.Prelude.{slice_get, option_map, cond}
+use Rattle.std.proofs.Common.{◌≡◌, ℕ, zero, suc, ◌+◌, ◌-◌, ◌<◌, ◌≤◌, true, false, ◌&&◌, List, [], ◌∷◌, ◌++◌, length, drop, refl, sym, ap, ◌∙◌, arith, length-append, Option, Some, None, eqb, ltb, add-one}
+use Rattle.std.specs.Prelude.{slice_get, option_map, unwrap_or, cond}
 use Rattle.std.proofs.lemmas.Bool.{lt-ltb, le-ltb, ltb-true, ltb-false, eqb-true, and_right}
-use Rattle.std.proofs.lemmas.List.{length-map, length-replicate, get_or_append_left, get_or-append_right, get_or-replicate, append_assoc, append-nil, drop_all}
+use Rattle.std.proofs.lemmas.List.{length-map, drop_all}
 use Rattle.klp_types.specs.Image.{Symbol, Object, symbols_of, object_of}
 use Rattle.klp_modules.specs.Names.{names_of, first_site, symbol_names}
 use Rattle.klp_catalog.specs.Assembled.{IsInObject}
 use Rattle.klp_sites.specs.Table.{SiteTable}
-use Rattle.klp_patch.specs.Covered.{is_in_scope, is_object_in_scope, is_covered, symbol_count}
+use Rattle.klp_patch.specs.Covered.{is_in_scope, is_object_in_scope, is_covered}
 
 -- a site that lies in an object by the names is a site of that object
 pub object_of-named : (objects : List Object) (object site : ℕ)
@@ -64,79 +64,45 @@ module _ (table : SiteTable) (only : Option ℕ) (object own : ℕ) (lies : IsIn
     | false ↦ λ e. sym (and_right (is_covered table only site) false refl)
   ] refl
 
--- for each site of these objects, the first of which has this number, whether the change is about its object
-abbrev pub flags_from : Option ℕ → List Bool → ℕ → List Object → List Bool
-flags_from only loaded number [] = []
-flags_from only loaded number (object ∷ objects) =
-    replicate (length object.symbols) (is_in_scope only loaded number) ++ flags_from only loaded (suc number) objects
+-- how many symbols an object has; one that isn't there has none
+abbrev pub symbol_count : List Object → ℕ → ℕ
+symbol_count objects object = unwrap_or (option_map (λ (found : Object). length found.symbols) (slice_get objects object)) 0
 
--- the flags of all sites, object by object
-module _ (only : Option ℕ) (loaded : List Bool) where
-  pub length-flags : (number : ℕ) (objects : List Object) → length (flags_from only loaded number objects) ≡ length (symbols_of objects)
-  length-flags number [] = refl
-  length-flags number (object ∷ objects) =
-      omega (
-        arith,
-        length-append (replicate (length object.symbols) (is_in_scope only loaded number)) (flags_from only loaded (suc number) objects),
-        length-replicate (length object.symbols) (is_in_scope only loaded number),
-        length-append object.symbols (symbols_of objects),
-        length-flags (suc number) objects,
+-- a site lies in the next object, or behind it
+pub object_next : (objects : List Object) (n left : ℕ)
+    → object_of (drop n objects) left ≡ cond (ltb left (symbol_count objects n)) (Some 0) (option_map suc (object_of (drop (suc n) objects) (left - symbol_count objects n)))
+object_next [] zero left = rw (le-ltb left 0 (omega arith)) refl
+object_next [] (suc n) left = rw (le-ltb left 0 (omega arith)) refl
+object_next (object ∷ objects) zero left = refl
+object_next (object ∷ objects) (suc n) left = object_next objects n left
+
+-- the object of a site, where it lies so many symbols behind the first of an object
+abbrev pub IsBehind : List Object → ℕ → ℕ → ℕ → Type 0
+IsBehind objects site n left = object_of objects site ≡ option_map (λ o. n + o) (object_of (drop n objects) left)
+
+module _ (objects : List Object) (site n left : ℕ) (behind : IsBehind objects site n left) where
+  pub in_object : left < symbol_count objects n → object_of objects site ≡ Some n
+  in_object below =
+      let here : n + 0 ≡ n = omega arith in
+      behind ∙ ap (option_map (λ o. n + o)) (object_next objects n left ∙ ap (λ b. cond b (Some 0) (option_map suc (object_of (drop (suc n) objects) (left - symbol_count objects n)))) (lt-ltb left (symbol_count objects n) below))
+      ∙ ap Some here
+
+  pub behind_object : symbol_count objects n ≤ left → IsBehind objects site (n + 1) (left - symbol_count objects n)
+  behind_object past = rw (add-one) (
+      behind ∙ ap (option_map (λ o. n + o)) (object_next objects n left ∙ ap (λ b. cond b (Some 0) (option_map suc (object_of (drop (suc n) objects) (left - symbol_count objects n)))) (le-ltb left (symbol_count objects n) past))
+      ∙ one_more (object_of (drop (suc n) objects) (left - symbol_count objects n))
       )
+    where
+      one_more : (own : Option ℕ) → option_map (λ o. n + o) (option_map suc own) ≡ option_map (λ o. suc n + o) own
+      one_more None = refl
+      one_more (Some own) = let same : n + suc own ≡ suc n + own = omega arith in ap Some same
 
-  next_number : (number : ℕ) (own : Option ℕ) → is_object_in_scope only loaded (option_map (λ o. suc number + o) own) ≡ is_object_in_scope only loaded (option_map (λ o. number + o) (option_map suc own))
-  next_number number None = refl
-  next_number number (Some own) = let same : suc number + own ≡ number + suc own = omega arith in ap (is_in_scope only loaded) same
+  pub in_no_object : length objects ≤ n → object_of objects site ≡ None
+  in_no_object past = behind ∙ ap (λ os. option_map (λ o. n + o) (object_of os left)) (drop_all n objects past)
 
-  pub flag_at : (number : ℕ) (objects : List Object) (site : ℕ)
-      → get_or (flags_from only loaded number objects) site false ≡ is_object_in_scope only loaded (option_map (λ o. number + o) (object_of objects site))
-  flag_at number [] site = refl
-  flag_at number (object ∷ objects) site =
-      let own = is_in_scope only loaded number in
-      let count : ℕ = length object.symbols in
-      let rest = flags_from only loaded (suc number) objects in
-      elim (ltb site count) as
-      (λ b. ltb site count ≡ b → get_or (replicate count own ++ rest) site false ≡ is_object_in_scope only loaded (option_map (λ o. number + o) (cond b (Some 0) (option_map suc (object_of objects (site - count)))))) [
-        | true ↦ λ t. let below : site < count = ltb-true _ _ t in
-            get_or_append_left (replicate count own) rest false site (omega (arith, length-replicate count own)) ∙ get_or-replicate count site own false below
-            ∙ (let same : number ≡ number + 0 = omega arith in ap (is_in_scope only loaded) same)
-        | false ↦ λ t.
-            get_or-append_right (replicate count own) rest count site false (length-replicate count own) (ltb-false _ _ t)
-            ∙ flag_at (suc number) objects (site - count) ∙ next_number number (object_of objects (site - count))
-      ] refl
-
-  -- the flags from an object on are its own and those from the next object on
-  pub flags_more : (objects : List Object) (n number : ℕ)
-      → flags_from only loaded number (drop n objects) ≡ replicate (symbol_count objects n) (is_in_scope only loaded number) ++ flags_from only loaded (suc number) (drop (suc n) objects)
-  flags_more [] zero number = refl
-  flags_more [] (suc n) number = refl
-  flags_more (object ∷ objects) zero number = refl
-  flags_more (object ∷ objects) (suc n) number = flags_more objects n number
-
-first_number : (only : Option ℕ) (loaded : List Bool) (own : Option ℕ) → is_object_in_scope only loaded (option_map (λ o. 0 + o) own) ≡ is_object_in_scope only loaded own
-first_number only loaded None = refl
-first_number only loaded (Some own) = let same : 0 + own ≡ own = omega arith in ap (is_in_scope only loaded) same
-
-pub flag_covers : (table : SiteTable) (only : Option ℕ) (site : ℕ) → get_or (flags_from only table.loaded 0 table.image.objects) site false ≡ is_covered table only site
-flag_covers table only site = flag_at only table.loaded 0 table.image.objects site ∙ first_number only table.loaded (object_of table.image.objects site)
-
--- the flags of the objects before one, and those from it on
-module _ (only : Option ℕ) (loaded : List Bool) (objects : List Object) (flags : List Bool) (n : ℕ)
-    (so_far : flags ++ flags_from only loaded n (drop n objects) ≡ flags_from only loaded 0 objects) where
-  pub room_for_flags : length flags + symbol_count objects n ≤ length (symbols_of objects)
-  room_for_flags =
-      let own = replicate (symbol_count objects n) (is_in_scope only loaded n) in
-      let rest = flags_from only loaded (suc n) (drop (suc n) objects) in
-      let split : length flags + length (own ++ rest) ≡ length (symbols_of objects) =
-      ap (λ fs. length flags + length fs) (sym (flags_more only loaded objects n n)) ∙ sym (length-append flags (flags_from only loaded n (drop n objects))) ∙ ap length so_far ∙ length-flags only loaded 0 objects in
-      omega (arith, split, length-append own rest, length-replicate (symbol_count objects n) (is_in_scope only loaded n))
-
-  pub flags_next : (more : List Bool) → more ≡ flags ++ replicate (symbol_count objects n) (is_in_scope only loaded n)
-      → more ++ flags_from only loaded (n + 1) (drop (n + 1) objects) ≡ flags_from only loaded 0 objects
-  flags_next more is = rw (add-one) (
-      ap (λ fs. fs ++ flags_from only loaded (suc n) (drop (suc n) objects)) is
-      ∙ append_assoc flags (replicate (symbol_count objects n) (is_in_scope only loaded n)) (flags_from only loaded (suc n) (drop (suc n) objects))
-      ∙ ap (λ fs. flags ++ fs) (sym (flags_more only loaded objects n n)) ∙ so_far
-      )
-
-  pub flags_all : length objects ≤ n → flags ≡ flags_from only loaded 0 objects
-  flags_all past = sym (append-nil flags) ∙ ap (λ left. flags ++ flags_from only loaded n left) (sym (drop_all n objects past)) ∙ so_far
+pub all_behind : (objects : List Object) (site : ℕ) → IsBehind objects site 0 site
+all_behind objects site = by (object_of objects site)
+  where
+    by : (own : Option ℕ) → own ≡ option_map (λ o. 0 + o) own
+    by None = refl
+    by (Some own) = let same : own ≡ 0 + own = omega arith in ap Some same

@@ -1,7 +1,7 @@
 -- Changes of the entries one after another, and what they note together.
-use Rattle.std.proofs.Common.{◌≡◌, ℕ, ◌+◌, ◌-◌, ◌<◌, ◌≤◌, Bool, true, false, ◌&&◌, Option, List, [], ◌∷◌, ◌++◌, length, set, refl, sym, ap, ◌∙◌, arith, eqb, ltb, length-append, append_assoc}
+use Rattle.std.proofs.Common.{◌≡◌, ℕ, ◌+◌, ◌-◌, ◌<◌, ◌≤◌, inl, inr, Bool, true, false, ◌&&◌, Option, List, [], ◌∷◌, ◌++◌, length, set, refl, sym, ap, ◌∙◌, arith, eqb, ltb, length-append, append_assoc}
 use Rattle.std.specs.Prelude.{cond}
-use Rattle.std.proofs.lemmas.Bool.{eqb-true, eqb-false, lt-ltb, le-ltb, ltb-true, ltb-false}
+use Rattle.std.proofs.lemmas.Bool.{cases_lt, eqb-true, eqb-false, lt-ltb, le-ltb, ltb-true, ltb-false}
 use Rattle.std.proofs.lemmas.List.{length-set}
 use Rattle.std.proofs.lemmas.List.Elements.{All-append}
 use Rattle.klp_types.specs.declared.limits.TheConstants.{MAX_SITES}
@@ -11,7 +11,7 @@ use Rattle.klp_types.specs.Records.{RecordList, spare_of}
 use Rattle.klp_types.specs.Image.{Image, object_of}
 use Rattle.klp_stack.specs.Stack.{entries_at}
 use Rattle.klp_stack.specs.Undo.{put_entry}
-use Rattle.klp_sites.specs.Table.{SiteTable}
+use Rattle.klp_sites.specs.Table.{SiteTable, is_stacked, is_hooked_at}
 use Rattle.klp_sites.specs.Changes.{noting}
 use Rattle.klp_sites.specs.Undo.{put_back, undone, tell_changes}
 use Rattle.klp_sites.proofs.ExactLemmas.{undone_both, told_both}
@@ -129,3 +129,53 @@ module _ (before now : SiteTable) (covers : ℕ → Bool) (make : ℕ → Entrie
             | true ↦ λ e. let no : covers site ≡ false = ap covers (sym (eqb-true i site e)) ∙ passed in rw no refl
             | false ↦ λ e. ap (λ b. cond (covers site && b) (make site (entries_at before.stacks site)) (entries_at before.stacks site)) (below_next site i e)
           ] refl
+
+-- Sites without entries are passed over.
+none_at : (stacks : List Entries) (site : ℕ) → is_hooked_at stacks site ≡ false → entries_at stacks site ≡ []
+none_at stacks site none = by (entries_at stacks site) none
+  where
+    by : (entries : Entries) → is_stacked entries ≡ false → entries ≡ []
+    by [] none = refl
+    by (entry ∷ older) none = cc
+
+none_made : (covers here next : Bool) (make : Entries → Entries) (before now : Entries) → make [] ≡ [] → now ≡ cond (covers && here) (make before) before → here ≡ false → now ≡ []
+    → cond (covers && here) (make before) before ≡ cond (covers && next) (make before) before
+none_made covers true next make before now rests so_far past none = cc
+none_made false false next make before now rests so_far past none = refl
+none_made true false false make before now rests so_far past none = refl
+none_made true false true make before now rests so_far past none = let was : before ≡ [] = sym so_far ∙ none in was ∙ sym rests ∙ ap make (sym was)
+
+module _ (before now : SiteTable) (covers : ℕ → Bool) (make : ℕ → Entries → Entries) (i : ℕ) (so_far : AreMade before now (λ site. covers site && ltb site i) make) (rests : (site : ℕ) → make site [] ≡ []) where
+  skipped : (next : Bool) (site : ℕ) → i ≤ site → is_hooked_at now.stacks site ≡ false
+      → cond (covers site && ltb site i) (make site (entries_at before.stacks site)) (entries_at before.stacks site) ≡ cond (covers site && next) (make site (entries_at before.stacks site)) (entries_at before.stacks site)
+  skipped next site behind none =
+      none_made (covers site) (ltb site i) next (make site) (entries_at before.stacks site) (entries_at now.stacks site) (rests site) (so_far.entries site) (le-ltb site i behind) (none_at now.stacks site none)
+
+  same : (next : Bool) (site : ℕ) → ltb site i ≡ next
+      → cond (covers site && ltb site i) (make site (entries_at before.stacks site)) (entries_at before.stacks site) ≡ cond (covers site && next) (make site (entries_at before.stacks site)) (entries_at before.stacks site)
+  same next site is = ap (λ b. cond (covers site && b) (make site (entries_at before.stacks site)) (entries_at before.stacks site)) is
+
+  -- up to a site
+  pub next_skipped : (to : ℕ) → i ≤ to → ((site : ℕ) → i ≤ site → site < to → is_hooked_at now.stacks site ≡ false) → AreMade before now (λ site. covers site && ltb site to) make
+  next_skipped to le none =
+      made_also before now (λ site. covers site && ltb site i) (λ site. covers site && ltb site to) make make so_far (λ site.
+      elim (cases_lt site i) [
+        | inl below ↦ same (ltb site to) site (lt-ltb site i below ∙ sym (lt-ltb site to (omega arith)))
+        | inr behind ↦ elim (cases_lt site to) [
+          | inl within ↦ skipped (ltb site to) site behind (none site behind within)
+          | inr past ↦ same (ltb site to) site (le-ltb site i behind ∙ sym (le-ltb site to past))
+        ]
+      ])
+
+  -- and behind the last
+  pub all_skipped : ((site : ℕ) → i ≤ site → is_hooked_at now.stacks site ≡ false) → AreMade before now covers make
+  all_skipped none =
+      made_also before now (λ site. covers site && ltb site i) covers make make so_far (λ site.
+      elim (cases_lt site i) [
+        | inl below ↦ same true site (lt-ltb site i below) ∙ all_of (covers site) (make site) (entries_at before.stacks site)
+        | inr behind ↦ skipped true site behind (none site behind) ∙ all_of (covers site) (make site) (entries_at before.stacks site)
+      ])
+    where
+      all_of : (covers : Bool) (make : Entries → Entries) (entries : Entries) → cond (covers && true) (make entries) entries ≡ cond covers (make entries) entries
+      all_of true make entries = refl
+      all_of false make entries = refl

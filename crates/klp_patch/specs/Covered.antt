@@ -1,6 +1,6 @@
 -- The sites that a change of the entries is about, and the functions of a patch.
-use Rattle.std.specs.Prelude.{ℕ, Bool, false, ◌==◌, List, length, Option, Some, None, option_map, unwrap_or, slice_get, slice_index_or}
-use Rattle.klp_types.specs.Image.{Object, object_of}
+use Rattle.std.specs.Prelude.{ℕ, Bool, false, ◌==◌, List, Option, Some, None, slice_get, slice_index_or}
+use Rattle.klp_types.specs.Image.{object_of}
 use Rattle.klp_types.specs.Setting.{Function, all_functions, patch_objects}
 use Rattle.klp_catalog.specs.Catalog.{Catalog, patches_of}
 use Rattle.klp_sites.specs.Table.{SiteTable}
@@ -21,7 +21,3 @@ is_object_in_scope only loaded (Some object) = is_in_scope only loaded object
 -- whether it is about the object of this site; a site that isn't there has none
 abbrev pub is_covered : SiteTable → Option ℕ → ℕ → Bool
 is_covered table only site = is_object_in_scope only table.loaded (object_of table.image.objects site)
-
--- how many symbols an object has; one that isn't there has none
-abbrev pub symbol_count : List Object → ℕ → ℕ
-symbol_count objects object = unwrap_or (option_map (λ (found : Object). length found.symbols) (slice_get objects object)) 0

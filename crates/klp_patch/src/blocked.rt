@@ -31,15 +31,17 @@ fn block_at(sites: &Sites, site: Site, moving: &Transition, blocked: &mut Versio
 }
 
 /// Puts what is blocked at all sites into the empty set: a cumulative patch has nops where it has no
-/// function.
+/// function. Nothing is where a site has no entries.
 fn block_all(sites: &Sites, moving: &Transition, blocked: &mut VersionSet)
     requires empty { IsSetOf blocked.old [] }
     requires number { (site : ℕ) → AreFunctions (entries_at sites.now.stacks site) }
     requires sites { length sites.now.stacks ≤ MAX_SITES }
     ensures { IsSetOf blocked.new (blocked_at 0 moving.now sites.now.stacks) }
 {
-    for site in 0..sites.sites() {
-        block_at(sites, Site(site as u16), moving, blocked);
+    let mut from = 0;
+    while let Some(site) = sites.next_hooked(from) {
+        block_at(sites, site, moving, blocked);
+        from = usize::from(site.0) + 1;
     }
 }
 
@@ -65,7 +67,7 @@ fn block_functions(sites: &Sites, catalog: &Catalog, moving: &Transition, blocke
 /// the patch in transition. What the set had before is gone. It is made once for all tasks, while the
 /// kernel goes over the patch's functions for each frame (`klp_check_stack`).
 ///
-/// It costs as much as the patch has functions; for a cumulative one as much as there are sites.
+/// It costs as much as the patch has functions; for a cumulative one as much as there are sites with entries.
 pub fn block(sites: &Sites, catalog: &Catalog, moving: Transition, blocked: &mut VersionSet)
     requires number { (site : ℕ) → AreFunctions (entries_at sites.now.stacks site) }
     requires sites { length sites.now.stacks ≤ MAX_SITES }

@@ -1,16 +1,14 @@
 //! The sites that a change is about: those of one object, or of all that are loaded.
-ghost use Rattle.std.specs.Prelude.{◌≡◌, ℕ, ◌+◌, ◌<◌, ◌≤◌, ◌&&◌, false, ◌++◌, length, replicate, slice_index_or, IfSome};
+ghost use Rattle.std.specs.Prelude.{◌≡◌, ℕ, ◌<◌, ◌&&◌, length, IfSome};
 ghost use Rattle.klp_types.specs.Setting.{is_at};
 ghost use Rattle.klp_modules.specs.Names.{names_of};
 ghost use Rattle.klp_catalog.specs.Assembled.{LiesInObject};
 ghost use Rattle.klp_patch.specs.Covered as covered;
-ghost use Rattle.klp_patch.specs.Covered.{symbol_count};
 
-use arrayvec::ArrayVec;
 use klp_catalog::CatalogFunction;
 use klp_sites::Sites;
 use klp_text::Image;
-use klp_types::{MAX_SITES, ObjId, Site};
+use klp_types::{ObjId, Site};
 
 /// Whether a change of one object, or of all that are loaded, is about this object. The one that is named
 /// is meant whether it is loaded or not.
@@ -44,43 +42,18 @@ pub(crate) fn site_in_scope(
     }
 }
 
-fn push_times(flags: &mut ArrayVec<bool, MAX_SITES>, flag: bool, times: u16)
-    requires { length flags.old.items + times ≤ MAX_SITES }
-    ensures { flags.new.items ≡ flags.old.items ++ replicate times flag }
-{
-    for _ in 0..times {
-        flags.push(flag);
-    }
-}
-
-/// For each site of an object, whether the change is about it: all of them or none.
-fn push_object(
-    flags: &mut ArrayVec<bool, MAX_SITES>,
-    image: &Image,
-    only: &Option<ObjId>,
-    object: ObjId,
-)
-    requires { length flags.old.items + symbol_count image.now.image.objects object ≤ MAX_SITES }
-    ensures { flags.new.items
-        ≡ flags.old.items
-        ++ replicate (symbol_count image.now.image.objects object)
-        (covered.is_in_scope only.now image.now.loaded object) }
-{
-    let symbols = image.symbols(object).unwrap_or(0);
-    push_times(flags, is_in_scope(image, *only, object), symbols);
-}
-
-/// For each site, whether the change is about it. The flags are made before anything changes, since the
-/// sites are borrowed for the change.
-pub(crate) fn covered_sites(sites: &Sites, only: Option<ObjId>) -> ArrayVec<bool, MAX_SITES>
-    requires { length sites.now.stacks ≤ MAX_SITES }
-    ensures length { length result.items ≡ length sites.now.stacks }
-    ensures flags { (site : ℕ) → slice_index_or result.items site false ≡ covered.is_covered sites.now only site }
+/// Whether a change is about a site. The cost is the number of the object that the site lies in.
+pub(crate) fn covers(sites: &Sites, only: &Option<ObjId>, site: Site) -> bool
+    ensures { result ≡ covered.is_covered sites.now only.now site }
 {
     let image = sites.image();
-    let mut flags = ArrayVec::new();
+    let mut left = site.0;
     for object in 0..image.objects() {
-        push_object(&mut flags, image, &only, ObjId(object));
+        let symbols = image.symbols(ObjId(object)).unwrap_or(0);
+        if left < symbols {
+            return is_in_scope(image, *only, ObjId(object));
+        }
+        left -= symbols;
     }
-    flags
+    false
 }

@@ -12,12 +12,12 @@ ghost use Rattle.klp_patch.specs.Covered.{functions_in, is_covered};
 ghost use Rattle.klp_patch.specs.Room.{HasRoom};
 ghost use Rattle.klp_patch.specs.Changes.{AreMade, Notes, with_entry, with_nop, without_nop, hooked_count, most_entries};
 
-use crate::covered::{covered_sites, site_in_scope};
+use crate::covered::{covers, site_in_scope};
 use crate::site::{put, put_nop, take, take_nop};
 use klp_catalog::{Catalog, CatalogFunction};
 use klp_record_words::Records;
 use klp_sites::Sites;
-use klp_types::{Entry, MAX_FUNCTIONS, MAX_PATCHES, MAX_SITES, ObjId, PatchId, Site};
+use klp_types::{Entry, MAX_FUNCTIONS, MAX_PATCHES, MAX_SITES, ObjId, PatchId};
 
 /// Puts the functions of a patch on top of the stacks of their sites. No two are for one site, so each
 /// stack gets one entry at most.
@@ -53,20 +53,21 @@ fn put_functions(
 
 /// Puts a nop of a patch on each site that has entries but none of the patch, so that what older patches
 /// replaced is the original again. The patch's own functions have to be there first.
-fn put_nops(sites: &mut Sites, patch: PatchId, only: Option<ObjId>, log: &mut Records)
+fn put_nops(sites: &mut Sites, patch: PatchId, only: &Option<ObjId>, log: &mut Records)
     requires number { patch < MAX_PATCHES }
     requires sites { length sites.old.stacks ≤ MAX_SITES }
-    requires room { HasRoom sites.old (is_covered sites.old only) (λ site entries. with_nop patch entries) }
+    requires room { HasRoom sites.old (is_covered sites.old only.now) (λ site entries. with_nop patch entries) }
     requires records { length sites.old.stacks + MAX_SITES ≤ spare_of log.old + hooked_count sites.old }
-    ensures entries { AreMade sites.old sites.new (is_covered sites.old only) (λ site entries. with_nop patch entries) }
+    ensures entries { AreMade sites.old sites.new (is_covered sites.old only.now) (λ site entries. with_nop patch entries) }
     ensures notes { Notes sites.old sites.new log.old log.new (length sites.old.stacks) (hooked_count sites.old)
         (hooked_count sites.new) }
 {
-    let covered = covered_sites(sites, only);
-    for site in 0..covered.len() {
-        if covered[site] {
-            put_nop(sites, Site(site as u16), patch, log);
+    let mut from = 0;
+    while let Some(site) = sites.next_hooked(from) {
+        if covers(sites, only, site) {
+            put_nop(sites, site, patch, log);
         }
+        from = usize::from(site.0) + 1;
     }
 }
 
@@ -96,27 +97,28 @@ fn take_functions(
 }
 
 /// Takes the entries of a patch out of all stacks that the change is about, since its nops may be at any
-/// site.
-fn take_all(sites: &mut Sites, patch: PatchId, only: Option<ObjId>, log: &mut Records)
+/// site that has entries.
+fn take_all(sites: &mut Sites, patch: PatchId, only: &Option<ObjId>, log: &mut Records)
     requires sites { length sites.old.stacks ≤ MAX_SITES }
     requires records { length sites.old.stacks + hooked_count sites.old ≤ spare_of log.old }
-    ensures entries { AreMade sites.old sites.new (is_covered sites.old only)
+    ensures entries { AreMade sites.old sites.new (is_covered sites.old only.now)
         (λ site entries. entries_of_others patch entries) }
     ensures notes { Notes sites.old sites.new log.old log.new (length sites.old.stacks) (hooked_count sites.new)
         (hooked_count sites.old) }
 {
-    let covered = covered_sites(sites, only);
-    for site in 0..covered.len() {
-        if covered[site] {
-            take(sites, Site(site as u16), patch, log);
+    let mut from = 0;
+    while let Some(site) = sites.next_hooked(from) {
+        if covers(sites, only, site) {
+            take(sites, site, patch, log);
         }
+        from = usize::from(site.0) + 1;
     }
 }
 
 /// Puts a patch's entries on top of the stacks of its sites: those of one object, or of all that are
 /// loaded. A cumulative patch gets a nop on each other site that has entries (the kernel's `klp_add_nops`).
 ///
-/// It costs as much as the patch has functions; for a cumulative one as much as there are sites.
+/// It costs as much as the patch has functions; for a cumulative one as much as there are sites with entries, too.
 pub fn patch_sites(
     sites: &mut Sites,
     catalog: &Catalog,
@@ -140,14 +142,14 @@ pub fn patch_sites(
     };
     put_functions(sites, found.functions(), patch, &only, log);
     if found.is_cumulative() {
-        put_nops(sites, patch, only, log);
+        put_nops(sites, patch, &only, log);
     }
 }
 
 /// Takes a patch's entries out of the stacks of its sites: those of one object, or of all that are
 /// loaded.
 ///
-/// It costs as much as the patch has functions; for a cumulative one as much as there are sites.
+/// It costs as much as the patch has functions; for a cumulative one as much as there are sites with entries, too.
 pub fn unpatch_sites(
     sites: &mut Sites,
     catalog: &Catalog,
@@ -172,13 +174,13 @@ pub fn unpatch_sites(
         return;
     };
     if found.is_cumulative() {
-        take_all(sites, patch, only, log);
+        take_all(sites, patch, &only, log);
     } else {
         take_functions(sites, found.functions(), patch, &only, log);
     }
 }
 
-/// Takes the nops of a patch out of all stacks, at the cost of all sites: once no older entry is left, the
+/// Takes the nops of a patch out of all stacks, at the cost of the sites that have entries: once no older entry is left, the
 /// original needs none in its place.
 pub fn drop_nops(sites: &mut Sites, patch: PatchId, log: &mut Records)
     requires sites { length sites.old.stacks ≤ MAX_SITES }
@@ -187,7 +189,9 @@ pub fn drop_nops(sites: &mut Sites, patch: PatchId, log: &mut Records)
     ensures notes { Notes sites.old sites.new log.old log.new (length sites.old.stacks) (hooked_count sites.new)
         (hooked_count sites.old) }
 {
-    for site in 0..sites.sites() {
-        take_nop(sites, Site(site as u16), patch, log);
+    let mut from = 0;
+    while let Some(site) = sites.next_hooked(from) {
+        take_nop(sites, site, patch, log);
+        from = usize::from(site.0) + 1;
     }
 }

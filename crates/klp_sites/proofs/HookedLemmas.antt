@@ -8,9 +8,7 @@ use Rattle.std.proofs.lemmas.Nat.Bits.{bit_at-trailing_zeros, bit_at_set_same, b
 use Rattle.std.specs.Prelude.{bit_and, bit_or}
 use Rattle.std.specs.Int.{bit_at, bit_not, trailing_zeros}
 use Rattle.klp_types.specs.declared.limits.TheConstants.{MAX_SITES}
-use Rattle.klp_types.specs.declared.version.Entry.{Entry}
 use Rattle.klp_text.specs.TextImage.{TextImage}
-use Rattle.klp_stack.specs.Stack.{entries_at}
 use Rattle.klp_sites.specs.Table.{is_stacked, is_hooked_at, IsInStep}
 use Rattle.klp_sites.specs.Hooked.{bit_of, AreHooked, IsLowestFrom, IsNextSet}
 use Rattle.klp_sites.proofs.StepLemmas.{Entries, turned, unturned}

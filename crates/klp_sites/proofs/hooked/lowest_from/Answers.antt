@@ -1,4 +1,4 @@
-use Rattle.std.proofs.Common.{arith, rules}
+use Rattle.std.proofs.Common.{arith}
 use Rattle.klp_sites.proofs.HookedLemmas as hooked
 use Rattle.klp_sites.proofs.hooked.lowest_from.Goals as goal
 

@@ -1,4 +1,4 @@
-use Rattle.std.proofs.Common.{◌≡◌, ℕ, ◌/◌, ◌%◌, ◌<◌, ap, ◌∙◌, arith, rules, cond, eqb, get_or, length}
+use Rattle.std.proofs.Common.{◌≡◌, ℕ, ◌/◌, ◌%◌, ap, ◌∙◌, arith, rules, cond, eqb, get_or, length}
 use Rattle.klp_sites.specs.Hooked.{bit_of}
 use Rattle.klp_sites.proofs.HookedLemmas.{bit_in, bit_put}
 use Rattle.klp_sites.proofs.hooked.HookedSites.insert.Goals as goal

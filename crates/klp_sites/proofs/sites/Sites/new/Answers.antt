@@ -1,4 +1,4 @@
-use Rattle.std.proofs.Common.{ap, ◌∙◌, arith, length, replicate, []}
+use Rattle.std.proofs.Common.{ap, ◌∙◌, arith, length, []}
 use Rattle.std.proofs.lemmas.List.{length-replicate}
 use Rattle.klp_sites.proofs.StepLemmas.{opened, none_stacked}
 use Rattle.klp_sites.proofs.HookedLemmas.{none_hooked}
