@@ -1,67 +1,67 @@
 -- Numbers in decimal and hexadecimal digits.
-use Rattle.std.proofs.Common.{◌≡◌, ℕ, ℤ, pos, neg_ℤ, ◌+◌, ◌==◌, ◌<◌, ◌≤◌, ◌^◌, ◌≢◌, ◌&&◌, ◌||◌, Bool, true, false, nat_lt, if◌then◌else◌, List, [], ◌∷◌, length, get_or, Some, None, Option, option_map, Result, Ok, Err, refl, ap, ◌∙◌, arith, rules}
-use Rattle.std.proofs.Math.Nat.{pow-le-pow_right}
+use Rattle.std.proofs.Common.{◌≡◌, ℕ, zero, suc, ℤ, pos, neg_ℤ, ◌+◌, ◌*◌, ◌==◌, ◌<◌, ◌≤◌, ◌^◌, ◌≢◌, ◌&&◌, ◌||◌, Bool, true, false, nat_lt, if◌then◌else◌, List, [], ◌∷◌, length, get_or, take, Some, None, Option, option_map, Result, Ok, Err, refl, ap, ◌∙◌, add-one, arith, rules}
+use Rattle.std.proofs.Math.Nat.{pow-le-pow_right, pow-suc}
 use Rattle.std.proofs.lemmas.Bool.Decides.{nat_tests}
-use Rattle.std.proofs.lemmas.Str.Parse.{without_leading_plus_none, IsNumeralModel, numerals_by_value, parse_digits, parse_signed_minus, parse_signed_plain}
-use Rattle.std.proofs.lemmas.Int.Digits.{digits_value-lt}
+use Rattle.std.proofs.lemmas.List.Folds.{list_all_more}
+use Rattle.std.proofs.lemmas.Str.Parse.{IsNumeralModel, numerals_by_value, parse_digits, parse_signed_minus, parse_signed_plain, digits_value-take-le}
+use Rattle.std.proofs.lemmas.Int.Digits.{digits_value_more}
 use Rattle.std.specs.Result.{OkIff, result_ok}
 use Rattle.std.specs.List.{list_all}
 use Rattle.std.specs.Char.{is_ascii_digit, is_ascii_hexdigit, digit_value}
 use Rattle.std.specs.Str.{IsAscii}
-use Rattle.std.specs.Str.Parse.{digits_value, ParsesUnsigned, ParsesSigned, AllDigits, IsNumeral}
+use Rattle.std.specs.Str.Parse.{digits_value, ParsesUnsigned, ParsesSigned}
 use Rattle.std.specs.Int.{w32}
 use Rattle.std.proofs.lemmas.Bool.{and_parts}
 use Rattle.klp_words.specs.Words.{is_address, hexadecimal_of, is_decimal, decimal_of, status_of}
 use Rattle.klp_words.proofs.WordLemmas.{ascii_from_all}
 
--- digits don't begin with a plus
-no_plus : (p : ℕ → Bool) → p 43 ≡ false → (word : List ℕ) → list_all p word ≡ true → get_or word 0 0 ≢ 43
-no_plus p fails [] h e = omega arith
-no_plus p fails (b ∷ bs) h e = let yes = (and_parts (p b) (list_all p bs) h).0 in let same : p b ≡ p 43 = ap p e in cc
+-- where one fails, not all pass
+list_all_fails : (p : ℕ → Bool) (xs : List ℕ) (i : ℕ) → i < length xs → p (get_or xs i 0) ≡ false → list_all p xs ≡ false
+list_all_fails p [] i inside fails = absurd (omega arith)
+list_all_fails p (x ∷ xs) zero inside fails = rw fails refl
+list_all_fails p (x ∷ xs) (suc i) inside fails = rw (list_all_fails p xs i (omega arith) fails) (by (p x))
+  where
+    by : (b : Bool) → (b && false) ≡ false
+    by true = refl
+    by false = refl
 
-all_digits : (p : ℕ → Bool) (radix : ℕ) → ((b : ℕ) → p b ≡ true → digit_value b < radix) → (word : List ℕ) → list_all p word ≡ true → AllDigits radix word
-all_digits p radix low [] h = tt
-all_digits p radix low (b ∷ bs) h = (low b (and_parts (p b) (list_all p bs) h).0, all_digits p radix low bs (and_parts (p b) (list_all p bs) h).1)
+pub all_more : (p : ℕ → Bool) (xs : List ℕ) (i : ℕ) → i < length xs → list_all p (take i xs) ≡ true → p (get_or xs i 0) ≡ true → list_all p (take (i + 1) xs) ≡ true
+all_more p xs i inside before here = list_all_more p xs i 0 inside ∙ rw (before, here) refl
+
+-- ---- hexadecimal numbers
 
 hex_below : (b : ℕ) → is_ascii_hexdigit b ≡ true → digit_value b < 16
 hex_below b h = grind (arith, nat_tests)
 
--- what `from_str_radix` says of digits
-plain : {E : Type 0} (k radix : ℕ) (word : List ℕ) (r : Result ℕ E) → get_or word 0 0 ≢ 43 → ParsesUnsigned k radix word r
-    → OkIff r (IsNumeral radix word × (digits_value radix word < 2 ^ k)) (digits_value radix word)
-plain k radix word r unlike h = rw (without_leading_plus_none word unlike) at h
+-- a digit, and what it stands for
+pub digit_from_some : (b d : ℕ) → Some d ≡ (if is_ascii_hexdigit b then Some (digit_value b) else None) → (is_ascii_hexdigit b ≡ true) × (d ≡ digit_value b) × (d < 16)
+digit_from_some b d h = by (is_ascii_hexdigit b) refl h
+  where
+    by : (t : Bool) → is_ascii_hexdigit b ≡ t → Some d ≡ (if t then Some (digit_value b) else None) → (is_ascii_hexdigit b ≡ true) × (d ≡ digit_value b) × (d < 16)
+    by true e h = let same : d ≡ digit_value b = cc in (e, same, omega (arith, hex_below b e))
+    by false e h = absurd cc
+
+-- behind fewer than 16 digits there is room for one more
+pub hexadecimal_room : (n i : ℕ) → i < 16 → n < 16 ^ i → n < 16 ^ 15
+hexadecimal_room n i few small = let bound : 16 ^ i ≤ 16 ^ 15 = pow-le-pow_right {n = 16} (omega arith) {i = i} {j = 15} (omega arith) in omega (arith, small, bound)
+
+pub hexadecimal_step : (n d i : ℕ) → n < 16 ^ i → d < 16 → n * 16 + d < 16 ^ (i + 1)
+hexadecimal_step n d i small digit = let more : 16 ^ (i + 1) ≡ 16 ^ i * 16 = rw add-one (pow-suc 16 i) in omega (arith, more)
 
 is_address_at : (word : List ℕ) → 0 < length word → length word ≤ 16 → list_all is_ascii_hexdigit word ≡ true → is_address word ≡ true
 is_address_at word some few digits = grind (arith, nat_tests)
 
-is_address_empty : (word : List ℕ) → length word ≡ 0 → is_address word ≡ false
-is_address_empty word none = grind (arith, nat_tests)
+no_address : (word : List ℕ) → list_all is_ascii_hexdigit word ≡ false → is_address word ≡ false
+no_address word h = grind (arith, nat_tests)
 
-address_small : (word : List ℕ) → length word ≤ 16 → list_all is_ascii_hexdigit word ≡ true → digits_value 16 word < 2 ^ 64
-address_small word few digits =
-    let below = digits_value-lt 16 word (all_digits is_ascii_hexdigit 16 hex_below word digits) in
-    let bound : 16 ^ length word ≤ 16 ^ 16 = pow-le-pow_right (omega arith) few in
-    omega (arith, below, bound)
+pub no_hexadecimal : (word : List ℕ) → is_address word ≡ false → None ≡ hexadecimal_of word
+no_hexadecimal word h = rw h refl
 
-address_plain : {E : Type 0} (word : List ℕ) (r : Result ℕ E) → list_all is_ascii_hexdigit word ≡ true → ParsesUnsigned 64 16 word r
-    → OkIff r (IsNumeral 16 word × (digits_value 16 word < 2 ^ 64)) (digits_value 16 word)
-address_plain word r digits h = plain 64 16 word r (no_plus is_ascii_hexdigit refl word digits) h
+pub hexadecimal_fails : (word : List ℕ) (i : ℕ) → i < length word → is_ascii_hexdigit (get_or word i 0) ≡ false → None ≡ hexadecimal_of word
+hexadecimal_fails word i inside fails = no_hexadecimal word (no_address word (list_all_fails is_ascii_hexdigit word i inside fails))
 
-pub hexadecimal_ok : (word : List ℕ) (n : ℕ) → length word ≤ 16 → list_all is_ascii_hexdigit word ≡ true → ParsesUnsigned {E = ℕ} 64 16 word (Ok n) → Some n ≡ hexadecimal_of word
-hexadecimal_ok word n few digits h =
-    let p = address_plain {E = ℕ} word (Ok n) digits h in
-    let value : n ≡ digits_value 16 word = p.1 in
-    let is = is_address_at word p.0.0.0 few digits in
-    rw is (ap Some value)
-
-pub hexadecimal_err : {E : Type 0} (word : List ℕ) (e : E) → length word ≤ 16 → list_all is_ascii_hexdigit word ≡ true → ParsesUnsigned 64 16 word (Err e) → None ≡ hexadecimal_of word
-hexadecimal_err word e few digits h =
-    let p = address_plain word (Err e) digits h in
-    let empty : length word ≡ 0 = empty_from (length word) (λ some. p ((some, all_digits is_ascii_hexdigit 16 hex_below word digits), address_small word few digits)) in
-    rw (is_address_empty word empty) refl
-  where
-    empty_from : (n : ℕ) → (0 < n → ⊥) → n ≡ 0
-    empty_from n h = omega (arith, h)
+pub hexadecimal_is : (word : List ℕ) → 0 < length word → length word ≤ 16 → list_all is_ascii_hexdigit word ≡ true → Some (digits_value 16 word) ≡ hexadecimal_of word
+hexadecimal_is word some few digits = rw (is_address_at word some few digits) refl
 
 -- ---- decimal numbers
 
@@ -103,6 +103,9 @@ decimal_is k word r digits h =
     (λ q. is_decimal_at (2 ^ k) word q.0 digits q.1) (λ yes. (decimal_some (2 ^ k) word yes, decimal_small (2 ^ k) word yes))
     ∙ same (decimal_of (2 ^ k) word)
 
+pub decimal_at : (limit : ℕ) (word : List ℕ) → 0 < length word → list_all is_ascii_digit word ≡ true → digits_value 10 word < limit → Some (digits_value 10 word) ≡ decimal_of limit word
+decimal_at limit word some digits small = rw (is_decimal_at limit word some digits small) refl
+
 -- without digits alone there is no number
 pub no_decimal : (limit : ℕ) (word : List ℕ) → list_all is_ascii_digit word ≡ false → None ≡ decimal_of limit word
 no_decimal limit word h = by (is_decimal limit word) refl
@@ -110,6 +113,19 @@ no_decimal limit word h = by (is_decimal limit word) refl
     by : (b : Bool) → is_decimal limit word ≡ b → None ≡ (if b then Some (digits_value 10 word) else None)
     by false e = refl
     by true e = let yes = decimal_digits limit word e in absurd cc
+
+pub decimal_fails : (limit : ℕ) (word : List ℕ) (i : ℕ) → i < length word → is_ascii_digit (get_or word i 0) ≡ false → None ≡ decimal_of limit word
+decimal_fails limit word i inside fails = no_decimal limit word (list_all_fails is_ascii_digit word i inside fails)
+
+-- where the first digits don't fit, the whole doesn't
+pub too_great : (limit : ℕ) (word : List ℕ) (i : ℕ) → i < length word → limit ≤ digits_value 10 (take i word) * 10 + digit_value (get_or word i 0) → None ≡ decimal_of limit word
+too_great limit word i inside large =
+    let whole : limit ≤ digits_value 10 word = omega (arith, digits_value_more 10 word i inside, digits_value-take-le 10 word (i + 1) (omega arith)) in
+    by (is_decimal limit word) refl whole
+  where
+    by : (b : Bool) → is_decimal limit word ≡ b → limit ≤ digits_value 10 word → None ≡ (if b then Some (digits_value 10 word) else None)
+    by false e whole = refl
+    by true e whole = absurd (omega (arith, decimal_small limit word e))
 
 -- ---- a status
 

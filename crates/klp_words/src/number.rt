@@ -1,19 +1,13 @@
-//! Numbers in decimal and hexadecimal digits. Digits are asked for first, since the standard library reads a
-//! plus in front too.
+//! Numbers in decimal and hexadecimal digits. The standard library reads a plus in front too, which is no part of
+//! a number here.
 
-ghost use Rattle.std.specs.Prelude.{◌≡◌, ◌||◌, ◌==◌, ◌^◌};
-ghost use Rattle.std.specs.Char.{is_ascii_digit, is_ascii_hexdigit};
+ghost use Rattle.std.specs.Prelude.{◌≡◌, ◌||◌, ◌==◌, ◌^◌, if◌then◌else◌, Some, None};
+ghost use Rattle.std.specs.Char.{is_ascii_digit, is_ascii_hexdigit, digit_value};
 ghost use Rattle.std.specs.List.{list_all};
 ghost use Rattle.klp_words.specs.Words.{decimal_of, hexadecimal_of, status_of};
 
 use crate::spelling::text;
 use klp_types::MAX_ADDRESS_DIGITS;
-
-fn has_only_digits(word: &[u8]) -> bool
-    ensures { result ≡ list_all is_ascii_digit word.now }
-{
-    word.iter().all(|b| b.is_ascii_digit())
-}
 
 fn has_only_digits_and_minus(word: &[u8]) -> bool
     ensures { result ≡ list_all (λ b. is_ascii_digit b || b == 45) word.now }
@@ -21,32 +15,31 @@ fn has_only_digits_and_minus(word: &[u8]) -> bool
     word.iter().all(|b| b.is_ascii_digit() || *b == b'-')
 }
 
-fn has_only_hexdigits(word: &[u8]) -> bool
-    ensures { result ≡ list_all is_ascii_hexdigit word.now }
-{
-    word.iter().all(|b| b.is_ascii_hexdigit())
-}
-
 /// A decimal number of 32 bits: digits alone. Zeros in front are allowed.
-#[tactic(auto, using(crate::proofs::WordLemmas::ascii_from_digits))]
 pub fn number32(word: &[u8]) -> Option<u32>
     ensures { result ≡ decimal_of (2 ^ 32) word.now }
 {
-    if !has_only_digits(word) {
-        return None;
-    }
-    text(word).parse().ok()
+    u32::try_from(number64(word)?).ok()
 }
 
-/// A decimal number: digits alone, less than 2 to the 64th. Catalogs and the console read theirs by it.
-#[tactic(auto, using(crate::proofs::WordLemmas::ascii_from_digits))]
+/// A decimal number: digits alone, less than 2 to the 64th. Catalogs and the console read theirs by it, so it
+/// goes over the digits once.
 pub fn number64(word: &[u8]) -> Option<u64>
     ensures { result ≡ decimal_of (2 ^ 64) word.now }
 {
-    if !has_only_digits(word) {
+    if word.is_empty() {
         return None;
     }
-    text(word).parse().ok()
+    let mut number: u64 = 0;
+    for byte in word {
+        if !byte.is_ascii_digit() {
+            return None;
+        }
+        number = number
+            .checked_mul(10)?
+            .checked_add(u64::from(*byte - b'0'))?;
+    }
+    Some(number)
 }
 
 /// A number of 32 bits with a sign: digits, or a minus and digits. A plus in front is no part of a number.
@@ -60,17 +53,29 @@ pub fn signed(word: &[u8]) -> Option<i32>
     text(word).parse::<i32>().ok()
 }
 
+/// What a hexadecimal digit stands for, in either case.
+fn hexadecimal_digit(byte: u8) -> Option<u8>
+    ensures { result ≡ (if is_ascii_hexdigit byte then Some (digit_value byte) else None) }
+{
+    match byte {
+        b'0'..=b'9' => Some(byte - b'0'),
+        b'a'..=b'f' => Some(byte - b'a' + 10),
+        b'A'..=b'F' => Some(byte - b'A' + 10),
+        _ => None,
+    }
+}
+
 /// A number of at most 16 hexadecimal digits, in either case, as an address is written. How many digits is
-/// asked for first, so that the standard library can't find it too great.
-#[tactic(auto, using(crate::proofs::WordLemmas::ascii_from_hexdigits))]
+/// asked for first, so that the number can't be too great.
 pub fn hexadecimal(word: &[u8]) -> Option<u64>
     ensures { result ≡ hexadecimal_of word.now }
 {
-    if word.len() > MAX_ADDRESS_DIGITS || !has_only_hexdigits(word) {
+    if word.is_empty() || word.len() > MAX_ADDRESS_DIGITS {
         return None;
     }
-    match u64::from_str_radix(text(word), 16) {
-        Ok(number) => Some(number),
-        Err(_) => None,
+    let mut number: u64 = 0;
+    for byte in word {
+        number = number * 16 + u64::from(hexadecimal_digit(*byte)?);
     }
+    Some(number)
 }
