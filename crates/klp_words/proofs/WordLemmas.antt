@@ -1,5 +1,5 @@
 -- Words and the tests of their bytes.
-use Rattle.std.proofs.Common.{◌≡◌, ℕ, ◌<◌, ◌≤◌, ◌&&◌, Bool, true, false, nat_lt, nat_le, ◌==◌, List, [], ◌∷◌, length, position, Option, Result, Ok, Err, MatchResult, is_ok, refl, ◌∙◌, arith}
+use Rattle.std.proofs.Common.{◌≡◌, ℕ, ◌<◌, ◌≤◌, ◌&&◌, Bool, true, false, nat_lt, nat_le, ◌==◌, List, [], ◌∷◌, length, position, Option, refl, ◌∙◌, arith}
 use Rattle.std.proofs.lemmas.Bool.Decides.{nat_tests}
 use Rattle.std.proofs.lemmas.Str.Ascii.{IsAscii-cons, IsAscii-nil}
 use Rattle.std.specs.Str.{IsAscii}
@@ -40,11 +40,6 @@ ascii_from_digits word h = ascii_from_all is_ascii_digit digit_low word h
 
 pub ascii_from_hexdigits : (word : List ℕ) → list_all is_ascii_hexdigit word ≡ true → IsAscii word
 ascii_from_hexdigits word h = ascii_from_all is_ascii_hexdigit hexdigit_low word h
-
--- a result is `Ok` where the reason of each error is ruled out
-pub ok_from : {T E U : Type 0} (r : Result T E) (P : T → Type 0) (Q : E → Type 0) → MatchResult r P (λ e. (U → ⊥) × Q e) → U → is_ok r ≡ true
-ok_from (Ok x) P Q h u = refl
-ok_from (Err e) P Q h u = absurd (h.0 u)
 
 -- the parts round the first dot and the first comma behind it
 pub parts_is : (text object rest symbol position : List ℕ) (r : Option Spelling) → object ≡ before_first (λ b. b == 46) text → rest ≡ after_first (λ b. b == 46) text

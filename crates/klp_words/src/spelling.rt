@@ -17,13 +17,13 @@ const SYMBOL_PREFIX: &[u8] = b".klp.sym.";
 fn is_name_byte(byte: u8) -> bool
     ensures { result ≡ is_name_byte byte }
 {
-    byte.is_ascii_alphanumeric() || byte == b'_' || byte == b'-'
+    matches!(byte, b'a'..=b'z' | b'0'..=b'9' | b'A'..=b'Z' | b'_' | b'-')
 }
 
 fn is_symbol_byte(byte: u8) -> bool
     ensures { result ≡ is_symbol_byte byte }
 {
-    byte.is_ascii_alphanumeric() || byte == b'_' || byte == b'.' || byte == b'$'
+    matches!(byte, b'a'..=b'z' | b'0'..=b'9' | b'A'..=b'Z' | b'_' | b'.' | b'$')
 }
 
 fn has_only_name_bytes(word: &[u8]) -> bool
@@ -64,12 +64,13 @@ pub fn is_symbol_name(word: &[u8]) -> bool
     has_only_symbol_bytes(word)
 }
 
-/// The word as text, which it is since it is ASCII: nothing is copied, and nothing can fail.
+/// The word as text, which it is since it is ASCII: nothing is copied or looked at once more, and nothing can fail.
 pub fn text(word: &[u8]) -> &str
     requires { IsAscii word.now }
     ensures { result.now ≡ word.now }
 {
-    str::from_utf8(word).unwrap()
+    // ASCII is UTF-8, as the proof shows.
+    unsafe { str::from_utf8_unchecked(word) }
 }
 
 /// A symbol with its object and its position, as a `func` line spells it: position 0 asks for the only
