@@ -4,3 +4,4 @@ pub mod NumberLemmas
 pub mod NameLemmas
 pub mod ValueLemmas
 pub mod ValueExamples
+pub mod LaneLemmas

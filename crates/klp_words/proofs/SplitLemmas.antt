@@ -1,9 +1,8 @@
 -- The first word of a line, and where the first byte stands that is looked for.
-use Rattle.std.proofs.Common.{◌≡◌, ℕ, ◌<◌, ◌≤◌, ◌+◌, Bool, true, false, not, nat_lt, ◌==◌, cond, List, [], ◌∷◌, length, take, drop, position, filter, unwrap_or, suc, Some, None, Option, refl, sym, ap, ◌∙◌, subst, arith, length-drop}
+use Rattle.std.proofs.Common.{◌≡◌, ℕ, ◌<◌, ◌≤◌, ◌+◌, Bool, true, false, not, nat_lt, ◌==◌, cond, List, [], ◌∷◌, length, take, drop, position, filter, suc, Some, None, refl, sym, ap, ◌∙◌, subst, arith, length-drop}
 use Rattle.std.proofs.lemmas.Bool.Decides.{nat_tests}
 use Rattle.std.proofs.lemmas.Grind.{common_steps}
 use Rattle.std.proofs.lemmas.List.{take_all, drop_all}
-use Rattle.std.proofs.lemmas.List.Sums.{prefix_len-le-length}
 use Rattle.std.specs.List.{slice_split, position_or_len, before_first, after_first}
 use Rattle.klp_words.specs.Split.{is_some_word, words_between}
 
@@ -30,11 +29,6 @@ before_none p xs h = take_all (position_or_len p xs) xs (missing_from p xs h)
 
 pub after_none : (p : ℕ → Bool) (xs : List ℕ) → position p xs ≡ None → after_first p xs ≡ []
 after_none p xs h = let far = missing_from p xs h in drop_all (position_or_len p xs + 1) xs (omega arith)
-
--- a position, or else the length
-pub or_len : (p : ℕ → Bool) (xs : List ℕ) (r : Option ℕ) → r ≡ position p xs → unwrap_or r (length xs) ≡ position_or_len p xs
-or_len p xs (Some n) h = found_at p xs n (sym h)
-or_len p xs None h = let far = missing_from p xs (sym h) in let near = prefix_len-le-length (λ x. not (p x)) xs in omega arith
 
 -- what comes with the part up to the first element that passes
 record FirstPart (p : ℕ → Bool) (xs : List ℕ) : Type 0 where

@@ -9,6 +9,10 @@ abbrev pub separates : Separators → ℕ → Bool
 separates Spaces b = b == 32
 separates SpacesAndTabs b = b == 32 || b == 9
 
+-- one of two bytes
+abbrev pub is_either : ℕ → ℕ → ℕ → Bool
+is_either one other b = b == one || b == other
+
 abbrev pub is_some_word : List ℕ → Bool
 is_some_word word = not (length word == 0)
 

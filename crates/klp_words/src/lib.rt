@@ -9,12 +9,14 @@
 #![tactic(auto)]
 
 pub mod examples;
+mod lanes;
 mod names;
 mod number;
 mod spelling;
 mod split;
 mod value;
 
+pub use lanes::is_ascii;
 pub use names::Names;
 pub use number::{hexadecimal, number32, number64, signed};
 pub use spelling::{Spelling, is_name, is_symbol_name, spelling_of, text};

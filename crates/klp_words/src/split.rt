@@ -2,8 +2,9 @@
 
 ghost use Rattle.std.specs.Prelude.{◌≡◌, ℕ, ◌==◌, not, position, List, ◌∷◌, [], MatchOption};
 ghost use Rattle.std.specs.List.{position_or_len, before_first, after_first};
-ghost use Rattle.klp_words.specs.Split.{separates, words_between};
+ghost use Rattle.klp_words.specs.Split.{separates, is_either, words_between};
 
+use crate::lanes::first_of;
 use std::marker::Model;
 
 /// What separates the words of a line: a tab is a byte of a word on the console, and none in a catalog.
@@ -11,6 +12,18 @@ use std::marker::Model;
 pub enum Separators {
     Spaces,
     SpacesAndTabs,
+}
+
+impl Separators {
+    /// The byte that separates words beside a space: a space once more where nothing else does.
+    fn beside_space(self) -> u8
+        ensures { (b : ℕ) → is_either 32 result b ≡ separates self b }
+    {
+        match self {
+            Separators::Spaces => b' ',
+            Separators::SpacesAndTabs => b'\t',
+        }
+    }
 }
 
 /// The words of a line that are still to be read, and what separates them. They are cut off one by one, so
@@ -59,10 +72,7 @@ impl<'a> Words<'a> {
         let separators = self.separators;
         let start = self.rest.iter().position(|b| !separates(separators, *b))?;
         let line = &self.rest[start..];
-        let end = line
-            .iter()
-            .position(|b| separates(separators, *b))
-            .unwrap_or(line.len());
+        let end = first_of(line, b' ', separators.beside_space());
         let (word, rest) = line.split_at(end);
         self.rest = rest;
         Some(word)
@@ -82,7 +92,12 @@ fn separates(separators: Separators, byte: u8) -> bool
 pub fn position_of(bytes: &[u8], at: u8) -> Option<usize>
     ensures { result ≡ position (λ b. b == at) bytes.now }
 {
-    bytes.iter().position(|b| *b == at)
+    let place = first_of(bytes, at, at);
+    if place < bytes.len() {
+        Some(place)
+    } else {
+        None
+    }
 }
 
 /// What is before the first byte `at`, and what is behind it: all and nothing where there is none. So a

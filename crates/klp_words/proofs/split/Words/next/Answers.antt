@@ -2,8 +2,10 @@ use Rattle.std.proofs.Common.{◌≡◌, ℕ, ◌-◌, ◌∙◌, List, None, So
 use Rattle.std.proofs.lemmas.List.{take_all}
 use Rattle.std.proofs.lemmas.Iterator.{YieldsList-from_slice}
 use Rattle.std.proofs.lemmas.Iterator.Search.{position_from_yields_List}
-use Rattle.klp_words.specs.Split.{separates}
-use Rattle.klp_words.proofs.SplitLemmas.{no_words, next_word, or_len}
+use Rattle.std.proofs.lemmas.List.Sums.{prefix_len-le-length}
+use Rattle.std.specs.List.{position_or_len}
+use Rattle.klp_words.specs.Split.{separates, is_either}
+use Rattle.klp_words.proofs.SplitLemmas.{no_words, next_word}
 use Rattle.klp_words.proofs.split.Words.next.Goals as goal
 
 pub returns-in_err-start : goal.returns-in_err-start
@@ -15,6 +17,11 @@ returns-in_err-start c =
     let no = no_words separating bytes (sym first ∙ none) in
     search rules
 
+pub split_at-requires : goal.split_at-requires
+split_at-requires c =
+    let line = take (length c.self.inside.rest.now - c.in_ok-start.start) (drop c.in_ok-start.start c.self.inside.rest.now) in
+    omega (arith, c.first_of-end.ensures, prefix_len-le-length (λ b. not (is_either 32 c.beside_space.result b)) line)
+
 pub returns : goal.returns
 returns c =
     let separating = separates c.self.inside.separators in
@@ -24,8 +31,7 @@ returns c =
     let from : line ≡ drop start bytes = take_all (length bytes - start) (drop start bytes) (omega (arith, length-drop start bytes)) in
     let first = position_from_yields_List (λ b. not (separating b)) _ _ c.position.result c.position.ensures.ran (YieldsList-from_slice bytes cc) (λ x b q k. search (rules, tests)) in
     let some : c.position.result ≡ Some start = search rules in
-    let second = position_from_yields_List separating _ _ c.position-2.result c.position-2.ensures.ran (YieldsList-from_slice line cc) (λ x b q k. search (rules, tests)) in
-    let end = c.unwrap_or-end.ensures ∙ or_len separating line c.position-2.result second in
+    let end = c.first_of-end.ensures ∙ ap (λ p. position_or_len p line) (λ i b. c.beside_space.ensures b i) in
     sym c.self.view_is
     ∙ next_word separating bytes line c.split_at.result.0.now c.split_at.result.1.now start (sym first ∙ some) from
     (c.split_at.ensures.front ∙ ap (λ n. take n line) end) (c.split_at.ensures.back ∙ ap (λ n. drop n line) end)
