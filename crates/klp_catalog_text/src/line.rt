@@ -1,8 +1,6 @@
 //! What one line says.
 
 ghost use Rattle.std.specs.Prelude.{◌≡◌, option_copied};
-ghost use Rattle.std.specs.Char.{is_ascii};
-ghost use Rattle.std.specs.List.{list_all};
 ghost use Rattle.klp_catalog_text.specs.Gives.{Gives};
 ghost use Rattle.klp_catalog_text.specs.Lines.{keyword_of, only_name, handler_line, object_line, symbol_line, replace_line, patch_line, target_line, func_line, callback_line, state_line, line_of_words, line_of};
 
@@ -12,7 +10,7 @@ use crate::items::{Name, PlanFunction, SystemState};
 use crate::lines::{is_word, three_words};
 use crate::{edit, words};
 use klp_types::{MAX_LINE, SymbolText, Which};
-use klp_words::{Words, hexadecimal, number32, number64};
+use klp_words::{Words, hexadecimal, is_ascii, number32, number64};
 use std::alloc::Global;
 
 /// The word that a line begins with.
@@ -47,12 +45,6 @@ pub enum CatalogLine {
     Callback(Which, ScriptText),
     /// A system state that the last patch names.
     State(SystemState),
-}
-
-fn is_ascii(text: &[u8]) -> bool
-    ensures { result ≡ list_all is_ascii text.now }
-{
-    text.iter().all(u8::is_ascii)
 }
 
 fn keyword_of(word: &[u8]) -> Option<Keyword>
