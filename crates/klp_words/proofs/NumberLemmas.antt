@@ -1,29 +1,19 @@
 -- Numbers in decimal and hexadecimal digits.
-use Rattle.std.proofs.Common.{◌≡◌, ℕ, zero, suc, ℤ, pos, neg_ℤ, ◌+◌, ◌*◌, ◌==◌, ◌<◌, ◌≤◌, ◌^◌, ◌≢◌, ◌&&◌, ◌||◌, Bool, true, false, nat_lt, if◌then◌else◌, List, [], ◌∷◌, length, get_or, take, Some, None, Option, option_map, Result, Ok, Err, refl, ap, ◌∙◌, add-one, arith, rules}
+use Rattle.std.proofs.Common.{◌≡◌, ℕ, ℤ, pos, neg_ℤ, ◌+◌, ◌*◌, ◌==◌, ◌<◌, ◌≤◌, ◌^◌, ◌≢◌, ◌&&◌, ◌||◌, Bool, true, false, nat_lt, if◌then◌else◌, List, [], ◌∷◌, length, get_or, take, Some, None, option_map, Result, Ok, Err, refl, ap, ◌∙◌, add-one, arith, rules}
 use Rattle.std.proofs.Math.Nat.{pow-le-pow_right, pow-suc}
 use Rattle.std.proofs.lemmas.Bool.Decides.{nat_tests}
 use Rattle.std.proofs.lemmas.List.Folds.{list_all_more}
-use Rattle.std.proofs.lemmas.Str.Parse.{IsNumeralModel, numerals_by_value, parse_digits, parse_signed_minus, parse_signed_plain, digits_value-take-le}
+use Rattle.std.proofs.lemmas.Str.Parse.{IsNumeralModel, numerals_by_value, parse_signed_minus, parse_signed_plain, digits_value-take-le}
 use Rattle.std.proofs.lemmas.Int.Digits.{digits_value_more}
 use Rattle.std.specs.Result.{OkIff, result_ok}
 use Rattle.std.specs.List.{list_all}
 use Rattle.std.specs.Char.{is_ascii_digit, is_ascii_hexdigit, digit_value}
 use Rattle.std.specs.Str.{IsAscii}
-use Rattle.std.specs.Str.Parse.{digits_value, ParsesUnsigned, ParsesSigned}
+use Rattle.std.specs.Str.Parse.{digits_value, ParsesSigned}
 use Rattle.std.specs.Int.{w32}
 use Rattle.std.proofs.lemmas.Bool.{and_parts}
-use Rattle.klp_words.specs.Words.{is_address, hexadecimal_of, is_decimal, decimal_of, status_of}
+use Rattle.klp_words.specs.Words.{is_decimal, decimal_of, status_of}
 use Rattle.klp_words.proofs.WordLemmas.{ascii_from_all}
-
--- where one fails, not all pass
-list_all_fails : (p : ℕ → Bool) (xs : List ℕ) (i : ℕ) → i < length xs → p (get_or xs i 0) ≡ false → list_all p xs ≡ false
-list_all_fails p [] i inside fails = absurd (omega arith)
-list_all_fails p (x ∷ xs) zero inside fails = rw fails refl
-list_all_fails p (x ∷ xs) (suc i) inside fails = rw (list_all_fails p xs i (omega arith) fails) (by (p x))
-  where
-    by : (b : Bool) → (b && false) ≡ false
-    by true = refl
-    by false = refl
 
 pub all_more : (p : ℕ → Bool) (xs : List ℕ) (i : ℕ) → i < length xs → list_all p (take i xs) ≡ true → p (get_or xs i 0) ≡ true → list_all p (take (i + 1) xs) ≡ true
 all_more p xs i inside before here = list_all_more p xs i 0 inside ∙ rw (before, here) refl
@@ -47,21 +37,6 @@ hexadecimal_room n i few small = let bound : 16 ^ i ≤ 16 ^ 15 = pow-le-pow_rig
 
 pub hexadecimal_step : (n d i : ℕ) → n < 16 ^ i → d < 16 → n * 16 + d < 16 ^ (i + 1)
 hexadecimal_step n d i small digit = let more : 16 ^ (i + 1) ≡ 16 ^ i * 16 = rw add-one (pow-suc 16 i) in omega (arith, more)
-
-is_address_at : (word : List ℕ) → 0 < length word → length word ≤ 16 → list_all is_ascii_hexdigit word ≡ true → is_address word ≡ true
-is_address_at word some few digits = grind (arith, nat_tests)
-
-no_address : (word : List ℕ) → list_all is_ascii_hexdigit word ≡ false → is_address word ≡ false
-no_address word h = grind (arith, nat_tests)
-
-pub no_hexadecimal : (word : List ℕ) → is_address word ≡ false → None ≡ hexadecimal_of word
-no_hexadecimal word h = rw h refl
-
-pub hexadecimal_fails : (word : List ℕ) (i : ℕ) → i < length word → is_ascii_hexdigit (get_or word i 0) ≡ false → None ≡ hexadecimal_of word
-hexadecimal_fails word i inside fails = no_hexadecimal word (no_address word (list_all_fails is_ascii_hexdigit word i inside fails))
-
-pub hexadecimal_is : (word : List ℕ) → 0 < length word → length word ≤ 16 → list_all is_ascii_hexdigit word ≡ true → Some (digits_value 16 word) ≡ hexadecimal_of word
-hexadecimal_is word some few digits = rw (is_address_at word some few digits) refl
 
 -- ---- decimal numbers
 
@@ -92,20 +67,6 @@ answers f n true Q (Err e) h to from = absurd (h (from refl))
 answers f n false Q (Ok x) h to from = let no : false ≡ true = to h.0 in absurd cc
 answers f n false Q (Err e) h to from = refl
 
-same : {T : Type 0} (o : Option T) → option_map (λ x. x) o ≡ o
-same None = refl
-same (Some x) = refl
-
--- digits alone
-pub decimal_is : {E : Type 0} (k : ℕ) (word : List ℕ) (r : Result ℕ E) → list_all is_ascii_digit word ≡ true → ParsesUnsigned k 10 word r → result_ok r ≡ decimal_of (2 ^ k) word
-decimal_is k word r digits h =
-    answers (λ n. n) (digits_value 10 word) (is_decimal (2 ^ k) word) ((0 < length word) × (digits_value 10 word < 2 ^ k)) r (parse_digits own k word r h digits)
-    (λ q. is_decimal_at (2 ^ k) word q.0 digits q.1) (λ yes. (decimal_some (2 ^ k) word yes, decimal_small (2 ^ k) word yes))
-    ∙ same (decimal_of (2 ^ k) word)
-
-pub decimal_at : (limit : ℕ) (word : List ℕ) → 0 < length word → list_all is_ascii_digit word ≡ true → digits_value 10 word < limit → Some (digits_value 10 word) ≡ decimal_of limit word
-decimal_at limit word some digits small = rw (is_decimal_at limit word some digits small) refl
-
 -- without digits alone there is no number
 pub no_decimal : (limit : ℕ) (word : List ℕ) → list_all is_ascii_digit word ≡ false → None ≡ decimal_of limit word
 no_decimal limit word h = by (is_decimal limit word) refl
@@ -113,9 +74,6 @@ no_decimal limit word h = by (is_decimal limit word) refl
     by : (b : Bool) → is_decimal limit word ≡ b → None ≡ (if b then Some (digits_value 10 word) else None)
     by false e = refl
     by true e = let yes = decimal_digits limit word e in absurd cc
-
-pub decimal_fails : (limit : ℕ) (word : List ℕ) (i : ℕ) → i < length word → is_ascii_digit (get_or word i 0) ≡ false → None ≡ decimal_of limit word
-decimal_fails limit word i inside fails = no_decimal limit word (list_all_fails is_ascii_digit word i inside fails)
 
 -- where the first digits don't fit, the whole doesn't
 pub too_great : (limit : ℕ) (word : List ℕ) (i : ℕ) → i < length word → limit ≤ digits_value 10 (take i word) * 10 + digit_value (get_or word i 0) → None ≡ decimal_of limit word

@@ -4,7 +4,6 @@ use Rattle.std.proofs.lemmas.Bool.Decides.{nat_tests}
 use Rattle.std.proofs.lemmas.Str.Ascii.{IsAscii-cons, IsAscii-nil}
 use Rattle.std.specs.Str.{IsAscii}
 use Rattle.std.specs.List.{list_all, before_first, after_first}
-use Rattle.std.specs.Char.{is_ascii_digit, is_ascii_hexdigit}
 use Rattle.std.proofs.lemmas.Bool.{and_parts}
 use Rattle.klp_words.specs.Words.{Spelling, spelling_of_parts, spelling_behind_prefix, is_name, is_name_byte, is_symbol_name, is_symbol_byte}
 
@@ -23,23 +22,11 @@ name_byte_low b h = grind (arith, nat_tests)
 symbol_byte_low : (b : ℕ) → is_symbol_byte b ≡ true → b < 128
 symbol_byte_low b h = grind (arith, nat_tests)
 
-digit_low : (b : ℕ) → is_ascii_digit b ≡ true → b < 128
-digit_low b h = grind (arith, nat_tests)
-
-hexdigit_low : (b : ℕ) → is_ascii_hexdigit b ≡ true → b < 128
-hexdigit_low b h = grind (arith, nat_tests)
-
 pub ascii_from_name : (word : List ℕ) → is_name word ≡ true → IsAscii word
 ascii_from_name word h = ascii_from_all is_name_byte name_byte_low word (and_parts (nat_lt 0 (length word) && nat_le (length word) 55) (list_all is_name_byte word) h).1
 
 pub ascii_from_symbol_name : (word : List ℕ) → is_symbol_name word ≡ true → IsAscii word
 ascii_from_symbol_name word h = ascii_from_all is_symbol_byte symbol_byte_low word (and_parts (nat_lt 0 (length word) && nat_le (length word) 127) (list_all is_symbol_byte word) h).1
-
-pub ascii_from_digits : (word : List ℕ) → list_all is_ascii_digit word ≡ true → IsAscii word
-ascii_from_digits word h = ascii_from_all is_ascii_digit digit_low word h
-
-pub ascii_from_hexdigits : (word : List ℕ) → list_all is_ascii_hexdigit word ≡ true → IsAscii word
-ascii_from_hexdigits word h = ascii_from_all is_ascii_hexdigit hexdigit_low word h
 
 -- the parts round the first dot and the first comma behind it
 pub parts_is : (text object rest symbol position : List ℕ) (r : Option Spelling) → object ≡ before_first (λ b. b == 46) text → rest ≡ after_first (λ b. b == 46) text

@@ -53,15 +53,22 @@ pub fn signed(word: &[u8]) -> Option<i32>
     text(word).parse::<i32>().ok()
 }
 
-/// What a hexadecimal digit stands for, in either case.
+/// What a hexadecimal digit stands for, in either case. How far behind the first of its kind a byte stands tells by one
+/// comparison whether it is of that kind.
 fn hexadecimal_digit(byte: u8) -> Option<u8>
     ensures { result ≡ (if is_ascii_hexdigit byte then Some (digit_value byte) else None) }
 {
-    match byte {
-        b'0'..=b'9' => Some(byte - b'0'),
-        b'a'..=b'f' => Some(byte - b'a' + 10),
-        b'A'..=b'F' => Some(byte - b'A' + 10),
-        _ => None,
+    let decimal = byte.wrapping_sub(b'0');
+    let lower = byte.wrapping_sub(b'a');
+    let upper = byte.wrapping_sub(b'A');
+    if decimal < 10 {
+        Some(decimal)
+    } else if lower < 6 {
+        Some(lower + 10)
+    } else if upper < 6 {
+        Some(upper + 10)
+    } else {
+        None
     }
 }
 
