@@ -69,22 +69,13 @@ impl<'a> Words<'a> {
     pub fn next(&mut self) -> Option<&'a [u8]>
         ensures { MatchOption result (self.old ≡ []) (λ word. self.old ≡ word.now ∷ self.new) }
     {
-        let separators = self.separators;
-        let start = self.rest.iter().position(|b| !separates(separators, *b))?;
+        let other = self.separators.beside_space();
+        let start = self.rest.iter().position(|b| *b != b' ' && *b != other)?;
         let line = &self.rest[start..];
-        let end = first_of(line, b' ', separators.beside_space());
+        let end = first_of(line, b' ', other);
         let (word, rest) = line.split_at(end);
         self.rest = rest;
         Some(word)
-    }
-}
-
-fn separates(separators: Separators, byte: u8) -> bool
-    ensures { result ≡ separates separators byte }
-{
-    match separators {
-        Separators::Spaces => byte == b' ',
-        Separators::SpacesAndTabs => byte == b' ' || byte == b'\t',
     }
 }
 
