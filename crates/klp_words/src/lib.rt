@@ -3,9 +3,9 @@
 //! [`Words`] cuts a line into words, separated by spaces, or by spaces and tabs (`specs/Split`), and [`cut`]
 //! tells what is before the first byte of a kind, and what is behind it. [`number64`] and its like read
 //! numbers, [`shadow_value`] the value of a shadow variable, and [`spelling_of`] what the name of a symbol
-//! spells (`specs/Words`). None of these takes memory, and what is wrong with a word is its reader's to say.
-//! [`Names`] is a table of names, which finds the place of a name and the name at a place. `examples` has what
-//! words of each kind come to, and which are refused.
+//! spells (`specs/Words`). [`is_ascii`] tells whether a line is ASCII. None of these takes memory, and what is
+//! wrong with a word is its reader's to say. [`Names`] is a table of names, which finds the place of a name and
+//! the name at a place. `examples` has what words of each kind come to, and which are refused.
 #![tactic(auto)]
 
 pub mod examples;
