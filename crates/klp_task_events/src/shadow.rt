@@ -51,7 +51,7 @@ pub fn shadow_alloc_refusal(manager: &ManagerState, key: ShadowKey) -> Option<Re
         → result ≡ refused_in manager.now catalog (ShadowAlloc key value) }
     ensures room { IfNone result (finite.len manager.now.world.shadow < MAX_VARIABLES) }
 {
-    if manager.world.get(key).is_some() {
+    if manager.world.has(key) {
         Some(Refusal::Exists)
     } else if is_full(manager) {
         Some(Refusal::Full)
@@ -91,7 +91,7 @@ pub fn shadow_get_or_alloc_refusal(manager: &ManagerState, key: ShadowKey) -> Op
     ensures room { IfNone result
         (variable manager.now.world key ≡ None → finite.len manager.now.world.shadow < MAX_VARIABLES) }
 {
-    if manager.world.get(key).is_none() && is_full(manager) {
+    if !manager.world.has(key) && is_full(manager) {
         Some(Refusal::Full)
     } else {
         None

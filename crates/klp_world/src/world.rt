@@ -102,6 +102,13 @@ impl World {
         self.shadow.get(key)
     }
 
+    /// Whether a shadow variable is there. Its value, which has room for 64 bytes, isn't copied.
+    pub fn has(&self, key: ShadowKey) -> bool
+        ensures { result ≡ is_some (variable self.now key) }
+    {
+        self.shadow.has(key)
+    }
+
     /// How many shadow variables there are, at a constant cost: by it room is asked for before callbacks
     /// run.
     pub fn count(&self) -> u16
@@ -168,7 +175,7 @@ impl World {
         ensures changes { Changes self.old self.new log.old log.new
             (allocated self.old key value (variable self.old key)) (rows_of_alloc self.old key) }
     {
-        if self.shadow.get(key).is_some() {
+        if self.shadow.has(key) {
             return false;
         }
         self.shadow.insert(key, value);
