@@ -1,13 +1,15 @@
--- Keys of shadow variables spread over buckets by the hash of their parent object, each with its slot.
-use Rattle.std.specs.Prelude.{◌≡◌, ℕ, suc, ◌*◌, ◌/◌, ◌%◌, ◌==◌, List, [], ◌∷◌, filter, None}
+-- Keys of shadow variables spread over buckets by their hash, each with its slot.
+use Rattle.std.specs.Prelude.{◌≡◌, ℕ, suc, ◌+◌, ◌*◌, ◌/◌, ◌%◌, ◌==◌, List, [], ◌∷◌, filter, None}
 use Rattle.std.specs.List.{flat_map}
 use Rattle.std.specs.FinMap as finite
 use Rattle.klp_types.specs.declared.shadow.ShadowKey.{ShadowKey}
 use Rattle.klp_world.specs.Slots.{Slots}
 
--- the bucket of a parent object: the top six bits of its product, as the kernel's hash takes them
-unfoldable pub bucket_of : ℕ → ℕ
-bucket_of obj = (obj * 7046029254386353131) % 18446744073709551616 / 288230376151711744
+-- the bucket of a key: the top six bits of a product, as the kernel's hash takes them, of the id and the object's product
+unfoldable pub bucket_of : ShadowKey → ℕ
+bucket_of key =
+    ((key.obj * 7046029254386353131 % 18446744073709551616 + key.id) % 18446744073709551616 * 7046029254386353131) % 18446744073709551616
+    / 288230376151711744
 
 -- the keys of the buckets, one bucket after another
 abbrev pub listed : List Slots → List (ShadowKey × ℕ)
@@ -21,7 +23,7 @@ all_of buckets = finite.from_entries (listed buckets)
 abbrev pub HoldOwn : ℕ → List Slots → Type 0
 HoldOwn number [] = Unit {0}
 HoldOwn number (bucket ∷ buckets) =
-    ((key : ShadowKey) → (bucket_of key.obj ≡ number → ⊥) → finite.get bucket key ≡ None) × HoldOwn (suc number) buckets
+    ((key : ShadowKey) → (bucket_of key ≡ number → ⊥) → finite.get bucket key ≡ None) × HoldOwn (suc number) buckets
 
 -- the keys of an id
 abbrev pub of_id : ℕ → List (ShadowKey × ℕ) → List (ShadowKey × ℕ)
