@@ -5,4 +5,5 @@ pub mod Sorted
 pub mod Slots
 pub mod Buckets
 pub mod Freed
+pub mod Added
 pub mod Changes

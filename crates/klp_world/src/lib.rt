@@ -21,4 +21,5 @@ mod table;
 mod world;
 
 pub use klp_types::{Edit, MAX_EDITS, MAX_PATCHES, MAX_STATES, MAX_VARIABLES, Script};
+pub use table::NotAdded;
 pub use world::World;

@@ -1,16 +1,18 @@
-ghost use Rattle.std.specs.Prelude.{◌≡◌, ℕ, ◌+◌, ◌<◌, ◌≤◌, ◌==◌, false, List, [], ◌∷◌, ◌++◌, length, map, reverse, insert, remove, slice_index_or, Some, is_some, is_none, unwrap_or, IfOk};
+ghost use Rattle.std.specs.Prelude.{◌≡◌, ℕ, ◌+◌, ◌<◌, ◌≤◌, ◌==◌, false, List, [], ◌∷◌, ◌++◌, length, map, reverse, insert, remove, slice_index_or, Some, is_some, is_none, unwrap_or, IfOk, IfSome, IfNone};
 ghost use Rattle.std.specs.List.{list_any};
 ghost use Rattle.std.specs.FinMap as finite;
 ghost use Rattle.klp_types.specs.Records.{spare_of};
 ghost use Rattle.klp_types.specs.World.{Installed};
-ghost use Rattle.klp_types.specs.World.{variable, state_value, previous_patch, newest_naming, installed_before, change_states, without_variable, without_id, with_value, with_patch, without_patch};
+ghost use Rattle.klp_types.specs.World.{variable, state_value, previous_patch, newest_naming, installed_before, change_states, with_variable, without_variable, without_id, with_value, with_patch, without_patch};
 ghost use Rattle.klp_types.specs.Script.{allocated};
+ghost use Rattle.klp_world.specs.Added.{against};
 ghost use Rattle.klp_world.specs.Changes.{Changes};
 ghost use Rattle.klp_world.specs.Undo.{put_variable, put_state, put_patch, put_back};
 ghost use Rattle.klp_world.specs.Noted.{noting, rows_of_alloc, rows_of_free, rows_of_free_all, variable_rows, state_row, rows_of_set, rows_of_add, rows_of_drop};
 
 use crate::patch::{InstalledPatch, SystemState, place_of_patch};
 use crate::shadow::ShadowMap;
+use crate::table::NotAdded;
 use arrayvec::ArrayVec;
 use klp_record_words::Records;
 use klp_types::{MAX_PATCHES, MAX_STATES, MAX_VARIABLES, PatchId, Record, ShadowKey, ShadowValue};
@@ -175,12 +177,34 @@ impl World {
         ensures changes { Changes self.old self.new log.old log.new
             (allocated self.old key value (variable self.old key)) (rows_of_alloc self.old key) }
     {
-        if self.shadow.has(key) {
+        if self.shadow.add(key, &value).is_some() {
             return false;
         }
-        self.shadow.insert(key, value);
         log.note(Record::NoShadowVariable { key });
         true
+    }
+
+    /// Adds a shadow variable as the only change of an event, and answers what was against it: that it is
+    /// there, or that there is no room, and then all stays as it was, also what is logged. Else that is let
+    /// go, and this change alone is logged. One search does, where to ask first would take another.
+    pub fn alloc_alone(
+        &mut self,
+        key: ShadowKey,
+        value: &ShadowValue,
+        log: &mut Records,
+    ) -> Option<NotAdded>
+        requires { 0 < log.old.room }
+        ensures against { result ≡ against self.old.shadow key }
+        ensures kept { IfSome result (λ _. (self.new ≡ self.old) × (log.new ≡ log.old)) }
+        ensures changes { IfNone result (Changes self.old self.new (record log.old { noted = [] }) log.new
+            (with_variable self.old key value.now) (rows_of_alloc self.old key)) }
+    {
+        if let Some(against) = self.shadow.add(key, value) {
+            return Some(against);
+        }
+        log.clear();
+        log.note(Record::NoShadowVariable { key });
+        None
     }
 
     /// The value of a shadow variable, which is added with this value where it isn't there
@@ -197,9 +221,11 @@ impl World {
         ensures changes { Changes self.old self.new log.old log.new
             (allocated self.old key value (variable self.old key)) (rows_of_alloc self.old key) }
     {
-        let there = self.get(key);
+        if let Some(there) = self.get(key) {
+            return there;
+        }
         self.alloc(key, value, log);
-        there.unwrap_or(value)
+        value
     }
 
     /// Removes a shadow variable, and answers whether it was there (`klp_shadow_free`). Nothing is logged

@@ -1,20 +1,20 @@
-use Rattle.std.proofs.Common.{ap, refl, ◌∙◌, rules}
-use Rattle.klp_types.specs.World.{World, Shadow, with_variable}
-use Rattle.klp_world.proofs.UndoLemmas.{alloc_undone, is_missing}
+use Rattle.std.proofs.Common.{ap, sym, None, ◌≡◌, ◌∙◌}
+use Rattle.klp_types.specs.Script.{allocated}
+use Rattle.klp_types.specs.World.{World, Shadow, with_variable, variable}
+use Rattle.klp_world.specs.Noted.{noting, row_if_added}
+use Rattle.klp_world.proofs.AddedLemmas.{not_there, none_against}
+use Rattle.klp_world.proofs.UndoLemmas.{alloc_undone}
 use Rattle.klp_world.proofs.ToldLemmas.{alloc_told}
 use Rattle.klp_world.proofs.world.World.alloc.Goals as goal
 
 pub returns-clause-changes : goal.returns-clause-changes
-returns-clause-changes c = record {
-  world = search rules;
-  records = search rules;
-  undo = alloc_undone c.args.self.now c.args.key c.args.value _
-      (ap (λ (s : Shadow). record { installed = c.self.inside.patches.items; shadow = s }) c.insert.ensures ∙ ap (λ (w : World). with_variable w c.args.key c.args.value) c.self.view_is)
-      (is_missing c.self.inside.shadow c.args.key _ refl c.self.view_is c.if-has.ensures);
-  told = alloc_told c.args.self.now c.args.key c.args.value _
-      (ap (λ (s : Shadow). record { installed = c.self.inside.patches.items; shadow = s }) c.insert.ensures ∙ ap (λ (w : World). with_variable w c.args.key c.args.value) c.self.view_is)
-      (is_missing c.self.inside.shadow c.args.key _ refl c.self.view_is c.if-has.ensures);
-}
-
-pub returns-then-has-clause-changes : goal.returns-then-has-clause-changes
-returns-then-has-clause-changes c = search rules
+returns-clause-changes c =
+    let nothing = none_against c.add.result c.if-is_some.ensures in
+    let none : variable c.args.self.now c.args.key ≡ None = ap (λ (w : World). variable w c.args.key) (sym c.self.view_is) ∙ not_there c.self.inside.shadow c.args.key (sym nothing ∙ c.add.ensures.against) in
+    let made = ap (λ (s : Shadow). record { installed = c.self.inside.patches.items; shadow = s }) (rw nothing at c.add.ensures.added) ∙ ap (λ (w : World). with_variable w c.args.key c.args.value) c.self.view_is in
+    record {
+      world = made ∙ sym (ap (allocated c.args.self.now c.args.key c.args.value) none);
+      records = c.note.ensures ∙ sym (ap (λ found. noting c.args.log.now (row_if_added c.args.key found)) none);
+      undo = alloc_undone c.args.self.now c.args.key c.args.value _ made none;
+      told = alloc_told c.args.self.now c.args.key c.args.value _ made none;
+    }
