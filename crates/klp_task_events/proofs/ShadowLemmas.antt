@@ -1,12 +1,12 @@
 -- Shadow events, where nothing refuses them.
-use Rattle.std.proofs.Common.{◌≡◌, Bool, true, false, List, [], map, Option, Some, None, Ok, is_some, refl, sym, ap, ◌∙◌}
+use Rattle.std.proofs.Common.{◌≡◌, Bool, true, false, List, [], map, Option, Some, None, Ok, refl, sym, ap, ◌∙◌}
 use Rattle.std.specs.Prelude.{◌∷◌}
 use Rattle.klp_types.specs.declared.record.Record.{Record}
 use Rattle.klp_types.specs.declared.shadow.ShadowKey.{ShadowKey}
 use Rattle.klp_types.specs.FirstOf.{first_of}
 use Rattle.klp_types.specs.Records.{RecordList}
 use Rattle.klp_types.specs.Script.{allocated}
-use Rattle.klp_types.specs.World.{Installed, World, ShadowValue, with_variable}
+use Rattle.klp_types.specs.World.{Installed, World, ShadowValue}
 use Rattle.klp_model.specs.declared.event.Event.{Event}
 use Rattle.klp_model.specs.declared.event.Refusal.TheVariants.{Exists, Full}
 use Rattle.klp_model.specs.declared.event.Reply.{Reply}
@@ -14,6 +14,7 @@ use Rattle.klp_model.specs.EventCalls.{calls}
 use Rattle.klp_model.specs.State.{with_world}
 use Rattle.klp_model.specs.Step.{accepted}
 use Rattle.klp_catalog.specs.Catalog.{Catalog}
+use Rattle.klp_world.specs.declared.table.NotAdded.TheVariants as NotAdded
 use Rattle.klp_world.specs.Changes.{Changes}
 use Rattle.klp_manager_state.specs.declared.state.ManagerState.{ManagerState}
 use Rattle.klp_manager_state.specs.Alone.{IsWorldTaken}
@@ -23,15 +24,11 @@ use Rattle.klp_manager_state.specs.Managed.{setting_in, state_in, refused_in}
 use Rattle.klp_manager_state.specs.StepLaws.{StepLaws}
 use Rattle.klp_task_events.proofs.NotedLemmas.{emptied}
 
--- what refuses nothing finds no variable
-pub not_there : (there full : Bool) → None ≡ first_of ((there, Exists) ∷ (full, Full) ∷ []) → there ≡ false
-not_there true full free = let no : ⊥ = cc in absurd no
-not_there false full free = refl
-
--- a variable that isn't there is added
-pub added : (world : World) (key : ShadowKey) (value : ShadowValue) (found : Option ShadowValue) → is_some found ≡ false → allocated world key value found ≡ with_variable world key value
-added world key value None apart = refl
-added world key value (Some there) apart = let no : ⊥ = cc in absurd no
+-- an event that adds a variable isn't refused where nothing is against the variable
+pub nothing_refuses : (there full : Bool) → None ≡ first_of ((there, NotAdded.Exists) ∷ (full, NotAdded.Full) ∷ []) → None ≡ first_of ((there, Exists) ∷ (full, Full) ∷ [])
+nothing_refuses true full free = let no : ⊥ = cc in absurd no
+nothing_refuses false true free = let no : ⊥ = cc in absurd no
+nothing_refuses false false free = refl
 
 -- the same patches are installed
 pub patches_stay : (world : World) (key : ShadowKey) (value : ShadowValue) (found : Option ShadowValue)

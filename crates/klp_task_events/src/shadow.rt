@@ -20,6 +20,7 @@ use klp_catalog::Catalog;
 use klp_manager_state::{Brief, BriefReply, ManagerState};
 use klp_model::{Refusal, Reply};
 use klp_types::{MAX_VARIABLES, ShadowKey, ShadowValue};
+use klp_world::NotAdded;
 
 /// A variable that isn't there is added. One that is there is a refusal, where the kernel warns and gives
 /// nothing (`klp_shadow_alloc`).
@@ -37,12 +38,11 @@ pub fn shadow_alloc(
     klp_manager_state::laws::changes_of_one_kind_are_taken();
     klp_manager_state::laws::what_is_noted_gives_the_rows_back();
     klp_world::laws::what_is_noted_is_of_the_world();
-    if let Some(refusal) = shadow_alloc_refusal(manager, key) {
-        return Err(refusal);
+    match manager.world.alloc_alone(key, value, &mut manager.log) {
+        None => Ok(BriefReply(Brief::Done)),
+        Some(NotAdded::Exists) => Err(Refusal::Exists),
+        Some(NotAdded::Full) => Err(Refusal::Full),
     }
-    manager.log.clear();
-    manager.world.alloc(key, *value, &mut manager.log);
-    Ok(BriefReply(Brief::Done))
 }
 
 /// Why a variable isn't added, whatever its value: that it is there comes before want of room.
@@ -91,7 +91,7 @@ pub fn shadow_get_or_alloc_refusal(manager: &ManagerState, key: ShadowKey) -> Op
     ensures room { IfNone result
         (variable manager.now.world key ≡ None → finite.len manager.now.world.shadow < MAX_VARIABLES) }
 {
-    if !manager.world.has(key) && is_full(manager) {
+    if is_full(manager) && !manager.world.has(key) {
         Some(Refusal::Full)
     } else {
         None
