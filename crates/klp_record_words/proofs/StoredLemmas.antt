@@ -80,19 +80,22 @@ pub none_left : (count : ℕ) (words : List ℕ) → AreWords count words → ((
 none_left zero words are never = refl
 none_left (suc count) words are never = absurd (never (words_before words) (last_record words) are.1.0 are.0)
 
--- the first words of a list: those of so many records, of which there is room for one more
-pub room_for_one : (count room end : ℕ) (words : List ℕ) → AreWords count (take end words) → end ≤ length words → count < room → end + 36 ≤ 36 * room
-room_for_one count room end words are within spare =
-    omega (arith, few_words count (take end words) are, length-take-le end words within)
+-- the words that are left, where those of the last record are taken off
+pub is_fewer : (count many all : ℕ) (words left front : List ℕ) (row : Record) → AreWords count words → IsRecord row → words ≡ front ++ words_of row → many ≡ length (words_of row) → all ≡ length words
+    → left ≡ take (all - many) words → (1 ≤ count) × (AreWords (count - 1) left × (records_in count words ≡ records_in (count - 1) left ++ row ∷ []))
+is_fewer count many all words left front row are is e own long cut =
+    subst (λ xs. (1 ≤ count) × (AreWords (count - 1) xs × (records_in count words ≡ records_in (count - 1) xs ++ row ∷ []))) (sym same)
+    (are_fewer count (count - 1) words front row refl is e are)
+  where
+    fits : length front ≡ all - many
+    fits = omega (arith, own, long, ap length e ∙ length-append front (words_of row))
 
--- those before the last record
-pub front_taken : (end left : ℕ) (words front : List ℕ) (row : Record) → end ≤ length words → take end words ≡ front ++ words_of row → left ≡ end - length (words_of row) → take left words ≡ front
-front_taken end left words front row within e is =
-    let long = length-take-le end words within in
-    let both = ap length e ∙ length-append front (words_of row) in
-    let fewer : left ≤ end = omega (arith, is) in
-    let same : length front ≡ left = omega (arith, is, long, both) in
-    sym (take-take left end words fewer) ∙ ap (take left) e ∙ take_at front (words_of row) left same
+    same : left ≡ front
+    same = cut ∙ ap (take (all - many)) e ∙ take_at front (words_of row) (all - many) fits
+
+-- and there are as many
+pub within : (many all : ℕ) (words front : List ℕ) (row : Record) → words ≡ front ++ words_of row → many ≡ length (words_of row) → all ≡ length words → many ≤ all
+within many all words front row e own long = omega (arith, own, long, ap length e ∙ length-append front (words_of row))
 
 -- records behind others
 

@@ -3,8 +3,8 @@ ghost use Rattle.std.specs.Prelude.{◌≡◌, ℕ, ◌+◌, ◌≤◌, List, []
 ghost use Rattle.klp_types.specs.declared.record.Record.{Record};
 ghost use Rattle.klp_record_words.specs.Words.{words_of, IsRecord};
 
-use crate::behind::write_record;
 use crate::read::read_back;
+use crate::write::write_record;
 use klp_types::Record;
 
 /// No record's words are the last of another's: so where a list ends with a record, it is one record alone, and

@@ -12,7 +12,6 @@
 //! has; `examples` three of them. Why words: docs/DECISIONS.md, "Records as words".
 #![tactic(auto)]
 
-mod behind;
 pub mod examples;
 mod frame_words;
 pub mod laws;
@@ -23,9 +22,9 @@ mod stored;
 mod switched;
 mod write;
 
-pub use behind::write_record;
 pub use frame_words::FrameWords;
 pub use read::read_back;
 pub use records::Records;
 pub use small::SmallRecord;
 pub use switched::SwitchedTask;
+pub use write::write_record;

@@ -1,5 +1,5 @@
 //! Records as words in one list, one behind another.
-ghost use Rattle.std.specs.Prelude.{◌≡◌, ◌+◌, ◌*◌, ◌<◌, ◌≤◌, [], ◌∷◌, ◌++◌, length, map, take, slice_get, Some, IfOk, IfSome, IfNone, vec_len, vec_capacity};
+ghost use Rattle.std.specs.Prelude.{◌≡◌, ◌+◌, ◌-◌, ◌*◌, ◌<◌, ◌≤◌, [], ◌∷◌, ◌++◌, length, map, take, slice_get, Some, IfOk, IfSome, IfNone, vec_len, vec_capacity};
 ghost use Rattle.klp_types.specs.declared.record.Record.TheVariants.{TaskRow};
 ghost use Rattle.klp_types.specs.declared.task.Task.{Task as AnyTask};
 ghost use Rattle.klp_record_words.specs.Small.{row_of};
@@ -9,70 +9,39 @@ use crate::frame_words::FrameWords;
 use crate::read::read_back;
 use crate::small::{SmallRecord, small};
 use crate::switched::{SwitchedTask, switched};
-use crate::write::{copy_task, put_record};
+use crate::write::{copy_task, write_record};
 use klp_types::{MAX_RECORD_WORDS, Record, Task, TaskId};
 use std::alloc::{AllocError, Global};
 use std::marker::Model;
 
-/// How many words are made ready at a time.
-const READY: usize = 1024;
-
 /// Records in the order in which they were logged, as words in one list whose room is taken when it is made.
 #[derive(Drop)]
 pub(crate) struct StoredRecords {
-    /// The words of the records, and behind them words that are ready to be written over.
     words: Vec<u64>,
-    /// How many of the words are those of records.
-    end: usize,
     /// How many records there are.
     count: usize,
     room: usize,
 }
 
-/// Sees to it that the words of one more record can be written behind so many. The list grows within its room, a
-/// piece at a time, so that memory which no record has needed is never touched.
+/// Takes the last so many words off.
 #[inline(always)]
-fn make_ready(words: &mut Vec<u64>, end: usize, room: usize)
-    requires within { end ≤ vec_len words.old }
-    requires spare { end + 36 ≤ 36 * room }
-    requires room { 36 * room ≤ vec_capacity words.old }
-    ensures ready { end + 36 ≤ vec_len words.new }
-    ensures written { take end words.new.items ≡ take end words.old.items }
+fn shorten(words: &mut Vec<u64>, count: usize)
+    requires { count ≤ vec_len words.old }
+    ensures left { words.new.items ≡ take (vec_len words.old - count) words.old.items }
     ensures room { vec_capacity words.old ≤ vec_capacity words.new }
 {
-    if words.len() - end < MAX_RECORD_WORDS {
-        grow(words, end, room);
-    }
-}
-
-#[cold]
-fn grow(words: &mut Vec<u64>, end: usize, room: usize)
-    requires within { end ≤ vec_len words.old }
-    requires short { vec_len words.old < end + 36 }
-    requires spare { end + 36 ≤ 36 * room }
-    requires room { 36 * room ≤ vec_capacity words.old }
-    ensures ready { end + 36 ≤ vec_len words.new }
-    ensures written { take end words.new.items ≡ take end words.old.items }
-    ensures room { vec_capacity words.old ≤ vec_capacity words.new }
-{
-    let most = MAX_RECORD_WORDS * room;
-    let ready = if most - end < READY {
-        most
-    } else {
-        end + READY
-    };
-    let _ = words.resize(ready, 0);
+    words.truncate(words.len() - count);
 }
 
 impl Model for StoredRecords {
-    ghost use Rattle.std.specs.Prelude.{◌≤◌, ◌*◌, take, vec_len, vec_capacity};
+    ghost use Rattle.std.specs.Prelude.{◌≤◌, ◌*◌, vec_capacity};
     ghost use Rattle.klp_record_words.specs.Stored.{StoredList, records_in, AreWords};
 
     ghost Value = { StoredList };
 
-    ghost view = { λ r. record { rows = records_in r.count (take r.end r.words.items); room = r.room } };
+    ghost view = { λ r. record { rows = records_in r.count r.words.items; room = r.room } };
 
-    ghost invariant = { λ r. AreWords r.count (take r.end r.words.items) × (r.end ≤ vec_len r.words) × (r.count ≤ r.room)
+    ghost invariant = { λ r. AreWords r.count r.words.items × (r.count ≤ r.room)
         × (36 * r.room ≤ vec_capacity r.words) };
 }
 
@@ -84,7 +53,6 @@ impl StoredRecords {
         let most = MAX_RECORD_WORDS.checked_mul(room).ok_or(AllocError)?;
         Ok(Self {
             words: Vec::with_capacity(alloc, most)?,
-            end: 0,
             count: 0,
             room,
         })
@@ -102,8 +70,7 @@ impl StoredRecords {
         requires { length self.old.rows < self.old.room }
         ensures { self.new ≡ record self.old { rows = self.old.rows ++ row ∷ [] } }
     {
-        make_ready(&mut self.words, self.end, self.room);
-        self.end = put_record(&row, &mut self.words, self.end);
+        write_record(&row, &mut self.words);
         self.count += 1;
     }
 
@@ -113,8 +80,7 @@ impl StoredRecords {
         requires frames { frames.now ≡ was.now.frames }
         ensures { self.new ≡ record self.old { rows = self.old.rows ++ TaskRow task was.now ∷ [] } }
     {
-        make_ready(&mut self.words, self.end, self.room);
-        self.end = copy_task(task, was, frames, &mut self.words, self.end);
+        copy_task(task, was, frames, &mut self.words);
         self.count += 1;
     }
 
@@ -125,10 +91,10 @@ impl StoredRecords {
         ensures empty { IfNone result (self.old.rows ≡ []) }
         ensures unchanged { IfNone result (self.new ≡ self.old) }
     {
-        let Some((row, count)) = read_back(&self.words[..self.end]) else {
+        let Some((row, count)) = read_back(self.words.as_slice()) else {
             return None;
         };
-        self.end -= count;
+        shorten(&mut self.words, count);
         self.count -= 1;
         Some(row)
     }
@@ -141,10 +107,10 @@ impl StoredRecords {
             (λ newest. self.old ≡ record self.new { rows = self.new.rows ++ row_of newest ∷ [] }) }
         ensures unchanged { IfNone result (self.new ≡ self.old) }
     {
-        let Some((newest, count)) = small(&self.words[..self.end]) else {
+        let Some((newest, count)) = small(self.words.as_slice()) else {
             return None;
         };
-        self.end -= count;
+        shorten(&mut self.words, count);
         self.count -= 1;
         Some(newest)
     }
@@ -165,10 +131,10 @@ impl StoredRecords {
             }))) }
         ensures unchanged { IfNone result (self.new ≡ self.old) }
     {
-        let Some((was, count)) = switched(&self.words[..self.end], tasks, frames) else {
+        let Some((was, count)) = switched(self.words.as_slice(), tasks, frames) else {
             return None;
         };
-        self.end -= count;
+        shorten(&mut self.words, count);
         self.count -= 1;
         Some(was)
     }
@@ -176,7 +142,7 @@ impl StoredRecords {
     pub(crate) fn clear(&mut self)
         ensures { self.new ≡ record self.old { rows = [] } }
     {
-        self.end = 0;
+        self.words.clear();
         self.count = 0;
     }
 }

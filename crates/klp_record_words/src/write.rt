@@ -1,6 +1,6 @@
-//! Records as words, each put behind those that are there. The words lie in a list that is long enough already, and what
-//! is behind those that are written means nothing: to grow a list word by word would look for room at each.
-ghost use Rattle.std.specs.Prelude.{◌≡◌, ◌+◌, ◌*◌, ◌<◌, ◌≤◌, ◌++◌, length, map, take};
+//! Records as words, each put behind those that are there. The list has room for them all from the start, so that a word
+//! is one store, and nothing looks for room.
+ghost use Rattle.std.specs.Prelude.{◌≡◌, ◌+◌, ◌*◌, ◌<◌, ◌≤◌, ◌++◌, length, map, take, vec_len, vec_capacity};
 ghost use Rattle.std.specs.Int.{w64, from_le_bytes};
 ghost use Rattle.std.specs.List.{All};
 ghost use Rattle.klp_types.specs.declared.record.Record.TheVariants.{TaskRow, ShadowVariable, NoShadowVariable, StateRow, InstalledPatch, StackEntry};
@@ -13,85 +13,76 @@ use klp_types::{
     Version,
 };
 
-/// Writes a record from a place on, and answers the place behind it. The caller has seen to room for the longest
-/// record.
+/// Writes a record behind the words that are there, as [`Records`](crate::Records) does. The caller has seen to room for
+/// the longest record, so no memory is taken.
 #[inline(always)]
-pub(crate) fn put_record(row: &Record, words: &mut [u64], at: usize) -> usize
-    requires { at + 36 ≤ length words.old }
-    ensures written { take result words.new ≡ take at words.old ++ words_of row.now }
-    ensures end { result ≤ length words.old }
+pub fn write_record(row: &Record, words: &mut Vec<u64>)
+    requires { vec_len words.old + 36 ≤ vec_capacity words.old }
+    ensures written { words.new.items ≡ words.old.items ++ words_of row.now }
+    ensures room { vec_capacity words.old ≤ vec_capacity words.new }
     ensures range { IsRecord row.now }
 {
     match row {
-        Record::TaskRow { task, was } => write_task(*task, was, words, at),
-        Record::NoTaskRow { task } => append(words, at, &[task_number(*task), 1 + 256]),
-        Record::ShadowVariable { key, was } => write_variable(*key, was, words, at),
-        Record::NoShadowVariable { key } => write_no_variable(*key, words, at),
+        Record::TaskRow { task, was } => write_task(*task, was, words),
+        Record::NoTaskRow { task } => append(words, &[task_number(*task), 1 + 256]),
+        Record::ShadowVariable { key, was } => write_variable(*key, was, words),
+        Record::NoShadowVariable { key } => write_no_variable(*key, words),
         Record::StateValue { patch, id, was } => {
-            append(words, at, &[patch_number(*patch), *id, *was, 3 + 256 * 3])
+            append(words, &[patch_number(*patch), *id, *was, 3 + 256 * 3])
         }
-        Record::StateRow { patch, id, was } => write_state_row(*patch, *id, *was, words, at),
+        Record::StateRow { patch, id, was } => write_state_row(*patch, *id, *was, words),
         Record::LoadedFlag { object, was } => {
             append(
                 words,
-                at,
                 &[object_number(*object), flag_word(*was), 5 + 256 * 2],
             )
         }
-        Record::InstalledPatch { patch, place } => write_installed(*patch, *place, words, at),
-        Record::StackEntry { site, patch, was } => write_entry(*site, *patch, *was, words, at),
+        Record::InstalledPatch { patch, place } => write_installed(*patch, *place, words),
+        Record::StackEntry { site, patch, was } => write_entry(*site, *patch, *was, words),
         Record::HookFlag { site, was } => {
-            append(
-                words,
-                at,
-                &[site_number(*site), flag_word(*was), 8 + 256 * 2],
-            )
+            append(words, &[site_number(*site), flag_word(*was), 8 + 256 * 2])
         }
         Record::Moving { was } => {
             append(
                 words,
-                at,
                 &[patch_number(was.patch), flag_word(was.target), 9 + 256 * 2],
             )
         }
-        Record::NothingMoving => append(words, at, &[9]),
+        Record::NothingMoving => append(words, &[9]),
         Record::PinnedFlag { patch, was } => {
             append(
                 words,
-                at,
                 &[patch_number(*patch), flag_word(*was), 10 + 256 * 2],
             )
         }
     }
 }
 
-/// Puts words at a place, over what is there, and answers the place behind them. Word by word, since there are few:
-/// where their number is known, that is a store for each.
+/// Puts words behind those that are there. One by one, since there are few: where their number is known, that is a store
+/// for each.
 #[inline(always)]
-fn append(words: &mut [u64], at: usize, new: &[u64]) -> usize
-    requires { at + length new.now ≤ length words.old }
-    ensures written { take result words.new ≡ take at words.old ++ new.now }
-    ensures end { result ≡ at + length new.now }
+fn append(words: &mut Vec<u64>, new: &[u64])
+    requires { vec_len words.old + length new.now ≤ vec_capacity words.old }
+    ensures written { words.new.items ≡ words.old.items ++ new.now }
+    ensures count { vec_len words.new ≡ vec_len words.old + length new.now }
+    ensures room { vec_capacity words.old ≤ vec_capacity words.new }
 {
-    for (k, word) in new.iter().enumerate() {
-        words[at + k] = *word;
+    for word in new {
+        words.push_reserved(*word);
     }
-    at + new.len()
 }
 
 /// The same, all at once, since they may be many. Mostly there are none, and then nothing is called.
 #[inline(always)]
-fn copy(words: &mut [u64], at: usize, new: &[u64]) -> usize
-    requires { at + length new.now ≤ length words.old }
-    ensures written { take result words.new ≡ take at words.old ++ new.now }
-    ensures end { result ≡ at + length new.now }
+fn copy(words: &mut Vec<u64>, new: &[u64])
+    requires { vec_len words.old + length new.now ≤ vec_capacity words.old }
+    ensures written { words.new.items ≡ words.old.items ++ new.now }
+    ensures count { vec_len words.new ≡ vec_len words.old + length new.now }
+    ensures room { vec_capacity words.old ≤ vec_capacity words.new }
 {
-    if new.is_empty() {
-        return at;
+    if !new.is_empty() {
+        let _ = words.extend_from_slice(new);
     }
-    let end = at + new.len();
-    words[at..end].copy_from_slice(new);
-    end
 }
 
 /// Numbers as words. A reader gets the range of each with it, which only a read of the number shows.
@@ -174,77 +165,68 @@ pub(crate) fn write_frames(frames: &[Version], words: &mut [u64], at: usize) -> 
     at + frames.len()
 }
 
-#[inline(always)]
-fn write_task(task: TaskId, was: &Task, words: &mut [u64], at: usize) -> usize
-    requires { at + 36 ≤ length words.old }
-    ensures written { take result words.new ≡ take at words.old ++ words_of (TaskRow task was.now) }
-    ensures end { result ≤ length words.old }
+/// A task the words of whose frames aren't at hand. They are made apart, since hardly any task is logged so.
+fn write_task(task: TaskId, was: &Task, words: &mut Vec<u64>)
+    requires { vec_len words.old + 36 ≤ vec_capacity words.old }
+    ensures written { words.new.items ≡ words.old.items ++ words_of (TaskRow task was.now) }
+    ensures room { vec_capacity words.old ≤ vec_capacity words.new }
     ensures range { IsRecord (TaskRow task was.now) }
 {
-    let number = task_number(task);
-    let word = state_word(was.state) + 4 * mode_word(was.mode);
-    let count = was.frames.count();
-    let at = append(words, at, &[number, word]);
-    let at = write_frames(was.frames.as_slice(), words, at);
-    append(words, at, &[1 + 256 * (2 + count as u64)])
+    let mut frames = FrameWords::new();
+    frames.set(&was.frames);
+    copy_task(task, was, &frames, words);
 }
 
-/// The same, of a task the words of whose frames are at hand.
+/// A task the words of whose frames are at hand.
 #[inline(always)]
-pub(crate) fn copy_task(
-    task: TaskId,
-    was: &Task,
-    frames: &FrameWords,
-    words: &mut [u64],
-    at: usize,
-) -> usize
-    requires spare { at + 36 ≤ length words.old }
+pub(crate) fn copy_task(task: TaskId, was: &Task, frames: &FrameWords, words: &mut Vec<u64>)
+    requires spare { vec_len words.old + 36 ≤ vec_capacity words.old }
     requires frames { frames.now ≡ was.now.frames }
-    ensures written { take result words.new ≡ take at words.old ++ words_of (TaskRow task was.now) }
-    ensures end { result ≤ length words.old }
+    ensures written { words.new.items ≡ words.old.items ++ words_of (TaskRow task was.now) }
+    ensures room { vec_capacity words.old ≤ vec_capacity words.new }
     ensures range { IsRecord (TaskRow task was.now) }
 {
     let number = task_number(task);
     let word = state_word(was.state) + 4 * mode_word(was.mode);
     let frames = frames.as_words();
-    let at = append(words, at, &[number, word]);
-    let at = copy(words, at, frames);
-    append(words, at, &[1 + 256 * (2 + frames.len() as u64)])
+    append(words, &[number, word]);
+    copy(words, frames);
+    append(words, &[1 + 256 * (2 + frames.len() as u64)]);
 }
 
-fn write_variable(key: ShadowKey, was: &ShadowValue, words: &mut [u64], at: usize) -> usize
-    requires { at + 36 ≤ length words.old }
-    ensures written { take result words.new ≡ take at words.old ++ words_of (ShadowVariable key was.now) }
-    ensures end { result ≤ length words.old }
+fn write_variable(key: ShadowKey, was: &ShadowValue, words: &mut Vec<u64>)
+    requires { vec_len words.old + 36 ≤ vec_capacity words.old }
+    ensures written { words.new.items ≡ words.old.items ++ words_of (ShadowVariable key was.now) }
+    ensures room { vec_capacity words.old ≤ vec_capacity words.new }
     ensures range { IsRecord (ShadowVariable key was.now) }
 {
     let count = was.count();
-    let at = append(words, at, &[key.obj, key.id, count as u64]);
-    let at = write_bytes(was.padded(), (count + 7) / 8, words, at);
-    append(words, at, &[2 + 256 * (3 + (count as u64 + 7) / 8)])
+    append(words, &[key.obj, key.id, count as u64]);
+    write_bytes(was.padded(), (count + 7) / 8, words);
+    append(words, &[2 + 256 * (3 + (count as u64 + 7) / 8)]);
 }
 
-fn write_no_variable(key: ShadowKey, words: &mut [u64], at: usize) -> usize
-    requires { at + 36 ≤ length words.old }
-    ensures written { take result words.new ≡ take at words.old ++ words_of (NoShadowVariable key) }
-    ensures end { result ≤ length words.old }
+fn write_no_variable(key: ShadowKey, words: &mut Vec<u64>)
+    requires { vec_len words.old + 36 ≤ vec_capacity words.old }
+    ensures written { words.new.items ≡ words.old.items ++ words_of (NoShadowVariable key) }
+    ensures room { vec_capacity words.old ≤ vec_capacity words.new }
     ensures range { IsRecord (NoShadowVariable key) }
 {
-    append(words, at, &[key.obj, key.id, 2 + 256 * 2])
+    append(words, &[key.obj, key.id, 2 + 256 * 2]);
 }
 
 /// So many words of bytes, eight to a word.
-fn write_bytes(bytes: &[u8], count: usize, words: &mut [u64], at: usize) -> usize
+fn write_bytes(bytes: &[u8], count: usize, words: &mut Vec<u64>)
     requires within { 8 * count ≤ length bytes.now }
-    requires spare { at + count ≤ length words.old }
-    ensures written { take result words.new ≡ take at words.old ++ byte_words count bytes.now }
-    ensures end { result ≡ at + count }
+    requires spare { vec_len words.old + count ≤ vec_capacity words.old }
+    ensures written { words.new.items ≡ words.old.items ++ byte_words count bytes.now }
+    ensures count { vec_len words.new ≡ vec_len words.old + count }
+    ensures room { vec_capacity words.old ≤ vec_capacity words.new }
     ensures range { All (λ b. b < 256) bytes.now }
 {
     for k in 0..count {
-        words[at + k] = first_word(&bytes[8 * k..]);
+        words.push_reserved(first_word(&bytes[8 * k..]));
     }
-    at + count
 }
 
 /// The first eight bytes, the lowest first.
@@ -258,31 +240,27 @@ fn first_word(bytes: &[u8]) -> u64
     }
 }
 
-fn write_state_row(patch: PatchId, id: u64, was: Option<u64>, words: &mut [u64], at: usize) -> usize
-    requires { at + 36 ≤ length words.old }
-    ensures written { take result words.new ≡ take at words.old ++ words_of (StateRow patch id was) }
-    ensures end { result ≤ length words.old }
+fn write_state_row(patch: PatchId, id: u64, was: Option<u64>, words: &mut Vec<u64>)
+    requires { vec_len words.old + 36 ≤ vec_capacity words.old }
+    ensures written { words.new.items ≡ words.old.items ++ words_of (StateRow patch id was) }
+    ensures room { vec_capacity words.old ≤ vec_capacity words.new }
     ensures range { IsRecord (StateRow patch id was) }
 {
     match was {
-        Some(value) => append(words, at, &[patch_number(patch), id, value, 4 + 256 * 3]),
-        None => append(words, at, &[patch_number(patch), id, 4 + 256 * 2]),
+        Some(value) => append(words, &[patch_number(patch), id, value, 4 + 256 * 3]),
+        None => append(words, &[patch_number(patch), id, 4 + 256 * 2]),
     }
 }
 
-fn write_installed(patch: PatchId, place: Option<u8>, words: &mut [u64], at: usize) -> usize
-    requires { at + 36 ≤ length words.old }
-    ensures written { take result words.new ≡ take at words.old ++ words_of (InstalledPatch patch place) }
-    ensures end { result ≤ length words.old }
+fn write_installed(patch: PatchId, place: Option<u8>, words: &mut Vec<u64>)
+    requires { vec_len words.old + 36 ≤ vec_capacity words.old }
+    ensures written { words.new.items ≡ words.old.items ++ words_of (InstalledPatch patch place) }
+    ensures room { vec_capacity words.old ≤ vec_capacity words.new }
     ensures range { IsRecord (InstalledPatch patch place) }
 {
     match place {
-        Some(place) => append(
-            words,
-            at,
-            &[patch_number(patch), u64::from(place), 6 + 256 * 2],
-        ),
-        None => append(words, at, &[patch_number(patch), 6 + 256]),
+        Some(place) => append(words, &[patch_number(patch), u64::from(place), 6 + 256 * 2]),
+        None => append(words, &[patch_number(patch), 6 + 256]),
     }
 }
 
@@ -296,16 +274,10 @@ fn func_word(func: Option<u16>) -> u64
     }
 }
 
-fn write_entry(
-    site: Site,
-    patch: PatchId,
-    was: Option<Place>,
-    words: &mut [u64],
-    at: usize,
-) -> usize
-    requires { at + 36 ≤ length words.old }
-    ensures written { take result words.new ≡ take at words.old ++ words_of (StackEntry site patch was) }
-    ensures end { result ≤ length words.old }
+fn write_entry(site: Site, patch: PatchId, was: Option<Place>, words: &mut Vec<u64>)
+    requires { vec_len words.old + 36 ≤ vec_capacity words.old }
+    ensures written { words.new.items ≡ words.old.items ++ words_of (StackEntry site patch was) }
+    ensures room { vec_capacity words.old ≤ vec_capacity words.new }
     ensures range { IsRecord (StackEntry site patch was) }
 {
     let site = site_number(site);
@@ -315,10 +287,9 @@ fn write_entry(
             let func = func_word(place.func);
             append(
                 words,
-                at,
                 &[site, patch, u64::from(place.index), func, 7 + 256 * 4],
             )
         }
-        None => append(words, at, &[site, patch, 7 + 256 * 2]),
+        None => append(words, &[site, patch, 7 + 256 * 2]),
     }
 }

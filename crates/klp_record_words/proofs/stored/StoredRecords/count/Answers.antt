@@ -5,4 +5,4 @@ use Rattle.klp_record_words.proofs.stored.StoredRecords.count.Goals as goal
 
 pub returns-clause-value : goal.returns-clause-value
 returns-clause-value c =
-    sym (length-records_in c.self.inside.count (take c.self.inside.end c.self.inside.words.items)) ∙ ap (λ (r : StoredList). length r.rows) c.self.view_is
+    sym (length-records_in c.self.inside.count c.self.inside.words.items) ∙ ap (λ (r : StoredList). length r.rows) c.self.view_is

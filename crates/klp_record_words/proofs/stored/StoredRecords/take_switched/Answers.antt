@@ -1,50 +1,28 @@
 use Rattle.std.proofs.Common.{◌≡◌, ◌-◌, ◌<◌, ◌≤◌, ◌++◌, [], ◌∷◌, length, take, refl, sym, ap, subst, ◌∙◌, arith}
-use Rattle.klp_types.specs.declared.record.Record.{Record}
 use Rattle.klp_types.specs.declared.record.Record.TheVariants.{TaskRow}
-use Rattle.klp_record_words.specs.Words.{words_of}
-use Rattle.klp_record_words.specs.Stored.{StoredList, AreWords, EndWithRecord, records_in}
-use Rattle.klp_record_words.proofs.StoredLemmas.{are_fewer, front_taken, length-records_in, end_with}
+use Rattle.klp_record_words.specs.Stored.{StoredList, EndWithRecord}
+use Rattle.klp_record_words.proofs.StoredLemmas.{is_fewer, within, length-records_in, end_with}
 use Rattle.klp_record_words.proofs.stored.StoredRecords.take_switched.Goals as goal
 
 -- there is a record
 pub switched-requires-clause-record : goal.switched-requires-clause-record
 switched-requires-clause-record c =
-    let count = length-records_in c.self.inside.count (take c.self.inside.end c.self.inside.words.items) in
+    let count = length-records_in c.self.inside.count c.self.inside.words.items in
     let many = ap (λ (r : StoredList). length r.rows) c.self.view_is in
     let some : 0 < c.self.inside.count = omega (arith, count, many, c.requires.some) in
-    subst EndWithRecord (ap (take c.self.inside.end) (sym c.deref.ensures.value)) (end_with c.self.inside.count _ some c.self.invariant.0)
+    subst EndWithRecord (sym c.as_slice.ensures.value) (end_with c.self.inside.count _ some c.self.invariant.0)
 
--- the record
-abbrev row : (c : goal.After-self-2-1) → Record
-row c = TaskRow c.in-Some.was.task (record c.in-Some.ensures.0 { state = c.in-Some.was.state; mode = c.in-Some.was.mode })
-
--- the words are those of the records before the newest, and those of the newest
-parted : (c : goal.After-self-2-1) → take c.self.inside.end c.self.inside.words.items ≡ c.in-Some.ensures.1.1.0 ++ words_of (row c)
-parted c = ap (take c.self.inside.end) (sym c.deref.ensures.value) ∙ c.in-Some.ensures.1.1.1.0
-
-left : (c : goal.After-self-2-1) → take (c.self.inside.end - c.in-Some.count) c.self.inside.words.items ≡ c.in-Some.ensures.1.1.0
-left c = front_taken c.self.inside.end (c.self.inside.end - c.in-Some.count) c.self.inside.words.items c.in-Some.ensures.1.1.0 (row c) (omega arith) (parted c) (ap (λ n. c.self.inside.end - n) c.in-Some.ensures.1.1.1.1)
-
-fewer : (c : goal.After-self-2-1) → (1 ≤ c.self.inside.count) × (AreWords (c.self.inside.count - 1) c.in-Some.ensures.1.1.0
-    × (records_in c.self.inside.count (take c.self.inside.end c.self.inside.words.items) ≡ records_in (c.self.inside.count - 1) c.in-Some.ensures.1.1.0 ++ (row c) ∷ []))
-fewer c = are_fewer c.self.inside.count (c.self.inside.count - 1) _ _ (row c) refl c.in-Some.ensures.1.1.1.2 (parted c) c.self.invariant.0
+-- the words of the newest are among them
+pub shorten-requires : goal.shorten-requires
+shorten-requires c = within _ _ c.self.inside.words.items _ (TaskRow c.in-Some.was.task (record c.in-Some.ensures.0 { state = c.in-Some.was.state; mode = c.in-Some.was.mode })) (sym c.as_slice.ensures.value ∙ c.in-Some.ensures.1.1.1.0) c.in-Some.ensures.1.1.1.1 (omega arith)
 
 pub invariant_of-self : goal.invariant_of-self
 invariant_of-self c =
-    (subst (AreWords (c.self.inside.count - 1)) (sym (left c)) (fewer c).1.0, omega arith, omega arith, omega arith)
+    ((is_fewer c.self.inside.count _ _ c.self.inside.words.items c.shorten.new.words.items _ (TaskRow c.in-Some.was.task (record c.in-Some.ensures.0 { state = c.in-Some.was.state; mode = c.in-Some.was.mode })) c.self.invariant.0 c.in-Some.ensures.1.1.1.2 (sym c.as_slice.ensures.value ∙ c.in-Some.ensures.1.1.1.0) c.in-Some.ensures.1.1.1.1 (omega arith) c.shorten.ensures.left).1.0, omega arith, omega arith)
 
 pub returns-clause-newest : goal.returns-clause-newest
-returns-clause-newest c = (
-  c.in-Some.ensures.0,
-  (
-    c.in-Some.ensures.1.0,
-    sym c.self.view_is
-        ∙ ap (λ rows. let own : StoredList = record { rows = rows; room = c.self.inside.room } in own)
-        ((fewer c).1.1 ∙ ap (λ xs. records_in (c.self.inside.count - 1) xs ++ row c ∷ []) (sym (left c))),
-  ),
-)
+returns-clause-newest c = (c.in-Some.ensures.0, (c.in-Some.ensures.1.0, sym c.self.view_is ∙ ap (λ rows. let own : StoredList = record { rows = rows; room = c.self.inside.room } in own) (is_fewer c.self.inside.count _ _ c.self.inside.words.items c.shorten.new.words.items _ (TaskRow c.in-Some.was.task (record c.in-Some.ensures.0 { state = c.in-Some.was.state; mode = c.in-Some.was.mode })) c.self.invariant.0 c.in-Some.ensures.1.1.1.2 (sym c.as_slice.ensures.value ∙ c.in-Some.ensures.1.1.1.0) c.in-Some.ensures.1.1.1.1 (omega arith) c.shorten.ensures.left).1.1))
 
-pub overflow_sub-self-2 : goal.overflow_sub-self-2
-overflow_sub-self-2 c =
-    (are_fewer c.self.inside.count (c.self.inside.count - 1) _ _ (TaskRow c.in-Some.was.task (record c.in-Some.ensures.0 { state = c.in-Some.was.state; mode = c.in-Some.was.mode })) refl c.in-Some.ensures.1.1.1.2
-    (ap (take c.self.inside.end) (sym c.deref.ensures.value) ∙ c.in-Some.ensures.1.1.1.0) c.self.invariant.0).0
+pub overflow_sub-self : goal.overflow_sub-self
+overflow_sub-self c =
+    (is_fewer c.self.inside.count _ _ c.self.inside.words.items c.shorten.new.words.items _ (TaskRow c.in-Some.was.task (record c.in-Some.ensures.0 { state = c.in-Some.was.state; mode = c.in-Some.was.mode })) c.self.invariant.0 c.in-Some.ensures.1.1.1.2 (sym c.as_slice.ensures.value ∙ c.in-Some.ensures.1.1.1.0) c.in-Some.ensures.1.1.1.1 (omega arith) c.shorten.ensures.left).0
