@@ -23,8 +23,9 @@ use std::marker::Model;
 #[derive(Drop)]
 pub struct Records {
     all: StoredRecords,
-    /// How many of them are of the event that is under way: these are the last ones.
-    noted: usize,
+    /// How many of them are of earlier events: the others are those of the event that is under way, and are not counted
+    /// beside all, so that to log one counts once.
+    older: usize,
     /// How many an event may log.
     room: usize,
 }
@@ -37,12 +38,12 @@ impl Model for Records {
     ghost Value = { RecordList };
 
     ghost view = { λ r. record {
-      noted = drop (length r.all.rows - r.noted) r.all.rows;
+      noted = drop r.older r.all.rows;
       room = r.room;
-      older = take (length r.all.rows - r.noted) r.all.rows;
+      older = take r.older r.all.rows;
     } };
 
-    ghost invariant = { λ r. (r.noted ≤ length r.all.rows) × (r.noted ≤ r.room) × (length r.all.rows - r.noted ≤ MAX_JOURNAL_RECORDS)
+    ghost invariant = { λ r. (r.older ≤ length r.all.rows) × (length r.all.rows - r.older ≤ r.room) × (r.older ≤ MAX_JOURNAL_RECORDS)
         × (r.all.room ≡ MAX_JOURNAL_RECORDS + r.room) };
 }
 
@@ -55,7 +56,7 @@ impl Records {
         let most = MAX_JOURNAL_RECORDS.checked_add(room).ok_or(AllocError)?;
         Ok(Self {
             all: StoredRecords::new(alloc, most)?,
-            noted: 0,
+            older: 0,
             room,
         })
     }
@@ -64,7 +65,7 @@ impl Records {
     pub fn spare(&self) -> usize
         ensures { result ≡ spare_of self.now }
     {
-        self.room - self.noted
+        self.room - self.noted()
     }
 
     /// How many records the event has logged.
@@ -72,7 +73,7 @@ impl Records {
         ensures value { result ≡ length self.now.noted }
         ensures limit { result ≤ self.now.room }
     {
-        self.noted
+        self.all.count() - self.older
     }
 
     /// How many records there are of earlier events.
@@ -80,7 +81,7 @@ impl Records {
         ensures value { result ≡ length self.now.older }
         ensures limit { result ≤ MAX_JOURNAL_RECORDS }
     {
-        self.all.count() - self.noted
+        self.older
     }
 
     /// Logs a record, as the newest.
@@ -90,7 +91,6 @@ impl Records {
         ensures { self.new ≡ record self.old { noted = self.old.noted ++ row ∷ [] } }
     {
         self.all.note(row);
-        self.noted += 1;
     }
 
     /// Logs a task as it is. It is lent and not copied, since its row has room for all the frames that it might have, and
@@ -102,7 +102,6 @@ impl Records {
         ensures { self.new ≡ record self.old { noted = self.old.noted ++ TaskRow task was.now ∷ [] } }
     {
         self.all.note_task(task, was, frames);
-        self.noted += 1;
     }
 
     /// Takes the newest record of the event out, if it has one: undoing takes them newest first.
@@ -112,12 +111,10 @@ impl Records {
         ensures empty { IfNone result (self.old.noted ≡ []) }
         ensures unchanged { IfNone result (self.new ≡ self.old) }
     {
-        if self.noted == 0 {
+        if self.noted() == 0 {
             return None;
         }
-        let newest = self.all.take_newest()?;
-        self.noted -= 1;
-        Some(newest)
+        self.all.take_newest()
     }
 
     /// Takes the newest record of the event out in a form of a few bytes, where it can be, as those of the kinds that are
@@ -128,12 +125,10 @@ impl Records {
             (λ newest. self.old ≡ record self.new { noted = self.new.noted ++ row_of newest ∷ [] }) }
         ensures unchanged { IfNone result (self.new ≡ self.old) }
     {
-        if self.noted == 0 {
+        if self.noted() == 0 {
             return None;
         }
-        let newest = self.all.take_small()?;
-        self.noted -= 1;
-        Some(newest)
+        self.all.take_small()
     }
 
     /// The same, in the form that the record of a task has without its frames, where these are still those of the task, by
@@ -151,12 +146,10 @@ impl Records {
             }))) }
         ensures unchanged { IfNone result (self.new ≡ self.old) }
     {
-        if self.noted == 0 {
+        if self.noted() == 0 {
             return None;
         }
-        let was = self.all.take_switched(tasks, frames)?;
-        self.noted -= 1;
-        Some(was)
+        self.all.take_switched(tasks, frames)
     }
 
     /// Lets go what the event has logged. The cost is that of these records: none, where it has logged nothing.
@@ -174,7 +167,7 @@ impl Records {
         requires { length self.old.older + length self.old.noted ≤ MAX_JOURNAL_RECORDS }
         ensures { self.new ≡ record self.old { noted = []; older = self.old.older ++ self.old.noted } }
     {
-        self.noted = 0;
+        self.older = self.all.count();
     }
 
     /// The newest so many records that are kept are again those of the event that is under way, which has logged
@@ -188,7 +181,7 @@ impl Records {
           older = take (length self.old.older - count) self.old.older;
         } }
     {
-        self.noted = count;
+        self.older -= count;
     }
 
     /// Lets all go, also what is kept. The room stays, and the cost is constant.
@@ -196,6 +189,6 @@ impl Records {
         ensures { self.new ≡ record self.old { noted = []; older = [] } }
     {
         self.all.clear();
-        self.noted = 0;
+        self.older = 0;
     }
 }
