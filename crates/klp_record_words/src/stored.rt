@@ -80,8 +80,8 @@ impl StoredRecords {
         requires frames { frames.now ≡ was.now.frames }
         ensures { self.new ≡ record self.old { rows = self.old.rows ++ TaskRow task was.now ∷ [] } }
     {
-        copy_task(task, was, frames, &mut self.words);
         self.count += 1;
+        copy_task(task, was, frames, &mut self.words);
     }
 
     /// Takes the newest record out, if there is one.

@@ -1,6 +1,6 @@
 //! Records as words, each put behind those that are there. The list has room for them all from the start, so that a word
 //! is one store, and nothing looks for room.
-ghost use Rattle.std.specs.Prelude.{◌≡◌, ◌+◌, ◌*◌, ◌<◌, ◌≤◌, ◌++◌, length, map, take, vec_len, vec_capacity};
+ghost use Rattle.std.specs.Prelude.{◌≡◌, ◌+◌, ◌*◌, ◌<◌, ◌≤◌, [], ◌∷◌, ◌++◌, length, map, take, vec_len, vec_capacity};
 ghost use Rattle.std.specs.Int.{w64, from_le_bytes};
 ghost use Rattle.std.specs.List.{All};
 ghost use Rattle.klp_types.specs.declared.record.Record.TheVariants.{TaskRow, ShadowVariable, NoShadowVariable, StateRow, InstalledPatch, StackEntry};
@@ -72,19 +72,6 @@ fn append(words: &mut Vec<u64>, new: &[u64])
     }
 }
 
-/// The same, all at once, since they may be many. Mostly there are none, and then nothing is called.
-#[inline(always)]
-fn copy(words: &mut Vec<u64>, new: &[u64])
-    requires { vec_len words.old + length new.now ≤ vec_capacity words.old }
-    ensures written { words.new.items ≡ words.old.items ++ new.now }
-    ensures count { vec_len words.new ≡ vec_len words.old + length new.now }
-    ensures room { vec_capacity words.old ≤ vec_capacity words.new }
-{
-    if !new.is_empty() {
-        let _ = words.extend_from_slice(new);
-    }
-}
-
 /// Numbers as words. A reader gets the range of each with it, which only a read of the number shows.
 fn task_number(task: TaskId) -> u64
     ensures value { result ≡ task }
@@ -124,11 +111,7 @@ fn state_word(state: PatchState) -> u64
     ensures value { result ≡ state_word state }
     ensures range { IsPatchState state }
 {
-    match state.number() {
-        -1 => 0,
-        0 => 1,
-        _ => 2,
-    }
+    (state.number() + 1) as u64
 }
 
 fn mode_word(mode: Mode) -> u64
@@ -189,8 +172,25 @@ pub(crate) fn copy_task(task: TaskId, was: &Task, frames: &FrameWords, words: &m
     let number = task_number(task);
     let word = state_word(was.state) + 4 * mode_word(was.mode);
     let frames = frames.as_words();
+    if frames.is_empty() {
+        append(words, &[number, word, 1 + 256 * 2]);
+    } else {
+        append_sleeper(words, number, word, frames);
+    }
+}
+
+/// Puts the words of a task that is inside of functions behind those that are there: those of its frames all at once,
+/// since they may be many. It is called, so that a task which is inside of nothing pays for none of this.
+#[inline(never)]
+fn append_sleeper(words: &mut Vec<u64>, number: u64, word: u64, frames: &[u64])
+    requires spare { vec_len words.old + 36 ≤ vec_capacity words.old }
+    requires few { length frames.now ≤ 32 }
+    ensures written { words.new.items
+        ≡ words.old.items ++ number ∷ word ∷ (frames.now ++ (1 + 256 * (2 + length frames.now)) ∷ []) }
+    ensures room { vec_capacity words.old ≤ vec_capacity words.new }
+{
     append(words, &[number, word]);
-    copy(words, frames);
+    let _ = words.extend_from_slice(frames);
     append(words, &[1 + 256 * (2 + frames.len() as u64)]);
 }
 
