@@ -1,6 +1,6 @@
 -- Records as they are stored: what the last of them is, and one more behind them.
 use Rattle.std.proofs.Common.{◌≡◌, ℕ, zero, suc, ◌+◌, ◌-◌, ◌*◌, ◌/◌, ◌%◌, ◌<◌, ◌≤◌, List, [], ◌∷◌, ◌++◌, length, take, drop, refl, sym, ap, subst, ◌∙◌, arith, length-append, append_assoc, append-nil, add-zero}
-use Rattle.std.proofs.lemmas.List.{take_at, take-take, length-take-le}
+use Rattle.std.proofs.lemmas.List.{take_at}
 use Rattle.klp_types.specs.declared.record.Record.{Record}
 use Rattle.klp_record_words.specs.Words.{words_before_tag, words_of, IsRecord}
 use Rattle.klp_record_words.specs.Stored.{last_tag, last_begins, last_record, words_before, records_in, AreWords, EndWithRecord}

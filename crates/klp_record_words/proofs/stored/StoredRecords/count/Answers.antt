@@ -1,4 +1,4 @@
-use Rattle.std.proofs.Common.{length, take, sym, ap, ◌∙◌}
+use Rattle.std.proofs.Common.{length, sym, ap, ◌∙◌}
 use Rattle.klp_record_words.specs.Stored.{StoredList}
 use Rattle.klp_record_words.proofs.StoredLemmas.{length-records_in}
 use Rattle.klp_record_words.proofs.stored.StoredRecords.count.Goals as goal

@@ -1,4 +1,4 @@
-use Rattle.std.proofs.Common.{◌≡◌, ◌+◌, ◌<◌, ◌++◌, [], ◌∷◌, suc, length, sym, ap, subst, ◌∙◌, arith}
+use Rattle.std.proofs.Common.{◌≡◌, ◌+◌, ◌++◌, [], ◌∷◌, suc, length, sym, ap, subst, ◌∙◌, arith}
 use Rattle.klp_types.specs.declared.record.Record.TheVariants.{TaskRow}
 use Rattle.klp_record_words.specs.Stored.{StoredList, AreWords, records_in}
 use Rattle.klp_record_words.proofs.StoredLemmas.{are_more, records_more, length-records_in, few_words}

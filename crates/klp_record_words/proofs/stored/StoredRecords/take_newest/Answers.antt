@@ -1,6 +1,6 @@
-use Rattle.std.proofs.Common.{◌≡◌, ◌-◌, ◌<◌, ◌≤◌, ◌++◌, [], ◌∷◌, length, take, refl, sym, ap, subst, ◌∙◌, arith}
-use Rattle.klp_record_words.specs.Stored.{StoredList, EndWithRecord}
-use Rattle.klp_record_words.proofs.StoredLemmas.{is_fewer, within, length-records_in, end_with}
+use Rattle.std.proofs.Common.{sym, ap, ◌∙◌, arith}
+use Rattle.klp_record_words.specs.Stored.{StoredList}
+use Rattle.klp_record_words.proofs.StoredLemmas.{is_fewer, within}
 use Rattle.klp_record_words.proofs.stored.StoredRecords.take_newest.Goals as goal
 
 -- the words of the newest are among them

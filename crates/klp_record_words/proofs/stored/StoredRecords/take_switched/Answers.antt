@@ -1,4 +1,4 @@
-use Rattle.std.proofs.Common.{◌≡◌, ◌-◌, ◌<◌, ◌≤◌, ◌++◌, [], ◌∷◌, length, take, refl, sym, ap, subst, ◌∙◌, arith}
+use Rattle.std.proofs.Common.{◌<◌, length, sym, ap, subst, ◌∙◌, arith}
 use Rattle.klp_types.specs.declared.record.Record.TheVariants.{TaskRow}
 use Rattle.klp_record_words.specs.Stored.{StoredList, EndWithRecord}
 use Rattle.klp_record_words.proofs.StoredLemmas.{is_fewer, within, length-records_in, end_with}
