@@ -1,12 +1,12 @@
 -- Laws of what an image keeps: the table of sites against the symbols.
-use Rattle.std.proofs.Common.{◌≡◌, ℕ, zero, suc, ◌+◌, ◌^◌, ◌<◌, ◌≤◌, List, [], ◌∷◌, ◌++◌, length, get_or, set, take, drop, replicate, Bool, true, false, Option, Some, None, refl, ap, sym, ◌∙◌, subst, arith, append_assoc, length-append}
+use Rattle.std.proofs.Common.{◌≡◌, ℕ, zero, suc, ◌+◌, ◌^◌, ◌<◌, ◌≤◌, List, [], ◌∷◌, ◌++◌, length, get_or, set, take, drop, replicate, Bool, true, false, if◌then◌else◌, Option, Some, None, refl, ap, sym, ◌∙◌, subst, arith, append_assoc, length-append}
 use Rattle.std.specs.Prelude.{FitsSigned, option_map}
 use Rattle.std.specs.Int.{w32}
 use Rattle.std.specs.List.{All, AllZip, slice_get}
 use Rattle.std.proofs.lemmas.List.{map-set, take_more, take_at, drop_at, get_or-map, length-take-le, take-append-drop, get_or-append-add, get_or_append_left}
 use Rattle.std.proofs.lemmas.Option.{slice_get-get_or, slice_get_past}
 use Rattle.klp_types.specs.Image.{Symbol, Object, symbols_of, first_site}
-use Rattle.klp_types.specs.Bytes.{patched, patched_from, entry_bytes, displacement, entry_offset, entry_end, entry_address}
+use Rattle.klp_types.specs.Bytes.{patched, patched_from, entry_bytes, nop, displacement, entry_offset, entry_end, entry_address}
 use Rattle.klp_types.proofs.SiteLemmas.{first_site-below, slice_get-symbols_of, symbols_of-append, symbols_of-drop}
 use Rattle.klp_text.specs.declared.stored.StoredSymbol.{StoredSymbol}
 use Rattle.klp_text.specs.TextImage.{TextImage, bytes_at, is_hooked_at}
@@ -124,16 +124,17 @@ written_twice offset first second body long five =
 
 -- a symbol written anew
 pub stored-set_hooked : (handler : ℕ) (hooked : Bool) (old new : StoredSymbol) (symbol : Symbol) → entry_end symbol.body ≤ length symbol.body →
-    IsStored handler old symbol → new.address ≡ old.address → new.offset ≡ old.offset → new.hooked ≡ hooked →
-    new.body.items ≡ with_entry_at old.offset (entry_bytes handler old.address hooked) old.body.items →
+    IsStored handler old symbol → new.address ≡ old.address → new.offset ≡ old.offset → new.call ≡ old.call → new.hooked ≡ hooked →
+    new.body.items ≡ with_entry_at old.offset (if hooked then old.call else nop) old.body.items →
     IsStored handler new symbol
-stored-set_hooked handler hooked old new symbol long stored address offset flag body =
+stored-set_hooked handler hooked old new symbol long stored address offset same flag body =
     let twice = written_twice (entry_offset symbol.body) (entry_bytes handler (entry_address symbol) old.hooked) (entry_bytes handler (entry_address symbol) hooked) symbol.body
     long (length-entry_bytes handler (entry_address symbol) old.hooked) in
     record {
       address = address ∙ stored.address;
       offset = offset ∙ stored.offset;
-      body = rw (body, stored.body, stored.address, stored.offset, flag) twice;
+      call = same ∙ stored.call;
+      body = rw (body, stored.body, stored.call, stored.offset, flag) twice;
     }
 
 pub kept-set : (handler : ℕ) (objects : List Object) (loaded : List Bool) (first_sites : List ℕ) (stored : List StoredSymbol)
@@ -155,13 +156,13 @@ kept-set handler objects loaded first_sites stored site s kept own =
 pub kept-set_hooked : (handler : ℕ) (hooked : Bool) (objects : List Object) (loaded : List Bool) (first_sites : List ℕ)
     (stored : List StoredSymbol) (site : ℕ) (old new : StoredSymbol) →
     IsKept handler objects loaded first_sites stored → site < length stored → old ≡ get_or stored site old →
-    new.address ≡ old.address → new.offset ≡ old.offset → new.hooked ≡ hooked →
-    new.body.items ≡ with_entry_at old.offset (entry_bytes handler old.address hooked) old.body.items →
+    new.address ≡ old.address → new.offset ≡ old.offset → new.call ≡ old.call → new.hooked ≡ hooked →
+    new.body.items ≡ with_entry_at old.offset (if hooked then old.call else nop) old.body.items →
     IsKept handler objects loaded first_sites (set stored site new)
-kept-set_hooked handler hooked objects loaded first_sites stored site old new kept below is address offset flag body =
+kept-set_hooked handler hooked objects loaded first_sites stored site old new kept below is address offset same flag body =
     let there = site_is handler objects loaded first_sites stored site old kept below is in
     kept-set handler objects loaded first_sites stored site new kept
-    (stored-set_hooked handler hooked old new (symbol_at objects site) there.long there.stored_is address offset flag body)
+    (stored-set_hooked handler hooked old new (symbol_at objects site) there.long there.stored_is address offset same flag body)
 
 pub hooked_of-set : (stored : List StoredSymbol) (site : ℕ) (new : StoredSymbol) (hooked : Bool) → new.hooked ≡ hooked →
     hooked_of (set stored site new) ≡ set (hooked_of stored) site hooked
@@ -188,19 +189,19 @@ few_symbols objects o object few found = omega (arith, first_site-below objects 
 -- ---- the tables of a new image
 
 pub stored_from_resting : (handler : ℕ) (stored : List StoredSymbol) (symbols : List Symbol) →
-    AllZip IsResting stored symbols → AllZip (IsStored handler) stored symbols
+    AllZip (IsResting handler) stored symbols → AllZip (IsStored handler) stored symbols
 stored_from_resting handler [] [] h = tt
 stored_from_resting handler [] (y ∷ ys) h = absurd h
 stored_from_resting handler (x ∷ xs) [] h = absurd h
 stored_from_resting handler (x ∷ xs) (y ∷ ys) h =
-    (record { address = h.0.address; offset = h.0.offset; body = rw (h.0.flag) h.0.body }, stored_from_resting handler xs ys h.1)
+    (record { address = h.0.address; offset = h.0.offset; call = h.0.call; body = rw (h.0.flag) h.0.body }, stored_from_resting handler xs ys h.1)
 
-pub hooked_of-resting : (stored : List StoredSymbol) (symbols : List Symbol) →
-    AllZip IsResting stored symbols → hooked_of stored ≡ replicate (length symbols) false
-hooked_of-resting [] [] h = refl
-hooked_of-resting [] (y ∷ ys) h = absurd h
-hooked_of-resting (x ∷ xs) [] h = absurd h
-hooked_of-resting (x ∷ xs) (y ∷ ys) h = rw (h.0.flag, hooked_of-resting xs ys h.1)
+pub hooked_of-resting : (handler : ℕ) (stored : List StoredSymbol) (symbols : List Symbol) →
+    AllZip (IsResting handler) stored symbols → hooked_of stored ≡ replicate (length symbols) false
+hooked_of-resting handler [] [] h = refl
+hooked_of-resting handler [] (y ∷ ys) h = absurd h
+hooked_of-resting handler (x ∷ xs) [] h = absurd h
+hooked_of-resting handler (x ∷ xs) (y ∷ ys) h = rw (h.0.flag, hooked_of-resting handler xs ys h.1)
 
 -- ---- the first sites
 

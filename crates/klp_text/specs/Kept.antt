@@ -3,7 +3,7 @@ use Rattle.std.specs.Prelude.{◌≡◌, ℕ, ◌+◌, ◌^◌, ◌<◌, ◌≤�
 use Rattle.std.specs.Int.{w32}
 use Rattle.std.specs.List.{All, AllZip}
 use Rattle.klp_types.specs.Image.{Symbol, Object, symbols_of}
-use Rattle.klp_types.specs.Bytes.{entry_offset, entry_end, entry_address, nop, with_entry, patched, displacement}
+use Rattle.klp_types.specs.Bytes.{entry_offset, entry_end, entry_address, nop, with_entry, patched, displacement, call}
 use Rattle.klp_text.specs.TextImage.{IsWithinLimits}
 use Rattle.klp_text.specs.declared.stored.StoredSymbol.{StoredSymbol}
 
@@ -28,16 +28,18 @@ IsNear handler symbol = FitsSigned w32 (displacement handler (entry_address symb
 abbrev pub IsInRange : Symbol → Type 0
 IsInRange symbol = symbol.address + length symbol.body < 2 ^ 64
 
--- a symbol as it stands in the text
+-- a symbol as it stands in the text, and the call that stands at its entry site while it is hooked
 pub record IsStored (handler : ℕ) (stored : StoredSymbol) (symbol : Symbol) : Type 0 where
   pub address : stored.address ≡ entry_address symbol
   pub offset : stored.offset ≡ entry_offset symbol.body
+  pub call : stored.call ≡ call handler (entry_address symbol)
   pub body : stored.body.items ≡ (patched handler stored.hooked symbol).body
 
 -- the same of one that isn't hooked
-pub record IsResting (stored : StoredSymbol) (symbol : Symbol) : Type 0 where
+pub record IsResting (handler : ℕ) (stored : StoredSymbol) (symbol : Symbol) : Type 0 where
   pub address : stored.address ≡ entry_address symbol
   pub offset : stored.offset ≡ entry_offset symbol.body
+  pub call : stored.call ≡ call handler (entry_address symbol)
   pub flag : stored.hooked ≡ false
   pub body : stored.body.items ≡ with_entry nop symbol.body
 

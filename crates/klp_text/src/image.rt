@@ -5,7 +5,7 @@ ghost use Rattle.klp_text.specs.TextImage.{opening, bytes_at, site_count, IsWith
 ghost use Rattle.std.specs.List.{All, AllZip};
 ghost use Rattle.klp_types.specs.declared.limits.TheConstants.{ENTRY_SITE_LEN, MAX_SITES};
 ghost use Rattle.klp_text.specs.Faults as faults;
-ghost use Rattle.klp_text.specs.Kept.{IsInRange, IsLong, IsResting, first_sites_from};
+ghost use Rattle.klp_text.specs.Kept.{IsInRange, IsLong, IsNear, IsResting, first_sites_from};
 ghost use Rattle.klp_text.specs.declared.fault.ImageFault.TheVariants.{NoMemory};
 
 use crate::check::image_fault;
@@ -72,7 +72,7 @@ impl Image {
         let mut loaded = vec![in alloc; false; objects.len()]?;
         loaded[0] = true;
         let first_sites = first_sites(alloc, objects.as_slice())?;
-        let sites = stored_symbols(alloc, objects.as_slice())?;
+        let sites = stored_symbols(alloc, objects.as_slice(), handler)?;
         Ok(Image {
             handler,
             objects,
@@ -100,14 +100,12 @@ impl Image {
         self.set_hooked(site, false);
     }
 
-    /// Puts a call of the handler at an entry site, or the NOP. The call is made anew from the site's
-    /// address, since it is nowhere kept.
+    /// Puts a call of the handler at an entry site, or the NOP.
     fn set_hooked(&mut self, site: Site, hooked: bool)
         requires { site < site_count self.old.image }
         ensures { self.new ≡ record self.old { hooked = slice_set self.old.hooked site hooked } }
     {
-        let handler = self.handler;
-        self.sites[usize::from(site.0)].set_hooked(handler, hooked);
+        self.sites[usize::from(site.0)].set_hooked(hooked);
     }
 
     /// Makes an object loaded: from now on `bytes` shows the bodies of its symbols. Its sites stay hooked
@@ -230,16 +228,22 @@ fn first_sites(alloc: Global, objects: &[ObjectText]) -> Result<Vec<u16>, AllocE
     Ok(sites)
 }
 
-/// By site, the symbol with a NOP at its entry site, whatever bytes it was given with.
-fn stored_symbols(alloc: Global, objects: &[ObjectText]) -> Result<Vec<StoredSymbol>, AllocError>
+/// By site, the symbol with a NOP at its entry site, whatever bytes it was given with, and with its call of the
+/// handler.
+fn stored_symbols(
+    alloc: Global,
+    objects: &[ObjectText],
+    handler: u64,
+) -> Result<Vec<StoredSymbol>, AllocError>
     requires long { All IsLong (symbols_of objects.now) }
+    requires near { All (IsNear handler) (symbols_of objects.now) }
     requires range { All IsInRange (symbols_of objects.now) }
-    ensures { IfOk result (λ sites. AllZip IsResting sites.items (symbols_of objects.now)) }
+    ensures { IfOk result (λ sites. AllZip (IsResting handler) sites.items (symbols_of objects.now)) }
 {
     let mut sites = Vec::new(alloc);
     for object in objects {
         for symbol in &object.symbols {
-            sites.push(StoredSymbol::new(alloc, symbol)?)?;
+            sites.push(StoredSymbol::new(alloc, symbol, handler)?)?;
         }
     }
     Ok(sites)

@@ -1,14 +1,15 @@
-ghost use Rattle.std.specs.Prelude.{◌≡◌, ◌+◌, ◌≤◌, ◌<◌, ◌^◌, length, FitsSigned, IfOk, false};
+ghost use Rattle.std.specs.Prelude.{◌≡◌, ◌+◌, ◌≤◌, ◌<◌, ◌^◌, length, FitsSigned, IfOk, false, if◌then◌else◌};
 ghost use Rattle.std.specs.Int.{w32};
-ghost use Rattle.klp_types.specs.Bytes.{entry_offset, entry_end, entry_address, nop, with_entry, displacement, entry_bytes};
+ghost use Rattle.klp_types.specs.Bytes.{entry_offset, entry_end, entry_address, nop, with_entry, displacement};
+ghost use Rattle.klp_types.specs.Bytes as bytes;
 ghost use Rattle.klp_text.specs.Kept.{with_entry_at};
 
 use crate::entry::{NOP, call, entry_offset};
 use klp_types::{ENTRY_SITE_LEN, SymbolText};
 use std::alloc::{AllocError, Global};
 
-/// A symbol as it is in the text now. Where its entry site is stands beside the body, since a call is made
-/// from there each time that the site is hooked.
+/// A symbol as it is in the text now. Where its entry site is stands beside the body, and so does the call that
+/// is put there each time that the site is hooked: it is made once.
 #[derive(Drop)]
 pub struct StoredSymbol {
     /// The address of the entry site.
@@ -16,47 +17,49 @@ pub struct StoredSymbol {
     /// Where in the body the entry site begins.
     pub offset: usize,
     pub hooked: bool,
+    /// A call of the handler from the entry site.
+    pub call: [u8; ENTRY_SITE_LEN],
     pub body: Vec<u8>,
 }
 
 impl StoredSymbol {
     /// The symbol with a NOP at its entry site, in a copy of its body, so that the one given stays as it
     /// was.
-    pub fn new(alloc: Global, symbol: &SymbolText) -> Result<StoredSymbol, AllocError>
+    pub fn new(alloc: Global, symbol: &SymbolText, handler: u64) -> Result<StoredSymbol, AllocError>
         requires long { entry_end symbol.now.body ≤ length symbol.now.body }
+        requires near { FitsSigned w32 (displacement handler (entry_address symbol.now)) }
         requires range { symbol.now.address + length symbol.now.body < 2 ^ 64 }
         ensures address { IfOk result (λ s. s.address ≡ entry_address symbol.now) }
         ensures offset { IfOk result (λ s. s.offset ≡ entry_offset symbol.now.body) }
+        ensures call { IfOk result (λ s. s.call ≡ bytes.call handler (entry_address symbol.now)) }
         ensures resting { IfOk result (λ s. s.hooked ≡ false) }
         ensures body { IfOk result (λ s. s.body.items ≡ with_entry nop symbol.now.body) }
     {
         let offset = entry_offset(symbol.body.as_slice());
         let mut body = Vec::from_slice(alloc, symbol.body.as_slice())?;
         write_entry(&mut body, offset, &NOP);
+        let address = symbol.address + offset as u64;
         Ok(StoredSymbol {
-            address: symbol.address + offset as u64,
+            address,
             offset,
             hooked: false,
+            call: call(handler, address),
             body,
         })
     }
 
     /// Puts a call of the handler at the entry site, or the NOP, and sets the flag with it, so that the two
     /// can't differ.
-    pub fn set_hooked(&mut self, handler: u64, hooked: bool)
-        requires long { self.old.offset + 5 ≤ length self.old.body.items }
-        requires near { FitsSigned w32 (displacement handler self.old.address) }
+    pub fn set_hooked(&mut self, hooked: bool)
+        requires { self.old.offset + 5 ≤ length self.old.body.items }
         ensures address { self.new.address ≡ self.old.address }
         ensures offset { self.new.offset ≡ self.old.offset }
+        ensures call { self.new.call ≡ self.old.call }
         ensures flag { self.new.hooked ≡ hooked }
         ensures body { self.new.body.items
-            ≡ with_entry_at self.old.offset (entry_bytes handler self.old.address hooked) self.old.body.items }
+            ≡ with_entry_at self.old.offset (if hooked then self.old.call else nop) self.old.body.items }
     {
-        let entry = if hooked {
-            call(handler, self.address)
-        } else {
-            NOP
-        };
+        let entry = if hooked { self.call } else { NOP };
         write_entry(&mut self.body, self.offset, &entry);
         self.hooked = hooked;
     }

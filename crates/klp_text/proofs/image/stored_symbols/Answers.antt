@@ -4,7 +4,7 @@ use Rattle.std.specs.List.{All}
 use Rattle.std.proofs.lemmas.List.{take_all}
 use Rattle.klp_types.specs.Image.{Symbol, Object, symbols_of}
 use Rattle.klp_types.proofs.SiteLemmas.{symbols_of-take}
-use Rattle.klp_text.specs.Kept.{IsInRange, IsLong, IsResting}
+use Rattle.klp_text.specs.Kept.{IsInRange, IsLong, IsNear, IsResting}
 use Rattle.klp_text.proofs.KeptLaws.{All-symbols, AllZip-more}
 use Rattle.klp_text.proofs.image.stored_symbols.Goals as goal
 
@@ -32,14 +32,26 @@ new-requires-clause-range c =
     let inside : c.loop-symbol.symbol-index < length c.deref-symbol-items.result.now = omega arith in
     subst IsInRange (sym c.symbol-item.is) (all c.loop-symbol.symbol-index c.symbol-item.result inside)
 
+pub new-requires-clause-near : goal.new-requires-clause-near
+new-requires-clause-near c =
+    let i = c.loop-object.object-index in
+    let objects = c.args.objects.now in
+    let below : c.loop-object.object-index < length c.args.objects.now = omega arith in
+    let symbols_are : c.deref-symbol-items.result.now ≡ (get_or c.args.objects.now c.loop-object.object-index c.object-item.result).symbols =
+    c.deref-symbol-items.ensures.value ∙ (ap (λ (o : Object). o.symbols) c.object.view_is ∙ ap (λ (o : Object). o.symbols) c.object-item.is) in
+    let all : All (IsNear c.args.handler) c.deref-symbol-items.result.now =
+    subst (λ (symbols : List Symbol). All (IsNear c.args.handler) symbols) (sym symbols_are) (All-symbols (IsNear c.args.handler) objects i c.object-item.result below c.requires.near) in
+    let inside : c.loop-symbol.symbol-index < length c.deref-symbol-items.result.now = omega arith in
+    subst (IsNear c.args.handler) (sym c.symbol-item.is) (all c.loop-symbol.symbol-index c.symbol-item.result inside)
+
 pub loop-symbol-preserved : goal.loop-symbol-preserved
 loop-symbol-preserved c =
     let before = symbols_of (take c.loop-object.object-index c.args.objects.now) in
     let inside : c.loop-symbol.symbol-index < length c.deref-symbol-items.result.now = omega arith in
     let fresh = c.in_ok-new.ensures in
-    AllZip-more IsResting _ _ before c.deref-symbol-items.result.now c.loop-symbol.symbol-index _ c.symbol-item.result
+    AllZip-more (IsResting c.args.handler) _ _ before c.deref-symbol-items.result.now c.loop-symbol.symbol-index _ c.symbol-item.result
     c.loop-symbol.invariant inside c.symbol-item.is c.in_ok-push.ensures.items
-    (record { address = fresh.address; offset = fresh.offset; flag = fresh.resting; body = fresh.body })
+    (record { address = fresh.address; offset = fresh.offset; call = fresh.call; flag = fresh.resting; body = fresh.body })
 
 pub loop-object-preserved : goal.loop-object-preserved
 loop-object-preserved c =

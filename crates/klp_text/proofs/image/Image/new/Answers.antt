@@ -4,7 +4,7 @@ use Rattle.std.proofs.Math.ListN.{length-set}
 use Rattle.std.specs.List.{All, AllZip}
 use Rattle.klp_types.specs.Image.{Object, symbols_of}
 use Rattle.klp_text.specs.Faults.{image_fault}
-use Rattle.klp_text.specs.Kept.{IsInRange, IsLong, IsResting, first_sites_from}
+use Rattle.klp_text.specs.Kept.{IsInRange, IsLong, IsNear, IsResting, first_sites_from}
 use Rattle.klp_text.proofs.SoundLaws.{sound_image}
 use Rattle.klp_text.proofs.KeptLaws.{stored_from_resting, hooked_of-resting}
 use Rattle.klp_text.proofs.image.Image.new.Goals as goal
@@ -14,6 +14,12 @@ stored_symbols-requires-clause-long c =
     let none : image_fault c.args.handler c.args.objects.items ≡ None =
     ap (image_fault c.args.handler) (sym c.as_slice.ensures.value) ∙ sym c.in_default.ensures in
     subst (λ (objects : List Object). All IsLong (symbols_of objects)) (sym c.as_slice-3.ensures.value) (sound_image c.args.handler c.args.objects.items none).long
+
+pub stored_symbols-requires-clause-near : goal.stored_symbols-requires-clause-near
+stored_symbols-requires-clause-near c =
+    let none : image_fault c.args.handler c.args.objects.items ≡ None =
+    ap (image_fault c.args.handler) (sym c.as_slice.ensures.value) ∙ sym c.in_default.ensures in
+    subst (λ (objects : List Object). All (IsNear c.args.handler) (symbols_of objects)) (sym c.as_slice-3.ensures.value) (sound_image c.args.handler c.args.objects.items none).near
 
 pub stored_symbols-requires-clause-range : goal.stored_symbols-requires-clause-range
 stored_symbols-requires-clause-range c =
@@ -26,8 +32,8 @@ invariant_of-result c =
     let none : image_fault c.args.handler c.args.objects.items ≡ None =
     ap (image_fault c.args.handler) (sym c.as_slice.ensures.value) ∙ sym c.in_default.ensures in
     let sound = sound_image c.args.handler c.args.objects.items none in
-    let resting : AllZip IsResting c.in_ok-sites.sites.items (symbols_of c.args.objects.items) =
-    subst (λ (objects : List Object). AllZip IsResting c.in_ok-sites.sites.items (symbols_of objects)) c.as_slice-3.ensures.value c.in_ok-sites.ensures in
+    let resting : AllZip (IsResting c.args.handler) c.in_ok-sites.sites.items (symbols_of c.args.objects.items) =
+    subst (λ (objects : List Object). AllZip (IsResting c.args.handler) c.in_ok-sites.sites.items (symbols_of objects)) c.as_slice-3.ensures.value c.in_ok-sites.ensures in
     record {
       limits = sound.limits;
       long = sound.long;
@@ -42,9 +48,9 @@ pub returns-clause-ok : goal.returns-clause-ok
 returns-clause-ok c =
     let none : image_fault c.args.handler c.args.objects.items ≡ None =
     ap (image_fault c.args.handler) (sym c.as_slice.ensures.value) ∙ sym c.in_default.ensures in
-    let resting : AllZip IsResting c.in_ok-sites.sites.items (symbols_of c.args.objects.items) =
-    subst (λ (objects : List Object). AllZip IsResting c.in_ok-sites.sites.items (symbols_of objects)) c.as_slice-3.ensures.value c.in_ok-sites.ensures in
+    let resting : AllZip (IsResting c.args.handler) c.in_ok-sites.sites.items (symbols_of c.args.objects.items) =
+    subst (λ (objects : List Object). AllZip (IsResting c.args.handler) c.in_ok-sites.sites.items (symbols_of objects)) c.as_slice-3.ensures.value c.in_ok-sites.ensures in
     let loaded = c.in_ok-loaded.ensures.items_if_clones_equal (λ y e. e) in
-    let hooked = hooked_of-resting _ _ resting in
+    let hooked = hooked_of-resting _ _ _ resting in
     let count : c.len.result ≡ length c.args.objects.items = c.len.ensures ∙ c.args.objects.ok.0 in
     (none, rw (loaded, hooked, count))

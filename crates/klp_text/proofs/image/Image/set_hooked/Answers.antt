@@ -9,21 +9,13 @@ index_mut-requires c =
     let asked = rw (← c.self.view_is) at c.requires in
     omega (arith, count, asked)
 
-pub set_hooked-requires-clause-long : goal.set_hooked-requires-clause-long
-set_hooked-requires-clause-long c =
+pub set_hooked-requires : goal.set_hooked-requires
+set_hooked-requires c =
     let count = site_count_is _ _ _ _ _ c.self.invariant in
     let asked = rw (← c.self.view_is) at c.requires in
     let below : c.from.result < length c.self.inside.sites.items = omega (arith, count, asked) in
     let site = site_is _ _ _ _ _ c.from.result _ c.self.invariant below c.index_mut.ensures.value in
     stored_long _ _ _ site.long site.stored_is
-
-pub set_hooked-requires-clause-near : goal.set_hooked-requires-clause-near
-set_hooked-requires-clause-near c =
-    let count = site_count_is _ _ _ _ _ c.self.invariant in
-    let asked = rw (← c.self.view_is) at c.requires in
-    let below : c.from.result < length c.self.inside.sites.items = omega (arith, count, asked) in
-    let site = site_is _ _ _ _ _ c.from.result _ c.self.invariant below c.index_mut.ensures.value in
-    rw (site.stored_is.address) site.near
 
 pub invariant_of-self : goal.invariant_of-self
 invariant_of-self c =
@@ -31,7 +23,7 @@ invariant_of-self c =
     let asked = rw (← c.self.view_is) at c.requires in
     let below : c.from.result < length c.self.inside.sites.items = omega (arith, count, asked) in
     kept-set_hooked _ c.args.hooked _ _ _ _ _ _ _ c.self.invariant below c.index_mut.ensures.value
-    c.set_hooked.ensures.address c.set_hooked.ensures.offset c.set_hooked.ensures.flag c.set_hooked.ensures.body
+    c.set_hooked.ensures.address c.set_hooked.ensures.offset c.set_hooked.ensures.call c.set_hooked.ensures.flag c.set_hooked.ensures.body
 
 pub returns : goal.returns
 returns c =
