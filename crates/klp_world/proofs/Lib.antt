@@ -4,6 +4,7 @@ pub mod First
 pub mod StateLemmas
 pub mod PatchLemmas
 pub mod LeftLemmas
+pub mod ListedLemmas
 pub mod AddedLemmas
 pub mod UndoLemmas
 pub mod NotedLemmas

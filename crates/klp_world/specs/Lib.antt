@@ -2,6 +2,7 @@ pub mod Coded
 pub mod Undo
 pub mod Noted
 pub mod Sorted
+pub mod Listed
 pub mod Slots
 pub mod Buckets
 pub mod Freed

@@ -9,11 +9,13 @@
 //!
 //! Installed patches are one list, oldest first, with their numbers in another beside it. Shadow variables
 //! are in a table without gaps (`src/table.rt`). Their keys are kept by a hash, each with the slot of its
-//! variable (`src/index.rt`), and those of one hash in their order (`src/sorted.rt`).
+//! variable (`src/index.rt`), and those of one hash in a list of their own (`src/listed.rt`). Those of an id are brought
+//! in their order to be removed (`src/sorted.rt`).
 #![tactic(auto)]
 
 mod index;
 pub mod laws;
+mod listed;
 mod patch;
 mod shadow;
 mod sorted;
