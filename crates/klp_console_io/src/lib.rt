@@ -7,7 +7,8 @@
 //! piece up to its first line feed and hands back the rest: the lines of both together are this line and
 //! those of the rest; or, without a line feed, this one, which goes on. It is an `Err` exactly where that
 //! first line is longer than 256 bytes, finished or not, and then nothing changes. What comes next leaves
-//! finished lines as they are (`specs/Lines`).
+//! finished lines as they are (`specs/Lines`). [`LineBuffer::whole_line`] lends a line from the piece itself, where
+//! nothing of it was heard before and the piece finishes it.
 //!
 //! **Out.** [`Answers`] are gathered in room of a fixed size, and written to a [`Sink`], which takes a front
 //! of what it is given. Whoever writes to them need not ask after each word whether it was taken: a failure

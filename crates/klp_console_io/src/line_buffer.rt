@@ -1,9 +1,10 @@
 //! A line that is heard in pieces, as reads have no regard for lines.
-ghost use Rattle.std.specs.Prelude.{◌≡◌, ℕ, ◌<◌, ◌≤◌, position, List, [], ◌∷◌, ◌++◌, length, IfOk, IfSome, IfNone, OnOk, OnErr};
+ghost use Rattle.std.specs.Prelude.{◌≡◌, ℕ, ◌<◌, ◌≤◌, ◌⊎◌, position, List, [], ◌∷◌, ◌++◌, length, IfOk, IfSome, IfNone, OnOk, OnErr};
 ghost use Rattle.klp_console_io.specs.Lines.{is_line_feed, lines_and_rest};
 
 use arrayvec::ArrayVec;
 use klp_types::MAX_CONSOLE_LINE;
+use klp_words::position_of;
 use std::marker::Model;
 
 /// That a line is longer than [`MAX_CONSOLE_LINE`]. There is no more to report, since the line isn't kept.
@@ -34,7 +35,7 @@ impl Model for LineBuffer {
 fn line_feed(bytes: &[u8]) -> Option<usize>
     ensures { result ≡ position is_line_feed bytes.now }
 {
-    bytes.iter().position(|b| *b == b'\n')
+    position_of(bytes, b'\n')
 }
 
 /// What is before the first line feed, and what is after it, where there is one. A piece that ends with it
@@ -75,6 +76,29 @@ impl LineBuffer {
         ensures { self.new ≡ [] }
     {
         self.bytes.clear();
+    }
+
+    /// The line that a piece has from its first byte to its line feed, lent from the piece, and what comes after the line
+    /// feed, so that a line which one read has whole is copied nowhere. `None` where bytes of the line were heard before,
+    /// where the piece has no line feed, and where the line is longer than [`MAX_CONSOLE_LINE`]: `hear` tells these apart.
+    pub fn whole_line<'a>(&self, piece: &'a [u8]) -> Option<(&'a [u8], &'a [u8])>
+        ensures begins { IfSome result (λ _. self.now ≡ []) }
+        ensures finished { IfSome result (λ found. lines_and_rest piece.now ≡ found.0.now ∷ lines_and_rest found.1.now) }
+        ensures shorter { IfSome result (λ found. length found.1.now < length piece.now) }
+        ensures limit { IfSome result (λ found. length found.0.now ≤ MAX_CONSOLE_LINE) }
+        ensures none { IfNone result ((0 < length self.now) ⊎ (lines_and_rest piece.now ≡ piece.now ∷ [])
+            ⊎ ((long : List ℕ) × (more : List (List ℕ)) × (lines_and_rest piece.now ≡ long ∷ more)
+            × (MAX_CONSOLE_LINE < length long))) }
+    {
+        if !self.bytes.is_empty() {
+            return None;
+        }
+        let (line, rest) = cut(piece);
+        if line.len() > MAX_CONSOLE_LINE {
+            return None;
+        }
+        let rest = rest?;
+        Some((line, rest))
     }
 
     /// Hears a piece up to its first line feed.
