@@ -1,7 +1,8 @@
 //! What the names of a line mean. A name is looked up only once the line has a shape, since a bad line has
 //! no names.
 
-ghost use Rattle.std.specs.Prelude.{◌≡◌};
+ghost use Rattle.std.specs.Prelude.{◌≡◌, true, false, MatchOption};
+ghost use Rattle.std.specs.Str.{is_utf8};
 ghost use Rattle.klp_console_commands.specs.Names.{patch_of, object_of, task_of, site_of, new_function_of, version_of, symbol_found};
 
 use crate::fault::LineFault;
@@ -10,7 +11,7 @@ use klp_catalog::Catalog;
 use klp_model::Refusal;
 use klp_modules::Modules;
 use klp_types::{MAX_INDEX, MAX_TASKS, ObjId, PatchId, Site, TaskId, Version};
-use klp_words::{Spelling, cut, spelling_of};
+use klp_words::{Spelling, cut, is_ascii, spelling_of, text};
 use std::marker::Model;
 use std::str;
 
@@ -31,31 +32,41 @@ impl<'a> Model for NameResolver<'a> {
     ghost view = { λ k. names_of k.catalog.now k.modules.now };
 }
 
+/// The word as text. Names are UTF-8, so a word that isn't is the name of nothing. Most are ASCII, which is told by
+/// sixteen bytes at a time.
+#[tactic(auto, using(crate::proofs::WordLemmas::is_text, crate::proofs::WordLemmas::no_text, crate::proofs::WordLemmas::ascii, crate::proofs::WordLemmas::ascii_text))]
+fn text_of(word: &[u8]) -> Option<&str>
+    ensures { MatchOption result (is_utf8 word.now ≡ false)
+        (λ text. (is_utf8 word.now ≡ true) × (text.now ≡ word.now)) }
+{
+    if is_ascii(word) {
+        return Some(text(word));
+    }
+    str::from_utf8(word).ok()
+}
+
 impl<'a> NameResolver<'a> {
-    /// Names are UTF-8, so a word that isn't is the name of nothing.
-    #[tactic(auto, using(crate::proofs::WordLemmas::is_text, crate::proofs::WordLemmas::no_text))]
     pub(crate) fn patch(&self, word: &[u8]) -> Result<PatchId, LineFault>
         ensures { result ≡ patch_of self.now word.now }
     {
-        match str::from_utf8(word) {
-            Ok(name) => self
+        match text_of(word) {
+            Some(name) => self
                 .catalog
                 .patch(name)
                 .ok_or(LineFault::Refused(Refusal::NoPatch)),
-            Err(_) => Err(LineFault::Refused(Refusal::NoPatch)),
+            None => Err(LineFault::Refused(Refusal::NoPatch)),
         }
     }
 
-    #[tactic(auto, using(crate::proofs::WordLemmas::is_text, crate::proofs::WordLemmas::no_text))]
     pub(crate) fn object(&self, word: &[u8]) -> Result<ObjId, LineFault>
         ensures { result ≡ object_of self.now word.now }
     {
-        match str::from_utf8(word) {
-            Ok(name) => self
+        match text_of(word) {
+            Some(name) => self
                 .modules
                 .object(name)
                 .ok_or(LineFault::Refused(Refusal::NoModule)),
-            Err(_) => Err(LineFault::Refused(Refusal::NoModule)),
+            None => Err(LineFault::Refused(Refusal::NoModule)),
         }
     }
 
