@@ -1,6 +1,7 @@
 -- What an event of a task leaves of the table: all but the state of that task.
-use Rattle.std.proofs.Common.{◌≡◌, ◌≢◌, ℕ, ◌<◌, ◌≤◌, List, [], ◌∷◌, ◌++◌, take, length, Option, None, Some, option_map, slice_index_or, slice_set, Bool, true, false, ◌||◌, is_some, refl, ap, sym, ◌∙◌, arith, subst, ◌⊎◌, inl, inr, ⊎_elim, Result, Ok, Err}
+use Rattle.std.proofs.Common.{◌≡◌, ◌≢◌, ℕ, ◌<◌, ◌≤◌, List, [], ◌∷◌, ◌++◌, take, length, Option, None, Some, option_map, slice_index_or, slice_set, Global, Bool, true, false, ◌||◌, is_some, refl, ap, sym, ◌∙◌, arith, subst, ◌⊎◌, inl, inr, ⊎_elim, Result, Ok, Err}
 use Rattle.std.specs.Prelude.{◌↔◌, is_ok}
+use Rattle.std.specs.declared.boxed.Box.{Box}
 use Rattle.std.proofs.lemmas.Bool.{both_ways}
 use Rattle.std.proofs.Math.Bool.{or-false}
 use Rattle.std.proofs.lemmas.List.{get_or-set_same, get_or-set_other, length-set, take-append-le, take_all}
@@ -225,19 +226,21 @@ module _ (setting : Setting) where
           sym (ap (λ s. row_of setting s site) is ∙ next_stays setting before site event (subst (λ m. is_touched setting m event site ≡ false) (sym moved) untouched))
 
   -- the table with the rows of all sites that the event touches, and the states of all tasks
-  pub moved_leads : (now : State) (moving : Option ℕ) (event : Event) (moved : Moved) → length (symbols_of setting.image.objects) ≤ 256 → AreRowsOf setting now moved.rows.items
-      → ((site : ℕ) → is_touched setting moving event site ≡ true → is_listed site moved.rows.items ≡ true) → length moved.states ≡ 64
-      → ((task : ℕ) → slice_index_or moved.states task None ≡ own_state now task) → LeadsOn setting now moving event (AllMoved moved)
-  moved_leads now moving event moved few are all count states before table was_moving is was = record {
-    height = length-with_rows table.rows moved.rows.items ∙ was.height;
-    width = count;
-    sites = λ site. ⊎_elim
-        (λ (h : site < 256). set_rows setting now table.rows moved.rows.items are site (omega (arith, was.height))
-        (λ away. was.sites site ∙ unlisted_stays before now moving event moved.rows.items site was_moving is (all site) away))
-        (λ (h : 256 ≤ site). or_past (with_rows table.rows moved.rows.items) site None (omega (arith, length-with_rows table.rows moved.rows.items, was.height)) ∙ sym (no_row setting now site (omega arith)))
-        (below site 256);
-    tasks = states;
-  }
+  pub moved_leads : (now : State) (moving : Option ℕ) (event : Event) (moved : Box Moved Global) → length (symbols_of setting.image.objects) ≤ 256 → AreRowsOf setting now moved.value.rows.items
+      → ((site : ℕ) → is_touched setting moving event site ≡ true → is_listed site moved.value.rows.items ≡ true) → length moved.value.states ≡ 64
+      → ((task : ℕ) → slice_index_or moved.value.states task None ≡ own_state now task) → LeadsOn setting now moving event (AllMoved moved)
+  moved_leads now moving event moved few are all count states before table was_moving is was =
+      let list = moved.value.rows.items in
+      record {
+        height = length-with_rows table.rows list ∙ was.height;
+        width = count;
+        sites = λ site. ⊎_elim
+            (λ (h : site < 256). set_rows setting now table.rows list are site (omega (arith, was.height))
+            (λ away. was.sites site ∙ unlisted_stays before now moving event list site was_moving is (all site) away))
+            (λ (h : 256 ≤ site). or_past (with_rows table.rows list) site None (omega (arith, length-with_rows table.rows list, was.height)) ∙ sym (no_row setting now site (omega arith)))
+            (below site 256);
+        tasks = states;
+      }
 
   patched_by : (object moved : Option ℕ) (patch site : ℕ) → is_some object ≡ false → moved ≡ Some patch → replaces setting patch ≡ false
       → (is_touched_by setting moved site || is_inside setting object site) ≡ true → patches_site setting site patch ≡ true

@@ -36,14 +36,14 @@ pub record IsDispatch (setting : Setting) (state : State) (table : Table) : Type
 abbrev pub changed : Table → Change → Table
 changed table Same = table
 changed table (OfTask task state) = record table { states = slice_set table.states task state }
-changed table (Moved moved) = record { rows = with_rows table.rows moved.rows.items; states = moved.states }
+changed table (Moved moved) = record { rows = with_rows table.rows moved.value.rows.items; states = moved.value.states }
 changed table (All all) = all.value
 
 -- how many rows of sites a change sets
 abbrev pub rows_in : Change → ℕ
 rows_in Same = 0
 rows_in (OfTask task state) = 0
-rows_in (Moved moved) = length moved.rows.items
+rows_in (Moved moved) = length moved.value.rows.items
 rows_in (All all) = MAX_SITES
 
 -- the one task that an event may change, where it changes nothing else

@@ -1,4 +1,5 @@
 pub mod Listed
+pub mod Kept
 pub mod Touched
 pub mod Dispatch
 pub mod Rules

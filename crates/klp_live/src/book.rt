@@ -11,7 +11,7 @@ ghost use Rattle.klp_live.specs.Publishing.{IsPublished};
 
 use crate::change::change_after;
 use crate::history::Start;
-use crate::law::{Row, row};
+use crate::kept::Kept;
 use crate::published::{Published, View};
 use crate::publisher::Publisher;
 use crate::refusal::LiveRefusal;
@@ -19,7 +19,7 @@ use crate::seat::{Receipt, Seat};
 use crossbeam_utils::rule::Protocol;
 use klp_core::Machine;
 use klp_core::laws::the_journal_alone_is_full;
-use klp_model::{Event, Refusal};
+use klp_model::{Event, Refusal, Reply};
 use klp_types::PatchId;
 use std::alloc::Global;
 use std::marker::Model;
@@ -83,18 +83,19 @@ impl<S: Start + Protocol<Published, View>, M: Machine + Drop, R: Wait + Drop> Bo
         self.publisher.must_cover(rt, seat);
         let mark = self.machine.mark();
         let moving = self.machine.in_transition();
-        match accept(&mut self.machine, event) {
+        match &accept(&mut self.machine, event) {
             Err(refusal) => {
                 self.publisher.tell(seat);
-                Err(LiveRefusal::Refused(refusal))
+                Err(LiveRefusal::Refused(*refusal))
             }
-            Ok(row) => match publish(
+            Ok(reply) => match publish(
                 rt,
                 alloc,
                 &self.machine,
                 &mut self.publisher,
                 seat,
-                &row,
+                &event,
+                reply,
                 moving,
             ) {
                 Some(receipt) => Ok(receipt),
@@ -107,18 +108,13 @@ impl<S: Start + Protocol<Published, View>, M: Machine + Drop, R: Wait + Drop> Bo
     }
 }
 
-/// Has the machine take an event, and makes its row.
-fn accept<M: Machine>(machine: &mut M, event: Event) -> Result<Row, Refusal>
-    ensures taken { MatchResult result
-        (λ row. (row.0 ≡ event) × IsTaken (M.journaled machine.old) (M.journaled machine.new) event (Ok row.1))
-        (λ refusal. IsTaken (M.journaled machine.old) (M.journaled machine.new) event (Err refusal)) }
+/// Has the machine take an event.
+fn accept<M: Machine>(machine: &mut M, event: Event) -> Result<Reply, Refusal>
+    ensures taken { IsTaken (M.journaled machine.old) (M.journaled machine.new) event result }
     ensures setting { setting_of (M.journaled machine.new).managed ≡ setting_of (M.journaled machine.old).managed }
 {
     let _standing = machine.mark();
-    match machine.apply(event) {
-        Ok(reply) => Ok(row(&event, &reply)),
-        Err(refusal) => Err(refusal),
-    }
+    machine.apply(event)
 }
 
 /// Publishes the row of an event that was just taken, where there is memory for what it changes of the table.
@@ -128,23 +124,27 @@ fn publish<S: Start + Protocol<Published, View>, M: Machine, R: Wait + Drop, W: 
     machine: &M,
     publisher: &mut Publisher<S, R>,
     seat: &mut Seat<S>,
-    row: &Row,
+    event: &Event,
+    reply: &Reply,
     moving: Option<PatchId>,
 ) -> Option<Receipt<S>>
     requires room { length publisher.old < 2 ^ 62 }
-    requires answered { answer S.setting (state_after_history S.setting S.base publisher.old) row.now.0 ≡ Ok row.now.1 }
+    requires answered { answer S.setting (state_after_history S.setting S.base publisher.old) event.now ≡ Ok reply.now }
     requires setting { setting_of (M.journaled machine.now).managed ≡ S.setting }
     requires state { (M.journaled machine.now).managed.state
-        ≡ next S.setting (state_after_history S.setting S.base publisher.old) row.now.0 }
+        ≡ next S.setting (state_after_history S.setting S.base publisher.old) event.now }
     requires moving { moving ≡ moving_patch (state_after_history S.setting S.base publisher.old).moving }
     ensures { MatchOption result
         ((publisher.new ≡ publisher.old) × (seat.new ≡ seat.old))
-        (λ told. IsPublished S.setting S.base row.now publisher.old publisher.new seat.old seat.new told) }
+        (λ told. IsPublished S.setting S.base (event.now, reply.now) publisher.old publisher.new seat.old seat.new told) }
 {
-    match change_after(alloc, machine, &row.0, moving) {
-        Ok(change) => publisher.publish(rt, seat, row, change),
-        Err(_) => None,
-    }
+    let Ok(change) = change_after(alloc, machine, event, moving) else {
+        return None;
+    };
+    let Ok(kept) = Kept::of(alloc, event, reply) else {
+        return None;
+    };
+    publisher.publish(rt, seat, event, reply, kept, change)
 }
 
 /// Takes back what was taken since this mark.

@@ -1,5 +1,5 @@
 //! The table of a manager, and what an event changes of it.
-ghost use Rattle.std.specs.Prelude.{◌≡◌, ℕ, ◌<◌, ◌≤◌, ◌++◌, true, false, Some, None, is_some, length, slice_index_or, IfOk, Ok};
+ghost use Rattle.std.specs.Prelude.{◌≡◌, ℕ, ◌<◌, ◌≤◌, ◌++◌, true, false, Some, None, is_some, length, slice_index_or, vec_len, vec_capacity, ◌+◌, IfOk, Ok};
 ghost use Rattle.klp_types.specs.declared.limits.TheConstants.{MAX_SITES, MAX_TASKS};
 ghost use Rattle.klp_types.specs.Entries.{patches_site};
 ghost use Rattle.klp_types.specs.Setting.{functions_of};
@@ -22,10 +22,10 @@ fn put_rows(table: &mut [Option<SiteRow>; MAX_SITES], rows: &[NewRow])
     ensures { table.new ≡ with_rows table.old rows.now }
 {
     for place in 0..rows.len() {
-        let (site, row) = rows[place];
+        let (site, row) = &rows[place];
         let site = usize::from(site.0);
         if site < MAX_SITES {
-            table[site] = row;
+            table[site] = *row;
         }
     }
 }
@@ -153,20 +153,17 @@ fn is_of_module(event: &Event) -> bool
     matches!(event, Event::Coming(_) | Event::Going(_))
 }
 
-/// Adds the row of a site, if there is one.
-fn add_row<M: Machine>(
-    machine: &M,
-    site: Option<Site>,
-    rows: &mut Vec<NewRow>,
-) -> Result<(), AllocError>
-    ensures { let managed = (M.journaled machine.now).managed in
-        IfOk result (λ _. rows.new.items ≡ rows.old.items ++ new_row (setting_of managed) managed.state site) }
+/// Adds the row of a site, if there is one, where there is room for it.
+fn add_row<M: Machine>(machine: &M, site: Option<Site>, rows: &mut Vec<NewRow>)
+    requires room { vec_len rows.old < vec_capacity rows.old }
+    ensures rows { let managed = (M.journaled machine.now).managed in
+        rows.new.items ≡ rows.old.items ++ new_row (setting_of managed) managed.state site }
+    ensures one { vec_len rows.new ≤ vec_len rows.old + 1 }
+    ensures room { vec_capacity rows.new ≡ vec_capacity rows.old }
 {
-    let Some(site) = site else {
-        return Ok(());
-    };
-    rows.push((site, machine.row(site)))
-        .map_err(AllocError::from)
+    if let Some(site) = site {
+        rows.push_reserved((site, machine.row(site)));
+    }
 }
 
 /// The rows of the sites that a patch has functions for.
@@ -186,23 +183,28 @@ fn rows_of<M: Machine>(
     let functions = machine.functions(patch);
     let mut rows = Vec::with_capacity(alloc, functions)?;
     for number in 0..functions {
-        add_row(machine, machine.site_of(patch, number), &mut rows)?;
+        add_row(machine, machine.site_of(patch, number), &mut rows);
     }
     Ok(rows)
 }
 
 /// These rows, with the states of all tasks.
-fn moved<M: Machine>(machine: &M, rows: Vec<NewRow>) -> Moved
-    ensures rows { result.rows ≡ rows }
-    ensures count { length result.states ≡ MAX_TASKS }
-    ensures states { (task : ℕ) → slice_index_or result.states task None
-        ≡ own_state (M.journaled machine.now).managed.state task }
+fn moved<M: Machine>(
+    alloc: Global,
+    machine: &M,
+    rows: Vec<NewRow>,
+) -> Result<Box<Moved>, AllocError>
+    ensures rows { IfOk result (λ moved. moved.value.rows ≡ rows) }
+    ensures count { IfOk result (λ moved. length moved.value.states ≡ MAX_TASKS) }
+    ensures states { IfOk result (λ moved. (task : ℕ) → slice_index_or moved.value.states task None
+        ≡ own_state (M.journaled machine.now).managed.state task) }
 {
     states_stay_allowed();
     let _standing = machine.mark();
-    let mut states = [None; MAX_TASKS];
-    fill_states(&mut states, machine);
-    Moved { rows, states }
+    let states = [None; MAX_TASKS];
+    let mut moved = Box::new(alloc, Moved { rows, states })?;
+    fill_states(&mut moved.states, machine);
+    Ok(moved)
 }
 
 /// What an event that was just taken changes, which is neither of one task nor of variables.
@@ -222,9 +224,12 @@ fn change_of_patches<M: Machine>(
         return change_of(alloc, machine);
     }
     match patch_moved(event, moving) {
-        None => Ok(Change::Moved(moved(machine, Vec::new(alloc)))),
+        None => Ok(Change::Moved(moved(alloc, machine, Vec::new(alloc))?)),
         Some(patch) if machine.is_cumulative(patch) => change_of(alloc, machine),
-        Some(patch) => Ok(Change::Moved(moved(machine, rows_of(alloc, machine, patch)?))),
+        Some(patch) => {
+            let rows = rows_of(alloc, machine, patch)?;
+            Ok(Change::Moved(moved(alloc, machine, rows)?))
+        }
     }
 }
 

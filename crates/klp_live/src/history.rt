@@ -6,7 +6,7 @@ ghost use Rattle.klp_model.specs.Legal.{IsLegal, state_after_history};
 ghost use Rattle.klp_model.specs.Run.{answer};
 ghost use Rattle.klp_live.specs.Rules.{head_of};
 
-use crate::law::{Add, Law, Nothing, Row};
+use crate::law::{Add, Law, Noted, Nothing, Row};
 use klp_model::laws::histories_grow_and_are_cut_at_their_end;
 use klp_model::{Event, Reply};
 use logbook::{Offer, Seen, Start as Fresh, Word};
@@ -140,9 +140,19 @@ impl<S: Start> Front<S> {
         requires legal { answer S.setting (state_after_history S.setting S.base self.old) row.0 ≡ Ok row.1 }
         ensures { MatchBool result (self.new ≡ self.old ++ row ∷ []) (self.new ≡ self.old) }
     {
+        self.add_answered(head, &row.0, &row.1)
+    }
+
+    /// Adds the row of an event that was answered so, as [`Front::add`] does: what runs has no use for the row.
+    pub(crate) fn add_answered(&mut self, head: &Head<S>, event: &Event, reply: &Reply) -> bool
+        requires room { length self.old < 2 ^ 62 }
+        requires legal { answer S.setting (state_after_history S.setting S.base self.old) event.now ≡ Ok reply.now }
+        ensures { MatchBool result (self.new ≡ self.old ++ (event.now, reply.now) ∷ []) (self.new ≡ self.old) }
+    {
         histories_grow_and_are_cut_at_their_end();
+        let row = Noted::of(event, reply);
         let mut seen = self.seen.again();
-        let mut offer: Offer<Row, u64, Law, Nothing> = seen.plain::<Nothing, Row, Add>(&row);
+        let mut offer: Offer<Row, u64, Law, Nothing> = seen.plain::<Nothing, Noted, Add>(&row);
         let mut pen = seen.no_pen();
         let rows = self.rows;
         let found = head
@@ -188,7 +198,7 @@ pub fn extended<S: Start, W: Wait>(
     ensures { result ≡ front.now ++ (event.now, reply.now) ∷ [] }
 {
     let mut front = front.again();
-    if !front.add(head, (*event, *reply)) {
+    if !front.add_answered(head, event, reply) {
         stop(rt);
     }
     front

@@ -3,15 +3,29 @@ ghost use Rattle.std.specs.Prelude.{◌≡◌};
 
 use klp_model::{Event, Reply};
 use logbook::{Gain, Plain, Play, Rule};
+use std::snapshot::Snapshot;
 
 /// An accepted event with its reply.
 pub type Row = (Event, Reply);
 
-/// The row of an event that was answered so.
-pub fn row(event: &Event, reply: &Reply) -> Row
-    ensures { result ≡ (event.now, reply.now) }
-{
-    (*event, *reply)
+/// A row in contracts alone: what runs copies neither its event nor its reply.
+#[derive(Drop)]
+pub struct Noted {
+    pub event: Snapshot<Event>,
+    pub reply: Snapshot<Reply>,
+}
+
+impl Noted {
+    /// That the event was answered so.
+    pub fn of(event: &Event, reply: &Reply) -> Noted
+        ensures event { result.event.value ≡ event.now }
+        ensures reply { result.reply.value ≡ reply.now }
+    {
+        Noted {
+            event: Snapshot::of(event),
+            reply: Snapshot::of(reply),
+        }
+    }
 }
 
 /// The rule of the history: its word is its length.
@@ -54,10 +68,10 @@ impl Play<Row, u64> for Add {
 }
 
 /// What a step asks for: the row.
-impl Plain<Row, Row, u64> for Add {
+impl Plain<Noted, Row, u64> for Add {
     ghost use Rattle.std.specs.Prelude.{None};
 
-    ghost ask = { λ row. row };
+    ghost ask = { λ noted. (noted.event.value, noted.reply.value) };
 
-    ghost state = { λ row. None };
+    ghost state = { λ noted. None };
 }

@@ -5,14 +5,16 @@
 //! model of a book has what always holds of it: its manager's journal is the list of what was accepted, and what is
 //! published is the dispatch table (`specs/Dispatch`) of that list (`specs/Shown`).
 //!
-//! `history` has the list, `publisher`, `published`, `rules` and `board` how a table is published, `change` what an event
-//! changes of one, `target` what a call finds in one. docs/THREADS.md has all of it in words.
+//! `history` has the list, `kept` a row as a receipt has it, `publisher`, `published`, `rules` and `board` how a table is
+//! published, `change` what an event changes of one, `target` what a call finds in one. docs/THREADS.md has all of it in
+//! words.
 #![tactic(auto)]
 
 mod board;
 mod book;
 mod change;
 mod history;
+mod kept;
 mod law;
 mod live;
 mod opening;

@@ -6,17 +6,19 @@ ghost use Rattle.klp_model.specs.Run.{answer};
 ghost use Rattle.klp_model.specs.Rows.{moving_patch};
 ghost use Rattle.klp_live.specs.Dispatch.{IsStep, rows_in};
 ghost use Rattle.klp_live.specs.Touched.{rows_touched};
+ghost use Rattle.klp_live.specs.Kept.{event_kept, reply_kept};
 ghost use Rattle.klp_live.specs.Admitting.{IsShown};
 ghost use Rattle.klp_live.specs.Publishing.{IsPublished};
 ghost use Rattle.klp_live.specs.Shown.{RuleIs};
 
 use crate::board::Board;
 use crate::history::{Front, Head, Start, extended, must_cover};
-use crate::law::Row;
+use crate::kept::Kept;
 use crate::published::{News, Published, View};
 use crate::seat::{Receipt, Seat};
 use crate::table::Change;
 use crossbeam_utils::rule::Protocol;
+use klp_model::{Event, Reply};
 use std::marker::Model;
 use std::sync::Wait;
 use std::sync::ledger::{Book as Ledger, Share};
@@ -65,21 +67,22 @@ fn append<S: Start + Protocol<Published, View>, R: Wait + Drop, W: Wait>(
     board: &mut Board<S, R>,
     head: &Head<S>,
     front: &mut Front<S>,
-    row: &Row,
+    event: &Event,
+    reply: &Reply,
     change: Change,
 ) -> bool
     requires rule { RuleIs S.holds S.first S.setting S.base S.book }
     requires shown { IsShown S.setting S.base S.book board.old front.old }
     requires room { length front.old < 2 ^ 62 }
-    requires answered { answer S.setting (state_after_history S.setting S.base front.old) row.now.0 ≡ Ok row.now.1 }
-    requires change { IsStep S.setting (state_after_history S.setting S.base front.old) row.now.0 change }
-    ensures front { MatchBool result (front.new ≡ front.old ++ row.now ∷ []) (front.new ≡ front.old) }
+    requires answered { answer S.setting (state_after_history S.setting S.base front.old) event.now ≡ Ok reply.now }
+    requires change { IsStep S.setting (state_after_history S.setting S.base front.old) event.now change }
+    ensures front { MatchBool result (front.new ≡ front.old ++ (event.now, reply.now) ∷ []) (front.new ≡ front.old) }
     ensures shown { IsShown S.setting S.base S.book board.new front.new }
 {
     if !board.reserve() {
         return false;
     }
-    let next = extended(rt, head, front, &row.0, &row.1);
+    let next = extended(rt, head, front, event, reply);
     board.announce(rt, news(change, &next));
     *front = next;
     true
@@ -133,32 +136,37 @@ impl<S: Start + Protocol<Published, View>, R: Wait + Drop> Publisher<S, R> {
         &mut self,
         rt: &W,
         seat: &mut Seat<S>,
-        row: &Row,
+        event: &Event,
+        reply: &Reply,
+        kept: Kept,
         change: Change,
     ) -> Option<Receipt<S>>
         requires room { length self.old < 2 ^ 62 }
-        requires answered { answer S.setting (state_after_history S.setting S.base self.old) row.now.0 ≡ Ok row.now.1 }
-        requires change { IsStep S.setting (state_after_history S.setting S.base self.old) row.now.0 change }
+        requires answered { answer S.setting (state_after_history S.setting S.base self.old) event.now ≡ Ok reply.now }
+        requires change { IsStep S.setting (state_after_history S.setting S.base self.old) event.now change }
+        requires event { event_kept kept ≡ event.now }
+        requires reply { reply_kept kept ≡ reply.now }
         // no more is published than the event may change
         requires few { rows_in change
-            ≤ rows_touched S.setting (moving_patch (state_after_history S.setting S.base self.old).moving) row.now.0 }
+            ≤ rows_touched S.setting (moving_patch (state_after_history S.setting S.base self.old).moving) event.now }
         ensures { MatchOption result
             ((self.new ≡ self.old) × (seat.new ≡ seat.old))
-            (λ told. IsPublished S.setting S.base row.now self.old self.new seat.old seat.new told) }
+            (λ told. IsPublished S.setting S.base (event.now, reply.now) self.old self.new seat.old seat.new told) }
     {
         if !append(
             rt,
             &mut self.board,
             &self.head,
             &mut self.front,
-            row,
+            event,
+            reply,
             change,
         ) {
             return None;
         }
         self.total.add(&mut seat.share, 1);
         self.tell(seat);
-        Some(Receipt::new(row, self.front.again()))
+        Some(Receipt::new(kept, self.front.again()))
     }
 
     /// Once all shares are in one, it is seen that they come to as many events as the history has.

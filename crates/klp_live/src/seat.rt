@@ -2,11 +2,12 @@
 ghost use Rattle.std.specs.Prelude.{◌≡◌, ◌⊎◌, length};
 ghost use mathlib.Core.List.{IsPrefix};
 ghost use Rattle.klp_model.specs.Legal.{IsLegal};
+ghost use Rattle.klp_live.specs.Kept.{event_kept, reply_kept};
 ghost use Rattle.klp_live.specs.Seats.{IsLast};
 
 use crate::board::Place;
 use crate::history::{Front, Start};
-use crate::law::Row;
+use crate::kept::Kept;
 use crate::published::{Published, View};
 use crossbeam_utils::rule::Protocol;
 use klp_model::{Event, Reply};
@@ -63,32 +64,31 @@ impl<S: Start + Protocol<Published, View>> Seat<S> {
 #[derive(Drop)]
 pub struct Receipt<S: Start> {
     pub(crate) number: u64,
-    pub(crate) event: Event,
-    pub(crate) reply: Reply,
+    pub(crate) kept: Kept,
     pub(crate) front: Front<S>,
 }
 
 impl<S: Start> Model for Receipt<S> {
     ghost use Rattle.std.specs.Prelude.{◌≡◌, length};
+    ghost use Rattle.klp_live.specs.Kept.{event_kept, reply_kept};
     ghost use Rattle.klp_live.specs.Seats.{Told, IsLast};
 
     ghost Value = { Told };
 
-    ghost view = { λ r. record { number = r.number; event = r.event; reply = r.reply; list = r.front } };
+    ghost view = { λ r. record { number = r.number; event = event_kept r.kept; reply = reply_kept r.kept; list = r.front } };
 
-    ghost invariant = { λ r. (r.number ≡ length r.front) × IsLast r.front r.event r.reply };
+    ghost invariant = { λ r. (r.number ≡ length r.front) × IsLast r.front (event_kept r.kept) (reply_kept r.kept) };
 }
 
 impl<S: Start> Receipt<S> {
     /// The receipt of the last row.
-    pub(crate) fn new(row: &Row, front: Front<S>) -> Receipt<S>
-        requires { IsLast front row.now.0 row.now.1 }
-        ensures { result ≡ record { number = length front; event = row.now.0; reply = row.now.1; list = front } }
+    pub(crate) fn new(kept: Kept, front: Front<S>) -> Receipt<S>
+        requires { IsLast front (event_kept kept) (reply_kept kept) }
+        ensures { result ≡ record { number = length front; event = event_kept kept; reply = reply_kept kept; list = front } }
     {
         Receipt {
             number: front.len(),
-            event: row.0,
-            reply: row.1,
+            kept,
             front,
         }
     }
@@ -108,13 +108,13 @@ impl<S: Start> Receipt<S> {
         ensures event { result ≡ self.now.event }
         ensures last { IsLast self.now.list self.now.event self.now.reply }
     {
-        self.event
+        self.kept.event()
     }
 
     /// What the event was answered.
     pub fn reply(&self) -> Reply
         ensures { result ≡ self.now.reply }
     {
-        self.reply
+        self.kept.reply()
     }
 }

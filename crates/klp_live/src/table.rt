@@ -26,8 +26,8 @@ pub enum Change {
     Same,
     /// One task has this state now, or is gone.
     Task(TaskId, Option<i8>),
-    /// Some rows, and all tasks.
-    Moved(Moved),
+    /// Some rows, and all tasks. It is boxed, since most changes are of one task and are handed on from step to step.
+    Moved(Box<Moved>),
     /// Anything.
     All(Box<Table>),
 }

@@ -10,7 +10,7 @@ pub publish-requires-clause-change : goal.publish-requires-clause-change
 publish-requires-clause-change g c table was =
     let setting = g.S.Start.setting in
     let state = (g.M.Machine.journaled c.args.machine.now).managed.state in
-    let event = c.args.row.now.0 in
+    let event = c.args.event.now in
     let change = c.in-Ok.change in
     let leads : LeadsOn setting state c.args.moving event change = subst (λ (s : Setting). LeadsOn s state c.args.moving event change) c.requires.setting c.in-Ok.ensures.leads in
     subst (λ (s : State). IsDispatch setting s (changed table change)) c.requires.state

@@ -3,17 +3,19 @@ use Rattle.klp_manager_state.specs.Managed.{setting_of}
 use Rattle.klp_live.proofs.Deltas.{moved_leads, patched_if_touched}
 use Rattle.klp_live.proofs.change.change_of_patches.Goals as goal
 
-pub returns-in_ok-rows_of-in-Some-2-clause-leads : goal.returns-in_ok-rows_of-in-Some-2-clause-leads
-returns-in_ok-rows_of-in-Some-2-clause-leads g c =
+pub returns-in_ok-moved-in-Some-2-clause-leads : goal.returns-in_ok-moved-in-Some-2-clause-leads
+returns-in_ok-moved-in-Some-2-clause-leads g c =
     let m = (g.M.Machine.journaled c.args.machine.now).managed in
+    let made = c.in_ok-moved-in-Some-2.field-0 in
+    let told = c.in_ok-moved-in-Some-2.ensures in
     moved_leads
     (setting_of m)
     m.state
     c.args.moving
     c.args.event.now
-    c.moved-in-Some-2.result
+    made
     (omega (arith, c.sites-sites.ensures.count, c.sites-sites.ensures.limit))
-    (rw c.moved-in-Some-2.ensures.rows c.in_ok-rows_of-in-Some-2.ensures.rows)
-    (λ site touched. rw c.moved-in-Some-2.ensures.rows (c.in_ok-rows_of-in-Some-2.ensures.all site (patched_if_touched (setting_of m) c.args.moving c.args.event.now c.in-Some.patch site (search rules) (search rules) (search rules) touched)))
-    c.moved-in-Some-2.ensures.count
-    c.moved-in-Some-2.ensures.states
+    (rw told.rows c.in_ok-rows-in-Some-2.ensures.rows)
+    (λ site touched. rw told.rows (c.in_ok-rows-in-Some-2.ensures.all site (patched_if_touched (setting_of m) c.args.moving c.args.event.now c.in-Some.patch site (search rules) (search rules) (search rules) touched)))
+    told.count
+    told.states

@@ -13,11 +13,11 @@ announce-requires-clause-follows g c =
     let same : c.reserve.new.self.value ≡ c.args.board.now.value = ap (λ (b : OnBoard). b.value) c.if-not-reserve.ensures in
     let book_of = ap (λ (x : Published). x.seen.book) same in
     let shown = c.requires.shown in
-    follows_next g.S.Start.setting g.S.Start.base c.reserve.new.self.value c.args.front.now c.args.row.now c.news.result
+    follows_next g.S.Start.setting g.S.Start.base c.reserve.new.self.value c.args.front.now (c.args.event.now, c.args.reply.now) c.news.result
     (subst (IsTable setting g.S.Start.base) (sym same) shown.table)
     (ap (λ (x : Published). x.seen.log) same ∙ shown.list_is)
     c.requires.answered
-    (subst (IsStep setting (state_after_history setting g.S.Start.base c.args.front.now) c.args.row.now.0) (sym c.news.ensures.change) c.requires.change)
+    (subst (IsStep setting (state_after_history setting g.S.Start.base c.args.front.now) c.args.event.now) (sym c.news.ensures.change) c.requires.change)
     (record {
       rows = c.news.ensures.rows ∙ ap length c.extended-next.ensures;
       log = c.news.ensures.log ∙ c.extended-next.ensures;
@@ -30,12 +30,12 @@ returns-clause-shown g c =
     let same : c.reserve.new.self.value ≡ c.args.board.now.value = ap (λ (b : OnBoard). b.value) c.if-not-reserve.ensures in
     let book_of = ap (λ (x : Published). x.seen.book) same in
     let shown = c.requires.shown in
-    shown_next g.S.Start.setting g.S.Start.base g.S.Start.book c.reserve.new.self.value c.args.front.now c.args.row.now c.news.result c.announce.new.self c.extended-next.result
+    shown_next g.S.Start.setting g.S.Start.base g.S.Start.book c.reserve.new.self.value c.args.front.now (c.args.event.now, c.args.reply.now) c.news.result c.announce.new.self c.extended-next.result
     (subst (IsTable setting g.S.Start.base) (sym same) shown.table)
     (ap (λ (x : Published). x.seen.log) same ∙ shown.list_is)
     (book_of ∙ shown.book_is)
     c.requires.answered
-    (subst (IsStep setting (state_after_history setting g.S.Start.base c.args.front.now) c.args.row.now.0) (sym c.news.ensures.change) c.requires.change)
+    (subst (IsStep setting (state_after_history setting g.S.Start.base c.args.front.now) c.args.event.now) (sym c.news.ensures.change) c.requires.change)
     (record {
       rows = c.news.ensures.rows ∙ ap length c.extended-next.ensures;
       log = c.news.ensures.log ∙ c.extended-next.ensures;

@@ -1,0 +1,70 @@
+//! What a receipt keeps of its row.
+ghost use Rattle.std.specs.Prelude.{◌≡◌, IfOk};
+ghost use Rattle.klp_live.specs.Kept.{event_kept, reply_kept};
+
+use crate::law::Row;
+use klp_model::{Event, Reply};
+use klp_types::TaskId;
+use std::alloc::{AllocError, Global};
+
+/// An event of a task that has no frames, as [`Event`] has it.
+#[derive(Clone, Copy)]
+pub enum TaskEvent {
+    New(TaskId),
+    Fork(TaskId, TaskId),
+    End(TaskId),
+    EnterKernel(TaskId),
+    ExitToUser(TaskId),
+}
+
+/// A row, in a few bytes where it is one of those that tasks have most: an event and a reply have room for the
+/// frames of a task each, and a receipt is handed on from step to step.
+#[derive(Drop)]
+pub enum Kept {
+    /// The event was done.
+    OfTask(TaskEvent),
+    /// Any row.
+    Whole(Box<Row>),
+}
+
+impl Kept {
+    /// Keeps the row of an event that was answered so.
+    pub(crate) fn of(alloc: Global, event: &Event, reply: &Reply) -> Result<Kept, AllocError>
+        ensures event { IfOk result (λ kept. event_kept kept ≡ event.now) }
+        ensures reply { IfOk result (λ kept. reply_kept kept ≡ reply.now) }
+    {
+        let event = match (event, reply) {
+            (Event::NewTask(task), Reply::Done) => TaskEvent::New(*task),
+            (Event::Fork(parent, child), Reply::Done) => TaskEvent::Fork(*parent, *child),
+            (Event::EndTask(task), Reply::Done) => TaskEvent::End(*task),
+            (Event::EnterKernel(task), Reply::Done) => TaskEvent::EnterKernel(*task),
+            (Event::ExitToUser(task), Reply::Done) => TaskEvent::ExitToUser(*task),
+            (event, reply) => return Ok(Kept::Whole(Box::new(alloc, (*event, *reply))?)),
+        };
+        Ok(Kept::OfTask(event))
+    }
+
+    /// The event.
+    pub(crate) fn event(&self) -> Event
+        ensures { result ≡ event_kept self.now }
+    {
+        match self {
+            Kept::OfTask(TaskEvent::New(task)) => Event::NewTask(*task),
+            Kept::OfTask(TaskEvent::Fork(parent, child)) => Event::Fork(*parent, *child),
+            Kept::OfTask(TaskEvent::End(task)) => Event::EndTask(*task),
+            Kept::OfTask(TaskEvent::EnterKernel(task)) => Event::EnterKernel(*task),
+            Kept::OfTask(TaskEvent::ExitToUser(task)) => Event::ExitToUser(*task),
+            Kept::Whole(row) => row.0,
+        }
+    }
+
+    /// What the event was answered.
+    pub(crate) fn reply(&self) -> Reply
+        ensures { result ≡ reply_kept self.now }
+    {
+        match self {
+            Kept::OfTask(_) => Reply::Done,
+            Kept::Whole(row) => row.1,
+        }
+    }
+}
