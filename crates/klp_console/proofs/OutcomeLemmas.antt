@@ -6,7 +6,12 @@ use Rattle.klp_console_commands.specs.declared.request.Request.{Request}
 use Rattle.klp_console_commands.specs.declared.request.Request.TheVariants.{Take, ForceNothing, Rewind, Seal, See}
 use Rattle.klp_console_commands.specs.declared.fault.LineFault.{LineFault}
 use Rattle.klp_console.specs.Asked.{event_asked}
-use Rattle.klp_console.specs.Outcomes.{is_refusal, other_outcome}
+use Rattle.klp_console_commands.specs.declared.request.Asked.{Asked}
+use Rattle.klp_console_commands.specs.declared.request.Asked.TheVariants as asked
+use Rattle.klp_console_commands.specs.Asked.{asked_with}
+use Rattle.klp_core.specs.Journaled.{Journaled}
+use Rattle.klp_console.specs.declared.outcome.Outcome.{Outcome}
+use Rattle.klp_console.specs.Outcomes.{is_refusal, other_outcome, IsOutcome}
 
 pub other_refused : (request : Option (Result Request LineFault)) (refused : Bool) → is_refusal (other_outcome request refused) ≡ refused
 other_refused None true = refl
@@ -32,3 +37,17 @@ asks_event (Some (Ok (ForceNothing patch))) event e = absurd (none-some event e)
 asks_event (Some (Ok (Rewind mark))) event e = absurd (none-some event e)
 asks_event (Some (Ok Seal)) event e = absurd (none-some event e)
 asks_event (Some (Ok (See look))) event e = absurd (none-some event e)
+
+-- what asks for no event
+pub asks_none : (line : Option (Result Asked LineFault)) (event : Event) → (line ≡ Some (Ok asked.Take) → ⊥) → event_asked (asked_with line event) ≡ None
+asks_none None event other = refl
+asks_none (Some (Err fault)) event other = refl
+asks_none (Some (Ok asked.Take)) event other = absurd (other refl)
+asks_none (Some (Ok (asked.ForceNothing patch))) event other = refl
+asks_none (Some (Ok (asked.Rewind mark))) event other = refl
+asks_none (Some (Ok asked.Seal)) event other = refl
+asks_none (Some (Ok (asked.See look))) event other = refl
+
+-- came to this
+pub none_outcome : (before after : Journaled) (request : Option (Result Request LineFault)) (outcome : Outcome) → event_asked request ≡ None → outcome ≡ other_outcome request (is_refusal outcome) → IsOutcome before after request outcome
+none_outcome before after request outcome none is = rw none is

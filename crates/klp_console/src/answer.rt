@@ -3,21 +3,21 @@
 ghost use Rattle.std.specs.Prelude.{◌≡◌, ℕ, ◌+◌, ◌<◌, ◌≤◌, ◌^◌, ◌⊎◌, true, false, cond, List, [], ◌∷◌, ◌++◌, length, is_err};
 ghost use Rattle.klp_types.specs.declared.limits.TheConstants.{MAX_CONSOLE_LINE};
 ghost use Rattle.klp_console_io.specs.declared.marks.TheConstants.{MARKS_ROOM};
-ghost use Rattle.klp_console_commands.specs.Lines as asked;
+ghost use Rattle.klp_console_commands.specs.Asked.{asked_with};
+ghost use Rattle.klp_console_commands.specs.Lines.{request_of};
 ghost use Rattle.klp_core.specs.Taking.{IsTaken};
 ghost use Rattle.klp_console.specs.Answered.{IsRewoundAs, IsTakenAs, IsDoneIf, IsAnswered, names_in};
 ghost use Rattle.klp_console.specs.Outcomes.{is_refusal, IsEventOutcome, IsOutcome};
 ghost use Rattle.klp_console.specs.Back as back;
 ghost use Rattle.klp_console.specs.Said.{Moment, IsSaid, AnswersLine, Ahead, Comes};
 
-use crate::asked::event_asked;
 use crate::back::{can_be_taken_back, make_ready, mark_line, take_back};
 use crate::outcome::{Outcome, other_outcome};
 use crate::queries::{say_force_nothing, say_query};
 use crate::refusals::{say_bad_mark, say_fault};
 use crate::replies::{say_answer, say_done};
 use crate::served::Served;
-use klp_console_commands::{LineFault, Request, request_of};
+use klp_console_commands::{Asked, LineFault, read_request};
 use klp_console_io::{Answers, Failed, Marks, Sink};
 use klp_core::Manager;
 use klp_model::{Event, Refusal, Reply};
@@ -80,30 +80,29 @@ fn take<W: Sink>(
 /// asks for nothing is refused.
 fn done<W: Sink>(
     manager: &mut Manager,
-    request: &Option<Result<Request, LineFault>>,
+    asked: &Option<Result<Asked, LineFault>>,
+    event: &Event,
     answers: &mut Answers,
     writer: &mut W,
 ) -> bool
     requires { answers.old.has_failed ≡ false }
-    ensures { IsSaid (IsDoneIf manager.old manager.new request.now) (answers.old, W.written writer.old)
-        (answers.new, W.written writer.new) result }
+    ensures { IsSaid (IsDoneIf manager.old manager.new (asked_with asked.now event.now))
+        (answers.old, W.written writer.old) (answers.new, W.written writer.new) result }
 {
     klp_console_io::laws::what_is_said_adds_up();
-    match *request {
+    match *asked {
         None => false,
         Some(Err(ref fault)) => {
             say_fault(answers, writer, fault);
             true
         }
-        Some(Ok(Request::Take(ref event))) => {
-            answer_event(manager, event, answers, writer).is_err()
-        }
-        Some(Ok(Request::Rewind(mark))) => rewind(manager, mark, answers, writer),
-        Some(Ok(Request::ForceNothing(patch))) => {
+        Some(Ok(Asked::Take)) => { answer_event(manager, event, answers, writer).is_err() }
+        Some(Ok(Asked::Rewind(mark))) => rewind(manager, mark, answers, writer),
+        Some(Ok(Asked::ForceNothing(patch))) => {
             say_force_nothing(answers, writer, manager, patch).is_err()
         }
-        Some(Ok(Request::See(ref look))) => say_query(answers, writer, manager, look).is_err(),
-        Some(Ok(Request::Seal)) => {
+        Some(Ok(Asked::See(ref look))) => say_query(answers, writer, manager, look).is_err(),
+        Some(Ok(Asked::Seal)) => {
             manager.seal();
             say_done(answers, writer);
             false
@@ -114,18 +113,19 @@ fn done<W: Sink>(
 /// Does what a line asks for, and tells what became of it.
 fn do_request<W: Sink>(
     manager: &mut Manager,
-    request: &Option<Result<Request, LineFault>>,
+    asked: &Option<Result<Asked, LineFault>>,
+    event: &Event,
     answers: &mut Answers,
     writer: &mut W,
 ) -> Outcome
     requires { answers.old.has_failed ≡ false }
-    ensures said { IsSaid (IsDoneIf manager.old manager.new request.now) (answers.old, W.written writer.old)
-        (answers.new, W.written writer.new) (is_refusal result) }
-    ensures outcome { IsOutcome manager.old manager.new request.now result }
+    ensures said { IsSaid (IsDoneIf manager.old manager.new (asked_with asked.now event.now))
+        (answers.old, W.written writer.old) (answers.new, W.written writer.new) (is_refusal result) }
+    ensures outcome { IsOutcome manager.old manager.new (asked_with asked.now event.now) result }
 {
-    match event_asked(request) {
-        Some(ref event) => take(manager, event, answers, writer),
-        None => other_outcome(request, done(manager, request, answers, writer)),
+    match *asked {
+        Some(Ok(Asked::Take)) => take(manager, event, answers, writer),
+        _ => other_outcome(asked, done(manager, asked, event, answers, writer)),
     }
 }
 
@@ -139,10 +139,11 @@ fn take_line<W: Sink>(
     requires { answers.old.has_failed ≡ false }
     ensures said { IsSaid (IsAnswered manager.old manager.new line.now) (answers.old, W.written writer.old)
         (answers.new, W.written writer.new) (is_refusal result) }
-    ensures outcome { IsOutcome manager.old manager.new (asked.request_of (names_in manager.old) line.now) result }
+    ensures outcome { IsOutcome manager.old manager.new (request_of (names_in manager.old) line.now) result }
 {
-    let request = request_of(line, manager.catalog(), manager.modules());
-    let outcome = do_request(manager, &request, answers, writer);
+    let mut event = Event::Poll;
+    let asked = read_request(line, manager.catalog(), manager.modules(), &mut event);
+    let outcome = do_request(manager, &asked, &event, answers, writer);
     let _standing = manager.mark();
     outcome
 }
@@ -187,7 +188,8 @@ fn count(served: &mut Served, is_refused: bool)
 /// the line is taken back, which it can be or nothing is gathered before it.
 fn gather<W: Sink>(
     manager: &mut Manager,
-    request: &Option<Result<Request, LineFault>>,
+    asked: &Option<Result<Asked, LineFault>>,
+    event: &Event,
     served: &mut Served,
     answers: &mut Answers,
     marks: &mut Marks,
@@ -197,9 +199,9 @@ fn gather<W: Sink>(
     requires room { served.old.lines + 1 < 2 ^ 64 }
     requires few { served.old.refused ≤ served.old.lines }
     requires marks { length marks.old < MARKS_ROOM }
-    requires back { (back.can_be_taken_back manager.old request.now ≡ true) ⊎ (marks.old ≡ []) }
+    requires back { (back.can_be_taken_back manager.old (asked_with asked.now event.now) ≡ true) ⊎ (marks.old ≡ []) }
     ensures comes { (before : Moment) (lines : List (List ℕ)) (line : List ℕ)
-        → request.now ≡ asked.request_of (names_in manager.old) line → length line ≤ MAX_CONSOLE_LINE
+        → (asked_with asked.now event.now) ≡ request_of (names_in manager.old) line → length line ≤ MAX_CONSOLE_LINE
         → Ahead before (record {
           manager = manager.old;
           served = served.old;
@@ -216,7 +218,7 @@ fn gather<W: Sink>(
     ensures lines { served.new.lines ≡ served.old.lines + 1 }
 {
     let gathered = answers.hold();
-    let is_refused = done(manager, request, answers, writer);
+    let is_refused = done(manager, asked, event, answers, writer);
     let events = manager.mark();
     count(served, is_refused);
     if answers.has_failed() {
@@ -256,11 +258,12 @@ pub(crate) fn serve_line<W: Sink>(
     ensures few { served.new.refused ≤ served.new.lines }
     ensures lines { served.new.lines ≤ served.old.lines + 1 }
 {
-    let request = request_of(line, manager.catalog(), manager.modules());
-    let is_ahead = can_be_taken_back(manager, &request);
+    let mut event = Event::Poll;
+    let asked = read_request(line, manager.catalog(), manager.modules(), &mut event);
+    let is_ahead = can_be_taken_back(manager, &asked, &event);
     make_ready(manager, is_ahead, answers, marks, writer);
     if answers.has_failed() {
         return;
     }
-    gather(manager, &request, served, answers, marks, writer);
+    gather(manager, &asked, &event, served, answers, marks, writer);
 }

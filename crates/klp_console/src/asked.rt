@@ -1,23 +1,13 @@
 //! What a line or a word asks for, for those who don't serve it at once. The manager is asked for names
 //! alone, so nothing of its state but these makes a difference.
 ghost use Rattle.std.specs.Prelude.{◌≡◌};
-ghost use Rattle.klp_console.specs.Asked.{event_asked, event_of, site_of};
+ghost use Rattle.klp_console.specs.Asked.{event_of, site_of};
 
-use klp_console_commands::{LineFault, Request, request_of};
+use klp_console_commands::{Asked, read_request};
 use klp_core::Manager;
 use klp_model::Event;
 use klp_types::Site;
 use klp_words::spelling_of;
-
-/// The event that is asked for, if one is.
-pub(crate) fn event_asked(request: &Option<Result<Request, LineFault>>) -> Option<Event>
-    ensures { result ≡ event_asked request.now }
-{
-    match *request {
-        Some(Ok(Request::Take(event))) => Some(event),
-        _ => None,
-    }
-}
 
 /// The event that a line asks for, without its line feed, whether the manager would take it or refuse it.
 /// `None` where the line has no words, asks for something else, or has a name or a task that can't be.
@@ -25,8 +15,9 @@ pub(crate) fn event_asked(request: &Option<Result<Request, LineFault>>) -> Optio
 pub fn event_of(line: &[u8], manager: &Manager) -> Option<Event>
     ensures { result ≡ event_of manager.now line.now }
 {
-    match request_of(line, manager.catalog(), manager.modules()) {
-        Some(Ok(Request::Take(event))) => Some(event),
+    let mut event = Event::Poll;
+    match read_request(line, manager.catalog(), manager.modules(), &mut event) {
+        Some(Ok(Asked::Take)) => Some(event),
         _ => None,
     }
 }

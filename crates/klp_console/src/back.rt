@@ -6,25 +6,28 @@ ghost use Rattle.klp_console.specs.Back as back;
 ghost use Rattle.klp_console.specs.Back.{IsTakenBack};
 ghost use Rattle.klp_console.specs.Said.{Ahead, Comes, Moment};
 ghost use Rattle.klp_console.specs.declared.served.Served.{Served};
+ghost use Rattle.klp_console_commands.specs.Asked.{asked_with};
 ghost use Rattle.klp_console_io.specs.Marks.{events_at_cut};
 ghost use Rattle.klp_console_io.specs.declared.marks.TheConstants.{MARKS_ROOM};
 
-use klp_console_commands::{LineFault, Request};
+use klp_console_commands::{Asked, LineFault};
 use klp_console_io::{Answers, Mark, Marks, Sink};
 use klp_core::Manager;
+use klp_model::Event;
 
 /// Whether a line may be done ahead of the answers before it. A callback's run can't be taken back, since counts of runs
 /// stay, so the manager is asked whether the event may run one. `seal` and `rewind` take events from the journal, by which
 /// they would be taken back.
 pub(crate) fn can_be_taken_back(
     manager: &Manager,
-    request: &Option<Result<Request, LineFault>>,
+    asked: &Option<Result<Asked, LineFault>>,
+    event: &Event,
 ) -> bool
-    ensures { result ≡ back.can_be_taken_back manager.now request.now }
+    ensures { result ≡ back.can_be_taken_back manager.now (asked_with asked.now event.now) }
 {
-    match *request {
-        Some(Ok(Request::Take(ref event))) => !manager.may_run(event),
-        Some(Ok(Request::Rewind(_) | Request::Seal)) => false,
+    match *asked {
+        Some(Ok(Asked::Take)) => !manager.may_run(event),
+        Some(Ok(Asked::Rewind(_) | Asked::Seal)) => false,
         _ => true,
     }
 }

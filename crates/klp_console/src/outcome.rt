@@ -1,8 +1,10 @@
 //! What became of a line, for those who tell more of it than its answer.
 ghost use Rattle.std.specs.Prelude.{◌≡◌};
+ghost use Rattle.klp_console_commands.specs.Asked.{asked_with};
+ghost use Rattle.klp_model.specs.declared.event.Event as events;
 ghost use Rattle.klp_console.specs.Outcomes.{is_refusal, other_outcome};
 
-use klp_console_commands::{LineFault, Request};
+use klp_console_commands::{Asked, LineFault};
 use klp_model::{Event, Refusal, Reply};
 
 /// What became of a line.
@@ -32,17 +34,14 @@ impl Outcome {
 }
 
 /// What a line comes to that asks for no event, where it was refused or not.
-pub(crate) fn other_outcome(
-    request: &Option<Result<Request, LineFault>>,
-    is_refused: bool,
-) -> Outcome
-    ensures { result ≡ other_outcome request.now is_refused }
+pub(crate) fn other_outcome(asked: &Option<Result<Asked, LineFault>>, is_refused: bool) -> Outcome
+    ensures { (event : events.Event) → result ≡ other_outcome (asked_with asked.now event) is_refused }
 {
     if is_refused {
         return Outcome::Refused;
     }
-    match *request {
-        Some(Ok(Request::Rewind(mark))) => Outcome::Rewound(mark),
+    match *asked {
+        Some(Ok(Asked::Rewind(mark))) => Outcome::Rewound(mark),
         _ => Outcome::Done,
     }
 }

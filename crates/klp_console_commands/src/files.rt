@@ -2,10 +2,12 @@
 
 ghost use Rattle.std.specs.Prelude.{◌≡◌};
 ghost use Rattle.klp_console_commands.specs.Lines.{switch, enabled_line, force_line, echo_file, echo_line, proc_query, patch_query, cat_file, cat_line, directory_query, list_query, list_line};
+ghost use Rattle.klp_model.specs.declared.event.Event.{Event};
+ghost use Rattle.klp_console_commands.specs.Asked.{line_with, shown};
 
 use crate::fault::LineFault;
 use crate::names::{NameResolver, task};
-use crate::request::{Query, Request};
+use crate::request::{Asked, Query};
 use crate::words::{after_prefix, end, is_name, is_word, number_to, only_word, word};
 use klp_model::Event;
 use klp_types::MAX_TASK_NUMBER;
@@ -35,38 +37,54 @@ fn switch(value: &[u8]) -> Result<bool, LineFault>
     }
 }
 
-fn enabled_line(value: &[u8], patch: &[u8], names: &NameResolver<'_>) -> Result<Request, LineFault>
-    ensures { result ≡ enabled_line names.now value.now patch.now }
+fn enabled_line(
+    value: &[u8],
+    patch: &[u8],
+    names: &NameResolver<'_>,
+    event: &mut Event,
+) -> Result<Asked, LineFault>
+    ensures { line_with result event.new ≡ enabled_line names.now value.now patch.now }
 {
     let value = switch(value)?;
-    Ok(Request::Take(Event::SetEnabled(names.patch(patch)?, value)))
+    *event = Event::SetEnabled(names.patch(patch)?, value);
+    Ok(Asked::Take)
 }
 
-fn force_line(value: &[u8], patch: &[u8], names: &NameResolver<'_>) -> Result<Request, LineFault>
-    ensures { result ≡ force_line names.now value.now patch.now }
+fn force_line(
+    value: &[u8],
+    patch: &[u8],
+    names: &NameResolver<'_>,
+    event: &mut Event,
+) -> Result<Asked, LineFault>
+    ensures { line_with result event.new ≡ force_line names.now value.now patch.now }
 {
     let is_forced = switch(value)?;
     let patch = names.patch(patch)?;
-    if is_forced {
-        Ok(Request::Take(Event::Force(patch)))
-    } else {
-        Ok(Request::ForceNothing(patch))
+    if !is_forced {
+        return Ok(Asked::ForceNothing(patch));
     }
+    *event = Event::Force(patch);
+    Ok(Asked::Take)
 }
 
 /// What is asked by writing a value to the file of a patch. That it has such a file is looked at before the
 /// value is.
-fn echo_file(value: &[u8], file: &[u8], names: &NameResolver<'_>) -> Result<Request, LineFault>
-    ensures { result ≡ echo_file names.now value.now file.now }
+fn echo_file(
+    value: &[u8],
+    file: &[u8],
+    names: &NameResolver<'_>,
+    event: &mut Event,
+) -> Result<Asked, LineFault>
+    ensures { line_with result event.new ≡ echo_file names.now value.now file.now }
 {
     let (patch, file) = cut(file, b'/');
     if !is_name(patch) {
         return Err(LineFault::BadLine);
     }
     if is_word(file, b"enabled") {
-        enabled_line(value, patch, names)
+        enabled_line(value, patch, names, event)
     } else if is_word(file, b"force") {
-        force_line(value, patch, names)
+        force_line(value, patch, names, event)
     } else {
         Err(LineFault::BadLine)
     }
@@ -77,8 +95,9 @@ fn echo_file(value: &[u8], file: &[u8], names: &NameResolver<'_>) -> Result<Requ
 pub(crate) fn echo_line(
     words: &mut Words<'_>,
     names: &NameResolver<'_>,
-) -> Result<Request, LineFault>
-    ensures { result ≡ echo_line names.now words.old }
+    event: &mut Event,
+) -> Result<Asked, LineFault>
+    ensures { line_with result event.new ≡ echo_line names.now words.old }
 {
     let value = word(words)?;
     let arrow = word(words)?;
@@ -88,42 +107,42 @@ pub(crate) fn echo_line(
         return Err(LineFault::BadLine);
     }
     match after_prefix(file, BELOW_PATCHES) {
-        Some(file) => echo_file(value, file, names),
+        Some(file) => echo_file(value, file, names, event),
         None => Err(LineFault::BadLine),
     }
 }
 
 /// The file of a task: `patch_state`, the only one that has a meaning here.
-fn proc_query(file: &[u8]) -> Result<Request, LineFault>
-    ensures { result ≡ proc_query file.now }
+fn proc_query(file: &[u8]) -> Result<Query, LineFault>
+    ensures { shown result ≡ proc_query file.now }
 {
     let (number, file) = cut(file, b'/');
     if !is_word(file, b"patch_state") {
         return Err(LineFault::BadLine);
     }
     let number = number_to(MAX_TASK_NUMBER, number)?;
-    Ok(Request::See(Query::PatchState(task(number)?)))
+    Ok(Query::PatchState(task(number)?))
 }
 
 /// The file of a patch: those two that can be read and have a meaning here.
-fn patch_query(file: &[u8], names: &NameResolver<'_>) -> Result<Request, LineFault>
-    ensures { result ≡ patch_query names.now file.now }
+fn patch_query(file: &[u8], names: &NameResolver<'_>) -> Result<Query, LineFault>
+    ensures { shown result ≡ patch_query names.now file.now }
 {
     let (patch, file) = cut(file, b'/');
     if !is_name(patch) {
         return Err(LineFault::BadLine);
     }
     if is_word(file, b"enabled") {
-        Ok(Request::See(Query::Enabled(names.patch(patch)?)))
+        Ok(Query::Enabled(names.patch(patch)?))
     } else if is_word(file, b"transition") {
-        Ok(Request::See(Query::Transition(names.patch(patch)?)))
+        Ok(Query::Transition(names.patch(patch)?))
     } else {
         Err(LineFault::BadLine)
     }
 }
 
-fn cat_file(file: &[u8], names: &NameResolver<'_>) -> Result<Request, LineFault>
-    ensures { result ≡ cat_file names.now file.now }
+fn cat_file(file: &[u8], names: &NameResolver<'_>) -> Result<Query, LineFault>
+    ensures { shown result ≡ cat_file names.now file.now }
 {
     if let Some(file) = after_prefix(file, PROC) {
         return proc_query(file);
@@ -136,36 +155,33 @@ fn cat_file(file: &[u8], names: &NameResolver<'_>) -> Result<Request, LineFault>
 
 /// The word after `cat`. There is no name of a file by itself, since files are those below a patch or a
 /// task.
-pub(crate) fn cat_line(
-    words: &mut Words<'_>,
-    names: &NameResolver<'_>,
-) -> Result<Request, LineFault>
-    ensures { result ≡ cat_line names.now words.old }
+pub(crate) fn cat_line(words: &mut Words<'_>, names: &NameResolver<'_>) -> Result<Asked, LineFault>
+    ensures { (event : Event) → line_with result event ≡ cat_line names.now words.old }
 {
     let file = only_word(words)?;
-    cat_file(file, names)
+    Ok(Asked::See(cat_file(file, names)?))
 }
 
 /// The directory of a patch, or of an object in it. A name has no `/`, so the two can't be mixed up.
-fn directory_query(directory: &[u8], names: &NameResolver<'_>) -> Result<Request, LineFault>
-    ensures { result ≡ directory_query names.now directory.now }
+fn directory_query(directory: &[u8], names: &NameResolver<'_>) -> Result<Query, LineFault>
+    ensures { shown result ≡ directory_query names.now directory.now }
 {
     if is_name(directory) {
-        return Ok(Request::See(Query::Patch(names.patch(directory)?)));
+        return Ok(Query::Patch(names.patch(directory)?));
     }
     let (patch, object) = cut(directory, b'/');
     if !is_name(patch) || !is_name(object) {
         return Err(LineFault::BadLine);
     }
     let patch = names.patch(patch)?;
-    Ok(Request::See(Query::Object(patch, names.object(object)?)))
+    Ok(Query::Object(patch, names.object(object)?))
 }
 
-fn list_query(directory: &[u8], names: &NameResolver<'_>) -> Result<Request, LineFault>
-    ensures { result ≡ list_query names.now directory.now }
+fn list_query(directory: &[u8], names: &NameResolver<'_>) -> Result<Query, LineFault>
+    ensures { shown result ≡ list_query names.now directory.now }
 {
     if is_word(directory, PATCHES) {
-        return Ok(Request::See(Query::Patches));
+        return Ok(Query::Patches);
     }
     match after_prefix(directory, BELOW_PATCHES) {
         Some(directory) => directory_query(directory, names),
@@ -174,12 +190,9 @@ fn list_query(directory: &[u8], names: &NameResolver<'_>) -> Result<Request, Lin
 }
 
 /// The word after `ls`: the directory of all patches, of one, or of an object in one.
-pub(crate) fn list_line(
-    words: &mut Words<'_>,
-    names: &NameResolver<'_>,
-) -> Result<Request, LineFault>
-    ensures { result ≡ list_line names.now words.old }
+pub(crate) fn list_line(words: &mut Words<'_>, names: &NameResolver<'_>) -> Result<Asked, LineFault>
+    ensures { (event : Event) → line_with result event ≡ list_line names.now words.old }
 {
     let directory = only_word(words)?;
-    list_query(directory, names)
+    Ok(Asked::See(list_query(directory, names)?))
 }

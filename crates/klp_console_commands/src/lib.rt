@@ -23,5 +23,5 @@ mod tasks;
 mod words;
 
 pub use fault::LineFault;
-pub use line::request_of;
-pub use request::{Query, Request};
+pub use line::read_request;
+pub use request::{Asked, Query, Request};

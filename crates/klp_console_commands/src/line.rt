@@ -3,11 +3,15 @@
 ghost use Rattle.std.specs.Prelude.{◌≡◌};
 ghost use Rattle.klp_console_commands.specs.Names.{names_of};
 ghost use Rattle.klp_console_commands.specs.Lines.{keyword_of, load_line, insmod_line, rmmod_line, alone, text_line, stack_line, pick_line, runs_line, rewind_line, line_of, request_of};
+ghost use Rattle.klp_console_commands.specs.Asked.{asked_with, line_with, request_with};
+ghost use Rattle.klp_console_commands.specs.declared.request.Request.TheVariants.{Take};
+ghost use Rattle.klp_model.specs.declared.event.Event.{Event};
+ghost use Rattle.klp_model.specs.declared.event.Event.TheVariants.{Poll};
 
 use crate::fault::LineFault;
 use crate::files::{cat_line, echo_line, list_line};
 use crate::names::{NameResolver, task};
-use crate::request::{Query, Request};
+use crate::request::{Asked, Query};
 use crate::shadow::shadow_line;
 use crate::tasks::task_line;
 use crate::words::{end, is_name, is_word, number_to, only_name, only_word, two_words};
@@ -78,119 +82,146 @@ fn keyword_of(word: &[u8]) -> Option<Keyword>
     }
 }
 
-fn load_line(words: &mut Words<'_>, names: &NameResolver<'_>) -> Result<Request, LineFault>
-    ensures { result ≡ load_line names.now words.old }
+fn load_line(
+    words: &mut Words<'_>,
+    names: &NameResolver<'_>,
+    event: &mut Event,
+) -> Result<Asked, LineFault>
+    ensures { line_with result event.new ≡ load_line names.now words.old }
 {
     let patch = only_name(words)?;
-    Ok(Request::Take(Event::Enable(names.patch(patch)?)))
+    *event = Event::Enable(names.patch(patch)?);
+    Ok(Asked::Take)
 }
 
-fn insmod_line(words: &mut Words<'_>, names: &NameResolver<'_>) -> Result<Request, LineFault>
-    ensures { result ≡ insmod_line names.now words.old }
+fn insmod_line(
+    words: &mut Words<'_>,
+    names: &NameResolver<'_>,
+    event: &mut Event,
+) -> Result<Asked, LineFault>
+    ensures { line_with result event.new ≡ insmod_line names.now words.old }
 {
     let object = only_name(words)?;
-    Ok(Request::Take(Event::Coming(names.object(object)?)))
+    *event = Event::Coming(names.object(object)?);
+    Ok(Asked::Take)
 }
 
-fn rmmod_line(words: &mut Words<'_>, names: &NameResolver<'_>) -> Result<Request, LineFault>
-    ensures { result ≡ rmmod_line names.now words.old }
+fn rmmod_line(
+    words: &mut Words<'_>,
+    names: &NameResolver<'_>,
+    event: &mut Event,
+) -> Result<Asked, LineFault>
+    ensures { line_with result event.new ≡ rmmod_line names.now words.old }
 {
     let object = only_name(words)?;
-    Ok(Request::Take(Event::Going(names.object(object)?)))
+    *event = Event::Going(names.object(object)?);
+    Ok(Asked::Take)
 }
 
 /// What a line of one word asks for.
-fn alone(request: Request, words: &mut Words<'_>) -> Result<Request, LineFault>
-    ensures { result ≡ alone request words.old }
+fn alone(asked: Asked, words: &mut Words<'_>) -> Result<Asked, LineFault>
+    ensures { (event : Event) → line_with result event ≡ alone (request_with asked event) words.old }
 {
     end(words)?;
-    Ok(request)
+    Ok(asked)
 }
 
-fn text_line(words: &mut Words<'_>, names: &NameResolver<'_>) -> Result<Request, LineFault>
-    ensures { result ≡ text_line names.now words.old }
+fn poll_line(words: &mut Words<'_>, event: &mut Event) -> Result<Asked, LineFault>
+    ensures { line_with result event.new ≡ alone (Take Poll) words.old }
+{
+    end(words)?;
+    *event = Event::Poll;
+    Ok(Asked::Take)
+}
+
+fn text_line(words: &mut Words<'_>, names: &NameResolver<'_>) -> Result<Asked, LineFault>
+    ensures { (event : Event) → line_with result event ≡ text_line names.now words.old }
 {
     let object = only_name(words)?;
-    Ok(Request::See(Query::Text(names.object(object)?)))
+    Ok(Asked::See(Query::Text(names.object(object)?)))
 }
 
-fn stack_line(words: &mut Words<'_>, names: &NameResolver<'_>) -> Result<Request, LineFault>
-    ensures { result ≡ stack_line names.now words.old }
+fn stack_line(words: &mut Words<'_>, names: &NameResolver<'_>) -> Result<Asked, LineFault>
+    ensures { (event : Event) → line_with result event ≡ stack_line names.now words.old }
 {
     let symbol = only_word(words)?;
     let spelling = spelling_of(symbol).ok_or(LineFault::BadLine)?;
-    Ok(Request::See(Query::Stack(names.site(&spelling)?)))
+    Ok(Asked::See(Query::Stack(names.site(&spelling)?)))
 }
 
-fn pick_line(words: &mut Words<'_>, names: &NameResolver<'_>) -> Result<Request, LineFault>
-    ensures { result ≡ pick_line names.now words.old }
+fn pick_line(words: &mut Words<'_>, names: &NameResolver<'_>) -> Result<Asked, LineFault>
+    ensures { (event : Event) → line_with result event ≡ pick_line names.now words.old }
 {
     let (number, symbol) = two_words(words)?;
     let number = number_to(MAX_TASK_NUMBER, number)?;
     let spelling = spelling_of(symbol).ok_or(LineFault::BadLine)?;
     let task = task(number)?;
-    Ok(Request::See(Query::Pick(task, names.site(&spelling)?)))
+    Ok(Asked::See(Query::Pick(task, names.site(&spelling)?)))
 }
 
-fn runs_line(words: &mut Words<'_>, names: &NameResolver<'_>) -> Result<Request, LineFault>
-    ensures { result ≡ runs_line names.now words.old }
+fn runs_line(words: &mut Words<'_>, names: &NameResolver<'_>) -> Result<Asked, LineFault>
+    ensures { (event : Event) → line_with result event ≡ runs_line names.now words.old }
 {
     let (patch, object) = two_words(words)?;
     if !is_name(patch) || !is_name(object) {
         return Err(LineFault::BadLine);
     }
     let patch = names.patch(patch)?;
-    Ok(Request::See(Query::Runs(patch, names.object(object)?)))
+    Ok(Asked::See(Query::Runs(patch, names.object(object)?)))
 }
 
-fn rewind_line(words: &mut Words<'_>) -> Result<Request, LineFault>
-    ensures { result ≡ rewind_line words.old }
+fn rewind_line(words: &mut Words<'_>) -> Result<Asked, LineFault>
+    ensures { (event : Event) → line_with result event ≡ rewind_line words.old }
 {
     let mark = only_word(words)?;
-    Ok(Request::Rewind(number_to(MAX_MARK, mark)? as u32))
+    Ok(Asked::Rewind(number_to(MAX_MARK, mark)? as u32))
 }
 
 fn line_of(
     keyword: Option<Keyword>,
     words: &mut Words<'_>,
     names: &NameResolver<'_>,
-) -> Result<Request, LineFault>
-    ensures { result ≡ line_of names.now keyword words.old }
+    event: &mut Event,
+) -> Result<Asked, LineFault>
+    ensures { line_with result event.new ≡ line_of names.now keyword words.old }
 {
     match keyword {
-        Some(Keyword::Load) => load_line(words, names),
-        Some(Keyword::Insmod) => insmod_line(words, names),
-        Some(Keyword::Rmmod) => rmmod_line(words, names),
-        Some(Keyword::Poll) => alone(Request::Take(Event::Poll), words),
-        Some(Keyword::Echo) => echo_line(words, names),
+        Some(Keyword::Load) => load_line(words, names, event),
+        Some(Keyword::Insmod) => insmod_line(words, names, event),
+        Some(Keyword::Rmmod) => rmmod_line(words, names, event),
+        Some(Keyword::Poll) => poll_line(words, event),
+        Some(Keyword::Echo) => echo_line(words, names, event),
         Some(Keyword::Cat) => cat_line(words, names),
         Some(Keyword::List) => list_line(words, names),
-        Some(Keyword::Task) => task_line(words, names),
-        Some(Keyword::Shadow) => shadow_line(words),
+        Some(Keyword::Task) => task_line(words, names, event),
+        Some(Keyword::Shadow) => shadow_line(words, event),
         Some(Keyword::Text) => text_line(words, names),
         Some(Keyword::Stack) => stack_line(words, names),
         Some(Keyword::Pick) => pick_line(words, names),
         Some(Keyword::Runs) => runs_line(words, names),
-        Some(Keyword::Mark) => alone(Request::See(Query::Mark), words),
+        Some(Keyword::Mark) => alone(Asked::See(Query::Mark), words),
         Some(Keyword::Rewind) => rewind_line(words),
-        Some(Keyword::Seal) => alone(Request::Seal, words),
+        Some(Keyword::Seal) => alone(Asked::Seal, words),
         None => Err(LineFault::BadLine),
     }
 }
 
-/// What a line asks for, without its line feed. `None` where it has no words: such a line has no
-/// answer. It takes time that is linear in the length of the line, and a look-up for each name.
-pub fn request_of(
+/// Reads what a line asks for, without its line feed. `None` where it has no words: such a line has no
+/// answer. An event is written to the room that is lent for it, and `Take` stands for it; what any other line
+/// leaves there means nothing. It takes time that is linear in the length of the line, and a look-up for each
+/// name.
+pub fn read_request(
     line: &[u8],
     catalog: &Catalog,
     modules: &Modules,
-) -> Option<Result<Request, LineFault>>
-    ensures { result ≡ request_of (names_of catalog.now modules.now) line.now }
+    event: &mut Event,
+) -> Option<Result<Asked, LineFault>>
+    ensures { asked_with result event.new ≡ request_of (names_of catalog.now modules.now) line.now }
 {
     // spaces alone separate words, so a tab or a carriage return is a byte of its word, and no name has one
     // (docs/DECISIONS.md, "Words and bytes of names")
     let mut words = Words::new(line, Separators::Spaces);
     let first = words.next()?;
     let names = NameResolver { catalog, modules };
-    Some(line_of(keyword_of(first), &mut words, &names))
+    Some(line_of(keyword_of(first), &mut words, &names, event))
 }

@@ -20,6 +20,22 @@ pub enum Request {
     See(Query),
 }
 
+/// What a line asks for, in a few bytes: an event stands in room of its own beside it, which has place for the
+/// frames of a sleeper, so that no line pays for moving it (docs/DECISIONS.md, "An event beside its line").
+#[derive(Clone, Copy)]
+pub enum Asked {
+    /// [`Request::Take`] of the event beside it.
+    Take,
+    /// [`Request::ForceNothing`].
+    ForceNothing(PatchId),
+    /// [`Request::Rewind`].
+    Rewind(u32),
+    /// [`Request::Seal`].
+    Seal,
+    /// [`Request::See`].
+    See(Query),
+}
+
 /// What a line asks to see. Nothing changes by it, so it is no event, and isn't undone.
 #[derive(Clone, Copy)]
 pub enum Query {

@@ -2,9 +2,11 @@
 
 ghost use Rattle.std.specs.Prelude.{◌≡◌};
 ghost use Rattle.klp_console_commands.specs.Lines.{key_of, variable_of, alloc_line, get_or_alloc_line, free_line, free_all_line, get_line, shadow_line};
+ghost use Rattle.klp_model.specs.declared.event.Event.{Event};
+ghost use Rattle.klp_console_commands.specs.Asked.{line_with};
 
 use crate::fault::LineFault;
-use crate::request::{Query, Request};
+use crate::request::{Asked, Query};
 use crate::words::{end, is_word, number, only_word, two_words, value, word};
 use klp_model::Event;
 use klp_types::{ShadowKey, ShadowValue};
@@ -33,53 +35,57 @@ fn variable(words: &mut Words<'_>) -> Result<(ShadowKey, ShadowValue), LineFault
     Ok((ShadowKey { obj, id }, value(bytes)?))
 }
 
-fn alloc_line(words: &mut Words<'_>) -> Result<Request, LineFault>
-    ensures { result ≡ alloc_line words.old }
+fn alloc_line(words: &mut Words<'_>, event: &mut Event) -> Result<Asked, LineFault>
+    ensures { line_with result event.new ≡ alloc_line words.old }
 {
     let (key, value) = variable(words)?;
-    Ok(Request::Take(Event::ShadowAlloc(key, value)))
+    *event = Event::ShadowAlloc(key, value);
+    Ok(Asked::Take)
 }
 
-fn get_or_alloc_line(words: &mut Words<'_>) -> Result<Request, LineFault>
-    ensures { result ≡ get_or_alloc_line words.old }
+fn get_or_alloc_line(words: &mut Words<'_>, event: &mut Event) -> Result<Asked, LineFault>
+    ensures { line_with result event.new ≡ get_or_alloc_line words.old }
 {
     let (key, value) = variable(words)?;
-    Ok(Request::Take(Event::ShadowGetOrAlloc(key, value)))
+    *event = Event::ShadowGetOrAlloc(key, value);
+    Ok(Asked::Take)
 }
 
-fn free_line(words: &mut Words<'_>) -> Result<Request, LineFault>
-    ensures { result ≡ free_line words.old }
+fn free_line(words: &mut Words<'_>, event: &mut Event) -> Result<Asked, LineFault>
+    ensures { line_with result event.new ≡ free_line words.old }
 {
-    Ok(Request::Take(Event::ShadowFree(key(words)?)))
+    *event = Event::ShadowFree(key(words)?);
+    Ok(Asked::Take)
 }
 
-fn free_all_line(words: &mut Words<'_>) -> Result<Request, LineFault>
-    ensures { result ≡ free_all_line words.old }
+fn free_all_line(words: &mut Words<'_>, event: &mut Event) -> Result<Asked, LineFault>
+    ensures { line_with result event.new ≡ free_all_line words.old }
 {
     let id = only_word(words)?;
-    Ok(Request::Take(Event::ShadowFreeAll(number(id)?)))
+    *event = Event::ShadowFreeAll(number(id)?);
+    Ok(Asked::Take)
 }
 
-fn get_line(words: &mut Words<'_>) -> Result<Request, LineFault>
-    ensures { result ≡ get_line words.old }
+fn get_line(words: &mut Words<'_>) -> Result<Asked, LineFault>
+    ensures { (event : Event) → line_with result event ≡ get_line words.old }
 {
-    Ok(Request::See(Query::Variable(key(words)?)))
+    Ok(Asked::See(Query::Variable(key(words)?)))
 }
 
 /// The words after `shadow`: a verb, and numbers. A key is two of them, since it has a parent object and an
 /// id. Behind the key a value may stand.
-pub(crate) fn shadow_line(words: &mut Words<'_>) -> Result<Request, LineFault>
-    ensures { result ≡ shadow_line words.old }
+pub(crate) fn shadow_line(words: &mut Words<'_>, event: &mut Event) -> Result<Asked, LineFault>
+    ensures { line_with result event.new ≡ shadow_line words.old }
 {
     let verb = word(words)?;
     if is_word(verb, b"alloc") {
-        alloc_line(words)
+        alloc_line(words, event)
     } else if is_word(verb, b"getalloc") {
-        get_or_alloc_line(words)
+        get_or_alloc_line(words, event)
     } else if is_word(verb, b"free") {
-        free_line(words)
+        free_line(words, event)
     } else if is_word(verb, b"freeall") {
-        free_all_line(words)
+        free_all_line(words, event)
     } else if is_word(verb, b"get") {
         get_line(words)
     } else {

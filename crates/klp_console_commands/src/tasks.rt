@@ -4,10 +4,11 @@ ghost use Rattle.std.specs.Prelude.{◌≡◌, ◌≤◌, length};
 ghost use Rattle.klp_console_commands.specs.Words.{words_of};
 ghost use Rattle.klp_console_commands.specs.Names.{is_frame, are_frames, versions_of};
 ghost use Rattle.klp_console_commands.specs.Lines.{sleep_line, fork_line, plain_event, plain_line, task_line};
+ghost use Rattle.klp_console_commands.specs.Asked.{line_with};
 
 use crate::fault::LineFault;
 use crate::names::{NameResolver, task};
-use crate::request::Request;
+use crate::request::Asked;
 use crate::words::{end, is_name, is_word, number_to, only_word, word};
 use klp_model::Event;
 use klp_types::{Frames, MAX_FRAMES, MAX_INDEX, MAX_TASK_NUMBER};
@@ -61,51 +62,60 @@ fn sleep_line(
     number: u64,
     words: &mut Words<'_>,
     names: &NameResolver<'_>,
-) -> Result<Request, LineFault>
-    ensures { result ≡ sleep_line names.now number words.old }
+    event: &mut Event,
+) -> Result<Asked, LineFault>
+    ensures { line_with result event.new ≡ sleep_line names.now number words.old }
 {
     if !are_frames(words) {
         return Err(LineFault::BadLine);
     }
     let task = task(number)?;
-    Ok(Request::Take(Event::Sleep(task, frames(words, names)?)))
+    *event = Event::Sleep(task, frames(words, names)?);
+    Ok(Asked::Take)
 }
 
 /// The word after the task that forks: the one that it makes. Its shape is looked at before either task.
-fn fork_line(number: u64, words: &mut Words<'_>) -> Result<Request, LineFault>
-    ensures { result ≡ fork_line number words.old }
+fn fork_line(number: u64, words: &mut Words<'_>, event: &mut Event) -> Result<Asked, LineFault>
+    ensures { line_with result event.new ≡ fork_line number words.old }
 {
     let child = only_word(words)?;
     let child = number_to(MAX_TASK_NUMBER, child)?;
     let parent = task(number)?;
-    Ok(Request::Take(Event::Fork(parent, task(child)?)))
+    *event = Event::Fork(parent, task(child)?);
+    Ok(Asked::Take)
 }
 
 /// What a task does, where the verb needs no more words. An unknown verb is a bad line, whatever its task
 /// is.
-fn plain_event(verb: &[u8], number: u64) -> Result<Request, LineFault>
-    ensures { result ≡ plain_event verb.now number }
+fn plain_event(verb: &[u8], number: u64, event: &mut Event) -> Result<Asked, LineFault>
+    ensures { line_with result event.new ≡ plain_event verb.now number }
 {
     if is_word(verb, b"new") {
-        Ok(Request::Take(Event::NewTask(task(number)?)))
+        *event = Event::NewTask(task(number)?);
     } else if is_word(verb, b"end") {
-        Ok(Request::Take(Event::EndTask(task(number)?)))
+        *event = Event::EndTask(task(number)?);
     } else if is_word(verb, b"enter") {
-        Ok(Request::Take(Event::EnterKernel(task(number)?)))
+        *event = Event::EnterKernel(task(number)?);
     } else if is_word(verb, b"exit") {
-        Ok(Request::Take(Event::ExitToUser(task(number)?)))
+        *event = Event::ExitToUser(task(number)?);
     } else if is_word(verb, b"wake") {
-        Ok(Request::Take(Event::Wake(task(number)?)))
+        *event = Event::Wake(task(number)?);
     } else {
-        Err(LineFault::BadLine)
+        return Err(LineFault::BadLine);
     }
+    Ok(Asked::Take)
 }
 
-fn plain_line(verb: &[u8], number: u64, words: &mut Words<'_>) -> Result<Request, LineFault>
-    ensures { result ≡ plain_line verb.now number words.old }
+fn plain_line(
+    verb: &[u8],
+    number: u64,
+    words: &mut Words<'_>,
+    event: &mut Event,
+) -> Result<Asked, LineFault>
+    ensures { line_with result event.new ≡ plain_line verb.now number words.old }
 {
     end(words)?;
-    plain_event(verb, number)
+    plain_event(verb, number, event)
 }
 
 /// The words after `task`: a verb, a task and what the verb needs. The task's number is read before the
@@ -113,17 +123,18 @@ fn plain_line(verb: &[u8], number: u64, words: &mut Words<'_>) -> Result<Request
 pub(crate) fn task_line(
     words: &mut Words<'_>,
     names: &NameResolver<'_>,
-) -> Result<Request, LineFault>
-    ensures { result ≡ task_line names.now words.old }
+    event: &mut Event,
+) -> Result<Asked, LineFault>
+    ensures { line_with result event.new ≡ task_line names.now words.old }
 {
     let verb = word(words)?;
     let word = word(words)?;
     let number = number_to(MAX_TASK_NUMBER, word)?;
     if is_word(verb, b"sleep") {
-        sleep_line(number, words, names)
+        sleep_line(number, words, names, event)
     } else if is_word(verb, b"fork") {
-        fork_line(number, words)
+        fork_line(number, words, event)
     } else {
-        plain_line(verb, number, words)
+        plain_line(verb, number, words, event)
     }
 }

@@ -1,5 +1,6 @@
 use Rattle.std.proofs.Common.{◌-◌, length, refl, sym, subst, ◌∙◌, arith, rules}
 use Rattle.std.proofs.lemmas.Bool.{both_ways}
+use Rattle.klp_console_commands.specs.Asked.{asked_with}
 use Rattle.klp_console_io.specs.Gathered.{Gathered}
 use Rattle.klp_console_io.specs.Marks.{events_at_cut}
 use Rattle.klp_console_io.specs.Written.{Written}
@@ -14,7 +15,7 @@ pub take_back-requires : goal.take_back-requires
 take_back-requires g c =
     let start : Gathered × Written = (c.args.answers.now, g.W.Sink.written c.args.writer.now) in
     let said : Gathered × Written = (c.done-is_refused.new.answers, g.W.Sink.written c.done-is_refused.new.writer) in
-    let says = subst (λ (a : Gathered). IsSaid (IsDoneIf c.args.manager.now c.done-is_refused.new.manager c.args.request.now) (a, start.1) said c.done-is_refused.result)
+    let says = subst (λ (a : Gathered). IsSaid (IsDoneIf c.args.manager.now c.done-is_refused.new.manager (asked_with c.args.asked.now c.args.event.now)) (a, start.1) said c.done-is_refused.result)
     c.hold-gathered.ensures.held c.done-is_refused.ensures in
     omega (arith, held_falls (hold start) said says.0 says.2 c.requires.still, c.hold-gathered.ensures.result)
 
@@ -22,7 +23,7 @@ pub returns-then-has_failed-clause-comes : goal.returns-then-has_failed-clause-c
 returns-then-has_failed-clause-comes g c =
     let start : Gathered × Written = (c.args.answers.now, g.W.Sink.written c.args.writer.now) in
     let said : Gathered × Written = (c.done-is_refused.new.answers, g.W.Sink.written c.done-is_refused.new.writer) in
-    let says = subst (λ (a : Gathered). IsSaid (IsDoneIf c.args.manager.now c.done-is_refused.new.manager c.args.request.now) (a, start.1) said c.done-is_refused.result)
+    let says = subst (λ (a : Gathered). IsSaid (IsDoneIf c.args.manager.now c.done-is_refused.new.manager (asked_with c.args.asked.now c.args.event.now)) (a, start.1) said c.done-is_refused.result)
     c.hold-gathered.ensures.held c.done-is_refused.ensures in
     let b : Moment = record { manager = c.args.manager.now; served = c.args.served.now; said = start; marks = c.args.marks.now } in
     let n : Moment = record { manager = c.done-is_refused.new.manager; served = c.count.new.served; said = said; marks = c.args.marks.now } in
@@ -31,21 +32,21 @@ returns-then-has_failed-clause-comes g c =
     λ before lines line asked short ahead. (
       λ still. absurd (both_ways _ still failed),
       λ same. next_cut before b n c.take_back.new.manager lines line ahead
-          (does_line b n line c.args.request.now c.done-is_refused.result asked says c.mark-events.ensures.stands short c.count.ensures.lines c.count.ensures.refused c.requires.back) failed back,
+          (does_line b n line (asked_with c.args.asked.now c.args.event.now) c.done-is_refused.result asked says c.mark-events.ensures.stands short c.count.ensures.lines c.count.ensures.refused c.requires.back) failed back,
     )
 
 pub returns-else-has_failed-clause-comes : goal.returns-else-has_failed-clause-comes
 returns-else-has_failed-clause-comes g c =
     let start : Gathered × Written = (c.args.answers.now, g.W.Sink.written c.args.writer.now) in
     let said : Gathered × Written = (c.done-is_refused.new.answers, g.W.Sink.written c.done-is_refused.new.writer) in
-    let says = subst (λ (a : Gathered). IsSaid (IsDoneIf c.args.manager.now c.done-is_refused.new.manager c.args.request.now) (a, start.1) said c.done-is_refused.result)
+    let says = subst (λ (a : Gathered). IsSaid (IsDoneIf c.args.manager.now c.done-is_refused.new.manager (asked_with c.args.asked.now c.args.event.now)) (a, start.1) said c.done-is_refused.result)
     c.hold-gathered.ensures.held c.done-is_refused.ensures in
     let b : Moment = record { manager = c.args.manager.now; served = c.args.served.now; said = start; marks = c.args.marks.now } in
     let n : Moment = record { manager = c.done-is_refused.new.manager; served = c.count.new.served; said = said; marks = c.mark_line.new.marks } in
     let still = sym c.has_failed.ensures ∙ c.if-has_failed.false in
     λ before lines line asked short ahead. (
       λ same. next_ahead before b n lines line ahead
-          (does_line b n line c.args.request.now c.done-is_refused.result asked says c.mark-events.ensures.stands short c.count.ensures.lines c.count.ensures.refused c.requires.back) still
+          (does_line b n line (asked_with c.args.asked.now c.args.event.now) c.done-is_refused.result asked says c.mark-events.ensures.stands short c.count.ensures.lines c.count.ensures.refused c.requires.back) still
           (record { end = length said.0.bytes; events = c.mark-events.result }) refl c.mark-events.ensures.mark c.mark_line.ensures,
       λ failed. absurd (both_ways _ still failed),
     )

@@ -1,6 +1,7 @@
 use Rattle.std.proofs.Common.{◌≡◌, [], ◌∷◌, sym, subst, ◌∙◌, rules}
 use Rattle.std.proofs.lemmas.Bool.{both_ways}
-use Rattle.klp_console_commands.specs.Lines as asked
+use Rattle.klp_console_commands.specs.Asked.{asked_with}
+use Rattle.klp_console_commands.specs.Lines.{request_of}
 use Rattle.klp_console.specs.Answered.{names_in}
 use Rattle.klp_console.proofs.AheadLemmas.{cut_on}
 use Rattle.klp_console.proofs.answer.serve_line.Goals as goal
@@ -16,6 +17,7 @@ returns-then-has_failed-clause-comes g c =
 pub returns-clause-comes : goal.returns-clause-comes
 returns-clause-comes g c =
     let ready = sym c.has_failed.ensures ∙ c.if-has_failed.false in
-    let is_asked : c.request_of-request.result ≡ asked.request_of (names_in c.args.manager.now) c.args.line.now = search rules in
-    let is = subst (λ m. c.request_of-request.result ≡ asked.request_of (names_in m) c.args.line.now) (sym (c.make_ready.ensures.same ready)) is_asked in
+    let request = asked_with c.read_request-asked.result c.read_request-asked.new.event in
+    let is_asked : request ≡ request_of (names_in c.args.manager.now) c.args.line.now = search rules in
+    let is = subst (λ m. request ≡ request_of (names_in m) c.args.line.now) (sym (c.make_ready.ensures.same ready)) is_asked in
     λ before lines ahead. c.gather.ensures.comes before lines c.args.line.now is c.requires.short ((c.make_ready.ensures.comes before lines c.args.served.now ahead).0 ready)
