@@ -46,3 +46,12 @@ other_frames xs ys e same =
     let other : true ≡ not (frames_test xs xs) = e ∙ ap (λ l. not (frames_test xs l)) (sym same) in
     let no : ⊥ = cc in
     no
+
+pub same_frames : (xs ys : List Version) → xs ≡ ys → frames_test xs ys ≡ true
+same_frames xs ys same = ap (frames_test xs) (sym same) ∙ itself_all
+  where
+    itself_all : frames_test xs xs ≡ true
+    itself_all =
+        and_from (pointwise eq-value.it (padded MAX_FRAMES (Original 0) xs) (padded MAX_FRAMES (Original 0) xs)) (length xs == length xs)
+        ((pointwise_decides {E = eq-value.it} (λ x y. (same_version x y, one_version x y)) (padded MAX_FRAMES (Original 0) xs) (padded MAX_FRAMES (Original 0) xs)).1 refl)
+        (eq-eqb (length xs) (length xs) refl)

@@ -1,3 +1,5 @@
+pub mod AnsweredLemmas
+pub mod ComparedLemmas
 pub mod DoneLemmas
 pub mod EnteredLemmas
 pub mod FramesLemmas

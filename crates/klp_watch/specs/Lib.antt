@@ -1,3 +1,4 @@
+pub mod Compared
 pub mod Inside
 pub mod Watching
 pub mod Whole

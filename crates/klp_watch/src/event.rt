@@ -14,7 +14,7 @@ use klp_model::Event;
 use klp_types::Frames;
 
 /// Which premise an accepted event breaks, if it breaks one, by what the tasks are inside of.
-fn against(manager: &Manager, inside: &Inside, event: &Event) -> Option<Cause>
+pub(crate) fn against(manager: &Manager, inside: &Inside, event: &Event) -> Option<Cause>
     ensures found { IfSome result (λ cause. (stacks : Stacks) → AreInside inside.now.rows stacks
         → IsAgainst (setting_of manager.now.managed) stacks event.now cause) }
     ensures none { IfNone result ((stacks : Stacks) → AreInside inside.now.rows stacks
@@ -32,7 +32,7 @@ fn against(manager: &Manager, inside: &Inside, event: &Event) -> Option<Cause>
 }
 
 /// A new task is inside of nothing, whatever one with its number was inside of before.
-fn begin(inside: &mut Inside, event: &Event)
+pub(crate) fn begin(inside: &mut Inside, event: &Event)
     ensures { (stacks : Stacks) → AreInside inside.old.rows stacks
         → AreInside inside.new.rows (begun event.now stacks) }
 {

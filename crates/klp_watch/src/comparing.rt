@@ -1,0 +1,100 @@
+//! A kernel beside the rules: its events are done, and what it answered and showed is compared with what the rules say.
+ghost use Rattle.std.specs.Prelude.{◌≡◌, List, IfOk, IfErr};
+ghost use Rattle.klp_model.specs.declared.seen.Seen.{Seen as AnyItem};
+ghost use Rattle.klp_model.specs.Observed.{Stacks, HasNoTask, IsHonestRun};
+ghost use Rattle.klp_manager_state.specs.Managed.{setting_of};
+ghost use Rattle.klp_core.specs.Journaled.{Stands};
+ghost use Rattle.klp_watch.specs.Inside.{AreInside};
+ghost use Rattle.klp_watch.specs.Watching.{IsConsistent};
+ghost use Rattle.klp_watch.specs.Compared.{AreCompared, IsDifference, IsDoneSo, IsToldFor};
+
+use crate::answered::take_answered;
+use crate::cause::Cause;
+use crate::difference::{Difference, Differs};
+use crate::inside::Inside;
+use crate::observed::Observed;
+use crate::shown::{is_shown, other_than};
+use crate::watching::{functions_stand, has_task, watch_item};
+use klp_core::Manager;
+
+/// Does as [`watch`](crate::watch) with the items that happen, over a manager without tasks, and compares what the
+/// kernel answered and showed between them with what the rules answer and the state shows there. It tells the first item
+/// at which the two differ, or that breaks a premise. Where an event does both, the premise is told.
+///
+/// The item told leaves nothing: an event is taken back by its own records, only its callbacks have run. All items before
+/// it are done, and are so. It takes no memory, and an item costs what its event or its look-up costs.
+pub fn compare(manager: &mut Manager, items: &[Observed]) -> Result<(), Differs>
+    ensures compared { IfOk result (λ _. AreCompared manager.old manager.new items.now) }
+    // what is compared is consistent at every moment
+    ensures consistent { (run : List AnyItem)
+        → IsHonestRun (setting_of manager.old.managed) manager.old.managed.state run
+        → IsConsistent (setting_of manager.old.managed) manager.old.managed.state run }
+    ensures differs { IfErr result (λ differs. IsDifference manager.old manager.new items.now differs.item differs.cause) }
+    ensures setting { setting_of manager.new.managed ≡ setting_of manager.old.managed }
+    ensures stands { Stands manager.new }
+{
+    klp_model::consistency::frames_are_current();
+    klp_model::consistency::none_has_left();
+    klp_model::consistency::none_is_mixed();
+    functions_stand(manager);
+    let _standing = manager.mark();
+    if has_task(manager) {
+        return Err(Differs {
+            item: 0,
+            cause: Difference::Premise(Cause::NotOpening),
+        });
+    }
+    compare_all(manager, items)
+}
+
+/// The items in order, where no task is there at first.
+fn compare_all(manager: &mut Manager, items: &[Observed]) -> Result<(), Differs>
+    ensures compared { IfOk result
+        (λ _. HasNoTask manager.old.managed.state → AreCompared manager.old manager.new items.now) }
+    ensures differs { IfErr result (λ differs. HasNoTask manager.old.managed.state
+        → IsDifference manager.old manager.new items.now differs.item differs.cause) }
+    ensures setting { setting_of manager.new.managed ≡ setting_of manager.old.managed }
+    ensures stands { Stands manager.new }
+{
+    klp_model::laws::states_stay_allowed();
+    klp_model::consistency::state_is_that_of_the_events();
+    klp_core::laws::events_go_on_where_they_end();
+    let _standing = manager.mark();
+    let mut inside = Inside::new();
+    for (done, item) in items.iter().enumerate() {
+        if let Err(cause) = compare_item(manager, &mut inside, item) {
+            return Err(Differs {
+                item: done + 1,
+                cause,
+            });
+        }
+    }
+    Ok(())
+}
+
+/// One item, where the tasks are inside of what is kept.
+fn compare_item(
+    manager: &mut Manager,
+    inside: &mut Inside,
+    item: &Observed,
+) -> Result<(), Difference>
+    ensures done { IfOk result (λ _. (stacks : Stacks) → AreInside inside.old.rows stacks
+        → IsDoneSo manager.old manager.new stacks item.now inside.new.rows) }
+    ensures told { IfErr result (λ difference. (stacks : Stacks) → AreInside inside.old.rows stacks
+        → IsToldFor manager.old manager.new stacks item.now difference) }
+    ensures setting { setting_of manager.new.managed ≡ setting_of manager.old.managed }
+    ensures stands { Stands manager.new }
+{
+    let _standing = manager.mark();
+    match item {
+        Observed::Seen(item) => {
+            if let Err(cause) = watch_item(manager, inside, item) {
+                return Err(Difference::Premise(cause));
+            }
+            Ok(())
+        }
+        Observed::Answered(event, answer) => take_answered(manager, inside, event, answer),
+        Observed::Saw(sight) if !is_shown(manager, sight) => Err(other_than(sight)),
+        Observed::Saw(_) => Ok(()),
+    }
+}
