@@ -60,13 +60,13 @@ module _ (before between after : Journaled) (event : Event) (stands : Stands bef
   given_back reply taken rewound =
       let appends = taken.accepted in
       let groups : take (length before.groups) between.groups ≡ before.groups =
-          ap (take (length before.groups)) appends.groups ∙ take-append_seam before.groups (appends.group ∷ []) in
+      ap (take (length before.groups)) appends.groups ∙ take-append_seam before.groups (appends.group ∷ []) in
       let state : after.managed.state ≡ before.managed.state =
-          rewound.state
-          ∙ ap (λ (s : Setting). state_after_history s between.base (history_in (take (length before.groups) between.groups))) same
-          ∙ ap (λ (b : State). state_after_history (setting_of before.managed) b (history_in (take (length before.groups) between.groups))) appends.base
-          ∙ ap (λ gs. state_after_history (setting_of before.managed) before.base (history_in gs)) groups
-          ∙ sym stands.state in
+      rewound.state
+      ∙ ap (λ (s : Setting). state_after_history s between.base (history_in (take (length before.groups) between.groups))) same
+      ∙ ap (λ (b : State). state_after_history (setting_of before.managed) b (history_in (take (length before.groups) between.groups))) appends.base
+      ∙ ap (λ gs. state_after_history (setting_of before.managed) before.base (history_in gs)) groups
+      ∙ sym stands.state in
       let image = rewound.image ∙ ap (λ (m : Managed). m.image) appends.left in
       let catalog = rewound.catalog ∙ ap (λ (m : Managed). m.catalog) appends.left in
       let base = rewound.base ∙ appends.base in

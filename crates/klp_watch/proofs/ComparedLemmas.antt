@@ -79,9 +79,9 @@ module _ (first now after : Journaled) (table new : List (List Version)) (same :
       let before = so nobody in
       let done = does (seen_from (setting_of first.managed) first.managed.state (standing (taken_from items) before.0.outcomes)).stacks before.1 in
       subst (λ xs. (watched : AreWatched first after xs) × AreInside new (seen_from (setting_of first.managed) first.managed.state (standing xs watched.outcomes)).stacks)
-          (sym (append-nil (taken_from items)))
-          (subst (λ (m : Journaled). (watched : AreWatched first m (taken_from items)) × AreInside new (seen_from (setting_of first.managed) first.managed.state (standing (taken_from items) watched.outcomes)).stacks)
-          (sym done.0) (before.0, done.1))
+      (sym (append-nil (taken_from items)))
+      (subst (λ (m : Journaled). (watched : AreWatched first m (taken_from items)) × AreInside new (seen_from (setting_of first.managed) first.managed.state (standing (taken_from items) watched.outcomes)).stacks)
+      (sym done.0) (before.0, done.1))
 
   -- what is in the journal stays there
   grows : (stacks : Stacks) (item : Observed) → IsDoneSo now after stacks item new → (later : List Group) × (after.groups ≡ now.groups ++ later)
@@ -108,9 +108,8 @@ module _ (first now after : Journaled) (table new : List (List Version)) (same :
       let done = does stacks before.1 in
       let more = grows stacks item done in
       let watched : SoFar first after new (taken_from (items ++ item ∷ [])) =
-          subst (SoFar first after new) (sym (taken_more items item)) (watched_next go of items item (as_watched items so) does) in
-      let all = watched nobody in
-      (
+      subst (SoFar first after new) (sym (taken_more items item)) (watched_next go of items item (as_watched items so) does) in
+      let all = watched nobody in (
         record {
           watched = all.0;
           so = at_each (IsSoBehind first after) items item

@@ -50,12 +50,7 @@ pub(crate) fn take_answered(
 }
 
 /// How an accepted event differs from the rules, if it does: by the premise that it breaks, and else by its answer.
-fn difference(
-    manager: &Manager,
-    inside: &Inside,
-    event: &Event,
-    is_so: bool,
-) -> Option<Difference>
+fn difference(manager: &Manager, inside: &Inside, event: &Event, is_so: bool) -> Option<Difference>
     ensures found { IfSome result (λ difference. (stacks : Stacks) → AreInside inside.now.rows stacks
         → IsFound (setting_of manager.now.managed) stacks event.now is_so difference) }
     ensures none { IfNone result (IsTrue is_so × ((stacks : Stacks) → AreInside inside.now.rows stacks

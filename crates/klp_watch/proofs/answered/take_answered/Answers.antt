@@ -26,8 +26,7 @@ returns-in-Some-clause-told g c = λ stacks are.
 pub returns-clause-done : goal.returns-clause-done
 returns-clause-done g c = λ stacks are.
     let taken = c.apply_lent-own.ensures.taken in
-    let none = c.in_default.ensures.none in
-    (
+    let none = c.in_default.ensures.none in (
       accepted_done c.args.manager.now c.apply_lent-own.new.self stacks c.args.event.now c.begin.new.inside.rows c.apply_lent-own.result taken
           (sym c.if-is_err.ensures.value) c.apply_lent-own.ensures.setting (none.1 stacks are) (c.begin.ensures stacks are),
       sym taken.answered ∙ c.is_same-is_so.ensures.0 none.0,
