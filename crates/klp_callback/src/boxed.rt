@@ -6,7 +6,7 @@ ghost use Rattle.klp_callback.specs.Told.{after_run};
 
 use crate::callback::Callback;
 use crate::counted_box::CountedBox;
-use klp_record_words::Records;
+use klp_journal::Records;
 use klp_types::PatchId;
 use klp_world::{MAX_EDITS, World};
 use std::marker::Model;

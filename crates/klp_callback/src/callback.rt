@@ -4,7 +4,7 @@ ghost use Rattle.klp_world.specs.Noted.{rows_of_script};
 ghost use Rattle.klp_world.specs.Changes.{Changes, HasRoom};
 ghost use Rattle.klp_callback.specs.Told.{counted};
 
-use klp_record_words::Records;
+use klp_journal::Records;
 use klp_types::PatchId;
 use klp_world::{Script, World};
 

@@ -6,7 +6,7 @@ ghost use Rattle.klp_callback.specs.Told.{counted};
 
 use crate::callback::Callback;
 use crate::edits::{allocs_of, is_same, run_script};
-use klp_record_words::Records;
+use klp_journal::Records;
 use klp_types::PatchId;
 use klp_world::{MAX_EDITS, Script, World};
 

@@ -4,7 +4,7 @@ ghost use Rattle.klp_types.specs.Script.{alloc_count, is_alloc, edited, edited_b
 ghost use Rattle.klp_world.specs.Noted.{noting, rows_of_edit, rows_of_edits, rows_of_script};
 ghost use Rattle.klp_world.specs.Changes.{Changes, HasRoom};
 
-use klp_record_words::Records;
+use klp_journal::Records;
 use klp_types::{Edit, PatchId};
 use klp_world::{MAX_EDITS, Script, World};
 

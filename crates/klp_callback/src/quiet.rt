@@ -2,7 +2,7 @@ ghost use Rattle.std.specs.Prelude.{◌≡◌, pos, []};
 
 use crate::callback::Callback;
 use arrayvec::ArrayVec;
-use klp_record_words::Records;
+use klp_journal::Records;
 use klp_types::PatchId;
 use klp_world::{Script, World};
 use std::marker::Model;

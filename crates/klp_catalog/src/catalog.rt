@@ -27,7 +27,7 @@ use arrayvec::ArrayVec;
 use klp_callback::Boxed;
 use klp_catalog_text::{Plan, TextFault};
 use klp_modules::Modules;
-use klp_record_words::Records;
+use klp_journal::Records;
 use klp_types::{
     MAX_EDITS, MAX_FUNCTIONS, MAX_PATCHES, MAX_STATES, MAX_TARGETS, ObjId, PatchId, Site, Which,
 };

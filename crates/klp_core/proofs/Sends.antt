@@ -19,7 +19,7 @@ use Rattle.klp_world.specs.contracts.world.World as world
 use Rattle.klp_tasks.specs.contracts.tasks.Tasks as tasks
 use Rattle.klp_tasks.specs.contracts.version_set.VersionSet as version_set
 use Rattle.klp_manager_state.specs.contracts.pins.Pins as pins
-use Rattle.klp_record_words.specs.contracts.records.Records as records
+use Rattle.klp_journal.specs.contracts.records.Records as records
 use Rattle.klp_manager_state.specs.contracts.state.ManagerState as parts
 use Rattle.klp_callback.specs.contracts.boxed.Boxed as boxed
 use Rattle.klp_callback.specs.contracts.boxed.Boxed.TheInside as boxed_inside

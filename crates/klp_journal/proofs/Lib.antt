@@ -1,1 +1,11 @@
+pub mod WordLemmas
+pub mod ReadLemmas
+pub mod BackLemmas
+pub mod PartLemmas
+pub mod RecordsLemmas
+pub mod PlaceLemmas
+pub mod StoredLemmas
+pub mod SplitLemmas
+pub mod LastLemmas
+pub mod FrameLemmas
 pub mod GroupLemmas

@@ -3,7 +3,7 @@ ghost use Rattle.klp_types.specs.declared.record.Record.{Record};
 ghost use Rattle.klp_journal.specs.Journal.{Group, groups_of, counted, Keeps, records_in, records_free, has_room};
 
 use klp_model::{Event, Reply};
-use klp_record_words::Records;
+use crate::records::Records;
 use klp_types::{MAX_GROUPS, MAX_JOURNAL_RECORDS, MAX_RECORDS};
 use std::alloc::{AllocError, Global};
 use std::marker::Model;
@@ -38,7 +38,7 @@ impl Model for Journal {
 
     ghost Value = { List Accepted };
 
-    ghost use Rattle.klp_journal.specs.Stored.{accepted_of};
+    ghost use Rattle.klp_journal.specs.AcceptedEvents.{accepted_of};
 
     ghost view = { λ j. map accepted_of j.events.items };
 

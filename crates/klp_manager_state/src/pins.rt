@@ -3,7 +3,7 @@ ghost use Rattle.klp_types.specs.Records.{spare_of};
 ghost use Rattle.klp_model.specs.Forcing.{pin_all};
 ghost use Rattle.klp_manager_state.specs.Rows.{put_pinned, PinsGoBack};
 
-use klp_record_words::Records;
+use klp_journal::Records;
 use klp_types::{PatchId, Record};
 use std::alloc::{AllocError, Global};
 use std::marker::Model;

@@ -11,7 +11,7 @@ use crate::opening::opening_keeps;
 use crate::pins::Pins;
 use klp_catalog::Catalog;
 use klp_modules::Modules;
-use klp_record_words::Records;
+use klp_journal::Records;
 use klp_sites::Sites;
 use klp_tasks::{Tasks, VersionSet};
 use klp_text::Image;

@@ -1,12 +1,12 @@
 //! What an event logged is put back. No step is turned round, since the rows have all that there was.
 ghost use Rattle.std.specs.Prelude.{◌≡◌, ◌<◌, true, false, [], length};
-ghost use Rattle.klp_record_words.specs.Small.{row_of};
+ghost use Rattle.klp_journal.specs.Small.{row_of};
 ghost use Rattle.klp_manager_state.specs.Rows.{rows_in, put_back, undone, is_due, are_due};
 ghost use Rattle.klp_manager_state.specs.Undoing.{IsOneBack};
 
 use crate::state::ManagerState;
 use crate::transition::moving_before;
-use klp_record_words::SmallRecord;
+use klp_journal::SmallRecord;
 use klp_types::Record;
 
 impl ManagerState {

@@ -7,7 +7,7 @@ ghost use Rattle.klp_patch.specs.Calls.{HaveRun, HasRoomFor};
 ghost use Rattle.klp_patch.specs.Places.{call_at};
 
 use klp_catalog::Catalog;
-use klp_record_words::Records;
+use klp_journal::Records;
 use klp_types::{PatchId, Which};
 use klp_world::World;
 

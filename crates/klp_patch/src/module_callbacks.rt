@@ -16,7 +16,7 @@ use crate::module_share::{
     allocs_to_bring, allocs_to_let_go, bring, let_go, may_run_to_bring, may_run_to_let_go,
 };
 use klp_catalog::Catalog;
-use klp_record_words::Records;
+use klp_journal::Records;
 use klp_types::{ObjId, PatchId, Transition};
 use klp_world::World;
 

@@ -15,7 +15,7 @@ ghost use Rattle.klp_patch.specs.Changes.{AreMade, Notes, with_entry, with_nop, 
 use crate::covered::{covers, site_in_scope};
 use crate::site::{put, put_nop, take, take_nop};
 use klp_catalog::{Catalog, CatalogFunction};
-use klp_record_words::Records;
+use klp_journal::Records;
 use klp_sites::Sites;
 use klp_types::{Entry, MAX_FUNCTIONS, MAX_PATCHES, MAX_SITES, ObjId, PatchId};
 

@@ -6,7 +6,7 @@ ghost use Rattle.klp_stack.specs.Spare.{spare_in};
 ghost use Rattle.klp_stack.specs.Stack.{entries_at, has_entry, entries_of_others};
 ghost use Rattle.klp_patch.specs.Changes.{AreMade, Notes, with_nop, without_nop, hooked_count};
 
-use klp_record_words::Records;
+use klp_journal::Records;
 use klp_sites::Sites;
 use klp_types::{Entry, MAX_PATCHES, MAX_SITES, PatchId, Site};
 

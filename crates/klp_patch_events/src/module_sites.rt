@@ -17,7 +17,7 @@ ghost use Rattle.klp_manager_state.specs.Rows.{SitesGoBack};
 
 use klp_catalog::Catalog;
 use klp_patch::{patch_sites, unpatch_sites};
-use klp_record_words::Records;
+use klp_journal::Records;
 use klp_sites::Sites;
 use klp_types::{MAX_PATCHES, ObjId, PatchId};
 

@@ -17,7 +17,7 @@ ghost use Rattle.klp_manager_state.specs.Rows.{WorldGoesBack, SitesGoBack};
 
 use klp_catalog::Catalog;
 use klp_patch::unpatch_sites;
-use klp_record_words::Records;
+use klp_journal::Records;
 use klp_sites::Sites;
 use klp_types::{MAX_FUNCTIONS, MAX_SITES, PatchId};
 use klp_world::World;

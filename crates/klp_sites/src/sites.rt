@@ -17,7 +17,7 @@ ghost use Rattle.klp_sites.specs.Undo.{put_back, put_loaded, is_due};
 
 use crate::hooked::HookedSites;
 use arrayvec::ArrayVec;
-use klp_record_words::Records;
+use klp_journal::Records;
 use klp_stack::{Stacks, Taken};
 use klp_text::Image;
 use klp_types::{

@@ -26,7 +26,7 @@ ghost use Rattle.klp_manager_state.specs.Rows.{IsNoted};
 use klp_catalog::Catalog;
 use klp_manager_state::{Brief, BriefReply, ManagerState};
 use klp_model::{Refusal, Reply};
-use klp_record_words::Records;
+use klp_journal::Records;
 use klp_tasks::{Tasks, target_state};
 use klp_types::{Frames, MAX_TASKS, Mode, PatchState, TaskId, Transition, Version};
 

@@ -17,7 +17,7 @@ ghost use Rattle.klp_tasks.specs.Changes.{Changes, changed, record_of, record_if
 use crate::numbers::TaskNumbers;
 use crate::version_set::VersionSet;
 use arrayvec::ArrayVec;
-use klp_record_words::{FrameWords, Records, SwitchedTask};
+use klp_journal::{FrameWords, Records, SwitchedTask};
 use klp_types::{Frames, MAX_TASKS, Mode, PatchState, Record, Task, TaskId, Transition};
 use std::alloc::{AllocError, Global};
 use std::marker::Model;

@@ -14,7 +14,7 @@ use crate::patch::{InstalledPatch, SystemState, place_of_patch};
 use crate::shadow::ShadowMap;
 use crate::table::NotAdded;
 use arrayvec::ArrayVec;
-use klp_record_words::Records;
+use klp_journal::Records;
 use klp_types::{MAX_PATCHES, MAX_STATES, MAX_VARIABLES, PatchId, Record, ShadowKey, ShadowValue};
 use std::alloc::{AllocError, Global};
 use std::marker::Model;

@@ -4,7 +4,7 @@ use Rattle.std.proofs.lemmas.List.{length-map, length_push, map-append}
 use Rattle.klp_types.specs.Records.{RecordList}
 use Rattle.klp_journal.specs.declared.journal.Noted.{Noted}
 use Rattle.klp_journal.specs.Journal.{Accepted, groups_of, counted}
-use Rattle.klp_journal.specs.Stored.{accepted_of}
+use Rattle.klp_journal.specs.AcceptedEvents.{accepted_of}
 use Rattle.klp_journal.proofs.GroupLemmas.{room_for, groups-append, counted_more}
 use Rattle.klp_journal.proofs.journal.Journal.append.Goals as goal
 

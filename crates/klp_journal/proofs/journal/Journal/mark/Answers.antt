@@ -1,6 +1,6 @@
 use Rattle.std.proofs.Common.{length, ap, arith}
 use Rattle.std.proofs.lemmas.List.{length-map}
-use Rattle.klp_journal.specs.Stored.{accepted_of}
+use Rattle.klp_journal.specs.AcceptedEvents.{accepted_of}
 use Rattle.klp_journal.proofs.GroupLemmas.{length-groups}
 use Rattle.klp_journal.proofs.journal.Journal.mark.Goals as goal
 

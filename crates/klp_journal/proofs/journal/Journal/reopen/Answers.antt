@@ -3,7 +3,7 @@ use Rattle.std.proofs.lemmas.List.{map-append}
 use Rattle.klp_types.specs.Records.{RecordList}
 use Rattle.klp_journal.specs.declared.journal.Noted.{Noted}
 use Rattle.klp_journal.specs.Journal.{Accepted, groups_of}
-use Rattle.klp_journal.specs.Stored.{accepted_of}
+use Rattle.klp_journal.specs.AcceptedEvents.{accepted_of}
 use Rattle.klp_journal.proofs.GroupLemmas.{last_group, few_own, older_counted, own_there, fewer}
 use Rattle.klp_journal.proofs.journal.Journal.reopen.Goals as goal
 

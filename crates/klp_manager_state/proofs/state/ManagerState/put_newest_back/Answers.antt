@@ -4,7 +4,7 @@ use Rattle.klp_types.specs.declared.task.Task.{Task}
 use Rattle.klp_model.specs.Task.{Tasks}
 use Rattle.klp_tasks.specs.Changes.{changed_row}
 use Rattle.klp_types.specs.Records.{RecordList}
-use Rattle.klp_record_words.specs.Small.{row_of}
+use Rattle.klp_journal.specs.Small.{row_of}
 use Rattle.klp_manager_state.specs.Rows.{rows_in, are_due}
 use Rattle.klp_manager_state.specs.Undoing.{IsOneBack}
 use Rattle.klp_manager_state.proofs.UndoLemmas.{newest_is_due, one_back}

@@ -1,0 +1,33 @@
+//! What is proved of the words of records themselves.
+ghost use Rattle.std.specs.Prelude.{◌≡◌, ℕ, ◌+◌, ◌≤◌, List, [], ◌++◌, length, Some, vec_len, vec_capacity};
+ghost use Rattle.klp_types.specs.declared.record.Record.{Record};
+ghost use Rattle.klp_journal.specs.Words.{words_of, IsRecord};
+
+use crate::read::read_back;
+use crate::write::write_record;
+use klp_types::Record;
+
+/// No record's words are the last of another's: so where a list ends with a record, it is one record alone, and
+/// what is before it is as it was before it was written.
+pub fn records_are_read_from_their_ends()
+    ensures { (a b : Record) (front : List ℕ) → IsRecord a → IsRecord b → words_of a ≡ front ++ words_of b
+        → (front ≡ []) × (a ≡ b) }
+{}
+
+/// A record has at most 36 words with its tag, so that room for records is room for their words.
+pub fn records_have_few_words()
+    ensures { (row : Record) → IsRecord row → length (words_of row) ≤ 36 }
+{}
+
+/// A record that is written behind words is read back from their end, and the words before it are as they were: writes it,
+/// and takes it out again.
+pub fn what_is_written_is_read_back(row: &Record, words: &mut Vec<u64>) -> Option<Record>
+    requires { vec_len words.old + 36 ≤ vec_capacity words.old }
+    ensures row { result ≡ Some row.now }
+    ensures words { words.new.items ≡ words.old.items }
+{
+    write_record(row, words);
+    let (read, count) = read_back(words.as_slice())?;
+    words.truncate(words.len() - count);
+    Some(read)
+}

@@ -1,0 +1,115 @@
+//! The kinds of record that events log most, as undoing takes them.
+ghost use Rattle.std.specs.Prelude.{◌≡◌, ℕ, List, ◌++◌, length, IfSome};
+ghost use Rattle.klp_journal.specs.Words.{words_of, IsRecord};
+ghost use Rattle.klp_journal.specs.Decoded.{record_of};
+ghost use Rattle.klp_journal.specs.Stored.{EndWithRecord, AreOfKind};
+ghost use Rattle.klp_journal.specs.Small.{row_of};
+
+use crate::read::{func_of, mode_of, state_of};
+use klp_types::{Mode, PatchId, PatchState, Place, Site, TaskId};
+
+/// A record of one of the kinds that events log most. It is small: a [`Record`](klp_types::Record) has room for a whole
+/// task, and to hand that on costs more than to put an entry back.
+#[derive(Clone, Copy)]
+pub enum SmallRecord {
+    /// The entry of a patch on the function stack of a site, or that it had none there.
+    Entry {
+        site: Site,
+        patch: PatchId,
+        was: Option<Place>,
+    },
+    /// Whether a site was hooked.
+    Hook {
+        site: Site,
+        was: bool,
+    },
+    /// A task that was there, inside of nothing.
+    Resting {
+        task: TaskId,
+        state: PatchState,
+        mode: Mode,
+    },
+}
+
+/// The tags of these kinds. Each has the kind, and how many words are before it: so it tells whether an entry was there,
+/// and a task with two words is inside of nothing.
+const RESTING: u64 = 1 + 256 * 2;
+
+const NO_ENTRY: u64 = 7 + 256 * 2;
+
+const ENTRY: u64 = 7 + 256 * 4;
+
+const HOOK: u64 = 8 + 256 * 2;
+
+/// The last record of these words, if it is of one of the small kinds, and how many words it has with its tag. The words
+/// are known to be those of records, so the tag alone is looked at.
+#[inline(always)]
+pub(crate) fn small(words: &[u64]) -> Option<(SmallRecord, usize)>
+    requires { EndWithRecord words.now }
+    ensures { IfSome result (λ found. (older : List ℕ) × ((words.now ≡ older ++ words_of (row_of found.0))
+        × (found.1 ≡ length (words_of (row_of found.0))) × IsRecord (row_of found.0))) }
+{
+    let last = words.len() - 1;
+    let record = match words[last] {
+        HOOK => hook(&words[last - 2..last]),
+        RESTING => resting(&words[last - 2..last]),
+        NO_ENTRY => no_entry(&words[last - 2..last]),
+        ENTRY => return Some((entry(&words[last - 4..last]), 5)),
+        _ => return None,
+    };
+    Some((record, 3))
+}
+
+/// What the words before the tag say, of each of these kinds.
+#[inline(always)]
+fn hook(body: &[u64]) -> SmallRecord
+    requires { AreOfKind 8 body.now }
+    ensures { row_of result ≡ record_of 8 body.now }
+{
+    SmallRecord::Hook {
+        site: Site(body[0] as u16),
+        was: body[1] == 1,
+    }
+}
+
+#[inline(always)]
+fn resting(body: &[u64]) -> SmallRecord
+    requires kind { AreOfKind 1 body.now }
+    requires count { length body.now ≡ 2 }
+    ensures { row_of result ≡ record_of 1 body.now }
+{
+    SmallRecord::Resting {
+        task: TaskId(body[0] as u8),
+        state: state_of(body[1] % 4),
+        mode: mode_of(body[1] / 4),
+    }
+}
+
+#[inline(always)]
+fn no_entry(body: &[u64]) -> SmallRecord
+    requires kind { AreOfKind 7 body.now }
+    requires count { length body.now ≡ 2 }
+    ensures { row_of result ≡ record_of 7 body.now }
+{
+    SmallRecord::Entry {
+        site: Site(body[0] as u16),
+        patch: PatchId(body[1] as u8),
+        was: None,
+    }
+}
+
+#[inline(always)]
+fn entry(body: &[u64]) -> SmallRecord
+    requires kind { AreOfKind 7 body.now }
+    requires count { length body.now ≡ 4 }
+    ensures { row_of result ≡ record_of 7 body.now }
+{
+    SmallRecord::Entry {
+        site: Site(body[0] as u16),
+        patch: PatchId(body[1] as u8),
+        was: Some(Place {
+            index: body[2] as u8,
+            func: func_of(body[3]),
+        }),
+    }
+}

@@ -1,0 +1,96 @@
+//! A task of which the state or the mode alone changed, as undoing takes it. Its frames are still what its record says, so
+//! none has to be read and handed on.
+ghost use Rattle.std.specs.Prelude.{◌≡◌, ◌≤◌, true, ℕ, List, ◌++◌, length, map, slice_get, Some, IfSome};
+ghost use Rattle.klp_types.specs.declared.record.Record.TheVariants.{TaskRow};
+ghost use Rattle.klp_types.specs.declared.task.Task.{Task as AnyTask};
+ghost use Rattle.klp_journal.specs.Words.{words_of, IsRecord};
+ghost use Rattle.klp_journal.specs.Decoded.{frame_of, record_of};
+ghost use Rattle.klp_journal.specs.Stored.{EndWithRecord, AreOfKind};
+ghost use Rattle.klp_types.specs.Frames.{frames_of};
+
+use crate::frame_words::FrameWords;
+use crate::read::{mode_of, state_of};
+use klp_types::{Mode, PatchState, Task, TaskId};
+
+/// How far a task was, and where.
+#[derive(Clone, Copy)]
+pub struct SwitchedTask {
+    pub task: TaskId,
+    pub state: PatchState,
+    pub mode: Mode,
+}
+
+/// Whether words are the same. They nearly always are, so all are looked at, with no test in between: then several are
+/// compared at once.
+fn are_same(words: &[u64], others: &[u64]) -> bool
+    requires { length words.now ≡ length others.now }
+    ensures { result ≡ true → words.now ≡ others.now }
+{
+    let mut differing = 0;
+    for (k, word) in words.iter().enumerate() {
+        differing |= *word ^ others[k];
+    }
+    differing == 0
+}
+
+/// Whether words are those of frames which a table keeps.
+#[inline(always)]
+fn are_kept(words: &[u64], own: &FrameWords) -> bool
+    ensures { result ≡ true → map frame_of words.now ≡ own.now }
+{
+    let own = own.as_words();
+    words.len() == own.len() && are_same(words, own)
+}
+
+/// How far a task was and where, by the words before the tag, where it was inside of what it is inside of now: where the
+/// words of its frames are those that its table keeps.
+#[inline(always)]
+fn switched_body(
+    body: &[u64],
+    tasks: &[Option<Task>],
+    frames: &[FrameWords],
+) -> Option<SwitchedTask>
+    requires kind { AreOfKind 1 body.now }
+    requires count { 2 ≤ length body.now }
+    requires frames { frames.now ≡ map frames_of tasks.now }
+    ensures { IfSome result (λ was. (now : AnyTask) × ((slice_get tasks.now was.task ≡ Some (Some now))
+        × (TaskRow was.task (record now { state = was.state; mode = was.mode }) ≡ record_of 1 body.now))) }
+{
+    let task = TaskId(body[0] as u8);
+    let Some(Some(_now)) = tasks.get(usize::from(task.0)) else {
+        return None;
+    };
+    if !are_kept(&body[2..], &frames[usize::from(task.0)]) {
+        return None;
+    }
+    Some(SwitchedTask {
+        task,
+        state: state_of(body[1] % 4),
+        mode: mode_of(body[1] / 4),
+    })
+}
+
+/// A task of which the state or the mode alone changed, by the tasks as they are now, if the last record of these words is
+/// that of one, and how many words that has with its tag. The words are known to be those of records.
+#[inline(always)]
+pub(crate) fn switched(
+    words: &[u64],
+    tasks: &[Option<Task>],
+    frames: &[FrameWords],
+) -> Option<(SwitchedTask, usize)>
+    requires record { EndWithRecord words.now }
+    requires frames { frames.now ≡ map frames_of tasks.now }
+    ensures { IfSome result (λ found. (now : AnyTask) × ((slice_get tasks.now found.0.task ≡ Some (Some now))
+        × ((older : List ℕ) × ((words.now ≡ older ++ words_of (TaskRow found.0.task (record now { state = found.0.state; mode = found.0.mode })))
+        × (found.1 ≡ length (words_of (TaskRow found.0.task (record now { state = found.0.state; mode = found.0.mode }))))
+        × IsRecord (TaskRow found.0.task (record now { state = found.0.state; mode = found.0.mode })))))) }
+{
+    let last = words.len() - 1;
+    let tag = words[last];
+    let count = (tag / 256) as usize;
+    if tag % 256 != 1 || count < 2 {
+        return None;
+    }
+    let was = switched_body(&words[last - count..last], tasks, frames)?;
+    Some((was, count + 1))
+}
