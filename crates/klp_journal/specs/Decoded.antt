@@ -7,6 +7,7 @@ use Rattle.klp_types.specs.declared.version.Version.TheVariants.{Original, New}
 use Rattle.klp_types.specs.declared.task.Mode.{Mode}
 use Rattle.klp_types.specs.declared.task.Mode.TheVariants.{User, Kernel, Asleep}
 use Rattle.klp_types.specs.declared.task.Task.{Task}
+use Rattle.klp_journal.specs.declared.kinds.TheConstants.{KIND_TASK, KIND_VARIABLE, KIND_STATE_VALUE, KIND_STATE, KIND_LOADED, KIND_INSTALLED, KIND_ENTRY, KIND_HOOK, KIND_TRANSITION}
 use Rattle.klp_types.specs.declared.record.Place.{Place}
 use Rattle.klp_types.specs.declared.record.Record.{Record}
 use Rattle.klp_types.specs.declared.record.Record.TheVariants.{TaskRow, NoTaskRow, ShadowVariable, NoShadowVariable, StateValue, StateRow, LoadedFlag, InstalledPatch, StackEntry, HookFlag, Moving, NothingMoving, PinnedFlag}
@@ -69,13 +70,14 @@ moving_record body =
 
 -- the record of a kind with these words before its tag
 unfoldable pub record_of : ℕ → List ℕ → Record
-record_of (suc zero) body = task_record body
-record_of (suc (suc zero)) body = variable_record body
-record_of (suc (suc (suc zero))) body = StateValue (word_at body 0) (word_at body 1) (word_at body 2)
-record_of (suc (suc (suc (suc zero)))) body = StateRow (word_at body 0) (word_at body 1) (number_behind 2 body)
-record_of (suc (suc (suc (suc (suc zero))))) body = LoadedFlag (word_at body 0) (word_at body 1 == 1)
-record_of (suc (suc (suc (suc (suc (suc zero)))))) body = InstalledPatch (word_at body 0) (number_behind 1 body)
-record_of (suc (suc (suc (suc (suc (suc (suc zero))))))) body = StackEntry (word_at body 0) (word_at body 1) (place_behind body)
-record_of (suc (suc (suc (suc (suc (suc (suc (suc zero)))))))) body = HookFlag (word_at body 0) (word_at body 1 == 1)
-record_of (suc (suc (suc (suc (suc (suc (suc (suc (suc zero))))))))) body = moving_record body
-record_of other body = PinnedFlag (word_at body 0) (word_at body 1 == 1)
+record_of kind body =
+    if kind == KIND_TASK then task_record body
+    else if kind == KIND_VARIABLE then variable_record body
+    else if kind == KIND_STATE_VALUE then StateValue (word_at body 0) (word_at body 1) (word_at body 2)
+    else if kind == KIND_STATE then StateRow (word_at body 0) (word_at body 1) (number_behind 2 body)
+    else if kind == KIND_LOADED then LoadedFlag (word_at body 0) (word_at body 1 == 1)
+    else if kind == KIND_INSTALLED then InstalledPatch (word_at body 0) (number_behind 1 body)
+    else if kind == KIND_ENTRY then StackEntry (word_at body 0) (word_at body 1) (place_behind body)
+    else if kind == KIND_HOOK then HookFlag (word_at body 0) (word_at body 1 == 1)
+    else if kind == KIND_TRANSITION then moving_record body
+    else PinnedFlag (word_at body 0) (word_at body 1 == 1)

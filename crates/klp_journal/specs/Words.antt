@@ -10,6 +10,7 @@ use Rattle.klp_types.specs.declared.task.Task.{Task}
 use Rattle.klp_types.specs.declared.record.Place.{Place}
 use Rattle.klp_types.specs.declared.record.Record.{Record}
 use Rattle.klp_types.specs.declared.record.Record.TheVariants.{TaskRow, NoTaskRow, ShadowVariable, NoShadowVariable, StateValue, StateRow, LoadedFlag, InstalledPatch, StackEntry, HookFlag, Moving, NothingMoving, PinnedFlag}
+use Rattle.klp_journal.specs.declared.kinds.TheConstants.{KIND_TASK, KIND_VARIABLE, KIND_STATE_VALUE, KIND_STATE, KIND_LOADED, KIND_INSTALLED, KIND_ENTRY, KIND_HOOK, KIND_TRANSITION, KIND_PINNED}
 use Rattle.klp_types.specs.Padded.{padded}
 use Rattle.klp_types.specs.PatchStates.{IsPatchState}
 
@@ -79,19 +80,19 @@ words_before_tag (PinnedFlag patch was) = patch ∷ flag_word was ∷ []
 
 -- a row that wasn't there has the kind that it has when it is there
 abbrev pub kind_of : Record → ℕ
-kind_of (TaskRow task was) = 1
-kind_of (NoTaskRow task) = 1
-kind_of (ShadowVariable key was) = 2
-kind_of (NoShadowVariable key) = 2
-kind_of (StateValue patch id was) = 3
-kind_of (StateRow patch id was) = 4
-kind_of (LoadedFlag object was) = 5
-kind_of (InstalledPatch patch place) = 6
-kind_of (StackEntry site patch was) = 7
-kind_of (HookFlag site was) = 8
-kind_of (Moving was) = 9
-kind_of NothingMoving = 9
-kind_of (PinnedFlag patch was) = 10
+kind_of (TaskRow task was) = KIND_TASK
+kind_of (NoTaskRow task) = KIND_TASK
+kind_of (ShadowVariable key was) = KIND_VARIABLE
+kind_of (NoShadowVariable key) = KIND_VARIABLE
+kind_of (StateValue patch id was) = KIND_STATE_VALUE
+kind_of (StateRow patch id was) = KIND_STATE
+kind_of (LoadedFlag object was) = KIND_LOADED
+kind_of (InstalledPatch patch place) = KIND_INSTALLED
+kind_of (StackEntry site patch was) = KIND_ENTRY
+kind_of (HookFlag site was) = KIND_HOOK
+kind_of (Moving was) = KIND_TRANSITION
+kind_of NothingMoving = KIND_TRANSITION
+kind_of (PinnedFlag patch was) = KIND_PINNED
 
 -- a record: its words, and then the tag, from which it is read backwards
 abbrev pub words_of : Record → List ℕ

@@ -2,8 +2,8 @@ ghost use Rattle.std.specs.Prelude.{◌≡◌, ◌-◌, ◌≤◌, true, List, [
 ghost use Rattle.klp_types.specs.declared.record.Record.{Record};
 ghost use Rattle.klp_journal.specs.Journal.{Group, groups_of, counted, Keeps, records_in, records_free, has_room};
 
-use klp_model::{Event, Reply};
 use crate::records::Records;
+use klp_model::{Event, Reply};
 use klp_types::{MAX_GROUPS, MAX_JOURNAL_RECORDS, MAX_RECORDS};
 use std::alloc::{AllocError, Global};
 use std::marker::Model;

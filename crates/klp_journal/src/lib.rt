@@ -21,6 +21,7 @@
 pub mod examples;
 mod frame_words;
 mod journal;
+mod kinds;
 pub mod laws;
 mod read;
 mod records;

@@ -1,15 +1,27 @@
 //! Records read from the end of a list of words.
-ghost use Rattle.std.specs.Prelude.{◌≡◌, ℕ, ◌+◌, ◌*◌, ◌^◌, ◌<◌, ◌≤◌, List, ◌++◌, length, drop, Some, IfSome};
+ghost use Rattle.std.specs.Prelude.{◌≡◌, ℕ, ◌+◌, ◌*◌, ◌^◌, ◌<◌, ◌≤◌, List, [], ◌∷◌, ◌++◌, length, drop, Some, IfSome};
 ghost use Rattle.std.specs.List.{All};
 ghost use Rattle.klp_types.specs.declared.record.Record.{Record};
-ghost use Rattle.klp_journal.specs.Words.{mode_word, words_of, IsBelow, IsRecord, IsStateOf, IsFrameOf, AreFramesOf, IsTaskOf, IsPlaceOf, IsValueOf, IsBody};
+ghost use Rattle.klp_journal.specs.declared.kinds.TheConstants.{KIND_TASK, KIND_VARIABLE, KIND_STATE_VALUE, KIND_STATE, KIND_LOADED, KIND_INSTALLED, KIND_ENTRY, KIND_HOOK, KIND_TRANSITION, KIND_PINNED};
+ghost use Rattle.klp_journal.specs.Words.{flag_word, mode_word, words_of, IsBelow, IsRecord, IsStateOf, IsFrameOf, AreFramesOf, IsTaskOf, IsPlaceOf, IsValueOf, IsBody};
 ghost use Rattle.klp_types.specs.Finds.{Finds};
 ghost use Rattle.klp_journal.specs.Decoded.{state_of, mode_of, func_of, bytes_in};
 
+use crate::kinds::{
+    KIND_ENTRY, KIND_HOOK, KIND_INSTALLED, KIND_LOADED, KIND_PINNED, KIND_STATE, KIND_STATE_VALUE,
+    KIND_TASK, KIND_TRANSITION, KIND_VARIABLE, TAG_OF_A_WORD,
+};
 use klp_types::{
     Frames, MAX_VALUE_BYTES, Mode, ObjId, PatchId, PatchState, Place, Record, ShadowKey,
     ShadowValue, Site, Task, TaskId, Transition, Version,
 };
+
+/// How many numbers there are of each type.
+const OBJECT_NUMBERS: u64 = 256;
+
+const PATCH_NUMBERS: u64 = 256;
+
+const SITE_NUMBERS: u64 = 65536;
 
 /// The record that the list ends with, and how many words it has with its tag. `None` where the list ends
 /// with none, as an empty list does.
@@ -24,12 +36,12 @@ pub fn read_back(words: &[u64]) -> Option<(Record, usize)>
     }
     let last = words.len() - 1;
     let tag = words[last];
-    let count = tag / 256;
+    let count = tag / TAG_OF_A_WORD;
     if count > last as u64 {
         return None;
     }
     let body = &words[last - count as usize..last];
-    match read_body(tag % 256, body) {
+    match read_body(tag % TAG_OF_A_WORD, body) {
         Some(row) => Some((row, count as usize + 1)),
         None => None,
     }
@@ -40,16 +52,16 @@ fn read_body(kind: u64, body: &[u64]) -> Option<Record>
     ensures { Finds (IsBody kind body.now) result }
 {
     match kind {
-        1 => read_task(body),
-        2 => read_variable(body),
-        3 => read_state_value(body),
-        4 => read_state_row(body),
-        5 => read_loaded(body),
-        6 => read_installed(body),
-        7 => read_entry(body),
-        8 => read_hook(body),
-        9 => read_moving(body),
-        10 => read_pinned(body),
+        KIND_TASK => read_task(body),
+        KIND_VARIABLE => read_variable(body),
+        KIND_STATE_VALUE => read_state_value(body),
+        KIND_STATE => read_state_row(body),
+        KIND_LOADED => read_loaded(body),
+        KIND_INSTALLED => read_installed(body),
+        KIND_ENTRY => read_entry(body),
+        KIND_HOOK => read_hook(body),
+        KIND_TRANSITION => read_moving(body),
+        KIND_PINNED => read_pinned(body),
         _ => None,
     }
 }
@@ -156,7 +168,7 @@ fn read_task_row(word: u64, frames: &[u64]) -> Option<Task>
 }
 
 fn read_task(body: &[u64]) -> Option<Record>
-    ensures { Finds (IsBody 1 body.now) result }
+    ensures { Finds (IsBody KIND_TASK body.now) result }
 {
     if body.is_empty() {
         return None;
@@ -176,7 +188,7 @@ fn read_task(body: &[u64]) -> Option<Record>
 }
 
 fn read_variable(body: &[u64]) -> Option<Record>
-    ensures { Finds (IsBody 2 body.now) result }
+    ensures { Finds (IsBody KIND_VARIABLE body.now) result }
 {
     if body.len() < 2 {
         return None;
@@ -221,7 +233,7 @@ fn unpack(words: &[u64], bytes: &mut [u8])
 }
 
 fn read_state_value(body: &[u64]) -> Option<Record>
-    ensures { Finds (IsBody 3 body.now) result }
+    ensures { Finds (IsBody KIND_STATE_VALUE body.now) result }
 {
     if body.len() != 3 {
         return None;
@@ -238,7 +250,7 @@ fn read_state_value(body: &[u64]) -> Option<Record>
 }
 
 fn read_state_row(body: &[u64]) -> Option<Record>
-    ensures { Finds (IsBody 4 body.now) result }
+    ensures { Finds (IsBody KIND_STATE body.now) result }
 {
     if body.len() < 2 {
         return None;
@@ -266,25 +278,28 @@ fn read_state_row(body: &[u64]) -> Option<Record>
     })
 }
 
-fn read_loaded(body: &[u64]) -> Option<Record>
-    ensures { Finds (IsBody 5 body.now) result }
+/// A number below this limit with a flag, where these words are one.
+fn number_and_flag(body: &[u64], limit: u64) -> Option<(u64, bool)>
+    ensures { Finds (λ pair. (pair.0 ∷ flag_word pair.1 ∷ [] ≡ body.now) × (pair.0 < limit)) result }
 {
-    if body.len() != 2 {
-        return None;
+    match body {
+        [number, flag] if *number < limit && *flag <= 1 => Some((*number, *flag == 1)),
+        _ => None,
     }
-    let object = body[0];
-    let flag = body[1];
-    if object > 255 || flag > 1 {
-        return None;
-    }
+}
+
+fn read_loaded(body: &[u64]) -> Option<Record>
+    ensures { Finds (IsBody KIND_LOADED body.now) result }
+{
+    let (object, was) = number_and_flag(body, OBJECT_NUMBERS)?;
     Some(Record::LoadedFlag {
         object: ObjId(object as u8),
-        was: flag == 1,
+        was,
     })
 }
 
 fn read_installed(body: &[u64]) -> Option<Record>
-    ensures { Finds (IsBody 6 body.now) result }
+    ensures { Finds (IsBody KIND_INSTALLED body.now) result }
 {
     if body.is_empty() {
         return None;
@@ -308,7 +323,7 @@ fn read_installed(body: &[u64]) -> Option<Record>
 }
 
 fn read_entry(body: &[u64]) -> Option<Record>
-    ensures { Finds (IsBody 7 body.now) result }
+    ensures { Finds (IsBody KIND_ENTRY body.now) result }
 {
     if body.len() < 2 {
         return None;
@@ -355,57 +370,36 @@ fn read_place(words: &[u64]) -> Option<Place>
 }
 
 fn read_hook(body: &[u64]) -> Option<Record>
-    ensures { Finds (IsBody 8 body.now) result }
+    ensures { Finds (IsBody KIND_HOOK body.now) result }
 {
-    if body.len() != 2 {
-        return None;
-    }
-    let site = body[0];
-    let flag = body[1];
-    if site > 65535 || flag > 1 {
-        return None;
-    }
+    let (site, was) = number_and_flag(body, SITE_NUMBERS)?;
     Some(Record::HookFlag {
         site: Site(site as u16),
-        was: flag == 1,
+        was,
     })
 }
 
 fn read_moving(body: &[u64]) -> Option<Record>
-    ensures { Finds (IsBody 9 body.now) result }
+    ensures { Finds (IsBody KIND_TRANSITION body.now) result }
 {
     if body.is_empty() {
         return Some(Record::NothingMoving);
     }
-    if body.len() != 2 {
-        return None;
-    }
-    let patch = body[0];
-    let flag = body[1];
-    if patch > 255 || flag > 1 {
-        return None;
-    }
+    let (patch, target) = number_and_flag(body, PATCH_NUMBERS)?;
     Some(Record::Moving {
         was: Transition {
             patch: PatchId(patch as u8),
-            target: flag == 1,
+            target,
         },
     })
 }
 
 fn read_pinned(body: &[u64]) -> Option<Record>
-    ensures { Finds (IsBody 10 body.now) result }
+    ensures { Finds (IsBody KIND_PINNED body.now) result }
 {
-    if body.len() != 2 {
-        return None;
-    }
-    let patch = body[0];
-    let flag = body[1];
-    if patch > 255 || flag > 1 {
-        return None;
-    }
+    let (patch, was) = number_and_flag(body, PATCH_NUMBERS)?;
     Some(Record::PinnedFlag {
         patch: PatchId(patch as u8),
-        was: flag == 1,
+        was,
     })
 }

@@ -1,10 +1,12 @@
 //! The kinds of record that events log most, as undoing takes them.
 ghost use Rattle.std.specs.Prelude.{◌≡◌, ℕ, List, ◌++◌, length, IfSome};
+ghost use Rattle.klp_journal.specs.declared.kinds.TheConstants.{KIND_TASK, KIND_ENTRY, KIND_HOOK};
 ghost use Rattle.klp_journal.specs.Words.{words_of, IsRecord};
 ghost use Rattle.klp_journal.specs.Decoded.{record_of};
 ghost use Rattle.klp_journal.specs.Stored.{EndWithRecord, AreOfKind};
 ghost use Rattle.klp_journal.specs.Small.{row_of};
 
+use crate::kinds::{KIND_ENTRY, KIND_HOOK, KIND_TASK, TAG_OF_A_WORD};
 use crate::read::{func_of, mode_of, state_of};
 use klp_types::{Mode, PatchId, PatchState, Place, Site, TaskId};
 
@@ -33,13 +35,13 @@ pub enum SmallRecord {
 
 /// The tags of these kinds. Each has the kind, and how many words are before it: so it tells whether an entry was there,
 /// and a task with two words is inside of nothing.
-const RESTING: u64 = 1 + 256 * 2;
+const RESTING: u64 = KIND_TASK + TAG_OF_A_WORD * 2;
 
-const NO_ENTRY: u64 = 7 + 256 * 2;
+const NO_ENTRY: u64 = KIND_ENTRY + TAG_OF_A_WORD * 2;
 
-const ENTRY: u64 = 7 + 256 * 4;
+const ENTRY: u64 = KIND_ENTRY + TAG_OF_A_WORD * 4;
 
-const HOOK: u64 = 8 + 256 * 2;
+const HOOK: u64 = KIND_HOOK + TAG_OF_A_WORD * 2;
 
 /// The last record of these words, if it is of one of the small kinds, and how many words it has with its tag. The words
 /// are known to be those of records, so the tag alone is looked at.
@@ -63,8 +65,8 @@ pub(crate) fn small(words: &[u64]) -> Option<(SmallRecord, usize)>
 /// What the words before the tag say, of each of these kinds.
 #[inline(always)]
 fn hook(body: &[u64]) -> SmallRecord
-    requires { AreOfKind 8 body.now }
-    ensures { row_of result ≡ record_of 8 body.now }
+    requires { AreOfKind KIND_HOOK body.now }
+    ensures { row_of result ≡ record_of KIND_HOOK body.now }
 {
     SmallRecord::Hook {
         site: Site(body[0] as u16),
@@ -74,9 +76,9 @@ fn hook(body: &[u64]) -> SmallRecord
 
 #[inline(always)]
 fn resting(body: &[u64]) -> SmallRecord
-    requires kind { AreOfKind 1 body.now }
+    requires kind { AreOfKind KIND_TASK body.now }
     requires count { length body.now ≡ 2 }
-    ensures { row_of result ≡ record_of 1 body.now }
+    ensures { row_of result ≡ record_of KIND_TASK body.now }
 {
     SmallRecord::Resting {
         task: TaskId(body[0] as u8),
@@ -87,9 +89,9 @@ fn resting(body: &[u64]) -> SmallRecord
 
 #[inline(always)]
 fn no_entry(body: &[u64]) -> SmallRecord
-    requires kind { AreOfKind 7 body.now }
+    requires kind { AreOfKind KIND_ENTRY body.now }
     requires count { length body.now ≡ 2 }
-    ensures { row_of result ≡ record_of 7 body.now }
+    ensures { row_of result ≡ record_of KIND_ENTRY body.now }
 {
     SmallRecord::Entry {
         site: Site(body[0] as u16),
@@ -100,9 +102,9 @@ fn no_entry(body: &[u64]) -> SmallRecord
 
 #[inline(always)]
 fn entry(body: &[u64]) -> SmallRecord
-    requires kind { AreOfKind 7 body.now }
+    requires kind { AreOfKind KIND_ENTRY body.now }
     requires count { length body.now ≡ 4 }
-    ensures { row_of result ≡ record_of 7 body.now }
+    ensures { row_of result ≡ record_of KIND_ENTRY body.now }
 {
     SmallRecord::Entry {
         site: Site(body[0] as u16),

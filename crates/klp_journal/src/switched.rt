@@ -4,11 +4,13 @@ ghost use Rattle.std.specs.Prelude.{◌≡◌, ◌≤◌, true, ℕ, List, ◌++
 ghost use Rattle.klp_types.specs.declared.record.Record.TheVariants.{TaskRow};
 ghost use Rattle.klp_types.specs.declared.task.Task.{Task as AnyTask};
 ghost use Rattle.klp_journal.specs.Words.{words_of, IsRecord};
+ghost use Rattle.klp_journal.specs.declared.kinds.TheConstants.{KIND_TASK};
 ghost use Rattle.klp_journal.specs.Decoded.{frame_of, record_of};
 ghost use Rattle.klp_journal.specs.Stored.{EndWithRecord, AreOfKind};
 ghost use Rattle.klp_types.specs.Frames.{frames_of};
 
 use crate::frame_words::FrameWords;
+use crate::kinds::{KIND_TASK, TAG_OF_A_WORD};
 use crate::read::{mode_of, state_of};
 use klp_types::{Mode, PatchState, Task, TaskId};
 
@@ -50,11 +52,11 @@ fn switched_body(
     tasks: &[Option<Task>],
     frames: &[FrameWords],
 ) -> Option<SwitchedTask>
-    requires kind { AreOfKind 1 body.now }
+    requires kind { AreOfKind KIND_TASK body.now }
     requires count { 2 ≤ length body.now }
     requires frames { frames.now ≡ map frames_of tasks.now }
     ensures { IfSome result (λ was. (now : AnyTask) × ((slice_get tasks.now was.task ≡ Some (Some now))
-        × (TaskRow was.task (record now { state = was.state; mode = was.mode }) ≡ record_of 1 body.now))) }
+        × (TaskRow was.task (record now { state = was.state; mode = was.mode }) ≡ record_of KIND_TASK body.now))) }
 {
     let task = TaskId(body[0] as u8);
     let Some(Some(_now)) = tasks.get(usize::from(task.0)) else {
@@ -87,8 +89,8 @@ pub(crate) fn switched(
 {
     let last = words.len() - 1;
     let tag = words[last];
-    let count = (tag / 256) as usize;
-    if tag % 256 != 1 || count < 2 {
+    let count = (tag / TAG_OF_A_WORD) as usize;
+    if tag % TAG_OF_A_WORD != KIND_TASK || count < 2 {
         return None;
     }
     let was = switched_body(&words[last - count..last], tasks, frames)?;

@@ -8,6 +8,10 @@ ghost use Rattle.klp_types.specs.PatchStates.{IsPatchState};
 ghost use Rattle.klp_journal.specs.Words.{flag_word, state_word, mode_word, frame_word, byte_words, func_word, words_of, IsFrame, IsBelow, IsRecord};
 
 use crate::frame_words::FrameWords;
+use crate::kinds::{
+    KIND_ENTRY, KIND_HOOK, KIND_INSTALLED, KIND_LOADED, KIND_PINNED, KIND_STATE, KIND_STATE_VALUE,
+    KIND_TASK, KIND_TRANSITION, KIND_VARIABLE, tag,
+};
 use klp_types::{
     Mode, ObjId, PatchId, PatchState, Place, Record, ShadowKey, ShadowValue, Site, Task, TaskId,
     Version,
@@ -24,35 +28,45 @@ pub fn write_record(row: &Record, words: &mut Vec<u64>)
 {
     match row {
         Record::TaskRow { task, was } => write_task(*task, was, words),
-        Record::NoTaskRow { task } => append(words, &[task_number(*task), 1 + 256]),
+        Record::NoTaskRow { task } => append(words, &[task_number(*task), tag(KIND_TASK, 1)]),
         Record::ShadowVariable { key, was } => write_variable(*key, was, words),
         Record::NoShadowVariable { key } => write_no_variable(*key, words),
         Record::StateValue { patch, id, was } => {
-            append(words, &[patch_number(*patch), *id, *was, 3 + 256 * 3])
+            append(
+                words,
+                &[patch_number(*patch), *id, *was, tag(KIND_STATE_VALUE, 3)],
+            )
         }
         Record::StateRow { patch, id, was } => write_state_row(*patch, *id, *was, words),
         Record::LoadedFlag { object, was } => {
             append(
                 words,
-                &[object_number(*object), flag_word(*was), 5 + 256 * 2],
+                &[object_number(*object), flag_word(*was), tag(KIND_LOADED, 2)],
             )
         }
         Record::InstalledPatch { patch, place } => write_installed(*patch, *place, words),
         Record::StackEntry { site, patch, was } => write_entry(*site, *patch, *was, words),
         Record::HookFlag { site, was } => {
-            append(words, &[site_number(*site), flag_word(*was), 8 + 256 * 2])
+            append(
+                words,
+                &[site_number(*site), flag_word(*was), tag(KIND_HOOK, 2)],
+            )
         }
         Record::Moving { was } => {
             append(
                 words,
-                &[patch_number(was.patch), flag_word(was.target), 9 + 256 * 2],
+                &[
+                    patch_number(was.patch),
+                    flag_word(was.target),
+                    tag(KIND_TRANSITION, 2),
+                ],
             )
         }
-        Record::NothingMoving => append(words, &[9]),
+        Record::NothingMoving => append(words, &[tag(KIND_TRANSITION, 0)]),
         Record::PinnedFlag { patch, was } => {
             append(
                 words,
-                &[patch_number(*patch), flag_word(*was), 10 + 256 * 2],
+                &[patch_number(*patch), flag_word(*was), tag(KIND_PINNED, 2)],
             )
         }
     }
@@ -173,7 +187,7 @@ pub(crate) fn copy_task(task: TaskId, was: &Task, frames: &FrameWords, words: &m
     let word = state_word(was.state) + 4 * mode_word(was.mode);
     let frames = frames.as_words();
     if frames.is_empty() {
-        append(words, &[number, word, 1 + 256 * 2]);
+        append(words, &[number, word, tag(KIND_TASK, 2)]);
     } else {
         append_sleeper(words, number, word, frames);
     }
@@ -191,7 +205,7 @@ fn append_sleeper(words: &mut Vec<u64>, number: u64, word: u64, frames: &[u64])
 {
     append(words, &[number, word]);
     let _ = words.extend_from_slice(frames);
-    append(words, &[1 + 256 * (2 + frames.len() as u64)]);
+    append(words, &[tag(KIND_TASK, 2 + frames.len() as u64)]);
 }
 
 fn write_variable(key: ShadowKey, was: &ShadowValue, words: &mut Vec<u64>)
@@ -203,7 +217,7 @@ fn write_variable(key: ShadowKey, was: &ShadowValue, words: &mut Vec<u64>)
     let count = was.count();
     append(words, &[key.obj, key.id, count as u64]);
     write_bytes(was.padded(), (count + 7) / 8, words);
-    append(words, &[2 + 256 * (3 + (count as u64 + 7) / 8)]);
+    append(words, &[tag(KIND_VARIABLE, 3 + (count as u64 + 7) / 8)]);
 }
 
 fn write_no_variable(key: ShadowKey, words: &mut Vec<u64>)
@@ -212,7 +226,7 @@ fn write_no_variable(key: ShadowKey, words: &mut Vec<u64>)
     ensures room { vec_capacity words.old ≤ vec_capacity words.new }
     ensures range { IsRecord (NoShadowVariable key) }
 {
-    append(words, &[key.obj, key.id, 2 + 256 * 2]);
+    append(words, &[key.obj, key.id, tag(KIND_VARIABLE, 2)]);
 }
 
 /// So many words of bytes, eight to a word.
@@ -247,8 +261,8 @@ fn write_state_row(patch: PatchId, id: u64, was: Option<u64>, words: &mut Vec<u6
     ensures range { IsRecord (StateRow patch id was) }
 {
     match was {
-        Some(value) => append(words, &[patch_number(patch), id, value, 4 + 256 * 3]),
-        None => append(words, &[patch_number(patch), id, 4 + 256 * 2]),
+        Some(value) => append(words, &[patch_number(patch), id, value, tag(KIND_STATE, 3)]),
+        None => append(words, &[patch_number(patch), id, tag(KIND_STATE, 2)]),
     }
 }
 
@@ -259,8 +273,15 @@ fn write_installed(patch: PatchId, place: Option<u8>, words: &mut Vec<u64>)
     ensures range { IsRecord (InstalledPatch patch place) }
 {
     match place {
-        Some(place) => append(words, &[patch_number(patch), u64::from(place), 6 + 256 * 2]),
-        None => append(words, &[patch_number(patch), 6 + 256]),
+        Some(place) => append(
+            words,
+            &[
+                patch_number(patch),
+                u64::from(place),
+                tag(KIND_INSTALLED, 2),
+            ],
+        ),
+        None => append(words, &[patch_number(patch), tag(KIND_INSTALLED, 1)]),
     }
 }
 
@@ -287,9 +308,15 @@ fn write_entry(site: Site, patch: PatchId, was: Option<Place>, words: &mut Vec<u
             let func = func_word(place.func);
             append(
                 words,
-                &[site, patch, u64::from(place.index), func, 7 + 256 * 4],
+                &[
+                    site,
+                    patch,
+                    u64::from(place.index),
+                    func,
+                    tag(KIND_ENTRY, 4),
+                ],
             )
         }
-        None => append(words, &[site, patch, 7 + 256 * 2]),
+        None => append(words, &[site, patch, tag(KIND_ENTRY, 2)]),
     }
 }

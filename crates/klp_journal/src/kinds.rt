@@ -1,0 +1,45 @@
+//! The kinds of record, and the tag that a record's words end with.
+ghost use Rattle.std.specs.Prelude.{◌≡◌, ◌+◌, ◌*◌, ◌<◌, ◌≤◌};
+
+/// A task, and whether it was there.
+pub const KIND_TASK: u64 = 1;
+
+/// A shadow variable, and whether it was there.
+pub const KIND_VARIABLE: u64 = 2;
+
+/// The value of a system state.
+pub const KIND_STATE_VALUE: u64 = 3;
+
+/// A system state of a patch, and whether it was there.
+pub const KIND_STATE: u64 = 4;
+
+/// Whether an object was loaded.
+pub const KIND_LOADED: u64 = 5;
+
+/// An installed patch, and whether it was one.
+pub const KIND_INSTALLED: u64 = 6;
+
+/// An entry of a function stack, and whether it was there.
+pub const KIND_ENTRY: u64 = 7;
+
+/// Whether a site was hooked.
+pub const KIND_HOOK: u64 = 8;
+
+/// The transition, and whether there was one.
+pub const KIND_TRANSITION: u64 = 9;
+
+/// Whether a patch was pinned.
+pub const KIND_PINNED: u64 = 10;
+
+/// What a tag has for each word before it: so kinds are below it.
+pub const TAG_OF_A_WORD: u64 = 256;
+
+/// The tag of a record of this kind with so many words before it.
+#[inline(always)]
+pub(crate) fn tag(kind: u64, count: u64) -> u64
+    requires kind { kind < 256 }
+    requires count { count ≤ 64 }
+    ensures { result ≡ kind + 256 * count }
+{
+    kind + TAG_OF_A_WORD * count
+}
