@@ -9,3 +9,4 @@ pub mod SplitLemmas
 pub mod LastLemmas
 pub mod FrameLemmas
 pub mod GroupLemmas
+pub mod FlagLemmas
