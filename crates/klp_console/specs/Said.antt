@@ -25,6 +25,10 @@ pub record Moment : Type 0 where
   pub said : Gathered × Written
   pub marks : List Mark
 
+-- a manager, what is served, what is said and written, and the marks
+abbrev pub moment_of : Journaled → Served → Gathered → Written → List Mark → Moment
+moment_of manager served gathered written marks = record { manager = manager; served = served; said = (gathered, written); marks = marks }
+
 -- an answer of this kind was said, of which the caller knows whether it was a refusal
 abbrev pub IsSaid : (Answer → Type 0) → Gathered × Written → Gathered × Written → Bool → Type 0
 IsSaid is_answer before after refused = (text : List ℕ) × is_answer (record { text = text; is_refused = refused }) × Says before after text

@@ -9,7 +9,7 @@ ghost use Rattle.klp_core.specs.Taking.{IsTaken};
 ghost use Rattle.klp_console.specs.Answered.{IsRewoundAs, IsTakenAs, IsDoneIf, IsAnswered, names_in};
 ghost use Rattle.klp_console.specs.Outcomes.{is_refusal, IsEventOutcome, IsOutcome};
 ghost use Rattle.klp_console.specs.Back as back;
-ghost use Rattle.klp_console.specs.Said.{Moment, IsSaid, AnswersLine, Ahead, Comes};
+ghost use Rattle.klp_console.specs.Said.{moment_of, Moment, IsSaid, AnswersLine, Ahead, Comes};
 
 use crate::back::{can_be_taken_back, make_ready, mark_line, take_back};
 use crate::outcome::{Outcome, other_outcome};
@@ -202,18 +202,8 @@ fn gather<W: Sink>(
     requires back { (back.can_be_taken_back manager.old (asked_with asked.now event.now) ≡ true) ⊎ (marks.old ≡ []) }
     ensures comes { (before : Moment) (lines : List (List ℕ)) (line : List ℕ)
         → (asked_with asked.now event.now) ≡ request_of (names_in manager.old) line → length line ≤ MAX_CONSOLE_LINE
-        → Ahead before (record {
-          manager = manager.old;
-          served = served.old;
-          said = (answers.old, W.written writer.old);
-          marks = marks.old;
-        }) lines
-        → Comes before (record {
-          manager = manager.new;
-          served = served.new;
-          said = (answers.new, W.written writer.new);
-          marks = marks.new;
-        }) (lines ++ line ∷ []) }
+        → Ahead before (moment_of manager.old served.old answers.old (W.written writer.old) marks.old) lines
+        → Comes before (moment_of manager.new served.new answers.new (W.written writer.new) marks.new) (lines ++ line ∷ []) }
     ensures few { served.new.refused ≤ served.new.lines }
     ensures lines { served.new.lines ≡ served.old.lines + 1 }
 {
@@ -243,18 +233,8 @@ pub(crate) fn serve_line<W: Sink>(
     requires few { served.old.refused ≤ served.old.lines }
     requires short { length line.now ≤ MAX_CONSOLE_LINE }
     ensures comes { (before : Moment) (lines : List (List ℕ))
-        → Ahead before (record {
-          manager = manager.old;
-          served = served.old;
-          said = (answers.old, W.written writer.old);
-          marks = marks.old;
-        }) lines
-        → Comes before (record {
-          manager = manager.new;
-          served = served.new;
-          said = (answers.new, W.written writer.new);
-          marks = marks.new;
-        }) (lines ++ line.now ∷ []) }
+        → Ahead before (moment_of manager.old served.old answers.old (W.written writer.old) marks.old) lines
+        → Comes before (moment_of manager.new served.new answers.new (W.written writer.new) marks.new) (lines ++ line.now ∷ []) }
     ensures few { served.new.refused ≤ served.new.lines }
     ensures lines { served.new.lines ≤ served.old.lines + 1 }
 {
