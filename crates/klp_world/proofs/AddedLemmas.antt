@@ -1,7 +1,7 @@
 -- What is against a shadow variable that is to be added, and what nothing against it tells.
-use Rattle.std.proofs.Common.{◌≡◌, ◌<◌, Bool, true, false, [], ◌∷◌, nat_le, Option, Some, None, is_some, refl, sym, ap, ◌∙◌}
+use Rattle.std.proofs.Common.{◌≡◌, ◌<◌, ◌≤◌, Bool, true, false, [], ◌∷◌, nat_le, Option, Some, None, is_some, refl, sym, ap, ◌∙◌}
 use Rattle.std.specs.FinMap as finite
-use Rattle.std.proofs.lemmas.Bool.{lt-leb}
+use Rattle.std.proofs.lemmas.Bool.{le-leb, lt-leb}
 use Rattle.klp_types.specs.declared.limits.TheConstants.{MAX_VARIABLES}
 use Rattle.klp_types.specs.declared.shadow.ShadowKey.{ShadowKey}
 use Rattle.klp_types.specs.FirstOf.{first_of}
@@ -20,6 +20,10 @@ is_there shadow key there = sym (ap (λ t. reason t (nat_le MAX_VARIABLES (finit
 pub is_free : (shadow : Shadow) (key : ShadowKey) → is_some (finite.get shadow key) ≡ false → finite.len shadow < MAX_VARIABLES → None ≡ against shadow key
 is_free shadow key away room =
     sym (ap (λ t. reason t (nat_le MAX_VARIABLES (finite.len shadow))) away ∙ ap (reason false) (lt-leb MAX_VARIABLES (finite.len shadow) room))
+
+pub is_full : (shadow : Shadow) (key : ShadowKey) → is_some (finite.get shadow key) ≡ false → MAX_VARIABLES ≤ finite.len shadow → Some Full ≡ against shadow key
+is_full shadow key away full =
+    sym (ap (λ t. reason t (nat_le MAX_VARIABLES (finite.len shadow))) away ∙ ap (reason false) (le-leb MAX_VARIABLES (finite.len shadow) full))
 
 none_if : (full : Bool) (found : Option ShadowValue) → None ≡ reason (is_some found) full → found ≡ None
 none_if full None free = refl
