@@ -33,16 +33,6 @@ none_if full (Some there) free = let no : ⊥ = cc in absurd no
 pub not_there : (shadow : Shadow) (key : ShadowKey) → None ≡ against shadow key → finite.get shadow key ≡ None
 not_there shadow key free = none_if (nat_le MAX_VARIABLES (finite.len shadow)) (finite.get shadow key) free
 
-some_if : (full : Bool) (found : Option ShadowValue) (why : NotAdded) → Some why ≡ reason (is_some found) full → (found ≡ None → full ≡ false) → is_some found ≡ true
-some_if full (Some there) why is room = refl
-some_if full None why is room = let no : ⊥ = cc (is ∙ ap (reason false) (room refl)) in absurd no
-
--- where there is room, only that it is there is against it
-pub only_there : (shadow : Shadow) (key : ShadowKey) (why : NotAdded) → Some why ≡ against shadow key → (finite.get shadow key ≡ None → finite.len shadow < MAX_VARIABLES)
-    → is_some (finite.get shadow key) ≡ true
-only_there shadow key why is room =
-    some_if (nat_le MAX_VARIABLES (finite.len shadow)) (finite.get shadow key) why is (λ none. lt-leb MAX_VARIABLES (finite.len shadow) (room none))
-
 -- what is against nothing answers none
 pub none_against : (why : Option NotAdded) → false ≡ is_some why → why ≡ None
 none_against None e = refl
