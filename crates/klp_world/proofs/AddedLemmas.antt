@@ -1,7 +1,7 @@
 -- What is against a shadow variable that is to be added, and what nothing against it tells.
-use Rattle.std.proofs.Common.{◌≡◌, ◌<◌, Bool, true, false, [], ◌∷◌, nat_le, Option, Some, None, is_some, refl, sym, ap, ◌∙◌}
+use Rattle.std.proofs.Common.{◌≡◌, ◌<◌, ◌≤◌, Bool, true, false, [], ◌∷◌, nat_le, Option, Some, None, is_some, refl, sym, ap, ◌∙◌}
 use Rattle.std.specs.FinMap as finite
-use Rattle.std.proofs.lemmas.Bool.{lt-leb}
+use Rattle.std.proofs.lemmas.Bool.{le-leb, lt-leb}
 use Rattle.klp_types.specs.declared.limits.TheConstants.{MAX_VARIABLES}
 use Rattle.klp_types.specs.declared.shadow.ShadowKey.{ShadowKey}
 use Rattle.klp_types.specs.FirstOf.{first_of}
@@ -21,6 +21,10 @@ pub is_free : (shadow : Shadow) (key : ShadowKey) → is_some (finite.get shadow
 is_free shadow key away room =
     sym (ap (λ t. reason t (nat_le MAX_VARIABLES (finite.len shadow))) away ∙ ap (reason false) (lt-leb MAX_VARIABLES (finite.len shadow) room))
 
+pub is_full : (shadow : Shadow) (key : ShadowKey) → is_some (finite.get shadow key) ≡ false → MAX_VARIABLES ≤ finite.len shadow → Some Full ≡ against shadow key
+is_full shadow key away full =
+    sym (ap (λ t. reason t (nat_le MAX_VARIABLES (finite.len shadow))) away ∙ ap (reason false) (le-leb MAX_VARIABLES (finite.len shadow) full))
+
 none_if : (full : Bool) (found : Option ShadowValue) → None ≡ reason (is_some found) full → found ≡ None
 none_if full None free = refl
 none_if full (Some there) free = let no : ⊥ = cc in absurd no
@@ -28,16 +32,6 @@ none_if full (Some there) free = let no : ⊥ = cc in absurd no
 -- where nothing is against it, it isn't there
 pub not_there : (shadow : Shadow) (key : ShadowKey) → None ≡ against shadow key → finite.get shadow key ≡ None
 not_there shadow key free = none_if (nat_le MAX_VARIABLES (finite.len shadow)) (finite.get shadow key) free
-
-some_if : (full : Bool) (found : Option ShadowValue) (why : NotAdded) → Some why ≡ reason (is_some found) full → (found ≡ None → full ≡ false) → is_some found ≡ true
-some_if full (Some there) why is room = refl
-some_if full None why is room = let no : ⊥ = cc (is ∙ ap (reason false) (room refl)) in absurd no
-
--- where there is room, only that it is there is against it
-pub only_there : (shadow : Shadow) (key : ShadowKey) (why : NotAdded) → Some why ≡ against shadow key → (finite.get shadow key ≡ None → finite.len shadow < MAX_VARIABLES)
-    → is_some (finite.get shadow key) ≡ true
-only_there shadow key why is room =
-    some_if (nat_le MAX_VARIABLES (finite.len shadow)) (finite.get shadow key) why is (λ none. lt-leb MAX_VARIABLES (finite.len shadow) (room none))
 
 -- what is against nothing answers none
 pub none_against : (why : Option NotAdded) → false ≡ is_some why → why ≡ None

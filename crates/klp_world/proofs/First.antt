@@ -48,8 +48,3 @@ first_place test xs result e =
       | true ↦ λ t. first_at test xs (ltb-true _ _ t)
       | false ↦ λ t. nowhere test xs (ltb-false _ _ t)
     ] refl)
-
-pub first_below : {A : Type 0} (test : A → Bool) (xs : List A) (i : ℕ) → FirstAt test xs i → i < length xs
-first_below test [] i h = absurd h
-first_below test (x ∷ xs) zero h = omega arith
-first_below test (x ∷ xs) (suc i) h = let below = first_below test xs i h.1 in omega arith

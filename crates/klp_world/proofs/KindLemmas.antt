@@ -58,12 +58,6 @@ of_script patch world script = of_edits patch world (edits_made script)
 
 -- so are those of the single changes
 
-pub of_alloc : (world : World) (key : ShadowKey) → All OfWorld (rows_of_alloc world key)
-of_alloc world key = of_added key (variable world key)
-
-pub of_free : (world : World) (key : ShadowKey) → All OfWorld (rows_of_free world key)
-of_free world key = of_removed key (variable world key)
-
 pub of_free_all : (world : World) (id : ℕ) → All OfWorld (rows_of_free_all world id)
 of_free_all world id = of_variables (filter (λ (v : ShadowKey × ShadowValue). v.0.id == id) (finite.entries world.shadow))
 

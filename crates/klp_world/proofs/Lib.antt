@@ -4,12 +4,12 @@ pub mod First
 pub mod StateLemmas
 pub mod PatchLemmas
 pub mod LeftLemmas
-pub mod ListedLemmas
 pub mod AddedLemmas
 pub mod UndoLemmas
 pub mod NotedLemmas
-pub mod BucketLemmas
+pub mod ChainLemmas
 pub mod TableLemmas
+pub mod GatherLemmas
 pub mod FreedLemmas
 pub mod ScriptLemmas
 pub mod KindLemmas

@@ -72,10 +72,6 @@ missing : (o : Option ShadowValue) → false ≡ is_some o → o ≡ None
 missing None e = refl
 missing (Some x) e = cc
 
-pub is_missing : {patches : List Installed} (shadow : Shadow) (key : ShadowKey) (got : Option ShadowValue) {now : World} → got ≡ finite.get shadow key
-    → ◌≡◌ {A = World} (record { installed = patches; shadow = shadow }) now → false ≡ is_some got → variable now key ≡ None
-is_missing shadow key got e view none = ap (λ (w : World). variable w key) (sym view) ∙ sym e ∙ missing got none
-
 pub alloc_undone : (world : World) (key : ShadowKey) (value : ShadowValue) (new : World) → new ≡ with_variable world key value → variable world key ≡ None → undone new (rows_of_alloc world key) ≡ world
 alloc_undone world key value new is none =
     ap (λ w. undone w (rows_of_alloc world key)) (is ∙ ap (allocated world key value) (sym none)) ∙ undone_alloc world key value

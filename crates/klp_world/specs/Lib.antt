@@ -2,9 +2,10 @@ pub mod Coded
 pub mod Undo
 pub mod Noted
 pub mod Sorted
-pub mod Listed
 pub mod Slots
 pub mod Buckets
 pub mod Freed
 pub mod Added
 pub mod Changes
+pub mod Chained
+pub mod Filed

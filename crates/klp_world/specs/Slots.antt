@@ -1,5 +1,5 @@
 -- The table of shadow variables, and the slot in which it keeps the variable of a key.
-use Rattle.std.specs.Prelude.{◌≡◌, ℕ, ◌<◌, List, [], length, get_or, Some}
+use Rattle.std.specs.Prelude.{◌≡◌, ℕ, List, [], get_or}
 use Rattle.std.specs.FinMap as finite
 use Rattle.klp_types.specs.declared.shadow.ShadowKey.{ShadowKey}
 use Rattle.klp_types.specs.World.{Shadow, ShadowValue, key_cmp}
@@ -11,11 +11,6 @@ Slots = finite.FinMap key_cmp ℕ
 -- the variable in a slot of the table
 abbrev pub in_slot : List (ShadowKey × ShadowValue) → ℕ → ShadowKey × ShadowValue
 in_slot table slot = get_or table slot (record { obj = 0; id = 0 }, [])
-
--- each variable of the table is found by its key, and each slot that is found has the variable of its key
-pub record IsIndexed (slots : Slots) (table : List (ShadowKey × ShadowValue)) : Type 0 where
-  pub found : (slot : ℕ) → slot < length table → finite.get slots (in_slot table slot).0 ≡ Some slot
-  pub stands : (key : ShadowKey) (slot : ℕ) → finite.get slots key ≡ Some slot → (slot < length table) × ((in_slot table slot).0 ≡ key)
 
 -- the keys that have a slot are those that have a value
 abbrev pub SameKeys : Slots → Shadow → Type 0

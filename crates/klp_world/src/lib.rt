@@ -8,14 +8,12 @@
 //! records of scripts, and how few there are.
 //!
 //! Installed patches are one list, oldest first, with their numbers in another beside it. Shadow variables
-//! are in a table without gaps (`src/table.rt`). Their keys are kept by a hash, each with the slot of its
-//! variable (`src/index.rt`), and those of one hash in a list of their own (`src/listed.rt`). Those of an id are brought
-//! in their order to be removed (`src/sorted.rt`).
+//! are in a table without gaps (`src/table.rt`), and the slots of those whose keys have one hash are linked to one
+//! another (`src/chains.rt`). Those of an id are brought in their order to be removed (`src/sorted.rt`).
 #![tactic(auto)]
 
-mod index;
+mod chains;
 pub mod laws;
-mod listed;
 mod patch;
 mod shadow;
 mod sorted;
