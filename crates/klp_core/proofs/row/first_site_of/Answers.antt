@@ -1,4 +1,4 @@
-use Rattle.std.proofs.Common.{◌∙◌, add-one, arith, sym}
+use Rattle.std.proofs.Common.{add-one, arith, sym}
 use Rattle.klp_core.proofs.SiteLemmas.{none_before, first_site-next, sites-within}
 use Rattle.klp_core.proofs.row.first_site_of.Goals as goal
 
