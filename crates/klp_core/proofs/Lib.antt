@@ -10,3 +10,4 @@ pub mod WithdrawalLemmas
 pub mod Sends
 pub mod FullLemmas
 pub mod MayRunLemmas
+pub mod SiteLemmas

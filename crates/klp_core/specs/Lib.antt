@@ -6,3 +6,4 @@ pub mod Taking
 pub mod Rewinding
 pub mod Withdrawal
 pub mod Holders
+pub mod Sites

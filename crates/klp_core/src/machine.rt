@@ -5,17 +5,19 @@ ghost use Rattle.klp_types.specs.declared.limits.TheConstants.{MAX_GROUPS, MAX_S
 ghost use Rattle.klp_types.specs.declared.task.Task.{Task as AnyTask};
 ghost use Rattle.klp_text.specs.TextImage.{site_count};
 ghost use Rattle.klp_model.specs.Task.{task_at};
+ghost use Rattle.klp_types.specs.Image.{first_site};
 ghost use Rattle.klp_types.specs.Setting.{Function, functions_of, replaces};
 ghost use Rattle.klp_model.specs.Rows.{row_of, moving_patch};
 ghost use Rattle.klp_manager_state.specs.Managed.{setting_of};
 ghost use Rattle.klp_core.specs.Taking.{IsTaken};
 ghost use Rattle.klp_core.specs.Journaled.{Stands};
 ghost use Rattle.klp_core.specs.Rewinding.{IsRewound};
+ghost use Rattle.klp_core.specs.Sites.{sites_in};
 
 use crate::fault::BadMark;
 use crate::manager::Manager;
 use klp_model::{Event, Refusal, Reply};
-use klp_types::{PatchId, Site, SiteRow, TaskId};
+use klp_types::{ObjId, PatchId, Site, SiteRow, TaskId};
 
 /// Takes events and takes them back, as [`Manager`] does, and shows what a call of a function needs.
 pub trait Machine {
@@ -76,6 +78,16 @@ pub trait Machine {
     fn site_of(&self, patch: PatchId, number: usize) -> Option<Site>
         ensures { result ≡ option_and_then (λ (f : Function). f.site) (slice_get
             (functions_of (setting_of (journaled self.now).managed) patch) number) };
+
+    /// [`Manager::first_site`].
+    fn first_site(&self, object: ObjId) -> usize
+        ensures site { result ≡ first_site (journaled self.now).managed.image.objects object }
+        ensures limit { result ≤ MAX_SITES };
+
+    /// [`Manager::sites_in`].
+    fn sites_in(&self, object: ObjId) -> usize
+        ensures count { result ≡ sites_in (journaled self.now).managed.image.objects object }
+        ensures limit { result ≤ MAX_SITES };
 }
 
 impl Machine for Manager {
@@ -119,5 +131,13 @@ impl Machine for Manager {
 
     fn site_of(&self, patch: PatchId, number: usize) -> Option<Site> {
         self.site_of(patch, number)
+    }
+
+    fn first_site(&self, object: ObjId) -> usize {
+        self.first_site(object)
+    }
+
+    fn sites_in(&self, object: ObjId) -> usize {
+        self.sites_in(object)
     }
 }

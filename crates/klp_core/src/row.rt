@@ -4,6 +4,7 @@ ghost use Rattle.std.specs.Prelude.{◌≡◌, ◌≤◌, option_map, option_and
 ghost use Rattle.std.specs.Option.{option_to_list};
 ghost use Rattle.klp_types.specs.declared.limits.TheConstants.{MAX_SITES};
 ghost use Rattle.klp_types.specs.Pick.{address_of, newest_version};
+ghost use Rattle.klp_types.specs.Image.{first_site};
 ghost use Rattle.klp_types.specs.Setting.{Function, functions_of};
 ghost use Rattle.klp_text.specs.TextImage.{site_count};
 ghost use Rattle.klp_model.specs.Entries.{is_site_loaded};
@@ -11,11 +12,14 @@ ghost use Rattle.klp_model.specs.Pick.{pick};
 ghost use Rattle.klp_model.specs.Rows.{row_of, word_of, moving_patch};
 ghost use Rattle.klp_model.specs.Entries.{entries_of};
 ghost use Rattle.klp_manager_state.specs.Managed.{setting_of};
+ghost use Rattle.klp_core.specs.Sites.{sites_in};
 
 use crate::manager::Manager;
 use klp_stack::version_of;
+use klp_text::Image;
 use klp_types::{
-    ENTRY_SITE_LEN, Entry, PatchId, Site, SiteRow, SiteWord, Target, TaskId, Transition, Version,
+    ENTRY_SITE_LEN, Entry, ObjId, PatchId, Site, SiteRow, SiteWord, Target, TaskId, Transition,
+    Version,
 };
 
 /// The patch in transition, without its target: a call passes over its entry by the task's state alone.
@@ -26,6 +30,28 @@ fn patch_of(moving: Option<Transition>) -> Option<PatchId>
         Some(moving) => Some(moving.patch),
         None => None,
     }
+}
+
+/// How many symbols an object of an image has.
+fn symbols_of(image: &Image, object: ObjId) -> usize
+    ensures count { result ≡ sites_in image.now.image.objects object }
+    ensures limit { result ≤ MAX_SITES }
+{
+    let _objects = image.objects();
+    usize::from(image.symbols(object).unwrap_or(0))
+}
+
+/// The site of an object's first symbol, which is behind those of all objects before it.
+fn first_site_of(image: &Image, object: ObjId) -> usize
+    ensures site { result ≡ first_site image.now.image.objects object }
+    ensures limit { result ≤ MAX_SITES }
+{
+    let _objects = image.objects();
+    let mut site = 0;
+    for before in 0..object.0 {
+        site += symbols_of(image, ObjId(before));
+    }
+    site
 }
 
 impl Manager {
@@ -75,6 +101,23 @@ impl Manager {
             (functions_of (setting_of self.now.managed) patch) number) }
     {
         self.catalog.functions(patch).get(number)?.site()
+    }
+
+    /// The site of an object's first symbol; those of its other symbols stand behind it in their order. It costs a look at
+    /// each object before it.
+    pub fn first_site(&self, object: ObjId) -> usize
+        ensures site { result ≡ first_site self.now.managed.image.objects object }
+        ensures limit { result ≤ MAX_SITES }
+    {
+        first_site_of(self.state.sites.image(), object)
+    }
+
+    /// How many sites an object has, loaded or not: one for each symbol. One that isn't there has none.
+    pub fn sites_in(&self, object: ObjId) -> usize
+        ensures count { result ≡ sites_in self.now.managed.image.objects object }
+        ensures limit { result ≤ MAX_SITES }
+    {
+        symbols_of(self.state.sites.image(), object)
     }
 
     /// What a task runs when it calls a site's function: the version and where it begins. `None` where the

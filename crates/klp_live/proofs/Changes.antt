@@ -1,13 +1,16 @@
 -- Rows that are set one after the other.
-use Rattle.std.proofs.Common.{◌≡◌, ℕ, suc, ◌+◌, ◌<◌, ◌≤◌, ◌==◌, ◌||◌, Bool, true, false, List, [], ◌∷◌, ◌++◌, length, Option, Some, None, is_some, option_map, slice_get, slice_set, slice_index_or, refl, sym, ap, subst, ◌∙◌, arith, ⊎_elim, if◌then◌else◌, length-append}
+use Rattle.std.proofs.Common.{◌≡◌, ℕ, zero, suc, ◌+◌, ◌-◌, ◌<◌, ◌≤◌, ◌==◌, ◌||◌, Bool, true, false, List, [], ◌∷◌, ◌++◌, length, Option, Some, None, is_some, option_map, slice_get, slice_set, slice_index_or, refl, sym, ap, subst, ◌∙◌, arith, ⊎_elim, if◌then◌else◌, length-append, nat_lt}
 use Rattle.std.specs.Option.{option_and_then}
 use Rattle.std.proofs.lemmas.Bool.{eq-eqb, eqb-true, both_ways}
+use Rattle.std.proofs.lemmas.Bool.Decides.{nat_tests}
 use Rattle.std.proofs.lemmas.List.{get_or-set_same, get_or-set_other, length-set, append-nil}
 use Rattle.klp_types.specs.declared.row.SiteRow.{SiteRow}
+use Rattle.klp_types.specs.Image.{Object, object_of, first_site}
 use Rattle.klp_types.specs.Setting.{Setting, Function, functions_of, function_for, is_at}
 use Rattle.klp_types.specs.Entries.{patches_site}
 use Rattle.klp_model.specs.State.{State}
 use Rattle.klp_model.specs.Rows.{row_of}
+use Rattle.klp_core.specs.Sites.{sites_in}
 use Rattle.klp_live.specs.Listed.{NewRow, AreRowsOf, is_listed, new_row, with_rows}
 use Rattle.klp_live.proofs.Tables.{below}
 
@@ -78,25 +81,25 @@ pub rows_last : (setting : Setting) (state : State) (list : List NewRow) (site :
 rows_last setting state [] site row are is = (is, tt)
 rows_last setting state (first ∷ rest) site row are is = (are.0, rows_last setting state rest site row are.1 is)
 
--- the rows of the first functions' sites
-pub record AreFirst (setting : Setting) (state : State) (functions : List Function) (number : ℕ) (list : List NewRow) : Type 0 where
+-- the rows of the first of these sites
+pub record AreFirst (setting : Setting) (state : State) (at : ℕ → Option ℕ) (number : ℕ) (list : List NewRow) : Type 0 where
   pub right : AreRowsOf setting state list
-  pub all : (site k : ℕ) → k < number → site_at functions k ≡ Some site → is_listed site list ≡ true
+  pub all : (site k : ℕ) → k < number → at k ≡ Some site → is_listed site list ≡ true
   pub few : length list ≤ number
 
 -- and of one more
-pub one_more : (setting : Setting) (state : State) (functions : List Function) (number : ℕ) (list : List NewRow) → AreFirst setting state functions number list
-    → AreFirst setting state functions (number + 1) (list ++ new_row setting state (site_at functions number))
-one_more setting state functions number list are = by (site_at functions number) refl
+pub one_more : (setting : Setting) (state : State) (at : ℕ → Option ℕ) (number : ℕ) (list : List NewRow) → AreFirst setting state at number list
+    → AreFirst setting state at (number + 1) (list ++ new_row setting state (at number))
+one_more setting state at number list are = by (at number) refl
   where
-    same : (own site k : ℕ) → site_at functions number ≡ Some own → number ≤ k → k < number + 1 → site_at functions k ≡ Some site → own ≡ site
-    same own site k is le lt found = let e : k ≡ number = omega arith in cc (sym is ∙ ap (site_at functions) (sym e) ∙ found)
+    same : (own site k : ℕ) → at number ≡ Some own → number ≤ k → k < number + 1 → at k ≡ Some site → own ≡ site
+    same own site k is le lt found = let e : k ≡ number = omega arith in cc (sym is ∙ ap at (sym e) ∙ found)
 
-    by : (own : Option ℕ) → site_at functions number ≡ own → AreFirst setting state functions (number + 1) (list ++ new_row setting state own)
+    by : (own : Option ℕ) → at number ≡ own → AreFirst setting state at (number + 1) (list ++ new_row setting state own)
     by None is = record {
       right = subst (AreRowsOf setting state) (sym (append-nil list)) are.right;
       all = λ site k lt found. ⊎_elim (λ (h : k < number). ap (is_listed site) (append-nil list) ∙ are.all site k h found)
-          (λ (h : number ≤ k). let e : k ≡ number = omega arith in absurd (cc (sym is ∙ ap (site_at functions) (sym e) ∙ found))) (below k number);
+          (λ (h : number ≤ k). let e : k ≡ number = omega arith in absurd (cc (sym is ∙ ap at (sym e) ∙ found))) (below k number);
       few = omega (arith, are.few, ap length (append-nil list));
     }
     by (Some own) is = record {
@@ -107,9 +110,58 @@ one_more setting state functions number list are = by (site_at functions number)
     }
 
 -- all of them: each site that is patched
-pub all_listed : (setting : Setting) (state : State) (patch number : ℕ) (list : List NewRow) → length (functions_of setting patch) ≤ number → AreFirst setting state (functions_of setting patch) number list
+pub all_listed : (setting : Setting) (state : State) (patch number : ℕ) (list : List NewRow) → length (functions_of setting patch) ≤ number → AreFirst setting state (site_at (functions_of setting patch)) number list
     → (site : ℕ) → patches_site setting site patch ≡ true → is_listed site list ≡ true
 all_listed setting state patch number list all are site is =
     let found = site_found (functions_of setting patch) site is in
     let at : found.0 < length (functions_of setting patch) = found.1 in
     are.all site found.0 (omega (arith, at, all)) found.2
+
+-- a site of an object is one of those from its first site on
+module _ (rest : Option ℕ) where
+  not_first : is_at (option_map suc rest) 0 ≡ true → ⊥
+  not_first = by rest
+    where
+      by : (o : Option ℕ) → is_at (option_map suc o) 0 ≡ true → ⊥
+      by None e = cc e
+      by (Some n) e = let same : suc n ≡ 0 = eqb-true (suc n) 0 e in omega arith
+
+  of_rest : (object : ℕ) → is_at (option_map suc rest) (suc object) ≡ true → is_at rest object ≡ true
+  of_rest object = by rest
+    where
+      by : (o : Option ℕ) → is_at (option_map suc o) (suc object) ≡ true → is_at o object ≡ true
+      by None e = e
+      by (Some n) e = let same : suc n ≡ suc object = eqb-true (suc n) (suc object) e in eq-eqb n object (omega arith)
+
+abbrev pub IsPlaceIn : List Object → ℕ → ℕ → ℕ → Type 0
+IsPlaceIn objects object site place = (place < sites_in objects object) × (first_site objects object + place ≡ site)
+
+pub place_in : (objects : List Object) (object site : ℕ) → is_at (object_of objects site) object ≡ true → (place : ℕ) × IsPlaceIn objects object site place
+place_in [] object site is = absurd (cc is)
+place_in (first ∷ rest) object site is = by (nat_lt site (length first.symbols)) refl object is (λ o at. place_in rest o (site - length first.symbols) at)
+  where
+    by : (t : Bool) → nat_lt site (length first.symbols) ≡ t → (object : ℕ)
+        → is_at (if t then Some 0 else option_map suc (object_of rest (site - length first.symbols))) object ≡ true
+        → ((o : ℕ) → is_at (object_of rest (site - length first.symbols)) o ≡ true → (place : ℕ) × IsPlaceIn rest o (site - length first.symbols) place)
+        → (place : ℕ) × IsPlaceIn (first ∷ rest) object site place
+    by true lt zero is behind = (site, (grind (arith, nat_tests), omega arith))
+    by true lt (suc object) is behind = let same : 0 ≡ suc object = eqb-true 0 (suc object) is in absurd (omega arith)
+    by false lt zero is behind = absurd (not_first (object_of rest (site - length first.symbols)) is)
+    by false lt (suc object) is behind =
+        let le : length first.symbols ≤ site = grind (arith, nat_tests) in
+        let found = behind object (of_rest (object_of rest (site - length first.symbols)) object is) in
+        let at : first_site rest object + found.0 ≡ site - length first.symbols = found.1.1 in
+        (found.0, (found.1.0, omega (arith, at, le)))
+
+-- the site at a place of an object
+abbrev pub site_from : ℕ → ℕ → Option ℕ
+site_from first place = Some (first + place)
+
+-- all of them: each site of the object
+pub all_in_object : (setting : Setting) (state : State) (object number : ℕ) (list : List NewRow) → sites_in setting.image.objects object ≤ number
+    → AreFirst setting state (site_from (first_site setting.image.objects object)) number list
+    → (site : ℕ) → is_at (object_of setting.image.objects site) object ≡ true → is_listed site list ≡ true
+all_in_object setting state object number list all are site is =
+    let found = place_in setting.image.objects object site is in
+    let at : found.0 < sites_in setting.image.objects object = found.1.0 in
+    are.all site found.0 (omega (arith, at, all)) (ap Some found.1.1)

@@ -1,5 +1,5 @@
 -- What an event of a task leaves of the table: all but the state of that task.
-use Rattle.std.proofs.Common.{◌≡◌, ◌≢◌, ℕ, ◌<◌, ◌≤◌, List, [], ◌∷◌, ◌++◌, take, length, Option, None, Some, option_map, slice_index_or, slice_set, Global, Bool, true, false, ◌||◌, is_some, refl, ap, sym, ◌∙◌, arith, subst, ◌⊎◌, inl, inr, ⊎_elim, Result, Ok, Err}
+use Rattle.std.proofs.Common.{◌≡◌, ◌≢◌, ℕ, ◌<◌, ◌≤◌, List, [], ◌∷◌, ◌++◌, take, length, Option, None, Some, option_map, slice_index_or, slice_set, Global, Bool, true, false, ◌||◌, refl, ap, sym, ◌∙◌, arith, subst, ◌⊎◌, inl, inr, ⊎_elim, Result, Ok, Err}
 use Rattle.std.specs.Prelude.{◌↔◌, is_ok}
 use Rattle.std.specs.declared.boxed.Box.{Box}
 use Rattle.std.proofs.lemmas.Bool.{both_ways}
@@ -242,7 +242,7 @@ module _ (setting : Setting) where
         tasks = states;
       }
 
-  patched_by : (object moved : Option ℕ) (patch site : ℕ) → is_some object ≡ false → moved ≡ Some patch → replaces setting patch ≡ false
+  patched_by : (object moved : Option ℕ) (patch site : ℕ) → object ≡ None → moved ≡ Some patch → replaces setting patch ≡ false
       → (is_touched_by setting moved site || is_inside setting object site) ≡ true → patches_site setting site patch ≡ true
   patched_by (Some own) moved patch site none is plain touched = absurd (cc none)
   patched_by None None patch site none is plain touched = absurd (cc is)
@@ -251,6 +251,16 @@ module _ (setting : Setting) where
       sym (ap (λ b. (b || patches_site setting site patch) || false) plain ∙ or-false (patches_site setting site patch)) ∙ ap (λ p. (replaces setting p || patches_site setting site p) || false) (sym same) ∙ touched
 
   -- an event that moves one plain patch, and no module, touches the sites of its functions alone
-  pub patched_if_touched : (moving : Option ℕ) (event : Event) (patch site : ℕ) → is_some (module_moved event) ≡ false → patch_moved moving event ≡ Some patch → replaces setting patch ≡ false
+  pub patched_if_touched : (moving : Option ℕ) (event : Event) (patch site : ℕ) → module_moved event ≡ None → patch_moved moving event ≡ Some patch → replaces setting patch ≡ false
       → is_touched setting moving event site ≡ true → patches_site setting site patch ≡ true
   patched_if_touched moving event patch site none is plain touched = patched_by (module_moved event) (patch_moved moving event) patch site none is plain touched
+
+  inside_by : (own moved : Option ℕ) (object site : ℕ) → own ≡ Some object → moved ≡ None → (is_touched_by setting moved site || is_inside setting own site) ≡ true
+      → is_inside setting (Some object) site ≡ true
+  inside_by own (Some patch) object site is none touched = absurd (cc none)
+  inside_by own None object site is none touched = subst (λ o. is_inside setting o site ≡ true) is touched
+
+  -- an event that moves a module, and no patch, touches its sites alone
+  pub inside_if_touched : (moving : Option ℕ) (event : Event) (object site : ℕ) → module_moved event ≡ Some object → patch_moved moving event ≡ None
+      → is_touched setting moving event site ≡ true → is_inside setting (Some object) site ≡ true
+  inside_if_touched moving event object site is none touched = inside_by (module_moved event) (patch_moved moving event) object site is none touched

@@ -1,6 +1,6 @@
 -- When a journal is full.
-use Rattle.std.proofs.Common.{◌≡◌, ℕ, ◌+◌, ◌-◌, ◌*◌, ◌<◌, ◌≤◌, ◌&&◌, true, false, List, [], ◌∷◌, length, refl, ap, sym, ◌∙◌, arith, ⊎_elim}
-use Rattle.std.specs.Prelude.{nat_lt, nat_le, is_ok, Result, Ok, Err, sum_by}
+use Rattle.std.proofs.Common.{◌≡◌, ◌-◌, ◌*◌, ◌<◌, ◌≤◌, ◌&&◌, true, List, [], ◌∷◌, length, ap, sym, ◌∙◌, arith, ⊎_elim}
+use Rattle.std.specs.Prelude.{nat_lt, nat_le}
 use Rattle.std.specs.List.{All}
 use Rattle.std.proofs.lemmas.Bool.{lt-ltb, le-leb, both_ways}
 use Rattle.std.proofs.lemmas.List.{length-map}
@@ -12,7 +12,7 @@ use Rattle.klp_model.specs.declared.event.Event.{Event}
 use Rattle.klp_model.specs.Legal.{History}
 use Rattle.klp_model.specs.State.{State}
 use Rattle.klp_journal.specs.Journal.{Group, records_in, has_room}
-use Rattle.klp_core.specs.Journaled.{IsSmall, history_in}
+use Rattle.klp_core.specs.Journaled.{IsSmall}
 use Rattle.klp_live.specs.Admitting.{FindsNoRoom}
 use Rattle.klp_live.proofs.Tables.{below}
 

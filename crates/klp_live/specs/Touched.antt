@@ -1,9 +1,10 @@
 -- Which rows of a table an event may change.
-use Rattle.std.specs.Prelude.{ℕ, Bool, true, false, ◌||◌, length, Option, Some, None, is_some, if◌then◌else◌}
+use Rattle.std.specs.Prelude.{ℕ, ◌+◌, Bool, false, ◌||◌, length, Option, Some, None, if◌then◌else◌}
 use Rattle.klp_types.specs.declared.limits.TheConstants.{MAX_SITES}
 use Rattle.klp_types.specs.Image.{object_of}
 use Rattle.klp_types.specs.Setting.{Setting, functions_of, replaces, is_at}
 use Rattle.klp_types.specs.Entries.{patches_site}
+use Rattle.klp_core.specs.Sites.{sites_in}
 use Rattle.klp_model.specs.declared.event.Event.{Event}
 use Rattle.klp_model.specs.declared.event.Event.TheVariants.{Enable, SetEnabled, Poll, Coming, Going}
 
@@ -37,6 +38,11 @@ abbrev pub rows_of_patch : Setting → Option ℕ → ℕ
 rows_of_patch setting None = 0
 rows_of_patch setting (Some patch) = if replaces setting patch then MAX_SITES else length (functions_of setting patch)
 
--- how many rows an event may change, where this patch is in transition before it; a module's may be all
+-- how many rows a module may change that comes or goes: one for each of its sites
+abbrev pub rows_of_module : Setting → Option ℕ → ℕ
+rows_of_module setting None = 0
+rows_of_module setting (Some object) = sites_in setting.image.objects object
+
+-- how many rows an event may change, where this patch is in transition before it
 abbrev pub rows_touched : Setting → Option ℕ → Event → ℕ
-rows_touched setting moving event = if is_some (module_moved event) then MAX_SITES else rows_of_patch setting (patch_moved moving event)
+rows_touched setting moving event = rows_of_patch setting (patch_moved moving event) + rows_of_module setting (module_moved event)

@@ -1,20 +1,21 @@
 //! The table of a manager, and what an event changes of it.
-ghost use Rattle.std.specs.Prelude.{◌≡◌, ℕ, ◌<◌, ◌≤◌, ◌++◌, true, false, Some, None, is_some, length, slice_index_or, vec_len, vec_capacity, ◌+◌, IfOk, Ok};
+ghost use Rattle.std.specs.Prelude.{◌≡◌, ℕ, ◌<◌, ◌≤◌, ◌++◌, true, false, Some, None, length, slice_index_or, vec_len, vec_capacity, ◌+◌, IfOk, IfSome, Option, Ok};
 ghost use Rattle.klp_types.specs.declared.limits.TheConstants.{MAX_SITES, MAX_TASKS};
 ghost use Rattle.klp_types.specs.Entries.{patches_site};
 ghost use Rattle.klp_types.specs.Setting.{functions_of};
 ghost use Rattle.klp_model.specs.Rows.{row_of, moving_patch};
 ghost use Rattle.klp_model.specs.Run.{next};
 ghost use Rattle.klp_manager_state.specs.Managed.{setting_of};
+ghost use Rattle.klp_core.specs.Sites.{sites_in};
 ghost use Rattle.klp_live.specs.Dispatch.{IsDispatch, own_state, changed, Makes, LeadsOn, is_of_variables, rows_in, task_of as task_in};
 ghost use Rattle.klp_live.specs.Listed.{AreRowsOf, is_listed, new_row, with_rows};
-ghost use Rattle.klp_live.specs.Touched.{patch_moved as patch_moved_by, module_moved, rows_touched};
+ghost use Rattle.klp_live.specs.Touched.{is_inside, patch_moved as patch_moved_by, module_moved as module_moved_by, rows_touched};
 
 use crate::table::{Change, Moved, NewRow, Table};
 use klp_core::Machine;
 use klp_model::Event;
 use klp_model::laws::states_stay_allowed;
-use klp_types::{MAX_SITES, MAX_TASKS, PatchId, Site, SiteRow, TaskId};
+use klp_types::{MAX_SITES, MAX_TASKS, ObjId, PatchId, Site, SiteRow, TaskId};
 use std::alloc::{AllocError, Global};
 
 /// Sets these rows, one after the other.
@@ -146,11 +147,15 @@ fn patch_moved(event: &Event, moving: Option<PatchId>) -> Option<PatchId>
     }
 }
 
-/// Whether an event is that of a module.
-fn is_of_module(event: &Event) -> bool
-    ensures { result ≡ is_some (module_moved event.now) }
+/// The module that an event loads or unloads. No patch moves with it.
+fn module_moved(event: &Event) -> Option<ObjId>
+    ensures module { result ≡ module_moved_by event.now }
+    ensures patch { IfSome result (λ _. (moving : Option ℕ) → patch_moved_by moving event.now ≡ None) }
 {
-    matches!(event, Event::Coming(_) | Event::Going(_))
+    match event {
+        Event::Coming(object) | Event::Going(object) => Some(*object),
+        _ => None,
+    }
 }
 
 /// Adds the row of a site, if there is one, where there is room for it.
@@ -188,6 +193,30 @@ fn rows_of<M: Machine>(
     Ok(rows)
 }
 
+/// The rows of the sites of an object.
+fn rows_inside<M: Machine>(
+    alloc: Global,
+    machine: &M,
+    object: ObjId,
+) -> Result<Vec<NewRow>, AllocError>
+    ensures rows { let managed = (M.journaled machine.now).managed in
+        IfOk result (λ rows. AreRowsOf (setting_of managed) managed.state rows.items) }
+    ensures all { IfOk result (λ rows. (site : ℕ)
+        → is_inside (setting_of (M.journaled machine.now).managed) (Some object) site ≡ true
+        → is_listed site rows.items ≡ true) }
+    ensures few { IfOk result (λ rows. length rows.items
+        ≤ sites_in (M.journaled machine.now).managed.image.objects object) }
+{
+    let first = machine.first_site(object);
+    let sites = machine.sites_in(object);
+    let mut rows = Vec::with_capacity(alloc, sites)?;
+    for place in 0..sites {
+        let site = Site((first + place) as u16);
+        add_row(machine, Some(site), &mut rows);
+    }
+    Ok(rows)
+}
+
 /// These rows, with the states of all tasks.
 fn moved<M: Machine>(
     alloc: Global,
@@ -220,8 +249,9 @@ fn change_of_patches<M: Machine>(
         ≤ rows_touched (setting_of (M.journaled machine.now).managed) moving event.now) }
 {
     let _sites = machine.sites();
-    if is_of_module(event) {
-        return change_of(alloc, machine);
+    if let Some(object) = module_moved(event) {
+        let own = rows_inside(alloc, machine, object)?;
+        return Ok(Change::Moved(moved(alloc, machine, own)?));
     }
     match patch_moved(event, moving) {
         None => Ok(Change::Moved(moved(alloc, machine, Vec::new(alloc))?)),

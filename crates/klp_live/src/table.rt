@@ -11,7 +11,8 @@ pub struct Table {
 /// A site, and the row that it has now.
 pub type NewRow = (Site, Option<SiteRow>);
 
-/// What moves with a patch: the rows of the sites that it has functions for, and the states of all tasks.
+/// What moves with a patch or a module: the rows of the sites that a patch has functions for, or of those that lie in a
+/// module, and the states of all tasks.
 #[derive(Drop)]
 pub struct Moved {
     pub rows: Vec<NewRow>,

@@ -2,7 +2,7 @@ use Rattle.std.proofs.Common.{rules, ◌+◌, ◌++◌, arith, ap, sym, ◌∙�
 use Rattle.klp_types.specs.Setting.{functions_of}
 use Rattle.klp_manager_state.specs.Managed.{setting_of}
 use Rattle.klp_live.specs.Listed.{new_row}
-use Rattle.klp_live.proofs.Changes.{AreFirst, one_more, all_listed}
+use Rattle.klp_live.proofs.Changes.{AreFirst, site_at, one_more, all_listed}
 use Rattle.klp_live.proofs.change.rows_of.Goals as goal
 
 pub loop-number-preserved : goal.loop-number-preserved
@@ -13,9 +13,9 @@ loop-number-preserved g c =
     let before = c.loop-number.invariant in
     let added = c.add_row.ensures in (
       subst
-          (AreFirst (setting_of m) m.state functions (c.loop-number.number + 1))
+          (AreFirst (setting_of m) m.state (site_at functions) (c.loop-number.number + 1))
           (sym (added.rows ∙ ap (λ site. list ++ new_row (setting_of m) m.state site) c.site_of.ensures))
-          (one_more (setting_of m) m.state functions c.loop-number.number list before.0),
+          (one_more (setting_of m) m.state (site_at functions) c.loop-number.number list before.0),
       omega (arith, before.1, added.one),
       omega (arith, before.2, added.room),
     )
