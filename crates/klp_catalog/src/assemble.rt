@@ -174,10 +174,12 @@ fn assemble_target(
     let first = numbers.take(callbacks.len())?;
     let kinds = kinds_of(alloc, &callbacks)?;
     let planned = Snapshot::of(&given);
+    let count = given.len();
     push_functions(modules, object, given, functions)?;
     Ok(CatalogTarget {
         object,
         functions: planned,
+        count,
         first,
         kinds,
     })

@@ -51,6 +51,14 @@ impl CatalogPatch {
         &self.functions
     }
 
+    /// The objects that it changes, in the order of the text, which is that of its functions: so all functions for
+    /// one object are told by how many those before have.
+    pub fn targets(&self) -> &[CatalogTarget]
+        ensures { result.now ≡ self.now.targets }
+    {
+        &self.targets
+    }
+
     /// The ids of the system states that it names, in the order of the text (system-state): in an array, since
     /// an enabling takes no memory.
     pub(crate) fn state_ids(&self) -> ArrayVec<u64, MAX_STATES>
