@@ -1,20 +1,21 @@
 -- The patch of a number, as a look-up finds it.
-use Rattle.std.proofs.Common.{◌≡◌, ℕ, ◌≤◌, ◌==◌, List, [], ◌∷◌, length, map, slice_get, Some, None, Option, refl, sym, ap, subst, ◌∙◌, arith, Bor, Bool, true, ◌&&◌, option_map}
+use Rattle.std.proofs.Common.{◌≡◌, ℕ, ◌≤◌, ◌==◌, List, [], ◌∷◌, ◌++◌, replicate, length, map, slice_get, Some, None, Option, refl, sym, ap, subst, ◌∙◌, arith, Bor, Bool, true, ◌&&◌, option_map}
 use Rattle.std.specs.Prelude.{position, MatchOption, option_and_then}
 use Rattle.std.specs.List.{list_all}
 use Rattle.std.specs.Slice.{IsItemAt}
-use Rattle.std.proofs.lemmas.List.{length-map}
+use Rattle.std.proofs.lemmas.List.{length-map, map-append}
 use Rattle.std.proofs.lemmas.Option.{slice_get_past, slice_get_within, slice_get-map}
 use Rattle.klp_types.specs.Setting.{PatchObject}
 use Rattle.klp_types.specs.Script.{Script}
 use Rattle.klp_types.specs.declared.callback.Which.{Which}
 use Rattle.klp_types.specs.Compatible.{SystemState, version_among, can_live_with}
 use Rattle.klp_modules.specs.Names.{ObjectNames}
-use Rattle.klp_catalog.specs.Catalog.{Catalog, patch_object, targets_of_patch}
+use Rattle.klp_catalog_text.specs.Plan.{PlanFunction}
+use Rattle.klp_catalog.specs.Catalog.{CatalogFunction, Catalog, patch_object, targets_of_patch, resolved_function, functions_of_patch}
 use Rattle.klp_catalog.specs.States.{states_of, is_cumulative, is_compatible}
 use Rattle.klp_catalog.specs.Runs.{objects_at}
 use Rattle.klp_catalog.specs.Stored.{StoredTarget, StoredPatch, number_in, number_of, target_in, patch_in, patches_in, targets_at, stored_functions, stored_states, stored_replaces, IsStored}
-use Rattle.klp_catalog.specs.Patch.{IsPatch, IsAbsent, KeepsTo}
+use Rattle.klp_catalog.specs.Patch.{objects_in_order, IsPatch, IsAbsent, KeepsTo}
 use Rattle.klp_catalog.proofs.CatalogLemmas.{catalog_of, states_are, replaces_is, functions_are, in_setting, few_functions, apart_functions, patch_in_object, few_targets, few_states}
 use Rattle.klp_catalog.proofs.RunLemmas.{objects_are, place_is, seen_here}
 use Rattle.klp_catalog.proofs.PlaceLemmas.{object_once}
@@ -29,6 +30,18 @@ kept_objects : (names : List ObjectNames) (scripts : List Script) (targets : Lis
     → map (λ (t : StoredTarget). t.object) targets ≡ map (λ (o : PatchObject). o.object) (map (patch_object names) (map (target_in scripts) targets))
 kept_objects names scripts [] = refl
 kept_objects names scripts (target ∷ targets) = ap (target.object ∷◌) (kept_objects names scripts targets)
+
+each_object : (names : List ObjectNames) (object : ℕ) (functions : List PlanFunction)
+    → map (λ (f : CatalogFunction). f.object) (map (resolved_function names object) functions) ≡ replicate (length functions) object
+each_object names object [] = refl
+each_object names object (function ∷ functions) = ap (object ∷◌) (each_object names object functions)
+
+in_order : (names : List ObjectNames) (scripts : List Script) (targets : List StoredTarget)
+    → map (λ (f : CatalogFunction). f.object) (functions_of_patch names (map (target_in scripts) targets)) ≡ objects_in_order targets
+in_order names scripts [] = refl
+in_order names scripts (target ∷ targets) =
+    map-append (λ (f : CatalogFunction). f.object) (map (resolved_function names target.object) target.functions) (functions_of_patch names (map (target_in scripts) targets))
+    ∙ (λ i. each_object names target.object target.functions i ++ in_order names scripts targets i)
 
 module _ {names : List ObjectNames} {symbols : List ℕ} {patch_names : List (List ℕ)} (stored : List StoredPatch) (scripts : List Script) {counts : List ℕ} (catalog : Catalog)
     (view : catalog_of names stored scripts counts ≡ catalog) (kept : IsStored names symbols patch_names stored scripts counts) (p : ℕ) where
@@ -49,6 +62,11 @@ module _ {names : List ObjectNames} {symbols : List ℕ} {patch_names : List (Li
         there = omega (arith, slice_get_within stored p patch here, length-map stored (patch_in scripts));
         replaces = ap stored_replaces (sym here) ∙ replaces_is names stored scripts counts p;
         functions = ap stored_functions (sym here) ∙ functions_are stored scripts kept p;
+        in_order = ap (map (λ (f : CatalogFunction). f.object)) (
+            ap stored_functions (sym here)
+            ∙ functions_are stored scripts kept p
+            ∙ ap (λ o. functions_of_patch names (targets_of_patch o)) (slice_get-map (patch_in scripts) stored p ∙ ap (option_map (patch_in scripts)) here)
+            ) ∙ in_order names scripts patch.targets;
         states = ap stored_states (sym here) ∙ states_are names stored scripts counts p;
         objects = kept_objects names scripts patch.targets
             ∙ ap (map (λ (o : PatchObject). o.object)) (sym (objects_are names stored scripts counts (catalog_of names stored scripts counts) refl p ∙ ap (λ s. map (patch_object names) (map (target_in scripts) (targets_at s))) here));

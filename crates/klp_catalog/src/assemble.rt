@@ -1,7 +1,7 @@
 //! From a plan to the patches of a catalog: functions get their sites, and callbacks their numbers.
 
-ghost use Rattle.std.specs.Prelude.{◌≡◌, ◌+◌, ◌≤◌, ◌++◌, false, length, take, map, OnOk, IfOk, IfErr};
-ghost use Rattle.std.specs.List.{list_any};
+ghost use Rattle.std.specs.Prelude.{◌≡◌, ◌+◌, ◌≤◌, ◌++◌, false, length, take, map, is_some, OnOk, IfOk, IfErr};
+ghost use Rattle.std.specs.List.{list_any, list_all};
 ghost use Rattle.klp_types.specs.Setting.{Callback as CallbackValue};
 ghost use Rattle.klp_catalog_text.specs.Scripts.{scripts_of};
 ghost use Rattle.klp_catalog.specs.Catalog as catalog;
@@ -149,6 +149,12 @@ fn has_same_site(functions: &[CatalogFunction]) -> bool
     false
 }
 
+fn name_sites(functions: &[CatalogFunction]) -> bool
+    ensures { result ≡ list_all (λ (f : FunctionValue). is_some f.site) functions.now }
+{
+    functions.iter().all(|function| function.site.is_some())
+}
+
 /// An object with the numbers of its callbacks; its functions go behind the others, so that all of a patch
 /// are one list.
 fn assemble_target(
@@ -174,10 +180,12 @@ fn assemble_target(
     let first = numbers.take(callbacks.len())?;
     let kinds = kinds_of(alloc, &callbacks)?;
     let planned = Snapshot::of(&given);
+    let count = given.len();
     push_functions(modules, object, given, functions)?;
     Ok(CatalogTarget {
         object,
         functions: planned,
+        count,
         first,
         kinds,
     })
@@ -208,11 +216,13 @@ fn assemble_patch(
     for target in given {
         targets.push(assemble_target(alloc, modules, target, numbers, &mut functions)?)?;
     }
+    let names_sites = name_sites(&functions);
     Ok(CatalogPatch {
         name: Snapshot::of(&name),
         replace,
         targets,
         functions,
+        names_sites,
         states,
     })
 }

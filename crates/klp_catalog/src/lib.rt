@@ -27,3 +27,4 @@ pub use catalog::Catalog;
 pub use function::CatalogFunction;
 pub use klp_catalog_text::{Plan, TextFault, TextFaultKind};
 pub use patch::CatalogPatch;
+pub use target::CatalogTarget;

@@ -1,7 +1,8 @@
-ghost use Rattle.std.specs.Prelude.{◌≡◌, ◌≤◌, ◌==◌, length, map, position};
+ghost use Rattle.std.specs.Prelude.{◌≡◌, ◌≤◌, ◌==◌, length, map, position, is_some};
 ghost use Rattle.std.specs.List.{list_all};
 ghost use Rattle.klp_types.specs.Compatible as compatible;
 ghost use Rattle.klp_types.specs.Compatible.{SystemState as StateValue};
+ghost use Rattle.klp_catalog.specs.Catalog.{CatalogFunction as FunctionValue};
 ghost use Rattle.klp_catalog.specs.Stored as stored;
 ghost use Rattle.klp_catalog.specs.Stored.{StoredTarget, states_at};
 ghost use Rattle.klp_catalog.specs.States.{installed_before};
@@ -24,16 +25,22 @@ pub struct CatalogPatch {
     pub(crate) targets: Vec<CatalogTarget>,
     /// The new functions in all of them, in order: their places are the numbers in versions and entries.
     pub(crate) functions: Vec<CatalogFunction>,
+    /// Whether each of them names a site, which is looked at once, since an enabling asks for it.
+    pub(crate) names_sites: bool,
     pub(crate) states: Vec<SystemState>,
 }
 
 impl Model for CatalogPatch {
-    ghost use Rattle.std.specs.Prelude.{string_bytes};
+    ghost use Rattle.std.specs.Prelude.{◌≡◌, string_bytes, is_some};
+    ghost use Rattle.std.specs.List.{list_all};
+    ghost use Rattle.klp_catalog.specs.Catalog.{CatalogFunction as FunctionValue};
     ghost use Rattle.klp_catalog.specs.Stored.{StoredPatch};
 
     ghost Value = { StoredPatch };
 
     ghost view = { λ p. record { name = string_bytes p.name.value; replace = p.replace; targets = p.targets.items; functions = p.functions.items; states = p.states.items } };
+
+    ghost invariant = { λ p. p.names_sites ≡ list_all (λ (f : FunctionValue). is_some f.site) p.functions.items };
 }
 
 impl CatalogPatch {
@@ -49,6 +56,21 @@ impl CatalogPatch {
         ensures { result.now ≡ self.now.functions }
     {
         &self.functions
+    }
+
+    /// Whether each function names a site, so that none can keep the patch from being enabled.
+    pub fn names_sites(&self) -> bool
+        ensures { result ≡ list_all (λ (f : FunctionValue). is_some f.site) self.now.functions }
+    {
+        self.names_sites
+    }
+
+    /// The objects that it changes, in the order of the text, which is that of its functions: so all functions for
+    /// one object are told by how many those before have.
+    pub fn targets(&self) -> &[CatalogTarget]
+        ensures { result.now ≡ self.now.targets }
+    {
+        &self.targets
     }
 
     /// The ids of the system states that it names, in the order of the text (system-state): in an array, since

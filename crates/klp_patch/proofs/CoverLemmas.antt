@@ -1,9 +1,11 @@
 -- Which sites a change is about, by the object of a site.
 use Rattle.std.proofs.Common.{◌≡◌, ℕ, zero, suc, ◌+◌, ◌-◌, ◌<◌, ◌≤◌, true, false, ◌&&◌, List, [], ◌∷◌, ◌++◌, length, drop, refl, sym, ap, ◌∙◌, arith, length-append, Option, Some, None, eqb, ltb, add-one}
 use Rattle.std.specs.Prelude.{slice_get, option_map, unwrap_or, cond}
+use Rattle.std.specs.Option.{IfSome}
 use Rattle.std.proofs.lemmas.Bool.{lt-ltb, le-ltb, ltb-true, ltb-false, eqb-true, and_right}
 use Rattle.std.proofs.lemmas.List.{length-map, drop_all}
 use Rattle.klp_types.specs.Image.{Symbol, Object, symbols_of, object_of}
+use Rattle.klp_types.specs.Setting.{is_at}
 use Rattle.klp_modules.specs.Names.{names_of, first_site, symbol_names}
 use Rattle.klp_catalog.specs.Assembled.{IsInObject}
 use Rattle.klp_sites.specs.Table.{SiteTable}
@@ -63,6 +65,22 @@ module _ (table : SiteTable) (only : Option ℕ) (object own : ℕ) (lies : IsIn
     | true ↦ λ e. rw (ap (is_covered table only) (sym (eqb-true own site e)) ∙ covered_in table only object own lies ∙ in_scope)
     | false ↦ λ e. sym (and_right (is_covered table only site) false refl)
   ] refl
+
+-- the same where a function may be without a site
+pub meant_at : (table : SiteTable) (only : Option ℕ) (object : ℕ) (own : Option ℕ) → IfSome own (IsInObject (names_of table.image.objects) object) → (site : ℕ)
+    → is_in_scope only table.loaded object ≡ true → is_at own site ≡ (is_covered table only site && is_at own site)
+meant_at table only object None lies site in_scope = sym (and_right (is_covered table only site) false refl)
+meant_at table only object (Some own) lies site in_scope = in_scope_at table only object own lies site in_scope
+
+pub not_meant_at : (table : SiteTable) (only : Option ℕ) (object : ℕ) (own : Option ℕ) → IfSome own (IsInObject (names_of table.image.objects) object) → (site : ℕ)
+    → is_in_scope only table.loaded object ≡ false → false ≡ (is_covered table only site && is_at own site)
+not_meant_at table only object None lies site in_scope = sym (and_right (is_covered table only site) false refl)
+not_meant_at table only object (Some own) lies site in_scope = not_in_scope_at table only object own lies site in_scope
+
+pub all_below_count : (objects : List Object) (object : ℕ) (own : Option ℕ) → IfSome own (IsInObject (names_of objects) object)
+    → IfSome own (λ site. site < length (symbols_of objects))
+all_below_count objects object None lies = lies
+all_below_count objects object (Some own) lies = lies_below objects object own lies
 
 -- how many symbols an object has; one that isn't there has none
 abbrev pub symbol_count : List Object → ℕ → ℕ

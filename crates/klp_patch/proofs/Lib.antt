@@ -4,6 +4,7 @@ pub mod SomeLemmas
 pub mod MadeLemmas
 pub mod FunctionLemmas
 pub mod ScopeLemmas
+pub mod OrderLemmas
 pub mod PatchLemmas
 pub mod BlockLemmas
 pub mod CallLemmas

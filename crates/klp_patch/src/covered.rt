@@ -12,7 +12,7 @@ use klp_types::{ObjId, Site};
 
 /// Whether a change of one object, or of all that are loaded, is about this object. The one that is named
 /// is meant whether it is loaded or not.
-fn is_in_scope(image: &Image, only: Option<ObjId>, object: ObjId) -> bool
+pub(crate) fn is_in_scope(image: &Image, only: Option<ObjId>, object: ObjId) -> bool
     ensures { result ≡ covered.is_in_scope only image.now.loaded object }
 {
     match only {
@@ -21,25 +21,23 @@ fn is_in_scope(image: &Image, only: Option<ObjId>, object: ObjId) -> bool
     }
 }
 
-/// The site of a function, where the change is about its object. A function without a site has no entry.
+/// The site of a function, where the change is about its object, which is told. A function without a site has no entry.
+#[inline(always)]
 pub(crate) fn site_in_scope(
     sites: &Sites,
     only: &Option<ObjId>,
+    in_scope: bool,
     function: &CatalogFunction,
 ) -> Option<Site>
-    requires { LiesInObject (names_of sites.now.image.objects) function.now }
+    requires object { LiesInObject (names_of sites.now.image.objects) function.now }
+    requires scope { in_scope ≡ covered.is_in_scope only.now sites.now.loaded function.now.object }
     ensures site { (site : ℕ)
         → is_at result site ≡ (covered.is_covered sites.now only.now site && is_at function.now.site site) }
     ensures there { IfSome result (λ site. site < length sites.now.stacks) }
 {
-    let Some(site) = function.site() else {
-        return None;
-    };
-    if is_in_scope(sites.image(), *only, function.object()) {
-        Some(site)
-    } else {
-        None
-    }
+    // for its contract: each site of the image has a stack
+    let _image = sites.image();
+    if in_scope { function.site() } else { None }
 }
 
 /// Whether a change is about a site. The cost is the number of the object that the site lies in.

@@ -4,26 +4,28 @@ ghost use Rattle.klp_types.specs.Setting.{function_for};
 ghost use Rattle.klp_types.specs.Entries.{entry_of};
 ghost use Rattle.klp_types.specs.Records.{spare_of};
 ghost use Rattle.klp_modules.specs.Names.{names_of};
-ghost use Rattle.klp_catalog.specs.Catalog.{setting_function, has_same_site};
+ghost use Rattle.klp_catalog.specs.Catalog.{CatalogFunction as FunctionValue, setting_function, has_same_site};
 ghost use Rattle.klp_catalog.specs.Assembled.{LiesInObject};
+ghost use Rattle.klp_catalog.specs.Patch.{objects_in_order};
 ghost use Rattle.klp_catalog.specs.States.{is_cumulative};
 ghost use Rattle.klp_stack.specs.Stack.{entries_at, has_entry, entries_of_others};
 ghost use Rattle.klp_patch.specs.Covered.{functions_in, is_covered};
 ghost use Rattle.klp_patch.specs.Room.{HasRoom};
 ghost use Rattle.klp_patch.specs.Changes.{AreMade, Notes, with_entry, with_nop, without_nop, hooked_count, most_entries};
 
-use crate::covered::{covers, site_in_scope};
+use crate::covered::{covers, is_in_scope, site_in_scope};
 use crate::site::{put, put_nop, take, take_nop};
-use klp_catalog::{Catalog, CatalogFunction};
+use klp_catalog::{Catalog, CatalogFunction, CatalogTarget};
 use klp_journal::Records;
 use klp_sites::Sites;
 use klp_types::{Entry, MAX_FUNCTIONS, MAX_PATCHES, MAX_SITES, ObjId, PatchId};
 
 /// Puts the functions of a patch on top of the stacks of their sites. No two are for one site, so each
-/// stack gets one entry at most.
+/// stack gets one entry at most. Whether the change is about an object is asked once for all its functions.
 fn put_functions(
     sites: &mut Sites,
     functions: &[CatalogFunction],
+    targets: &[CatalogTarget],
     patch: PatchId,
     only: &Option<ObjId>,
     log: &mut Records,
@@ -33,6 +35,7 @@ fn put_functions(
     requires few { length functions.now ≤ MAX_FUNCTIONS }
     requires distinct { has_same_site functions.now ≡ false }
     requires in_object { All (LiesInObject (names_of sites.old.image.objects)) functions.now }
+    requires in_order { map (λ (f : FunctionValue). f.object) functions.now ≡ objects_in_order targets.now }
     requires fresh { (site : ℕ) → is_covered sites.old only.now site ≡ true
         → has_entry patch (entries_at sites.old.stacks site) ≡ false }
     requires room { HasRoom sites.old (is_covered sites.old only.now)
@@ -43,11 +46,18 @@ fn put_functions(
     ensures notes { Notes sites.old sites.new log.old log.new (length functions.now) (hooked_count sites.old)
         (hooked_count sites.new) }
 {
-    for number in 0..functions.len() {
-        if let Some(site) = site_in_scope(sites, only, &functions[number]) {
-            let func = Some(number as u16);
-            put(sites, site, Entry { patch, func }, log);
+    let mut start = 0;
+    for target in targets {
+        let in_scope = is_in_scope(sites.image(), *only, target.object());
+        let end = start + target.functions();
+        prove!(end <= functions.len());
+        for number in start..end {
+            if let Some(site) = site_in_scope(sites, only, in_scope, &functions[number]) {
+                let func = Some(number as u16);
+                put(sites, site, Entry { patch, func }, log);
+            }
         }
+        start = end;
     }
 }
 
@@ -76,12 +86,15 @@ fn put_nops(sites: &mut Sites, patch: PatchId, only: &Option<ObjId>, log: &mut R
 fn take_functions(
     sites: &mut Sites,
     functions: &[CatalogFunction],
+    targets: &[CatalogTarget],
     patch: PatchId,
     only: &Option<ObjId>,
     log: &mut Records,
 )
+    requires few { length functions.now ≤ MAX_FUNCTIONS }
     requires distinct { has_same_site functions.now ≡ false }
     requires in_object { All (LiesInObject (names_of sites.old.image.objects)) functions.now }
+    requires in_order { map (λ (f : FunctionValue). f.object) functions.now ≡ objects_in_order targets.now }
     requires records { length functions.now + hooked_count sites.old ≤ spare_of log.old }
     ensures entries { AreMade sites.old sites.new
         (λ site. is_covered sites.old only.now site && is_some (function_for (map setting_function functions.now) site))
@@ -89,10 +102,17 @@ fn take_functions(
     ensures notes { Notes sites.old sites.new log.old log.new (length functions.now) (hooked_count sites.new)
         (hooked_count sites.old) }
 {
-    for number in 0..functions.len() {
-        if let Some(site) = site_in_scope(sites, only, &functions[number]) {
-            take(sites, site, patch, log);
+    let mut start = 0;
+    for target in targets {
+        let in_scope = is_in_scope(sites.image(), *only, target.object());
+        let end = start + target.functions();
+        prove!(end <= functions.len());
+        for number in start..end {
+            if let Some(site) = site_in_scope(sites, only, in_scope, &functions[number]) {
+                take(sites, site, patch, log);
+            }
         }
+        start = end;
     }
 }
 
@@ -140,7 +160,7 @@ pub fn patch_sites(
     let Some(found) = catalog.get(patch) else {
         return;
     };
-    put_functions(sites, found.functions(), patch, &only, log);
+    put_functions(sites, found.functions(), found.targets(), patch, &only, log);
     if found.is_cumulative() {
         put_nops(sites, patch, &only, log);
     }
@@ -176,7 +196,7 @@ pub fn unpatch_sites(
     if found.is_cumulative() {
         take_all(sites, patch, &only, log);
     } else {
-        take_functions(sites, found.functions(), patch, &only, log);
+        take_functions(sites, found.functions(), found.targets(), patch, &only, log);
     }
 }
 

@@ -1,7 +1,8 @@
 -- Functions of a patch that name no site.
 use Rattle.std.proofs.Common.{◌≡◌, ℕ, Bool, true, false, ◌&&◌, ◌||◌, List, [], ◌∷◌, Option, Some, None, map, refl, sym, ap, ◌∙◌}
-use Rattle.std.specs.Prelude.{is_none, option_map, slice_get, slice_index_or}
-use Rattle.std.specs.List.{list_any}
+use Rattle.std.specs.Prelude.{is_none, is_some, option_map, slice_get, slice_index_or}
+use Rattle.std.specs.List.{list_any, list_all}
+use Rattle.std.proofs.lemmas.Bool.{and_parts}
 use Rattle.std.proofs.lemmas.List.Folds.{list_any-append}
 use Rattle.std.proofs.lemmas.Option.{slice_get-map}
 use Rattle.std.proofs.Math.Bool.{and-false}
@@ -11,6 +12,18 @@ use Rattle.klp_modules.specs.Names.{ObjectNames}
 use Rattle.klp_catalog_text.specs.Plan.{PlanFunction, PlanTarget, PlanPatch}
 use Rattle.klp_catalog.specs.Catalog.{CatalogFunction, catalog_functions, functions_of_patch, functions_of_target, targets_of_patch, patch_object, resolved_function, setting_patch, setting_function, site_of}
 use Rattle.klp_manager_state.specs.Managed.{Managed, setting_of}
+
+-- where each function names a site, none lacks its symbol
+named : (loaded : Bool) (site : Option ℕ) → is_some site ≡ true → false ≡ (loaded && is_none site)
+named loaded None names = cc
+named loaded (Some site) names = sym (and-false loaded)
+
+pub none_lacks : (loaded : ℕ → Bool) (functions : List CatalogFunction) → list_all (λ (f : CatalogFunction). is_some f.site) functions ≡ true
+    → false ≡ list_any (λ (f : CatalogFunction). loaded f.object && is_none f.site) functions
+none_lacks loaded [] names = refl
+none_lacks loaded (f ∷ functions) names =
+    let parts = and_parts (is_some f.site) (list_all (λ (g : CatalogFunction). is_some g.site) functions) names in
+    none_lacks loaded functions parts.1 ∙ ap (λ b. b || list_any (λ (g : CatalogFunction). loaded g.object && is_none g.site) functions) (named (loaded f.object) f.site parts.0)
 
 -- a patch lacks a symbol where one of its functions, over all objects, is for a loaded object and names no site
 

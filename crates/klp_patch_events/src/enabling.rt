@@ -41,6 +41,9 @@ fn lacks_symbol(manager: &ManagerState, found: &CatalogPatch) -> bool
     ensures { result ≡ list_any (λ (f : FunctionOf). slice_index_or manager.now.modules.loaded f.object false
         && is_none f.site) found.now.functions }
 {
+    if found.names_sites() {
+        return false;
+    }
     for function in found.functions() {
         if manager.modules.is_loaded(function.object()) && function.site().is_none() {
             return true;

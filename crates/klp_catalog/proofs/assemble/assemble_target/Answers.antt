@@ -4,12 +4,14 @@ use Rattle.klp_types.specs.Setting.{Callback}
 use Rattle.klp_catalog.proofs.assemble.assemble_target.Goals as goal
 
 pub invariant_of-result : goal.invariant_of-result
-invariant_of-result c =
-    omega (
-      arith,
-      ap length c.in_ok-kinds.ensures,
-      length-map c.deref.result.now (λ (k : Callback). k.which),
-      ap length c.deref.ensures.value,
-      c.len.ensures,
-      c.in_ok-first.ensures.fits,
-    )
+invariant_of-result c = (
+  omega (
+    arith,
+    ap length c.in_ok-kinds.ensures,
+    length-map c.deref.result.now (λ (k : Callback). k.which),
+    ap length c.deref.ensures.value,
+    c.len.ensures,
+    c.in_ok-first.ensures.fits,
+  ),
+  search,
+)

@@ -1,4 +1,4 @@
-use Rattle.std.proofs.Common.{◌≡◌, ◌&&◌, ℕ, List, map, refl, sym, ap, ◌∙◌}
+use Rattle.std.proofs.Common.{◌≡◌, ◌&&◌, ℕ, List, length, map, refl, sym, ap, ◌∙◌, arith}
 use Rattle.std.specs.Prelude.{cond}
 use Rattle.std.specs.Option.{is_some}
 use Rattle.klp_types.specs.declared.version.Entry.{Entry}
@@ -10,6 +10,11 @@ use Rattle.klp_patch.specs.Covered.{is_covered, functions_in}
 use Rattle.klp_patch.proofs.MadeLemmas.{made_also}
 use Rattle.klp_patch.proofs.PatchLemmas.{only_functions, none_left}
 use Rattle.klp_patch.proofs.patch.unpatch_sites.Goals as goal
+
+pub take_functions-requires-clause-few : goal.take_functions-requires-clause-few
+take_functions-requires-clause-few g c =
+    let same = ap length (c.functions.ensures ∙ c.in-Some.ensures.found.functions) in
+    omega (arith, same, c.in-Some.ensures.keeps.few_functions)
 
 pub returns-in_default-clause-entries : goal.returns-in_default-clause-entries
 returns-in_default-clause-entries g c =
