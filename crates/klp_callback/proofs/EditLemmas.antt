@@ -20,7 +20,7 @@ use Rattle.klp_types.specs.Padded.{padded}
 use Rattle.klp_types.specs.declared.limits.TheConstants.{MAX_VALUE_BYTES}
 use Rattle.klp_types.proofs.PaddedLemmas.{take_front}
 use Rattle.klp_types.specs.Script.{Script, is_alloc, alloc_count, edited, edited_by}
-use Rattle.klp_world.specs.Noted.{noting, rows_of_edit, rows_of_edits}
+use Rattle.klp_world.specs.StoredEvent.{noting, rows_of_edit, rows_of_edits}
 use Rattle.klp_world.specs.Changes.{HasRoom}
 use Rattle.std.proofs.lemmas.List.Recursion.{is_count_by}
 use Rattle.std.specs.List.{count_by}
@@ -33,20 +33,20 @@ next_edit edits i edit is lt = rw add-one (drop-cons edits i edit lt) ∙ ap (λ
 
 -- the loop over the edits: one edit is made, and these are left
 module _ (patch : ℕ) (left : List Edit) (edit : Edit) (rest : List Edit) (world new : World) (log new_log : RecordList)
-    (split : left ≡ edit ∷ rest) (made : new ≡ edited patch world edit) (noted : new_log ≡ noting log (rows_of_edit patch world edit)) where
+    (split : left ≡ edit ∷ rest) (made : new ≡ edited patch world edit) (logged : new_log ≡ noting log (rows_of_edit patch world edit)) where
   rows_left : rows_of_edits patch world left ≡ rows_of_edit patch world edit ++ rows_of_edits patch new rest
   rows_left = ap (rows_of_edits patch world) split ∙ ap (λ w. rows_of_edit patch world edit ++ rows_of_edits patch w rest) (sym made)
 
   pub world_step : edited_by patch new rest ≡ edited_by patch world left
   world_step = ap (λ w. edited_by patch w rest) made ∙ sym (ap (edited_by patch world) split)
 
-  pub noted_step : new_log.noted ++ rows_of_edits patch new rest ≡ log.noted ++ rows_of_edits patch world left
-  noted_step =
-      ap (λ (l : RecordList). l.noted ++ rows_of_edits patch new rest) noted
-      ∙ append_assoc log.noted (rows_of_edit patch world edit) (rows_of_edits patch new rest) ∙ ap (log.noted ++◌) (sym rows_left)
+  pub logged_step : new_log.logged ++ rows_of_edits patch new rest ≡ log.logged ++ rows_of_edits patch world left
+  logged_step =
+      ap (λ (l : RecordList). l.logged ++ rows_of_edits patch new rest) logged
+      ∙ append_assoc log.logged (rows_of_edit patch world edit) (rows_of_edits patch new rest) ∙ ap (log.logged ++◌) (sym rows_left)
 
   pub room_step : new_log.room ≡ log.room
-  room_step = ap (λ (l : RecordList). l.room) noted
+  room_step = ap (λ (l : RecordList). l.room) logged
 
   pub room_left : ((patch : ℕ) (world : World) (edit : Edit) (edits : List Edit) → finite.len (edited patch world edit).shadow + alloc_count edits ≤ finite.len world.shadow + alloc_count (edit ∷ edits))
       → HasRoom world log (alloc_count left) (rows_of_edits patch world left) → HasRoom new new_log (alloc_count rest) (rows_of_edits patch new rest)
@@ -55,7 +55,7 @@ module _ (patch : ℕ) (left : List Edit) (edit : Edit) (rest : List Edit) (worl
       let variables = ap (λ (w : World). finite.len w.shadow) made in
       let allocs = ap alloc_count split in
       let rows = ap length rows_left ∙ length-append (rows_of_edit patch world edit) (rows_of_edits patch new rest) in
-      let longer = ap (λ (l : RecordList). length l.noted) noted ∙ length-append log.noted (rows_of_edit patch world edit) in
+      let longer = ap (λ (l : RecordList). length l.logged) logged ∙ length-append log.logged (rows_of_edit patch world edit) in
       let same = room_step in
       record { variables = omega (arith, few.variables); records = omega (arith, few.records) }
 

@@ -1,8 +1,8 @@
 ghost use Rattle.std.specs.Prelude.{◌≡◌, ◌≤◌, length};
 ghost use Rattle.klp_types.specs.Script.{alloc_count, effect};
-ghost use Rattle.klp_world.specs.Noted.{rows_of_script};
+ghost use Rattle.klp_world.specs.StoredEvent.{rows_of_script};
 ghost use Rattle.klp_world.specs.Changes.{Changes, HasRoom};
-ghost use Rattle.klp_callback.specs.Told.{after_run};
+ghost use Rattle.klp_callback.specs.LentCallback.{after_run};
 
 use crate::callback::Callback;
 use crate::counted_box::CountedBox;
@@ -19,9 +19,9 @@ pub struct Boxed {
 }
 
 impl Model for Boxed {
-    ghost use Rattle.klp_callback.specs.Told.{Told};
+    ghost use Rattle.klp_callback.specs.LentCallback.{LentCallback};
 
-    ghost Value = { Told };
+    ghost Value = { LentCallback };
 
     ghost view = { λ b. record { script = b.counted.script; runs = b.counted.runs } };
 }
@@ -45,7 +45,7 @@ impl Boxed {
         requires room { HasRoom world.old log.old (alloc_count self.old.script.edits)
             (rows_of_script patch world.old self.old.script) }
         ensures status { result ≡ self.old.script.status }
-        ensures told { self.new ≡ after_run self.old }
+        ensures lent { self.new ≡ after_run self.old }
         ensures changes { Changes world.old world.new log.old log.new (effect patch world.old self.old.script)
             (rows_of_script patch world.old self.old.script) }
     {

@@ -1,8 +1,8 @@
 ghost use Rattle.std.specs.Prelude.{◌≡◌, ℕ};
 ghost use Rattle.klp_types.specs.Script.{Script as ScriptOfEdits, alloc_count, effect};
-ghost use Rattle.klp_world.specs.Noted.{rows_of_script};
+ghost use Rattle.klp_world.specs.StoredEvent.{rows_of_script};
 ghost use Rattle.klp_world.specs.Changes.{Changes, HasRoom};
-ghost use Rattle.klp_callback.specs.Told.{counted};
+ghost use Rattle.klp_callback.specs.LentCallback.{counted};
 
 use klp_journal::Records;
 use klp_types::PatchId;

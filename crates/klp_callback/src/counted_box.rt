@@ -1,8 +1,8 @@
 ghost use Rattle.std.specs.Prelude.{◌≡◌, ◌≤◌, length};
 ghost use Rattle.klp_types.specs.Script.{alloc_count, effect};
-ghost use Rattle.klp_world.specs.Noted.{rows_of_script};
+ghost use Rattle.klp_world.specs.StoredEvent.{rows_of_script};
 ghost use Rattle.klp_world.specs.Changes.{Changes, HasRoom};
-ghost use Rattle.klp_callback.specs.Told.{counted};
+ghost use Rattle.klp_callback.specs.LentCallback.{counted};
 
 use crate::callback::Callback;
 use crate::edits::{allocs_of, is_same, run_script};

@@ -1,7 +1,7 @@
 ghost use Rattle.std.specs.Prelude.{◌≡◌, ◌≤◌, [], ◌∷◌, length, count_by, IsTrue};
 ghost use Rattle.klp_types.specs.Records.{spare_of};
 ghost use Rattle.klp_types.specs.Script.{alloc_count, is_alloc, edited, edited_by, effect};
-ghost use Rattle.klp_world.specs.Noted.{noting, rows_of_edit, rows_of_edits, rows_of_script};
+ghost use Rattle.klp_world.specs.StoredEvent.{noting, rows_of_edit, rows_of_edits, rows_of_script};
 ghost use Rattle.klp_world.specs.Changes.{Changes, HasRoom};
 
 use klp_journal::Records;
@@ -48,7 +48,7 @@ fn take_previous(patch: PatchId, id: u64, world: &mut World, log: &mut Records)
 fn make_edits(edits: &[Edit], patch: PatchId, world: &mut World, log: &mut Records)
     requires room { HasRoom world.old log.old (alloc_count edits.now) (rows_of_edits patch world.old edits.now) }
     ensures world { world.new ≡ edited_by patch world.old edits.now }
-    ensures noted { log.new ≡ noting log.old (rows_of_edits patch world.old edits.now) }
+    ensures logged { log.new ≡ noting log.old (rows_of_edits patch world.old edits.now) }
 {
     klp_types::laws::edits_keep_to_their_room();
     for edit in edits {

@@ -17,7 +17,7 @@ pub struct Refusing {
 
 impl Model for Refusing {
     ghost use Rattle.std.specs.Prelude.{◌≡◌, []};
-    ghost use Rattle.klp_callback.specs.Told.{Refusal};
+    ghost use Rattle.klp_callback.specs.LentCallback.{Refusal};
 
     ghost Value = { Refusal };
 

@@ -15,9 +15,9 @@ pub struct Scripted {
 }
 
 impl Model for Scripted {
-    ghost use Rattle.klp_callback.specs.Told.{Told};
+    ghost use Rattle.klp_callback.specs.LentCallback.{LentCallback};
 
-    ghost Value = { Told };
+    ghost Value = { LentCallback };
 
     ghost view = { λ s. record { script = s.script; runs = s.runs } };
 }

@@ -7,14 +7,14 @@ use Rattle.klp_types.specs.declared.callback.Which.{Which}
 use Rattle.klp_types.specs.Setting.{Callback}
 use Rattle.klp_types.specs.Script.{Script}
 use Rattle.klp_modules.specs.Names.{ObjectNames}
-use Rattle.klp_callback.specs.Told.{Told}
+use Rattle.klp_callback.specs.LentCallback.{LentCallback}
 use Rattle.klp_catalog_text.specs.Plan.{PlanTarget, PlanPatch}
 use Rattle.klp_catalog_text.specs.PlanParts.{function_count}
 use Rattle.klp_catalog_text.specs.Limits.{IsSmall, HasOneEach, AreFew, has_same, callback_number, target_number, state_number}
 use Rattle.klp_catalog_text.specs.Scripts.{scripts_of_callbacks, scripts_of_target, scripts_of_targets, scripts_of}
 use Rattle.klp_catalog_text.specs.Draft.{patch_names_of}
 use Rattle.klp_catalog.specs.Catalog.{functions_of_target, functions_of_patch, has_same_site, some_same_site}
-use Rattle.klp_catalog.specs.Assembled.{without_script, target_without_scripts, without_scripts, scripts_told, counts_told, IsShort, IsAssembleFault}
+use Rattle.klp_catalog.specs.Assembled.{without_script, target_without_scripts, without_scripts, lent_scripts, lent_counts, IsShort, IsAssembleFault}
 use Rattle.klp_catalog.specs.declared.assemble.AssembleFault.{AssembleFault}
 use Rattle.klp_catalog.specs.declared.assemble.AssembleFault.TheVariants.{WrongCallbacks, SameSite, NoMemory}
 use Rattle.klp_catalog.specs.Limits.{HasOneOfEach, IsWithin, AreWithin}
@@ -263,25 +263,25 @@ pub scripts_again : (names : List ObjectNames) (scripts : List Script) (patches 
 scripts_again names scripts patches same = patches_scripts names scripts 0 patches ∙ ap (scripts_from scripts 0) same ∙ all_scripts scripts
 
 -- there is a count for each callback
-pub counted_each : (names : List ObjectNames) (callbacks : List Told) (patches : List PlanPatch) → length (scripts_of patches) ≡ length callbacks
-    → HasCounts (patches_in (scripts_told callbacks) (stored_patches names 0 patches)) (counts_told callbacks)
+pub counted_each : (names : List ObjectNames) (callbacks : List LentCallback) (patches : List PlanPatch) → length (scripts_of patches) ≡ length callbacks
+    → HasCounts (patches_in (lent_scripts callbacks) (stored_patches names 0 patches)) (lent_counts callbacks)
 counted_each names callbacks patches same =
-    let scripts : length (scripts_of patches) ≡ length (scripts_told callbacks) = same ∙ sym (length-map callbacks (λ (t : Told). t.script)) in
+    let scripts : length (scripts_of patches) ≡ length (lent_scripts callbacks) = same ∙ sym (length-map callbacks (λ (t : LentCallback). t.script)) in
     omega (
       arith,
-      ids_sized (patches_in (scripts_told callbacks) (stored_patches names 0 patches)),
-      ap length (scripts_again names (scripts_told callbacks) patches scripts),
-      length-map callbacks (λ (t : Told). t.script),
-      length-map callbacks (λ (t : Told). t.runs),
+      ids_sized (patches_in (lent_scripts callbacks) (stored_patches names 0 patches)),
+      ap length (scripts_again names (lent_scripts callbacks) patches scripts),
+      length-map callbacks (λ (t : LentCallback). t.script),
+      length-map callbacks (λ (t : LentCallback). t.runs),
     )
 
 -- what is kept of a plan's patches, with callbacks that came in
-pub stored_for : (names : List ObjectNames) (symbols : List ℕ) (patch_names : List (List ℕ)) (stored : List StoredPatch) (callbacks : List Told) (patches : List PlanPatch)
+pub stored_for : (names : List ObjectNames) (symbols : List ℕ) (patch_names : List (List ℕ)) (stored : List StoredPatch) (callbacks : List LentCallback) (patches : List PlanPatch)
     → symbols ≡ take 256 (map symbol_count names) → patch_names ≡ patch_names_of patches → stored ≡ stored_patches names 0 patches
     → length (scripts_of patches) ≡ length callbacks → AreFew patches → some_same_site names patches ≡ false
-    → IsStored names symbols patch_names stored (scripts_told callbacks) (counts_told callbacks)
+    → IsStored names symbols patch_names stored (lent_scripts callbacks) (lent_counts callbacks)
 stored_for names symbols patch_names stored callbacks patches sizes by_name kept number few apart =
-    let scripts = scripts_told callbacks in
+    let scripts = lent_scripts callbacks in
     let again : map without_scripts (patches_in scripts stored) ≡ map without_scripts patches =
     ap (λ s. map without_scripts (patches_in scripts s)) kept ∙ patches_again names scripts 0 patches in
     record {
@@ -290,7 +290,7 @@ stored_for names symbols patch_names stored callbacks patches sizes by_name kept
       kept = kept ∙ sym (same_stored names 0 (patches_in scripts stored) patches again);
       few = few_same (patches_in scripts stored) patches again few;
       apart = same_sites names (patches_in scripts stored) patches again ∙ apart;
-      counted = subst (λ s. HasCounts (patches_in scripts s) (counts_told callbacks)) (sym kept) (counted_each names callbacks patches number);
+      counted = subst (λ s. HasCounts (patches_in scripts s) (lent_counts callbacks)) (sym kept) (counted_each names callbacks patches number);
     }
 
 -- ---- the loops: one more is made of the first that is left
@@ -320,21 +320,21 @@ short_fault names patches scripts callbacks end SameSite more same short = absur
 short_fault names patches scripts callbacks end NoMemory more same short = short
 
 -- what is told of a catalog that is made of a plan's patches
-pub record IsMade (callbacks : List Told) (stored : List StoredPatch) (given : List PlanPatch) : Type 0 where
-  pub patches : map without_scripts (patches_in (scripts_told callbacks) stored) ≡ map without_scripts given
-  pub scripts : scripts_of (patches_in (scripts_told callbacks) stored) ≡ scripts_told callbacks
-  pub shape : HasCounts (patches_in (scripts_told callbacks) stored) (counts_told callbacks)
-  pub limits : AreWithin (patches_in (scripts_told callbacks) stored)
+pub record IsMade (callbacks : List LentCallback) (stored : List StoredPatch) (given : List PlanPatch) : Type 0 where
+  pub patches : map without_scripts (patches_in (lent_scripts callbacks) stored) ≡ map without_scripts given
+  pub scripts : scripts_of (patches_in (lent_scripts callbacks) stored) ≡ lent_scripts callbacks
+  pub shape : HasCounts (patches_in (lent_scripts callbacks) stored) (lent_counts callbacks)
+  pub limits : AreWithin (patches_in (lent_scripts callbacks) stored)
 
-pub stored_again : (names : List ObjectNames) (stored : List StoredPatch) (callbacks : List Told) (patches : List PlanPatch)
+pub stored_again : (names : List ObjectNames) (stored : List StoredPatch) (callbacks : List LentCallback) (patches : List PlanPatch)
     → stored ≡ stored_patches names 0 patches → length (scripts_of patches) ≡ length callbacks → AreFew patches → IsMade callbacks stored patches
 stored_again names stored callbacks patches kept number few =
-    let scripts : length (scripts_of patches) ≡ length (scripts_told callbacks) = number ∙ sym (length-map callbacks (λ (t : Told). t.script)) in
-    let again = patches_again names (scripts_told callbacks) 0 patches in
+    let scripts : length (scripts_of patches) ≡ length (lent_scripts callbacks) = number ∙ sym (length-map callbacks (λ (t : LentCallback). t.script)) in
+    let again = patches_again names (lent_scripts callbacks) 0 patches in
     subst (λ s. IsMade callbacks s patches) (sym kept)
     (record {
       patches = again;
-      scripts = scripts_again names (scripts_told callbacks) patches scripts;
+      scripts = scripts_again names (lent_scripts callbacks) patches scripts;
       shape = counted_each names callbacks patches number;
-      limits = few_same (patches_in (scripts_told callbacks) (stored_patches names 0 patches)) patches again few;
+      limits = few_same (patches_in (lent_scripts callbacks) (stored_patches names 0 patches)) patches again few;
     })

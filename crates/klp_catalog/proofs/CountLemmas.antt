@@ -8,8 +8,8 @@ use Rattle.std.proofs.lemmas.List.Quantifiers.{position-Some}
 use Rattle.klp_types.specs.declared.callback.Which.{Which}
 use Rattle.klp_types.specs.Callbacks.{Call, is_kind}
 use Rattle.klp_types.specs.Script.{Script}
-use Rattle.klp_callback.specs.Told.{Told, counted}
-use Rattle.klp_catalog.specs.Assembled.{counts_told}
+use Rattle.klp_callback.specs.LentCallback.{LentCallback, counted}
+use Rattle.klp_catalog.specs.Assembled.{lent_counts}
 use Rattle.klp_catalog.specs.Catalog.{Catalog}
 use Rattle.klp_catalog.specs.Runs.{callback_ids, objects_at, place_of, after_runs, runs_of, callback_runs, RunsAddUp}
 use Rattle.klp_catalog.specs.Counts.{CallbackId, is_callback, times, grown, counts_after, runs_after}
@@ -155,25 +155,25 @@ module _ (patch place : ℕ) (which : Which) (script : Script) where
   nothing_grows (id ∷ ids) (count ∷ counts) none = λ i. other_ran id count none.0 i ∷ nothing_grows ids counts none.1 i
 
   -- the callback of a number ran
-  pub one_grows : (n m k : ℕ) (ids : List CallbackId) (callbacks : List Told) (item new : Told)
+  pub one_grows : (n m k : ℕ) (ids : List CallbackId) (callbacks : List LentCallback) (item new : LentCallback)
       → IsOnly (is_callback patch place which) n ids (Some m) → m ≡ n + k → k < length callbacks → item ≡ get_or callbacks k item → new ≡ record item { runs = counted item.runs }
-      → counts_told (set callbacks k new) ≡ counts_after call ids (counts_told callbacks)
+      → lent_counts (set callbacks k new) ≡ counts_after call ids (lent_counts callbacks)
   one_grows n m k [] callbacks item new only at below is ran = let no : ⊥ = cc in absurd no
   one_grows n m k (id ∷ ids) [] item new only at below is ran = absurd (omega arith)
   one_grows n m zero (id ∷ ids) (c ∷ cs) item new only at below is ran = by (is_callback patch place which id) refl only
     where
       by : (b : Bool) → is_callback patch place which id ≡ b → Case b ((◌≡◌ {A = Option ℕ} (Some m) (Some n)) × Nowhere (is_callback patch place which) ids) (IsOnly (is_callback patch place which) (n + 1) ids (Some m))
-          → new.runs ∷ counts_told cs ≡ grown (times id.patch id.place id.which call) c.runs ∷ counts_after call ids (counts_told cs)
+          → new.runs ∷ lent_counts cs ≡ grown (times id.patch id.place id.which call) c.runs ∷ counts_after call ids (lent_counts cs)
       by true e h =
           let first : new.runs ≡ grown (times id.patch id.place id.which call) c.runs =
-          ap (λ (t : Told). t.runs) ran ∙ ap (λ (t : Told). counted t.runs) is ∙ sym (this_ran id c.runs e) in
-          λ i. first i ∷ sym (nothing_grows ids (counts_told cs) h.1) i
+          ap (λ (t : LentCallback). t.runs) ran ∙ ap (λ (t : LentCallback). counted t.runs) is ∙ sym (this_ran id c.runs e) in
+          λ i. first i ∷ sym (nothing_grows ids (lent_counts cs) h.1) i
       by false e h = let later = only-within (is_callback patch place which) (n + 1) ids m h in absurd (omega (arith, later.0))
   one_grows n m (suc k) (id ∷ ids) (c ∷ cs) item new only at below is ran =
       by (λ h. one_grows (n + 1) m k ids cs item new h (omega arith) (omega arith) is ran) (is_callback patch place which id) refl only
     where
-      by : (IsOnly (is_callback patch place which) (n + 1) ids (Some m) → counts_told (set cs k new) ≡ counts_after call ids (counts_told cs)) → (b : Bool) → is_callback patch place which id ≡ b → Case b ((◌≡◌ {A = Option ℕ} (Some m) (Some n)) × Nowhere (is_callback patch place which) ids) (IsOnly (is_callback patch place which) (n + 1) ids (Some m))
-          → c.runs ∷ counts_told (set cs k new) ≡ grown (times id.patch id.place id.which call) c.runs ∷ counts_after call ids (counts_told cs)
+      by : (IsOnly (is_callback patch place which) (n + 1) ids (Some m) → lent_counts (set cs k new) ≡ counts_after call ids (lent_counts cs)) → (b : Bool) → is_callback patch place which id ≡ b → Case b ((◌≡◌ {A = Option ℕ} (Some m) (Some n)) × Nowhere (is_callback patch place which) ids) (IsOnly (is_callback patch place which) (n + 1) ids (Some m))
+          → c.runs ∷ lent_counts (set cs k new) ≡ grown (times id.patch id.place id.which call) c.runs ∷ counts_after call ids (lent_counts cs)
       by later true e h =
           let first : ◌≡◌ {A = Option ℕ} (Some m) (Some n) = h.0 in
           let same : m ≡ n = cc in

@@ -11,14 +11,14 @@ use Rattle.klp_types.specs.Callbacks.{is_kind, script_for, call_of, after_calls}
 use Rattle.klp_types.specs.World.{World}
 use Rattle.klp_types.specs.Records.{RecordList}
 use Rattle.klp_types.specs.declared.record.Record.{Record}
-use Rattle.klp_world.specs.Noted.{rows_of_script}
+use Rattle.klp_world.specs.StoredEvent.{rows_of_script}
 use Rattle.klp_world.specs.Changes.{Changes}
 use Rattle.std.proofs.lemmas.List.{append-nil}
 use Rattle.klp_types.specs.Script.{Script, alloc_count, is_alloc, effect}
 use Rattle.klp_types.specs.declared.edit.Edit.{Edit}
 use Rattle.klp_modules.specs.Names.{ObjectNames}
-use Rattle.klp_callback.specs.Told.{Told, counted}
-use Rattle.klp_catalog.specs.Assembled.{scripts_told, counts_told}
+use Rattle.klp_callback.specs.LentCallback.{LentCallback, counted}
+use Rattle.klp_catalog.specs.Assembled.{lent_scripts, lent_counts}
 use Rattle.klp_catalog.specs.Catalog.{Catalog, patch_object, setting_patch}
 use Rattle.klp_catalog.specs.Counts.{is_callback, counts_after}
 use Rattle.klp_catalog.specs.Runs.{callbacks_of, objects_at, script_at, callback_ids, after_runs, runs_of, place_of, rows_if}
@@ -104,15 +104,15 @@ slice_get-at (x ∷ xs) (suc n) d lt = slice_get-at xs n d (omega arith)
 pub seen_here : {A : Type 0} (xs : List A) (n p : ℕ) (item : A) → n ≡ p → n < length xs → item ≡ get_or xs n item → slice_get xs p ≡ Some item
 seen_here xs n p item same lt at = ap (slice_get xs) (sym same) ∙ slice_get-at xs n item lt ∙ ap Some (sym at)
 
-script_told-at : (callbacks : List Told) (n : ℕ) (d : Told) → n < length callbacks → script_number (scripts_told callbacks) n ≡ (get_or callbacks n d).script
-script_told-at [] n d lt = absurd (omega arith)
-script_told-at (c ∷ cs) zero d lt = refl
-script_told-at (c ∷ cs) (suc n) d lt = script_told-at cs n d (omega arith)
+lent_script-at : (callbacks : List LentCallback) (n : ℕ) (d : LentCallback) → n < length callbacks → script_number (lent_scripts callbacks) n ≡ (get_or callbacks n d).script
+lent_script-at [] n d lt = absurd (omega arith)
+lent_script-at (c ∷ cs) zero d lt = refl
+lent_script-at (c ∷ cs) (suc n) d lt = lent_script-at cs n d (omega arith)
 
-count_told-at : (callbacks : List Told) (n : ℕ) (d : Told) → n < length callbacks → slice_get (counts_told callbacks) n ≡ Some (get_or callbacks n d).runs
-count_told-at [] n d lt = absurd (omega arith)
-count_told-at (c ∷ cs) zero d lt = refl
-count_told-at (c ∷ cs) (suc n) d lt = count_told-at cs n d (omega arith)
+lent_count-at : (callbacks : List LentCallback) (n : ℕ) (d : LentCallback) → n < length callbacks → slice_get (lent_counts callbacks) n ≡ Some (get_or callbacks n d).runs
+lent_count-at [] n d lt = absurd (omega arith)
+lent_count-at (c ∷ cs) zero d lt = refl
+lent_count-at (c ∷ cs) (suc n) d lt = lent_count-at cs n d (omega arith)
 
 pub few_allocs : (edits : List Edit) → alloc_count edits ≤ length edits
 few_allocs [] = omega arith
@@ -123,39 +123,39 @@ few_allocs (edit ∷ edits) = by (is_alloc edit) (few_allocs edits)
     by false few = omega arith
 
 -- in a catalog that is kept so, by the number that is kept of a callback
-module _ {names : List ObjectNames} {symbols : List ℕ} {patch_names : List (List ℕ)} (stored : List StoredPatch) (callbacks : List Told) (catalog : Catalog)
-    (view : ◌≡◌ {A = Catalog} (record { names = names; patches = patches_in (scripts_told callbacks) stored; runs = counts_told callbacks }) catalog)
-    (kept : IsStored names symbols patch_names stored (scripts_told callbacks) (counts_told callbacks)) (p o : ℕ) (which : Which) where
-  only : IsOnly (is_callback p o which) 0 (callback_ids (patches_in (scripts_told callbacks) stored)) (number_of stored p o which)
+module _ {names : List ObjectNames} {symbols : List ℕ} {patch_names : List (List ℕ)} (stored : List StoredPatch) (callbacks : List LentCallback) (catalog : Catalog)
+    (view : ◌≡◌ {A = Catalog} (record { names = names; patches = patches_in (lent_scripts callbacks) stored; runs = lent_counts callbacks }) catalog)
+    (kept : IsStored names symbols patch_names stored (lent_scripts callbacks) (lent_counts callbacks)) (p o : ℕ) (which : Which) where
+  only : IsOnly (is_callback p o which) 0 (callback_ids (patches_in (lent_scripts callbacks) stored)) (number_of stored p o which)
   only =
-      subst (λ s. IsOnly (is_callback p o which) 0 (callback_ids (patches_in (scripts_told callbacks) stored)) (number_of s p o which)) (sym kept.kept)
-      (number_only names (patches_in (scripts_told callbacks) stored) p o which kept.few.each_within)
+      subst (λ s. IsOnly (is_callback p o which) 0 (callback_ids (patches_in (lent_scripts callbacks) stored)) (number_of s p o which)) (sym kept.kept)
+      (number_only names (patches_in (lent_scripts callbacks) stored) p o which kept.few.each_within)
 
-  script_found : script_at catalog p o which ≡ option_map (script_number (scripts_told callbacks)) (number_of stored p o which)
-  script_found = script_is names stored (scripts_told callbacks) (counts_told callbacks) catalog view p o which
+  script_found : script_at catalog p o which ≡ option_map (script_number (lent_scripts callbacks)) (number_of stored p o which)
+  script_found = script_is names stored (lent_scripts callbacks) (lent_counts callbacks) catalog view p o which
 
-  runs_found : runs_of catalog p o which ≡ option_and_then (slice_get (counts_told callbacks)) (number_of stored p o which)
+  runs_found : runs_of catalog p o which ≡ option_and_then (slice_get (lent_counts callbacks)) (number_of stored p o which)
   runs_found =
       ap (λ c. runs_of c p o which) (sym view)
-      ∙ ap (option_and_then (slice_get (counts_told callbacks)))
-      (position-is (is_callback p o which) (callback_ids (patches_in (scripts_told callbacks) stored))
-      ∙ sym (only-position (is_callback p o which) 0 (callback_ids (patches_in (scripts_told callbacks) stored)) (number_of stored p o which) only))
+      ∙ ap (option_and_then (slice_get (lent_counts callbacks)))
+      (position-is (is_callback p o which) (callback_ids (patches_in (lent_scripts callbacks) stored))
+      ∙ sym (only-position (is_callback p o which) 0 (callback_ids (patches_in (lent_scripts callbacks) stored)) (number_of stored p o which) only))
 
   -- whether there is such a callback
   pub is_there : is_some (number_of stored p o which) ≡ is_some (script_at catalog p o which)
   is_there = by (number_of stored p o which) ∙ sym (ap is_some script_found)
     where
-      by : (number : Option ℕ) → is_some number ≡ is_some (option_map (script_number (scripts_told callbacks)) number)
+      by : (number : Option ℕ) → is_some number ≡ is_some (option_map (script_number (lent_scripts callbacks)) number)
       by None = refl
       by (Some n) = refl
 
   -- there is no such callback
   module _ (none : None ≡ number_of stored p o which) where
     pub no_script : script_at catalog p o which ≡ None
-    no_script = script_found ∙ ap (option_map (script_number (scripts_told callbacks))) (sym none)
+    no_script = script_found ∙ ap (option_map (script_number (lent_scripts callbacks))) (sym none)
 
     pub no_runs : runs_of catalog p o which ≡ None
-    no_runs = runs_found ∙ ap (option_and_then (slice_get (counts_told callbacks))) (sym none)
+    no_runs = runs_found ∙ ap (option_and_then (slice_get (lent_counts callbacks))) (sym none)
 
     pub idle : catalog ≡ after_runs catalog (call_of p o which (script_at catalog p o which))
     idle = sym (ap (λ script. after_runs catalog (call_of p o which script)) no_script ∙ add_up.none catalog)
@@ -164,41 +164,41 @@ module _ {names : List ObjectNames} {symbols : List ℕ} {patch_names : List (Li
   module _ (n : ℕ) (some : Some n ≡ number_of stored p o which) where
     pub within : n < length callbacks
     within =
-        let place = only-within (is_callback p o which) 0 (callback_ids (patches_in (scripts_told callbacks) stored)) n
-        (subst (IsOnly (is_callback p o which) 0 (callback_ids (patches_in (scripts_told callbacks) stored))) (sym some) only) in
-        omega (arith, place.1, kept.counted, length-map callbacks (λ (t : Told). t.runs))
+        let place = only-within (is_callback p o which) 0 (callback_ids (patches_in (lent_scripts callbacks) stored)) n
+        (subst (IsOnly (is_callback p o which) 0 (callback_ids (patches_in (lent_scripts callbacks) stored))) (sym some) only) in
+        omega (arith, place.1, kept.counted, length-map callbacks (λ (t : LentCallback). t.runs))
 
-    module _ (item : Told) (is : item ≡ get_or callbacks n item) where
+    module _ (item : LentCallback) (is : item ≡ get_or callbacks n item) where
       pub the_script : script_at catalog p o which ≡ Some item.script
       the_script =
-          script_found ∙ ap (option_map (script_number (scripts_told callbacks))) (sym some)
-          ∙ ap Some (script_told-at callbacks n item within ∙ sym (ap (λ (t : Told). t.script) is))
+          script_found ∙ ap (option_map (script_number (lent_scripts callbacks))) (sym some)
+          ∙ ap Some (lent_script-at callbacks n item within ∙ sym (ap (λ (t : LentCallback). t.script) is))
 
       pub the_runs : runs_of catalog p o which ≡ Some item.runs
       the_runs =
-          runs_found ∙ ap (option_and_then (slice_get (counts_told callbacks))) (sym some)
-          ∙ count_told-at callbacks n item within ∙ sym (ap (λ (t : Told). Some t.runs) is)
+          runs_found ∙ ap (option_and_then (slice_get (lent_counts callbacks))) (sym some)
+          ∙ lent_count-at callbacks n item within ∙ sym (ap (λ (t : LentCallback). Some t.runs) is)
 
-      module _ (new : Told) (ran : new ≡ record item { runs = counted item.runs }) where
-        scripts_stay : scripts_told (set callbacks n new) ≡ scripts_told callbacks
-        scripts_stay = map-set_same (λ (t : Told). t.script) callbacks n new item (ap (λ (t : Told). t.script) ran ∙ ap (λ (t : Told). t.script) is)
+      module _ (new : LentCallback) (ran : new ≡ record item { runs = counted item.runs }) where
+        scripts_stay : lent_scripts (set callbacks n new) ≡ lent_scripts callbacks
+        scripts_stay = map-set_same (λ (t : LentCallback). t.script) callbacks n new item (ap (λ (t : LentCallback). t.script) ran ∙ ap (λ (t : LentCallback). t.script) is)
 
-        counts_grow : counts_told (set callbacks n new)
-            ≡ counts_after (record { patch = p; place = o; which = which; script = item.script } ∷ []) (callback_ids (patches_in (scripts_told callbacks) stored)) (counts_told callbacks)
+        counts_grow : lent_counts (set callbacks n new)
+            ≡ counts_after (record { patch = p; place = o; which = which; script = item.script } ∷ []) (callback_ids (patches_in (lent_scripts callbacks) stored)) (lent_counts callbacks)
         counts_grow =
-            one_grows p o which item.script 0 n n (callback_ids (patches_in (scripts_told callbacks) stored)) callbacks item new
-            (subst (IsOnly (is_callback p o which) 0 (callback_ids (patches_in (scripts_told callbacks) stored))) (sym some) only) (omega arith) within is ran
+            one_grows p o which item.script 0 n n (callback_ids (patches_in (lent_scripts callbacks) stored)) callbacks item new
+            (subst (IsOnly (is_callback p o which) 0 (callback_ids (patches_in (lent_scripts callbacks) stored))) (sym some) only) (omega arith) within is ran
 
-        pub has_run : ◌≡◌ {A = Catalog} (record { names = names; patches = patches_in (scripts_told (set callbacks n new)) stored; runs = counts_told (set callbacks n new) })
+        pub has_run : ◌≡◌ {A = Catalog} (record { names = names; patches = patches_in (lent_scripts (set callbacks n new)) stored; runs = lent_counts (set callbacks n new) })
             (after_runs catalog (call_of p o which (script_at catalog p o which)))
         has_run =
             (λ i. record { names = names; patches = patches_in (scripts_stay i) stored; runs = counts_grow i })
             ∙ ap (λ c. after_runs c (record { patch = p; place = o; which = which; script = item.script } ∷ [])) view
             ∙ sym (ap (λ script. after_runs catalog (call_of p o which script)) the_script)
 
-        pub kept_so : IsStored names symbols patch_names stored (scripts_told (set callbacks n new)) (counts_told (set callbacks n new))
+        pub kept_so : IsStored names symbols patch_names stored (lent_scripts (set callbacks n new)) (lent_counts (set callbacks n new))
         kept_so =
-            subst (λ scripts. IsStored names symbols patch_names stored scripts (counts_told (set callbacks n new))) (sym scripts_stay)
+            subst (λ scripts. IsStored names symbols patch_names stored scripts (lent_counts (set callbacks n new))) (sym scripts_stay)
             (record {
               sizes = kept.sizes;
               by_name = kept.by_name;
@@ -208,8 +208,8 @@ module _ {names : List ObjectNames} {symbols : List ℕ} {patch_names : List (Li
               counted = omega (
                 arith,
                 kept.counted,
-                length-map callbacks (λ (t : Told). t.runs),
-                length-map (set callbacks n new) (λ (t : Told). t.runs),
+                length-map callbacks (λ (t : LentCallback). t.runs),
+                length-map (set callbacks n new) (λ (t : LentCallback). t.runs),
                 length-set callbacks n new,
               );
             })
@@ -221,10 +221,10 @@ pub idle_changes : (patch place : ℕ) (which : Which) (world : World) (log : Re
     → Changes world world log log (after_calls world (call_of patch place which script)) (rows_if patch world script)
 idle_changes patch place which world log script none =
     subst (λ s. Changes world world log log (after_calls world (call_of patch place which s)) (rows_if patch world s)) (sym none)
-    (record { world = refl; records = ap (λ (rows : List Record). record log { noted = rows }) (sym (append-nil log.noted)); undo = refl; told = tt })
+    (record { world = refl; records = ap (λ (rows : List Record). record log { logged = rows }) (sym (append-nil log.logged)); undo = refl; effective = tt })
 
-pub run_changes : (patch place : ℕ) (which : Which) (world after : World) (log logged : RecordList) (script : Option Script) (own : Script) → script ≡ Some own
-    → Changes world after log logged (effect patch world own) (rows_of_script patch world own)
-    → Changes world after log logged (after_calls world (call_of patch place which script)) (rows_if patch world script)
-run_changes patch place which world after log logged script own some changes =
-    subst (λ s. Changes world after log logged (after_calls world (call_of patch place which s)) (rows_if patch world s)) (sym some) changes
+pub run_changes : (patch place : ℕ) (which : Which) (world after : World) (log log_after : RecordList) (script : Option Script) (own : Script) → script ≡ Some own
+    → Changes world after log log_after (effect patch world own) (rows_of_script patch world own)
+    → Changes world after log log_after (after_calls world (call_of patch place which script)) (rows_if patch world script)
+run_changes patch place which world after log log_after script own some changes =
+    subst (λ s. Changes world after log log_after (after_calls world (call_of patch place which s)) (rows_if patch world s)) (sym some) changes

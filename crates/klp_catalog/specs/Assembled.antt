@@ -5,7 +5,7 @@ use Rattle.klp_catalog.specs.declared.assemble.AssembleFault.{AssembleFault}
 use Rattle.klp_catalog.specs.declared.assemble.AssembleFault.TheVariants.{WrongCallbacks, SameSite, NoMemory}
 use Rattle.klp_types.specs.Setting.{Callback}
 use Rattle.klp_types.specs.Script.{Script}
-use Rattle.klp_callback.specs.Told.{Told}
+use Rattle.klp_callback.specs.LentCallback.{LentCallback}
 use Rattle.klp_catalog_text.specs.Plan.{PlanTarget, PlanPatch}
 use Rattle.klp_catalog_text.specs.Scripts.{scripts_of}
 use Rattle.klp_catalog.specs.Catalog.{CatalogFunction, some_same_site}
@@ -21,11 +21,11 @@ abbrev pub without_scripts : PlanPatch → PlanPatch
 without_scripts patch = record patch { targets = map target_without_scripts patch.targets }
 
 -- the scripts and the counts that callbacks tell
-abbrev pub scripts_told : List Told → List Script
-scripts_told callbacks = map (λ (t : Told). t.script) callbacks
+abbrev pub lent_scripts : List LentCallback → List Script
+lent_scripts callbacks = map (λ (t : LentCallback). t.script) callbacks
 
-abbrev pub counts_told : List Told → List ℕ
-counts_told callbacks = map (λ (t : Told). t.runs) callbacks
+abbrev pub lent_counts : List LentCallback → List ℕ
+lent_counts callbacks = map (λ (t : LentCallback). t.runs) callbacks
 
 -- why a plan is refused, with so many callbacks: there isn't one for each script; else two functions are for one site; want
 -- of memory may stand in place of the others

@@ -6,7 +6,7 @@ use Rattle.klp_types.specs.Setting.{PatchObject, Callback, patch_objects}
 use Rattle.klp_types.specs.Callbacks.{Call, script_for}
 use Rattle.klp_types.specs.Script.{Script, alloc_count}
 use Rattle.klp_types.specs.World.{World}
-use Rattle.klp_world.specs.Noted.{rows_of_script}
+use Rattle.klp_world.specs.StoredEvent.{rows_of_script}
 use Rattle.klp_catalog_text.specs.Plan.{PlanTarget, PlanPatch}
 use Rattle.klp_catalog.specs.Catalog.{Catalog, patches_of}
 use Rattle.klp_catalog.specs.Counts.{CallbackId, is_callback, runs_after}

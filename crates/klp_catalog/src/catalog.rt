@@ -6,7 +6,7 @@ ghost use Rattle.klp_types.specs.Setting.{PatchObject};
 ghost use Rattle.klp_types.specs.Callbacks.{call_of, after_calls};
 ghost use Rattle.klp_types.specs.Script.{Script as ScriptOfEdits, alloc_count};
 ghost use Rattle.klp_world.specs.Changes.{Changes, HasRoom};
-ghost use Rattle.klp_world.specs.Noted.{rows_of_script};
+ghost use Rattle.klp_world.specs.StoredEvent.{rows_of_script};
 ghost use Rattle.klp_catalog_text.specs.Plan.{PlanPatch as PatchValue};
 ghost use Rattle.klp_catalog_text.specs.Text.{plan_of, IsFaultOf};
 ghost use Rattle.klp_catalog_text.specs.Within.{AreTargetsWithin};
@@ -17,7 +17,7 @@ ghost use Rattle.klp_catalog.specs.Runs.{HasCounts, objects_at, place_of, script
 ghost use Rattle.klp_catalog.specs.Limits.{AreWithin};
 ghost use Rattle.klp_catalog.specs.Patch.{IsPatch, IsAbsent, KeepsTo};
 ghost use Rattle.klp_catalog_text.specs.Scripts.{scripts_of};
-ghost use Rattle.klp_catalog.specs.Assembled.{IsAssembleFault, LiesInObject, without_scripts, scripts_told, counts_told};
+ghost use Rattle.klp_catalog.specs.Assembled.{IsAssembleFault, LiesInObject, without_scripts, lent_scripts, lent_counts};
 
 use crate::assemble::{AssembleFault, assemble_patches, symbol_counts};
 use crate::function::CatalogFunction;
@@ -26,8 +26,8 @@ use crate::patch::CatalogPatch;
 use arrayvec::ArrayVec;
 use klp_callback::Boxed;
 use klp_catalog_text::{Plan, TextFault};
-use klp_modules::Modules;
 use klp_journal::Records;
+use klp_modules::Modules;
 use klp_types::{
     MAX_EDITS, MAX_FUNCTIONS, MAX_PATCHES, MAX_STATES, MAX_TARGETS, ObjId, PatchId, Site, Which,
 };
@@ -58,14 +58,14 @@ pub struct Catalog {
 
 impl Model for Catalog {
     ghost use Rattle.klp_catalog.specs.Catalog.{Catalog};
-    ghost use Rattle.klp_catalog.specs.Assembled.{scripts_told, counts_told};
+    ghost use Rattle.klp_catalog.specs.Assembled.{lent_scripts, lent_counts};
     ghost use Rattle.klp_catalog.specs.Stored.{IsStored, patches_in};
 
     ghost Value = { Catalog };
 
-    ghost view = { λ c. record { names = c.over.value.names; patches = patches_in (scripts_told c.callbacks.items) c.patches.items; runs = counts_told c.callbacks.items } };
+    ghost view = { λ c. record { names = c.over.value.names; patches = patches_in (lent_scripts c.callbacks.items) c.patches.items; runs = lent_counts c.callbacks.items } };
 
-    ghost invariant = { λ c. IsStored c.over.value.names c.symbols.items c.names c.patches.items (scripts_told c.callbacks.items) (counts_told c.callbacks.items) };
+    ghost invariant = { λ c. IsStored c.over.value.names c.symbols.items c.names c.patches.items (lent_scripts c.callbacks.items) (lent_counts c.callbacks.items) };
 }
 
 impl Catalog {
@@ -104,8 +104,8 @@ impl Catalog {
         ensures names { IfOk result (λ catalog. catalog.names ≡ modules.now.names) }
         ensures patches { IfOk result
             (λ catalog. map without_scripts catalog.patches ≡ map without_scripts plan.patches) }
-        ensures scripts { IfOk result (λ catalog. scripts_of catalog.patches ≡ scripts_told callbacks.items) }
-        ensures counts { IfOk result (λ catalog. catalog.runs ≡ counts_told callbacks.items) }
+        ensures scripts { IfOk result (λ catalog. scripts_of catalog.patches ≡ lent_scripts callbacks.items) }
+        ensures counts { IfOk result (λ catalog. catalog.runs ≡ lent_counts callbacks.items) }
         ensures shape { IfOk result (λ catalog. HasCounts catalog.patches catalog.runs) }
         ensures limits { IfOk result (λ catalog. AreWithin catalog.patches) }
         ensures number { IfOk result (λ catalog. length (scripts_of plan.patches) ≡ length callbacks.items) }

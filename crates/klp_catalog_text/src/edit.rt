@@ -8,7 +8,7 @@ use crate::fault::TextFaultKind;
 use crate::lines::is_word;
 use arrayvec::ArrayVec;
 use klp_types::{Edit, MAX_EDITS, Script, ShadowKey};
-use klp_words::{Words, number64, position_of, shadow_value, signed};
+use klp_words::{LineWords, number64, position_of, shadow_value, signed};
 use std::alloc::Global;
 use std::marker::Model;
 
@@ -154,7 +154,7 @@ fn edit(word: &[u8]) -> Result<Edit, TextFaultKind>
 
 /// The edits that the words are, of which there may be too many: whether that matters is known only when
 /// the line has its place.
-fn edits(alloc: Global, words: &mut Words<'_>) -> Result<Vec<Edit>, TextFaultKind>
+fn edits(alloc: Global, words: &mut LineWords<'_>) -> Result<Vec<Edit>, TextFaultKind>
     ensures { Gives (λ e. e.items) result (edits_of words.old) }
 {
     let mut edits = Vec::new(alloc);
@@ -196,7 +196,11 @@ impl ScriptText {
 }
 
 /// The script of a callback that fails: it has no edits, since a callback that refuses changes nothing.
-fn failure(alloc: Global, status: i32, words: &mut Words<'_>) -> Result<ScriptText, TextFaultKind>
+fn failure(
+    alloc: Global,
+    status: i32,
+    words: &mut LineWords<'_>,
+) -> Result<ScriptText, TextFaultKind>
     ensures { Gives (λ s. s) result (failure_of status words.old) }
 {
     if words.next().is_some() {
@@ -209,7 +213,7 @@ fn failure(alloc: Global, status: i32, words: &mut Words<'_>) -> Result<ScriptTe
 }
 
 /// The script of a callback: its status, and with status 0 its edits.
-pub(crate) fn script(alloc: Global, words: &mut Words<'_>) -> Result<ScriptText, TextFaultKind>
+pub(crate) fn script(alloc: Global, words: &mut LineWords<'_>) -> Result<ScriptText, TextFaultKind>
     ensures { Gives (λ s. s) result (script_of words.old) }
 {
     let Some(word) = words.next() else {

@@ -20,7 +20,7 @@ pub fn texts_say_this()
 
 /// The first faulty line is told, where every line counts from 1. What no line is at fault for is told of
 /// line 0.
-pub fn the_first_faulty_line_is_told()
+pub fn the_first_faulty_line_is_reported()
     ensures cut { plan_of
         (codes "handler ffffffff81000000\nobject vmlinux\nsymbol f ffffffff81001000 e80000000090c3\npatch p\ntarget vmlinux\nfunc .klp.sym.vmlinux.f,0")
         ≡ Err (record { line = 6; kind = WrongCount }) }

@@ -2,7 +2,7 @@
 //! do.
 //!
 //! A text is cut into lines (`src/lines.rt`) and a line into words (`klp_words`). [`CatalogLine::read`]
-//! answers what the words mean by themselves (`specs/Lines`, `Words`, `Edits`), the first of their faults in
+//! answers what the words mean by themselves (`specs/Lines`, `LineWords`, `Edits`), the first of their faults in
 //! a fixed order, or want of memory (`specs/Gives`); a script has at most 16 edits. Then each line is put in
 //! its place in the [`Plan`] (`src/draft.rt`, `specs/Draft`). [`read`] answers the plan of the text, the
 //! first faulty line and its kind, or want of memory at a line before which none is faulty. `specs/Text`

@@ -10,7 +10,7 @@ use crate::items::{Name, PlanFunction, SystemState};
 use crate::lines::{is_word, three_words};
 use crate::{edit, words};
 use klp_types::{MAX_LINE, SymbolText, Which};
-use klp_words::{Words, hexadecimal, is_ascii, number32, number64};
+use klp_words::{LineWords, hexadecimal, is_ascii, number32, number64};
 use std::alloc::Global;
 
 /// The word that a line begins with.
@@ -77,7 +77,7 @@ fn keyword_of(word: &[u8]) -> Option<Keyword>
     }
 }
 
-fn handler_line(words: &mut Words<'_>) -> Result<CatalogLine, TextFaultKind>
+fn handler_line(words: &mut LineWords<'_>) -> Result<CatalogLine, TextFaultKind>
     ensures { Gives (λ l. l) result (handler_line words.old) }
 {
     let (Some(address), None) = (words.next(), words.next()) else {
@@ -90,7 +90,7 @@ fn handler_line(words: &mut Words<'_>) -> Result<CatalogLine, TextFaultKind>
 }
 
 /// The name in a line that has nothing else behind its first word.
-fn only_name(alloc: Global, words: &mut Words<'_>) -> Result<Name, TextFaultKind>
+fn only_name(alloc: Global, words: &mut LineWords<'_>) -> Result<Name, TextFaultKind>
     ensures { Gives (λ n. n) result (only_name words.old) }
 {
     let (Some(name), None) = (words.next(), words.next()) else {
@@ -100,14 +100,14 @@ fn only_name(alloc: Global, words: &mut Words<'_>) -> Result<Name, TextFaultKind
 }
 
 #[tactic(auto, using(crate::proofs::CountLemmas::object_by))]
-fn object_line(alloc: Global, words: &mut Words<'_>) -> Result<CatalogLine, TextFaultKind>
+fn object_line(alloc: Global, words: &mut LineWords<'_>) -> Result<CatalogLine, TextFaultKind>
     ensures { Gives (λ l. l) result (object_line words.old) }
 {
     Ok(CatalogLine::Object(only_name(alloc, words)?))
 }
 
 #[tactic(auto, using(crate::proofs::CountLemmas::symbol_count))]
-fn symbol_line(alloc: Global, words: &mut Words<'_>) -> Result<CatalogLine, TextFaultKind>
+fn symbol_line(alloc: Global, words: &mut LineWords<'_>) -> Result<CatalogLine, TextFaultKind>
     ensures { Gives (λ l. l) result (symbol_line words.old) }
 {
     let Some((name, address, body)) = three_words(words) else {
@@ -129,7 +129,7 @@ fn symbol_line(alloc: Global, words: &mut Words<'_>) -> Result<CatalogLine, Text
 fn replace_line(
     alloc: Global,
     name: &[u8],
-    words: &mut Words<'_>,
+    words: &mut LineWords<'_>,
 ) -> Result<CatalogLine, TextFaultKind>
     ensures { Gives (λ l. l) result (replace_line name.now words.old) }
 {
@@ -139,7 +139,7 @@ fn replace_line(
     Ok(CatalogLine::Patch(words::name(alloc, name)?, true))
 }
 
-fn patch_line(alloc: Global, words: &mut Words<'_>) -> Result<CatalogLine, TextFaultKind>
+fn patch_line(alloc: Global, words: &mut LineWords<'_>) -> Result<CatalogLine, TextFaultKind>
     ensures { Gives (λ l. l) result (patch_line words.old) }
 {
     let Some(name) = words.next() else {
@@ -153,7 +153,7 @@ fn patch_line(alloc: Global, words: &mut Words<'_>) -> Result<CatalogLine, TextF
 }
 
 #[tactic(auto, using(crate::proofs::CountLemmas::target_by))]
-fn target_line(alloc: Global, words: &mut Words<'_>) -> Result<CatalogLine, TextFaultKind>
+fn target_line(alloc: Global, words: &mut LineWords<'_>) -> Result<CatalogLine, TextFaultKind>
     ensures { Gives (λ l. l) result (target_line words.old) }
 {
     Ok(CatalogLine::Target(only_name(alloc, words)?))
@@ -163,7 +163,7 @@ fn target_line(alloc: Global, words: &mut Words<'_>) -> Result<CatalogLine, Text
 fn func_line(
     alloc: Global,
     target: Option<&str>,
-    words: &mut Words<'_>,
+    words: &mut LineWords<'_>,
 ) -> Result<CatalogLine, TextFaultKind>
     ensures { Gives (λ l. l) result (func_line (option_copied target.entry) words.old) }
 {
@@ -186,14 +186,14 @@ fn func_line(
 fn callback_line(
     alloc: Global,
     which: Which,
-    words: &mut Words<'_>,
+    words: &mut LineWords<'_>,
 ) -> Result<CatalogLine, TextFaultKind>
     ensures { Gives (λ l. l) result (callback_line which words.old) }
 {
     Ok(CatalogLine::Callback(which, edit::script(alloc, words)?))
 }
 
-fn state_line(words: &mut Words<'_>) -> Result<CatalogLine, TextFaultKind>
+fn state_line(words: &mut LineWords<'_>) -> Result<CatalogLine, TextFaultKind>
     ensures { Gives (λ l. l) result (state_line words.old) }
 {
     let (Some(id), Some(version), None) = (words.next(), words.next(), words.next()) else {
@@ -219,7 +219,7 @@ impl CatalogLine {
         target: Option<&str>,
         text: &[u8],
         first: &[u8],
-        words: &mut Words<'_>,
+        words: &mut LineWords<'_>,
     ) -> Result<CatalogLine, TextFaultKind>
         ensures { Gives (λ l. l) result (line_of (option_copied target.entry) text.now first.now words.old) }
     {

@@ -2,7 +2,7 @@ ghost use Rattle.std.specs.Prelude.{◌≡◌, ◌≢◌, ℕ, List, ◌∷◌, 
 ghost use Rattle.std.specs.Str.Lines.{lines, strip_carriage_return};
 ghost use Rattle.klp_catalog_text.specs.Lines.{words_of};
 
-use klp_words::{Separators, Words, position_of};
+use klp_words::{LineWords, Separators, position_of};
 use std::marker::Model;
 
 /// The lines of a text that are still to be read. They are cut off one by one, so no list of them is kept.
@@ -62,10 +62,10 @@ fn without_carriage_return(line: &[u8]) -> &[u8]
 }
 
 /// The words of a line. Spaces and tabs separate them, as in what administrators write by hand.
-pub fn words_of(line: &[u8]) -> Words<'_>
+pub fn words_of(line: &[u8]) -> LineWords<'_>
     ensures { result ≡ words_of line.now }
 {
-    Words::new(line, Separators::SpacesAndTabs)
+    LineWords::new(line, Separators::SpacesAndTabs)
 }
 
 /// Whether a word is this one, byte by byte.
@@ -80,7 +80,7 @@ pub(crate) type ThreeWords<'a> = (&'a [u8], &'a [u8], &'a [u8]);
 
 /// The words of a line that has exactly three of them left. They are asked for all at once, since another
 /// number of them is reported before any word's own fault.
-pub(crate) fn three_words<'a>(words: &mut Words<'a>) -> Option<ThreeWords<'a>>
+pub(crate) fn three_words<'a>(words: &mut LineWords<'a>) -> Option<ThreeWords<'a>>
     ensures { MatchOption result (length words.old ≢ 3)
         (λ found. words.old ≡ found.0.now ∷ found.1.now ∷ found.2.now ∷ []) }
 {

@@ -6,7 +6,7 @@ use Rattle.std.proofs.lemmas.List.Folds.{list_all-append}
 use Rattle.std.proofs.KnownBytes.{Appends-trans}
 use Rattle.std.specs.Prelude.{nat_lt, find, option_map, Result}
 use Rattle.std.specs.Io.KnownBytes.{Appends}
-use Rattle.klp_core.specs.Journaled.{Journaled, Stands}
+use Rattle.klp_core.specs.Journaled.{Journaled, IsWellFormed}
 use Rattle.klp_console_io.specs.declared.marks.Mark.{Mark}
 use Rattle.klp_console_io.specs.Gathered.{Gathered}
 use Rattle.klp_console_io.specs.Marks.{ends_behind, events_at_cut}
@@ -81,7 +81,7 @@ record Found (now before : Journaled) (written taken place : ℕ) (lines : List 
   answers_are : answers ≡ (early ++ last ∷ []) ++ late
   left : Journaled
   answered : AreAnswered before left done (early ++ last ∷ [])
-  stands : Stands left
+  well_formed : IsWellFormed left
   back : CanGoBack left now
   events_are : events ≡ length left.groups
   starts : place + length (texts_of early) ≤ written + taken
@@ -116,7 +116,7 @@ found_at end now written taken place before (l ∷ ls) (x ∷ xs) (m ∷ ms) eve
       answers_are = refl;
       left = marked.0;
       answered = (marked.0, marked.1, refl);
-      stands = marked.1.stands;
+      well_formed = marked.1.well_formed;
       back = marked.2.back;
       events_are = same ∙ marked.2.events;
       starts = omega (arith, starts);
@@ -136,7 +136,7 @@ found_at end now written taken place before (l ∷ ls) (x ∷ xs) (m ∷ ms) eve
       answers_are = ap (λ (more : List Answer). x ∷ more) rest.answers_are;
       left = rest.left;
       answered = (marked.0, marked.1, rest.answered);
-      stands = rest.stands;
+      well_formed = rest.well_formed;
       back = rest.back;
       events_are = rest.events_are;
       starts = omega (arith, rest.starts, length-append x.text (texts_of rest.early));
@@ -252,7 +252,7 @@ cut_back a b c now lines ahead tail gone rest taken (inr quiet) cut written blam
     (omega (arith, has.all_written)) is in
     let led = back_on found.left b.manager now found.back quiet in
     let left : c.manager ≡ found.left = elim back [
-      | inl rewound ↦ back_to found.left now c.manager events found.stands led found.events_are rewound.1
+      | inl rewound ↦ back_to found.left now c.manager events found.well_formed led found.events_are rewound.1
       | inr bad ↦ absurd (omega (arith, bad.0, found.events_are, back_within found.left now led))
     ] in
     let early = has.early_answers ++ found.early in
@@ -343,15 +343,15 @@ quiet_if : (before after : Journaled) (request : Option (Result Request LineFaul
 quiet_if before after request answer marks done (inl can) = inr (line_back before after request answer can done)
 quiet_if before after request answer marks done (inr none) = inl none
 
-pub does_line : (b n : Moment) (line : List ℕ) (request : Option (Result Request LineFault)) (told : Bool) → request ≡ request_of (names_in b.manager) line
-    → IsSaid (IsDoneIf b.manager n.manager request) (hold b.said) n.said told → Stands n.manager → length line ≤ MAX_CONSOLE_LINE
-    → n.served.lines ≡ b.served.lines + 1 → n.served.refused ≡ b.served.refused + cond told 1 0
+pub does_line : (b n : Moment) (line : List ℕ) (request : Option (Result Request LineFault)) (sent : Bool) → request ≡ request_of (names_in b.manager) line
+    → IsSaid (IsDoneIf b.manager n.manager request) (hold b.said) n.said sent → IsWellFormed n.manager → length line ≤ MAX_CONSOLE_LINE
+    → n.served.lines ≡ b.served.lines + 1 → n.served.refused ≡ b.served.refused + cond sent 1 0
     → (can_be_taken_back b.manager request ≡ true) ⊎ (b.marks ≡ []) → Does b n line
-does_line b n line request told asked said stands short lines refused back =
-    let answer : Answer = record { text = said.0; is_refused = told } in
+does_line b n line request sent asked said well_formed short lines refused back =
+    let answer : Answer = record { text = said.0; is_refused = sent } in
     record {
       answer = answer;
-      is_answered = record { done = subst (λ question. IsDoneIf b.manager n.manager question answer) asked said.1; stands = stands };
+      is_answered = record { done = subst (λ question. IsDoneIf b.manager n.manager question answer) asked said.1; well_formed = well_formed };
       says = said.2;
       quiet = quiet_if b.manager n.manager request answer b.marks said.1 back;
       short = le-leb (length line) MAX_CONSOLE_LINE short;
@@ -482,7 +482,7 @@ next_cut a b n left lines line ahead does failed back =
             stops = record {
               early = serves.answers;
               last = does.answer;
-              told = refl;
+              sent = refl;
               gone = serves.gone ++ now.gone;
               rest = now.rest;
               cut = text ∙ cut;

@@ -22,15 +22,15 @@ use Rattle.klp_core.specs.Rewinding.{IsRewound}
 use Rattle.klp_core.specs.Taking.{Appends as AppendsGroup, unless_full}
 use Rattle.klp_console_commands.specs.declared.fault.LineFault.{LineFault}
 use Rattle.klp_console_commands.specs.declared.request.Request.{Request}
-use Rattle.klp_console_commands.specs.declared.request.Request.TheVariants.{Take, ForceNothing, Rewind, Seal, See}
+use Rattle.klp_console_commands.specs.declared.request.Request.TheVariants.{Take, ForceNothing, Rewind, Seal, Ask}
 use Rattle.klp_console_commands.specs.declared.request.Query.{Query}
-use Rattle.klp_console_commands.specs.declared.request.Query.TheVariants as look
+use Rattle.klp_console_commands.specs.declared.request.Query.TheVariants as query
 use Rattle.klp_console_commands.specs.Names.{NameResolver}
 use Rattle.klp_console_commands.specs.Lines.{request_of}
 use Rattle.klp_console.specs.Answered.{Answer, IsAnswered, IsTakenAs, IsRewoundAs, IsDone, IsDoneIf, names_in, replied, seen}
 use Rattle.klp_console.specs.Alike.{AreAlike, NoneIsFull}
 use Rattle.klp_console.specs.Lines.{AreAnswered, texts_of}
-use Rattle.klp_console.specs.Queries.{look_text}
+use Rattle.klp_console.specs.Queries.{query_text}
 use Rattle.klp_console.specs.Refusals.{refusal_text}
 use Rattle.klp_console.specs.Replies.{done_text, answer_text}
 use Rattle.klp_console.specs.Served.{Console, HasWriteFailed}
@@ -60,15 +60,15 @@ by_the_rules room (Err refusal) r is not = is
 by_the_rules true (Ok reply) r is not = is
 by_the_rules false (Ok reply) r is not = absurd (not is)
 
-told_by : (a a1 : Journaled) (event : Event) (x : Answer) → IsNotFull x → (taken : IsTakenAs a a1 event x) → taken.reply ≡ answer (setting_of a.managed) a.managed.state event
-told_by a a1 event x not taken =
+sent_by : (a a1 : Journaled) (event : Event) (x : Answer) → IsNotFull x → (taken : IsTakenAs a a1 event x) → taken.reply ≡ answer (setting_of a.managed) a.managed.state event
+sent_by a a1 event x not taken =
     by_the_rules (has_room a.groups) (answer (setting_of a.managed) a.managed.state event) taken.reply taken.taken.answered
-    (λ full. not (ap (λ (y : Answer). y.text) taken.told ∙ ap (answer_text a1.managed.catalog) full))
+    (λ full. not (ap (λ (y : Answer). y.text) taken.sent ∙ ap (answer_text a1.managed.catalog) full))
 
 history_on : (a a1 : Journaled) (event : Event) (reply : Reply) → AppendsGroup a a1 event reply → history_in a1.groups ≡ history_in a.groups ++ (event, reply) ∷ []
 history_on a a1 event reply on =
     ap history_in on.groups ∙ map-append (λ (g : Group). (g.event, g.reply)) a.groups (on.group ∷ [])
-    ∙ ap (λ (e : Event × Reply). history_in a.groups ++ e ∷ []) (ap (λ e. (e, on.group.reply)) on.noted.event_is ∙ ap (λ r. (event, r)) on.noted.reply_is)
+    ∙ ap (λ (e : Event × Reply). history_in a.groups ++ e ∷ []) (ap (λ e. (e, on.group.reply)) on.logged.event_is ∙ ap (λ r. (event, r)) on.logged.reply_is)
 
 taken_alike : (a b a1 b1 : Journaled) (event : Event) → AreAlike a b → (r : Result Reply Refusal) → IfOk r (λ reply. AppendsGroup a a1 event reply) → OnErr r (a1 ≡ a)
     → IfOk r (λ reply. AppendsGroup b b1 event reply) → OnErr r (b1 ≡ b) → AreAlike a1 b1
@@ -80,23 +80,23 @@ taken_alike a b a1 b1 event alike (Ok reply) on none other none_other = record {
 taken_alike a b a1 b1 event alike (Err refusal) none same none_other other = where_same a b a1 b1 alike same other
 
 looks_alike : (managed : Managed) (base other : State) (groups more : List Group) → length groups ≡ length more → (query : Query)
-    → look_text (record { managed = managed; base = base; groups = groups }) query ≡ look_text (record { managed = managed; base = other; groups = more }) query
-looks_alike managed base other groups more e (look.Enabled patch) = refl
-looks_alike managed base other groups more e (look.Transition patch) = refl
-looks_alike managed base other groups more e (look.PatchState task) = refl
-looks_alike managed base other groups more e look.Patches = refl
-looks_alike managed base other groups more e (look.Patch patch) = refl
-looks_alike managed base other groups more e (look.Object patch object) = refl
-looks_alike managed base other groups more e (look.Variable key) = refl
-looks_alike managed base other groups more e (look.Text object) = refl
-looks_alike managed base other groups more e (look.Stack site) = refl
-looks_alike managed base other groups more e (look.Pick task site) = refl
-looks_alike managed base other groups more e (look.Runs patch object) = refl
-looks_alike managed base other groups more e look.Mark = ap (λ n. Ok (decimal n ++ codes "\n")) e
+    → query_text (record { managed = managed; base = base; groups = groups }) query ≡ query_text (record { managed = managed; base = other; groups = more }) query
+looks_alike managed base other groups more e (query.Enabled patch) = refl
+looks_alike managed base other groups more e (query.Transition patch) = refl
+looks_alike managed base other groups more e (query.PatchState task) = refl
+looks_alike managed base other groups more e query.Patches = refl
+looks_alike managed base other groups more e (query.Patch patch) = refl
+looks_alike managed base other groups more e (query.Object patch object) = refl
+looks_alike managed base other groups more e (query.Variable key) = refl
+looks_alike managed base other groups more e (query.Text object) = refl
+looks_alike managed base other groups more e (query.Stack site) = refl
+looks_alike managed base other groups more e (query.Pick task site) = refl
+looks_alike managed base other groups more e (query.Runs patch object) = refl
+looks_alike managed base other groups more e query.Mark = ap (λ n. Ok (decimal n ++ codes "\n")) e
 
-shows_alike : (a b : Journaled) → AreAlike a b → (query : Query) → look_text a query ≡ look_text b query
+shows_alike : (a b : Journaled) → AreAlike a b → (query : Query) → query_text a query ≡ query_text b query
 shows_alike a b alike query =
-    ap (λ (m : Managed). look_text (record { managed = m; base = a.base; groups = a.groups }) query) alike.managed
+    ap (λ (m : Managed). query_text (record { managed = m; base = a.base; groups = a.groups }) query) alike.managed
     ∙ looks_alike b.managed a.base b.base a.groups b.groups (as_many a b alike) query
 
 rewound_alike : (a b a1 b1 : Journaled) (mark : ℕ) → AreAlike a b → IsRewound a a1 mark → IsRewound b b1 mark → AreAlike a1 b1
@@ -123,11 +123,11 @@ module _ (a b a1 b1 : Journaled) (x y : Answer) (alike : AreAlike a b) (fits : I
   unfolding Same
   taken_both event one two =
       let same : one.reply ≡ two.reply =
-      told_by a a1 event x fits one ∙ ap (λ (m : Managed). answer (setting_of m) m.state event) alike.managed ∙ sym (told_by b b1 event y fits_too two) in
+      sent_by a a1 event x fits one ∙ ap (λ (m : Managed). answer (setting_of m) m.state event) alike.managed ∙ sym (sent_by b b1 event y fits_too two) in
       let left : AreAlike a1 b1 =
       taken_alike a b a1 b1 event alike one.reply one.taken.accepted one.taken.refused
       (subst (λ r. IfOk r (λ reply. AppendsGroup b b1 event reply)) (sym same) two.taken.accepted) (subst (λ r. OnErr r (b1 ≡ b)) (sym same) two.taken.refused) in
-      (one.told ∙ ap (λ (m : Managed). replied m.catalog one.reply) left.managed ∙ ap (replied b1.managed.catalog) same ∙ sym two.told, left)
+      (one.sent ∙ ap (λ (m : Managed). replied m.catalog one.reply) left.managed ∙ ap (replied b1.managed.catalog) same ∙ sym two.sent, left)
 
   rewound_both : (mark : ℕ) → IsRewoundAs a a1 mark x → IsRewoundAs b b1 mark y → Same
   unfolding Same
@@ -153,7 +153,7 @@ module _ (a b a1 b1 : Journaled) (x y : Answer) (alike : AreAlike a b) (fits : I
       events = ap (λ (m : Journaled). history_in m.groups) one.0 ∙ sym (ap (λ (m : Journaled). history_in m.groups) two.0);
     },
   )
-  done_both (See query) one two = (one.1 ∙ ap seen (shows_alike a b alike query) ∙ sym two.1, where_same a b a1 b1 alike one.0 two.0)
+  done_both (Ask query) one two = (one.1 ∙ ap seen (shows_alike a b alike query) ∙ sym two.1, where_same a b a1 b1 alike one.0 two.0)
 
   done_if_both : (asked : Option (Result Request LineFault)) → IsDoneIf a a1 asked x → IsDoneIf b b1 asked y → Same
   unfolding Same
@@ -233,8 +233,8 @@ lines_both (c ∷ all) (line ∷ lines) (other ∷ others) (x ∷ xs) (y ∷ ys)
 
 stops_there : (answers : List Answer) (gone rest : List ℕ) (early : List Answer) (last : Answer) → answers ≡ early ++ last ∷ [] → texts_of answers ≡ gone ++ rest
     → 0 < length rest → length (texts_of early) ≤ length gone → StopsAt (length gone) answers
-stops_there answers gone rest early last told cut missing whole =
-    subst (StopsAt (length gone)) (sym told) (stops_at early last (length gone) whole (omega (arith, sym (ap (λ t. length (texts_of t)) told) ∙ ap length cut ∙ length-append gone rest)))
+stops_there answers gone rest early last sent cut missing whole =
+    subst (StopsAt (length gone)) (sym sent) (stops_at early last (length gone) whole (omega (arith, sym (ap (λ t. length (texts_of t)) sent) ∙ ap length cut ∙ length-append gone rest)))
 
 -- how many bytes were written is told by what the sink took
 as_much : (before after other : Option (List ℕ)) (taken gone went : List ℕ) → before ≡ Some taken → after ≡ other → Appends before after gone → Appends before other went → length gone ≡ length went
@@ -245,13 +245,13 @@ as_much before after other taken gone went is same one two =
     by None one two = absurd one
     by (Some all) one two = omega (arith, ap length one ∙ length-append taken gone, ap length two ∙ length-append taken went)
 
-pub told_by_the_bytes : (before after other : Console) (all : List (List ℕ)) (taken : List ℕ) → (one : HasWriteFailed before after) → (two : HasWriteFailed before other)
+pub sent_by_the_bytes : (before after other : Console) (all : List (List ℕ)) (taken : List ℕ) → (one : HasWriteFailed before after) → (two : HasWriteFailed before other)
     → IsPrefix one.lines all → IsPrefix two.lines all → before.written.taken ≡ Some taken → after.written.taken ≡ other.written.taken
     → NoneIsFull one.answers → NoneIsFull two.answers → (one.lines ≡ two.lines) × AreAlike after.manager other.manager
-told_by_the_bytes before after other all taken one two p q known same fits fits_too =
+sent_by_the_bytes before after other all taken one two p q known same fits fits_too =
     let much : length one.stops.gone ≡ length two.stops.gone = as_much before.written.taken after.written.taken other.written.taken taken one.stops.gone two.stops.gone known same one.stops.written two.stops.written in
     lines_both all one.lines two.lines one.answers two.answers before.manager before.manager after.manager other.manager (length one.stops.gone) p q
     (record { managed = refl; base = refl; events = refl }) one.reads.answered two.reads.answered fits fits_too
-    (stops_there one.answers one.stops.gone one.stops.rest one.stops.early one.stops.last one.stops.told one.stops.cut one.stops.missing one.stops.whole)
+    (stops_there one.answers one.stops.gone one.stops.rest one.stops.early one.stops.last one.stops.sent one.stops.cut one.stops.missing one.stops.whole)
     (subst (λ n. StopsAt n two.answers) (sym much)
-    (stops_there two.answers two.stops.gone two.stops.rest two.stops.early two.stops.last two.stops.told two.stops.cut two.stops.missing two.stops.whole))
+    (stops_there two.answers two.stops.gone two.stops.rest two.stops.early two.stops.last two.stops.sent two.stops.cut two.stops.missing two.stops.whole))

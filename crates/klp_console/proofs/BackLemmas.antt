@@ -14,12 +14,12 @@ use Rattle.klp_catalog.specs.Catalog.{Catalog}
 use Rattle.klp_catalog.specs.Runs.{after_runs}
 use Rattle.klp_manager_state.specs.Managed.{setting_of}
 use Rattle.klp_core.specs.Events.{may_run_some}
-use Rattle.klp_core.specs.Journaled.{Journaled, Stands, history_in}
+use Rattle.klp_core.specs.Journaled.{Journaled, IsWellFormed, history_in}
 use Rattle.klp_core.specs.Rewinding.{IsRewound}
 use Rattle.klp_core.specs.Taking.{IsTaken}
 use Rattle.klp_core.proofs.MayRunLemmas.{none_runs}
 use Rattle.klp_console_commands.specs.declared.request.Request.{Request}
-use Rattle.klp_console_commands.specs.declared.request.Request.TheVariants.{Take, ForceNothing, Rewind, Seal, See}
+use Rattle.klp_console_commands.specs.declared.request.Request.TheVariants.{Take, ForceNothing, Rewind, Seal, Ask}
 use Rattle.klp_console_commands.specs.declared.fault.LineFault.{LineFault}
 use Rattle.klp_console.specs.Answered.{Answer, IsDoneIf}
 use Rattle.klp_console.specs.Back.{CanGoBack, can_be_taken_back}
@@ -47,8 +47,8 @@ pub back_within : (earlier now : Journaled) → CanGoBack earlier now → length
 back_within earlier now back = omega (arith, ap length back.goes_on.groups, length-append earlier.groups back.goes_on.more)
 
 -- going back leaves the manager that there was
-pub back_to : (earlier now after : Journaled) (events : ℕ) → Stands earlier → CanGoBack earlier now → events ≡ length earlier.groups → IsRewound now after events → after ≡ earlier
-back_to earlier now after events stands back are rewound =
+pub back_to : (earlier now after : Journaled) (events : ℕ) → IsWellFormed earlier → CanGoBack earlier now → events ≡ length earlier.groups → IsRewound now after events → after ≡ earlier
+back_to earlier now after events well_formed back are rewound =
     let first : take events now.groups ≡ earlier.groups = ap (λ (n : ℕ). take n now.groups) are ∙ ap (take (length earlier.groups)) back.goes_on.groups
     ∙ take-append-le (length earlier.groups) earlier.groups back.goes_on.more (omega arith) ∙ take-length earlier.groups in
     let groups : after.groups ≡ earlier.groups = rewound.groups ∙ first in
@@ -59,7 +59,7 @@ back_to earlier now after events stands back are rewound =
     ap (λ (i : Image). setting_of (record now.managed { image = i })) back.image ∙ ap (λ (k : Catalog). setting_of (record earlier.managed { catalog = k })) back.catalog in
     let state : after.managed.state ≡ earlier.managed.state = rewound.state ∙ ap (λ (s : Setting). state_after_history s now.base (history_in (take events now.groups))) setting
     ∙ ap (λ (b : State). state_after_history (setting_of earlier.managed) b (history_in (take events now.groups))) back.goes_on.base
-    ∙ ap (λ l. state_after_history (setting_of earlier.managed) earlier.base (history_in l)) first ∙ sym stands.state in
+    ∙ ap (λ l. state_after_history (setting_of earlier.managed) earlier.base (history_in l)) first ∙ sym well_formed.state in
     λ i. record { managed = record { image = image i; catalog = catalog i; state = state i }; base = base i; groups = groups i }
 
 -- an event that may run no callback can be taken back
@@ -86,4 +86,4 @@ line_back before after (Some (Ok (Take event))) answer can done = taken_back bef
 line_back before after (Some (Ok (ForceNothing patch))) answer can done = back_same before after done.0
 line_back before after (Some (Ok (Rewind mark))) answer can done = absurd (false≢true can)
 line_back before after (Some (Ok Seal)) answer can done = absurd (false≢true can)
-line_back before after (Some (Ok (See look))) answer can done = back_same before after done.0
+line_back before after (Some (Ok (Ask query))) answer can done = back_same before after done.0

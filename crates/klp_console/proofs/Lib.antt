@@ -1,5 +1,5 @@
 pub mod SaidLemmas
-pub mod ToldLemmas
+pub mod SentLemmas
 pub mod BackLemmas
 pub mod AheadLemmas
 pub mod HearLemmas

@@ -159,7 +159,7 @@ stops_within before after early last behind gone rest is whole within written bl
     record {
       early = early;
       last = last;
-      told = refl;
+      sent = refl;
       gone = gone;
       rest = drop (length gone) text;
       cut = cut;

@@ -113,7 +113,7 @@ stops_later : (written between after : Written) (first later : List Answer) → 
 stops_later written between after first later all well stops = record {
   early = first ++ stops.early;
   last = stops.last;
-  told = ap (λ answers. first ++ answers) stops.told ∙ sym (append_assoc first stops.early (stops.last ∷ []));
+  sent = ap (λ answers. first ++ answers) stops.sent ∙ sym (append_assoc first stops.early (stops.last ∷ []));
   gone = texts_of first ++ stops.gone;
   rest = stops.rest;
   cut = texts_on first later ∙ ap (λ text. texts_of first ++ text) stops.cut ∙ sym (append_assoc (texts_of first) stops.gone stops.rest);
@@ -265,7 +265,7 @@ pub end_failed : (source now next : Supply) (manager : Journaled) (written : Wri
     → (fault : ServeFault) → fault ≡ Write
     → ComesTo (console_of source (start_at manager written)) (console_of next c) (Err fault)
 end_failed source now next manager written b c line none so_far clear read same asks ended cut is_line fault is =
-    let some : 0 < length cut.done = omega (arith, as_many b.manager c.manager cut.done cut.answers cut.answered, ap length cut.stops.told, length-append cut.stops.early (cut.stops.last ∷ [])) in
+    let some : 0 < length cut.done = omega (arith, as_many b.manager c.manager cut.done cut.answers cut.answered, ap length cut.stops.sent, length-append cut.stops.early (cut.stops.last ∷ [])) in
     let lines = ap (λ (l : List (List ℕ)). so_far.lines ++ l) (only_line cut.done cut.later line cut.lines_are some ∙ sym is_line)
     ∙ lines_on source now (start_at manager written) b line so_far in
     subst (λ f. ComesTo (console_of source (start_at manager written)) (console_of next c) (Err f)) (sym is)

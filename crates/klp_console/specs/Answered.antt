@@ -7,14 +7,14 @@ use Rattle.klp_modules.specs.Names.{names_of}
 use Rattle.klp_catalog_text.specs.Draft.{patch_names_of}
 use Rattle.klp_catalog.specs.Catalog.{Catalog}
 use Rattle.klp_console_commands.specs.declared.request.Request.{Request}
-use Rattle.klp_console_commands.specs.declared.request.Request.TheVariants.{Take, ForceNothing, Rewind, Seal, See}
+use Rattle.klp_console_commands.specs.declared.request.Request.TheVariants.{Take, ForceNothing, Rewind, Seal, Ask}
 use Rattle.klp_console_commands.specs.declared.fault.LineFault.{LineFault}
 use Rattle.klp_console_commands.specs.Names.{NameResolver}
 use Rattle.klp_console_commands.specs.Lines.{request_of}
 use Rattle.klp_console.specs.Refusals.{fault_text, bad_mark_text}
 use Rattle.klp_console.specs.Replies.{done_text, answer_text}
-use Rattle.klp_console.specs.Queries.{look_text, seen_text, force_nothing}
-use Rattle.klp_core.specs.Journaled.{Journaled, Stands}
+use Rattle.klp_console.specs.Queries.{query_text, shown_text, force_nothing}
+use Rattle.klp_core.specs.Journaled.{Journaled, IsWellFormed}
 use Rattle.klp_core.specs.Taking.{IsTaken}
 use Rattle.klp_core.specs.Rewinding.{IsRewound}
 
@@ -35,7 +35,7 @@ refused_with text = record { text = text; is_refused = true }
 
 -- what was to be seen, or why it isn't shown
 abbrev pub seen : Result (List ℕ) Refusal → Answer
-seen look = record { text = seen_text look; is_refused = is_err look }
+seen query = record { text = shown_text query; is_refused = is_err query }
 
 -- what an event was answered
 abbrev pub replied : Catalog → Result Reply Refusal → Answer
@@ -53,7 +53,7 @@ sealed manager = record { managed = manager.managed; base = manager.managed.stat
 pub record IsTakenAs (before after : Journaled) (event : Event) (answer : Answer) : Type 0 where
   pub reply : Result Reply Refusal
   pub taken : IsTaken before after event reply
-  pub told : answer ≡ replied after.managed.catalog reply
+  pub sent : answer ≡ replied after.managed.catalog reply
 
 -- the events behind the mark are undone, where there are so many
 abbrev pub IsRewoundAs : Journaled → Journaled → ℕ → Answer → Type 0
@@ -66,7 +66,7 @@ IsDone before after (Take event) answer = IsTakenAs before after event answer
 IsDone before after (ForceNothing patch) answer = (after ≡ before) × (answer ≡ seen (force_nothing before patch))
 IsDone before after (Rewind mark) answer = IsRewoundAs before after mark answer
 IsDone before after Seal answer = (after ≡ sealed before) × (answer ≡ done)
-IsDone before after (See look) answer = (after ≡ before) × (answer ≡ seen (look_text before look))
+IsDone before after (Ask query) answer = (after ≡ before) × (answer ≡ seen (query_text before query))
 
 -- a line without words and a line that asks for nothing change nothing
 abbrev pub IsDoneIf : Journaled → Journaled → Option (Result Request LineFault) → Answer → Type 0
@@ -77,4 +77,4 @@ IsDoneIf before after (Some (Ok request)) answer = IsDone before after request a
 -- a line is answered: this is its answer, and this is what it leaves of the manager, whose journal leads to its state again
 pub record IsAnswered (before after : Journaled) (line : List ℕ) (answer : Answer) : Type 0 where
   pub done : IsDoneIf before after (request_of (names_in before) line) answer
-  pub stands : Stands after
+  pub well_formed : IsWellFormed after

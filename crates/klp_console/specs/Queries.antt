@@ -25,7 +25,7 @@ use Rattle.klp_words.specs.Words.{value_text}
 use Rattle.klp_catalog.specs.Catalog.{Catalog, CatalogFunction, catalog_functions}
 use Rattle.klp_catalog.specs.Runs.{objects_at, place_of, callback_runs}
 use Rattle.klp_console_commands.specs.declared.request.Query.{Query}
-use Rattle.klp_console_commands.specs.declared.request.Query.TheVariants as look
+use Rattle.klp_console_commands.specs.declared.request.Query.TheVariants as query
 use Rattle.klp_console.specs.Refusals.{refusal_text}
 use Rattle.klp_console.specs.Names.{patch_name, object_name, new_function_text}
 use Rattle.klp_console.specs.Replies.{done_text}
@@ -124,28 +124,28 @@ runs_text catalog patch object =
     codes "runs" ++ lines_of (λ which. count_text (callback_runs catalog patch object which)) (Pre ∷ Post ∷ PreUn ∷ PostUn ∷ []) ++ codes "\n"
 
 -- what a look shows, or why it shows nothing
-abbrev pub look_text : Journaled → Query → Result (List ℕ) Refusal
-look_text manager (look.Enabled patch) = switch_query manager patch (enabled_value manager.managed.state patch)
-look_text manager (look.Transition patch) = switch_query manager patch (moves manager.managed.state.moving patch)
-look_text manager (look.PatchState task) = patch_state_query (task_at manager.managed.state.tasks task)
-look_text manager look.Patches = Ok (lines_of (patch_line manager.managed.catalog) (installed_patches manager.managed.state))
-look_text manager (look.Patch patch) =
+abbrev pub query_text : Journaled → Query → Result (List ℕ) Refusal
+query_text manager (query.Enabled patch) = switch_query manager patch (enabled_value manager.managed.state patch)
+query_text manager (query.Transition patch) = switch_query manager patch (moves manager.managed.state.moving patch)
+query_text manager (query.PatchState task) = patch_state_query (task_at manager.managed.state.tasks task)
+query_text manager query.Patches = Ok (lines_of (patch_line manager.managed.catalog) (installed_patches manager.managed.state))
+query_text manager (query.Patch patch) =
     if is_installed manager.managed.state patch then Ok (directory_text manager.managed.catalog patch) else Err NotFound
-look_text manager (look.Object patch object) =
+query_text manager (query.Object patch object) =
     if is_installed manager.managed.state patch && has_object manager.managed.catalog patch object
     then Ok (functions_text manager.managed.catalog patch object) else Err NotFound
-look_text manager (look.Variable key) = Ok (variable_text (variable manager.managed.state.world key))
-look_text manager (look.Text object) = text_query (text_of (setting_of manager.managed) manager.managed.state object)
-look_text manager (look.Stack site) = Ok (stack_text manager.managed.catalog (entries_of (setting_of manager.managed) manager.managed.state site))
-look_text manager (look.Pick task site) = pick_query manager task site
-look_text manager (look.Runs patch object) =
+query_text manager (query.Variable key) = Ok (variable_text (variable manager.managed.state.world key))
+query_text manager (query.Text object) = text_query (text_of (setting_of manager.managed) manager.managed.state object)
+query_text manager (query.Stack site) = Ok (stack_text manager.managed.catalog (entries_of (setting_of manager.managed) manager.managed.state site))
+query_text manager (query.Pick task site) = pick_query manager task site
+query_text manager (query.Runs patch object) =
     if has_object manager.managed.catalog patch object then Ok (runs_text manager.managed.catalog patch object) else Err NotFound
-look_text manager look.Mark = Ok (decimal (length manager.groups) ++ codes "\n")
+query_text manager query.Mark = Ok (decimal (length manager.groups) ++ codes "\n")
 
 -- what a look is answered
-abbrev pub seen_text : Result (List ℕ) Refusal → List ℕ
-seen_text (Ok text) = text
-seen_text (Err refusal) = refusal_text refusal
+abbrev pub shown_text : Result (List ℕ) Refusal → List ℕ
+shown_text (Ok text) = text
+shown_text (Err refusal) = refusal_text refusal
 
 -- to write 0 to the `force` file of a patch does nothing, but the file must be there
 abbrev pub force_nothing : Journaled → ℕ → Result (List ℕ) Refusal

@@ -70,7 +70,7 @@ pub record Ahead (before after : Moment) (lines : List (List ℕ)) : Type 0 wher
 pub record Stops (before after : Written) (answers : List Answer) : Type 0 where
   pub early : List Answer
   pub last : Answer
-  pub told : answers ≡ early ++ last ∷ []
+  pub sent : answers ≡ early ++ last ∷ []
   pub gone : List ℕ
   pub rest : List ℕ
   pub cut : texts_of answers ≡ gone ++ rest
@@ -80,17 +80,17 @@ pub record Stops (before after : Written) (answers : List Answer) : Type 0 where
   pub blame : IsToBlame before after
 
 -- an answer was written, all of it, and this became of the line; or the sink is to blame for what is missing of the answer
-abbrev pub IsTold : Journaled → Journaled → List ℕ → Written → Written → Answer → Result Outcome Failed → Type 0
-IsTold before after line written left answer (Ok outcome) =
+abbrev pub IsSent : Journaled → Journaled → List ℕ → Written → Written → Answer → Result Outcome Failed → Type 0
+IsSent before after line written left answer (Ok outcome) =
     (is_refusal outcome ≡ answer.is_refused) × Appends written.taken left.taken answer.text × IsWell written left
     × IsOutcome before after (request_of (names_in before) line) outcome
-IsTold before after line written left answer (Err failed) = Stops written left (answer ∷ [])
+IsSent before after line written left answer (Err failed) = Stops written left (answer ∷ [])
 
 -- one line was answered, and its answer told
 pub record AnswersLine (before after : Journaled) (line : List ℕ) (written left : Written) (result : Result Outcome Failed) : Type 0 where
   pub answer : Answer
   pub answered : IsAnswered before after line answer
-  pub told : IsTold before after line written left answer result
+  pub sent : IsSent before after line written left answer result
 
 -- the sink failed: of these lines those are done up to the one whose answer it cut off, and nothing behind it stands
 pub record IsCut (before after : Moment) (lines : List (List ℕ)) : Type 0 where

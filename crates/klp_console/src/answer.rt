@@ -101,7 +101,7 @@ fn done<W: Sink>(
         Some(Ok(Asked::ForceNothing(patch))) => {
             say_force_nothing(answers, writer, manager, patch).is_err()
         }
-        Some(Ok(Asked::See(ref look))) => say_query(answers, writer, manager, look).is_err(),
+        Some(Ok(Asked::Ask(ref query))) => say_query(answers, writer, manager, query).is_err(),
         Some(Ok(Asked::Seal)) => {
             manager.seal();
             say_done(answers, writer);
@@ -144,7 +144,7 @@ fn take_line<W: Sink>(
     let mut event = Event::Poll;
     let asked = read_request(line, manager.catalog(), manager.modules(), &mut event);
     let outcome = do_request(manager, &asked, &event, answers, writer);
-    let _standing = manager.mark();
+    let _for_its_clause = manager.mark();
     outcome
 }
 

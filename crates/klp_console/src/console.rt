@@ -110,7 +110,7 @@ pub fn serve<R: Source, W: Sink>(
 {
     klp_console_io::laws::lines_add_up();
     klp_core::laws::what_is_withdrawn_leaves_no_trace();
-    let _standing = manager.mark();
+    let _for_its_clause = manager.mark();
     let mut line = LineBuffer::new();
     let mut served = Served {
         lines: 0,

@@ -5,16 +5,16 @@ ghost use Rattle.klp_types.specs.declared.version.Version.TheVariants.{Original,
 ghost use Rattle.klp_model.specs.declared.event.Reply.TheVariants.{Done, Started, Reversed, Pending, Completed, PreFailed, Value, Freed, Woken};
 ghost use Rattle.klp_model.specs.declared.event.Refusal.TheVariants.{NoPatch, Busy, AlreadyThere, Pinned, Incompatible, NoSymbol, NoModule, InUse, NoTask, TaskThere, WrongMode, BadFrame, Full, JournalFull, NotMoving, Exists, NotFound, SameValue};
 ghost use Rattle.klp_console_commands.specs.declared.fault.LineFault.TheVariants.{BadLine, BadValue, Refused};
-ghost use Rattle.klp_console_commands.specs.declared.request.Query.TheVariants as look;
+ghost use Rattle.klp_console_commands.specs.declared.request.Query.TheVariants as query;
 ghost use Rattle.klp_console.specs.Answered.{done, nothing, refused_with, seen, replied};
 ghost use Rattle.klp_console.specs.Refusals.{refusal_text, fault_text, bad_mark_text};
 ghost use Rattle.klp_console.specs.Replies.{answer_text};
-ghost use Rattle.klp_console.specs.Queries.{functions_text, variable_text, look_text, seen_text, force_nothing};
+ghost use Rattle.klp_console.specs.Queries.{functions_text, variable_text, query_text, shown_text, force_nothing};
 ghost use Rattle.klp_console.specs.Examples.{catalog, manager};
 
 /// What an accepted event is answered, by its reply, with the names of patch and object and of the functions
 /// that a task was inside of.
-pub fn replies_are_told_like_this()
+pub fn replies_are_sent_like_this()
     ensures done { answer_text catalog (Ok Done) ≡ codes "ok\n" }
     ensures started { answer_text catalog (Ok Started) ≡ codes "started\n" }
     ensures reversed { answer_text catalog (Ok Reversed) ≡ codes "reversed\n" }
@@ -59,52 +59,52 @@ pub fn refusals_have_these_numbers()
 
 /// What a look is shown of the files of patches and tasks.
 pub fn files_read_like_this()
-    ensures enabled { seen_text (look_text manager (look.Enabled 0)) ≡ codes "1\n" }
-    ensures at_rest { seen_text (look_text manager (look.Transition 0)) ≡ codes "0\n" }
-    ensures in_transition { seen_text (look_text manager (look.Transition 1)) ≡ codes "1\n" }
-    ensures not_installed { seen_text (look_text manager (look.Enabled 2)) ≡ codes "error 2 NotFound\n" }
-    ensures not_installed_either { seen_text (look_text manager (look.Transition 2)) ≡ codes "error 2 NotFound\n" }
-    ensures patch_state { seen_text (look_text manager (look.PatchState 1)) ≡ codes "0\n" }
-    ensures no_task { seen_text (look_text manager (look.PatchState 0)) ≡ codes "error 2 NoTask\n" }
-    ensures patches { seen_text (look_text manager look.Patches) ≡ codes "p\nc\n" }
-    ensures directory { seen_text (look_text manager (look.Patch 0)) ≡ codes "enabled\nforce\ntransition\nvmlinux\nm\n" }
-    ensures no_directory { seen_text (look_text manager (look.Patch 2)) ≡ codes "error 2 NotFound\n" }
-    ensures functions { seen_text (look_text manager (look.Object 0 0)) ≡ codes "f,1\nh,1\n" }
-    ensures of_the_module { seen_text (look_text manager (look.Object 0 1)) ≡ codes "g,1\n" }
+    ensures enabled { shown_text (query_text manager (query.Enabled 0)) ≡ codes "1\n" }
+    ensures at_rest { shown_text (query_text manager (query.Transition 0)) ≡ codes "0\n" }
+    ensures in_transition { shown_text (query_text manager (query.Transition 1)) ≡ codes "1\n" }
+    ensures not_installed { shown_text (query_text manager (query.Enabled 2)) ≡ codes "error 2 NotFound\n" }
+    ensures not_installed_either { shown_text (query_text manager (query.Transition 2)) ≡ codes "error 2 NotFound\n" }
+    ensures patch_state { shown_text (query_text manager (query.PatchState 1)) ≡ codes "0\n" }
+    ensures no_task { shown_text (query_text manager (query.PatchState 0)) ≡ codes "error 2 NoTask\n" }
+    ensures patches { shown_text (query_text manager query.Patches) ≡ codes "p\nc\n" }
+    ensures directory { shown_text (query_text manager (query.Patch 0)) ≡ codes "enabled\nforce\ntransition\nvmlinux\nm\n" }
+    ensures no_directory { shown_text (query_text manager (query.Patch 2)) ≡ codes "error 2 NotFound\n" }
+    ensures functions { shown_text (query_text manager (query.Object 0 0)) ≡ codes "f,1\nh,1\n" }
+    ensures of_the_module { shown_text (query_text manager (query.Object 0 1)) ≡ codes "g,1\n" }
     ensures second { functions_text catalog 2 0 ≡ codes "d,2\n" }
-    ensures not_its_object { seen_text (look_text manager (look.Object 1 1)) ≡ codes "error 2 NotFound\n" }
-    ensures not_forced { seen_text (force_nothing manager 0) ≡ codes "ok\n" }
-    ensures no_file { seen_text (force_nothing manager 2) ≡ codes "error 2 NotFound\n" }
-    ensures mark { seen_text (look_text manager look.Mark) ≡ codes "0\n" }
+    ensures not_its_object { shown_text (query_text manager (query.Object 1 1)) ≡ codes "error 2 NotFound\n" }
+    ensures not_forced { shown_text (force_nothing manager 0) ≡ codes "ok\n" }
+    ensures no_file { shown_text (force_nothing manager 2) ≡ codes "error 2 NotFound\n" }
+    ensures mark { shown_text (query_text manager query.Mark) ≡ codes "0\n" }
     ensures no_variable { variable_text None ≡ codes "none\n" }
     ensures variable { variable_text (Some (5 ∷ 0 ∷ 0 ∷ 0 ∷ 0 ∷ 0 ∷ 0 ∷ 0 ∷ [])) ≡ codes "value 5\n" }
 {}
 
 /// What a look is shown of the text, of function stacks, of what a task runs and of how often callbacks ran.
 pub fn the_kernel_looks_like_this()
-    ensures text { seen_text (look_text manager (look.Text 0))
+    ensures text { shown_text (query_text manager (query.Text 0))
         ≡ codes "f ffffffff81001000 e8fbefffff90c3\nh ffffffff81002000 e8fbdfffffc3\nd ffffffff81003000 0f1f440000c3\nd ffffffff81004000 0f1f440000c3\n" }
-    ensures not_loaded { seen_text (look_text manager (look.Text 1)) ≡ codes "error 2 NoModule\n" }
-    ensures stack { seen_text (look_text manager (look.Stack 0)) ≡ codes "c f_c ffffffffc0003000\np f_p ffffffffc0001000\n" }
-    ensures nop { seen_text (look_text manager (look.Stack 1)) ≡ codes "c nop\np h_p ffffffffc0001100\n" }
-    ensures empty { seen_text (look_text manager (look.Stack 2)) ≡ codes "empty\n" }
-    ensures empty_while_not_loaded { seen_text (look_text manager (look.Stack 4)) ≡ codes "empty\n" }
-    ensures older { seen_text (look_text manager (look.Pick 1 0)) ≡ codes "p f_p ffffffffc0001000\n" }
-    ensures original { seen_text (look_text manager (look.Pick 1 2)) ≡ codes "original ffffffff81003005\n" }
-    ensures nobody { seen_text (look_text manager (look.Pick 0 4)) ≡ codes "error 2 NoTask\n" }
-    ensures no_module { seen_text (look_text manager (look.Pick 1 4)) ≡ codes "error 2 NoModule\n" }
-    ensures runs { seen_text (look_text manager (look.Runs 0 0)) ≡ codes "runs 1 2 3 0\n" }
-    ensures runs_of_two { seen_text (look_text manager (look.Runs 0 1)) ≡ codes "runs 4 5 - -\n" }
-    ensures runs_of_none { seen_text (look_text manager (look.Runs 2 0)) ≡ codes "runs - - - -\n" }
-    ensures not_its_object { seen_text (look_text manager (look.Runs 1 1)) ≡ codes "error 2 NotFound\n" }
+    ensures not_loaded { shown_text (query_text manager (query.Text 1)) ≡ codes "error 2 NoModule\n" }
+    ensures stack { shown_text (query_text manager (query.Stack 0)) ≡ codes "c f_c ffffffffc0003000\np f_p ffffffffc0001000\n" }
+    ensures nop { shown_text (query_text manager (query.Stack 1)) ≡ codes "c nop\np h_p ffffffffc0001100\n" }
+    ensures empty { shown_text (query_text manager (query.Stack 2)) ≡ codes "empty\n" }
+    ensures empty_while_not_loaded { shown_text (query_text manager (query.Stack 4)) ≡ codes "empty\n" }
+    ensures older { shown_text (query_text manager (query.Pick 1 0)) ≡ codes "p f_p ffffffffc0001000\n" }
+    ensures original { shown_text (query_text manager (query.Pick 1 2)) ≡ codes "original ffffffff81003005\n" }
+    ensures nobody { shown_text (query_text manager (query.Pick 0 4)) ≡ codes "error 2 NoTask\n" }
+    ensures no_module { shown_text (query_text manager (query.Pick 1 4)) ≡ codes "error 2 NoModule\n" }
+    ensures runs { shown_text (query_text manager (query.Runs 0 0)) ≡ codes "runs 1 2 3 0\n" }
+    ensures runs_of_two { shown_text (query_text manager (query.Runs 0 1)) ≡ codes "runs 4 5 - -\n" }
+    ensures runs_of_none { shown_text (query_text manager (query.Runs 2 0)) ≡ codes "runs - - - -\n" }
+    ensures not_its_object { shown_text (query_text manager (query.Runs 1 1)) ≡ codes "error 2 NotFound\n" }
 {}
 
 /// A line is counted as refused where it wasn't done, whatever its answer.
 pub fn lines_are_refused_where_they_are_not_done()
     ensures done { replied catalog (Ok Started) ≡ record { text = codes "started\n"; is_refused = false } }
     ensures not_done { replied catalog (Err Busy) ≡ record { text = codes "error 16 Busy\n"; is_refused = true } }
-    ensures shown { seen (look_text manager look.Patches) ≡ record { text = codes "p\nc\n"; is_refused = false } }
-    ensures not_shown { seen (look_text manager (look.Patch 2)) ≡ record { text = codes "error 2 NotFound\n"; is_refused = true } }
+    ensures shown { seen (query_text manager query.Patches) ≡ record { text = codes "p\nc\n"; is_refused = false } }
+    ensures not_shown { seen (query_text manager (query.Patch 2)) ≡ record { text = codes "error 2 NotFound\n"; is_refused = true } }
     ensures no_words { nothing ≡ record { text = []; is_refused = false } }
     ensures sealed { done ≡ record { text = codes "ok\n"; is_refused = false } }
     ensures unknown { refused_with bad_mark_text ≡ record { text = codes "error 22 BadMark\n"; is_refused = true } }

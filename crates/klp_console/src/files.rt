@@ -9,8 +9,8 @@ ghost use Rattle.klp_console_io.specs.Says.{Says};
 ghost use Rattle.klp_console.specs.Names.{object_name};
 ghost use Rattle.klp_catalog.specs.Catalog.{CatalogFunction as FunctionValue};
 ghost use Rattle.klp_catalog.specs.Runs.{objects_at};
-ghost use Rattle.klp_console_commands.specs.declared.request.Query.TheVariants as look;
-ghost use Rattle.klp_console.specs.Queries.{lines_of, switch_text, patch_line, object_line, directory_text, position_text, functions_text, has_object, look_text};
+ghost use Rattle.klp_console_commands.specs.declared.request.Query.TheVariants as query;
+ghost use Rattle.klp_console.specs.Queries.{lines_of, switch_text, patch_line, object_line, directory_text, position_text, functions_text, has_object, query_text};
 
 use crate::names::{object_name, patch_name, say_name};
 use klp_catalog::{Catalog, CatalogFunction};
@@ -61,8 +61,8 @@ pub(crate) fn say_enabled<W: Sink>(
     patch: PatchId,
 ) -> Result<(), Refusal>
     ensures says { Says (answers.old, W.written writer.old) (answers.new, W.written writer.new)
-        (result_unwrap_or (look_text manager.now (look.Enabled patch)) []) }
-    ensures result { result ≡ result_and (look_text manager.now (look.Enabled patch)) (Ok tt) }
+        (result_unwrap_or (query_text manager.now (query.Enabled patch)) []) }
+    ensures result { result ≡ result_and (query_text manager.now (query.Enabled patch)) (Ok tt) }
 {
     klp_console_io::laws::what_is_said_adds_up();
     let value = manager.enabled(patch).ok_or(Refusal::NotFound)?;
@@ -78,8 +78,8 @@ pub(crate) fn say_transition<W: Sink>(
     patch: PatchId,
 ) -> Result<(), Refusal>
     ensures says { Says (answers.old, W.written writer.old) (answers.new, W.written writer.new)
-        (result_unwrap_or (look_text manager.now (look.Transition patch)) []) }
-    ensures result { result ≡ result_and (look_text manager.now (look.Transition patch)) (Ok tt) }
+        (result_unwrap_or (query_text manager.now (query.Transition patch)) []) }
+    ensures result { result ≡ result_and (query_text manager.now (query.Transition patch)) (Ok tt) }
 {
     klp_console_io::laws::what_is_said_adds_up();
     let value = manager.transition(patch).ok_or(Refusal::NotFound)?;
@@ -95,8 +95,8 @@ pub(crate) fn say_patch_state<W: Sink>(
     task: TaskId,
 ) -> Result<(), Refusal>
     ensures says { Says (answers.old, W.written writer.old) (answers.new, W.written writer.new)
-        (result_unwrap_or (look_text manager.now (look.PatchState task)) []) }
-    ensures result { result ≡ result_and (look_text manager.now (look.PatchState task)) (Ok tt) }
+        (result_unwrap_or (query_text manager.now (query.PatchState task)) []) }
+    ensures result { result ≡ result_and (query_text manager.now (query.PatchState task)) (Ok tt) }
 {
     klp_console_io::laws::what_is_said_adds_up();
     let state = manager.patch_state(task).ok_or(Refusal::NoTask)?;
@@ -167,8 +167,8 @@ pub(crate) fn say_directory<W: Sink>(
     patch: PatchId,
 ) -> Result<(), Refusal>
     ensures says { Says (answers.old, W.written writer.old) (answers.new, W.written writer.new)
-        (result_unwrap_or (look_text manager.now (look.Patch patch)) []) }
-    ensures result { result ≡ result_and (look_text manager.now (look.Patch patch)) (Ok tt) }
+        (result_unwrap_or (query_text manager.now (query.Patch patch)) []) }
+    ensures result { result ≡ result_and (query_text manager.now (query.Patch patch)) (Ok tt) }
 {
     klp_console_io::laws::what_is_said_adds_up();
     if !is_installed(manager, patch) {
@@ -228,8 +228,8 @@ pub(crate) fn say_functions<W: Sink>(
     object: ObjId,
 ) -> Result<(), Refusal>
     ensures says { Says (answers.old, W.written writer.old) (answers.new, W.written writer.new)
-        (result_unwrap_or (look_text manager.now (look.Object patch object)) []) }
-    ensures result { result ≡ result_and (look_text manager.now (look.Object patch object)) (Ok tt) }
+        (result_unwrap_or (query_text manager.now (query.Object patch object)) []) }
+    ensures result { result ≡ result_and (query_text manager.now (query.Object patch object)) (Ok tt) }
 {
     klp_console_io::laws::what_is_said_adds_up();
     if !is_installed(manager, patch) || !has_object(manager.catalog(), patch, object) {

@@ -8,7 +8,7 @@ ghost use Rattle.klp_console.specs.Served.{Console, HasWriteFailed};
 /// whose sinks took the same bytes, have done the same lines and leave the same manager, but for its undo records:
 /// however reads cut the input, and whatever was done ahead of its answer. It is said of lines that find room in the
 /// journal, since of the records that an event leaves no more is promised than that they undo it and are few.
-pub fn what_stands_is_told_by_what_was_written()
+pub fn what_stands_is_sent_by_what_was_written()
     ensures { (before after other : Console) (all : List (List ℕ)) (taken : List ℕ)
         → (one : HasWriteFailed before after) → (two : HasWriteFailed before other)
         → IsPrefix one.lines all → IsPrefix two.lines all

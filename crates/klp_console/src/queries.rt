@@ -3,7 +3,7 @@
 ghost use Rattle.std.specs.Prelude.{◌≡◌, [], Ok};
 ghost use Rattle.std.specs.Result.{result_and, result_unwrap_or};
 ghost use Rattle.klp_console_io.specs.Says.{Says};
-ghost use Rattle.klp_console.specs.Queries.{look_text, seen_text, force_nothing};
+ghost use Rattle.klp_console.specs.Queries.{query_text, shown_text, force_nothing};
 
 use crate::files::{
     is_installed, say_directory, say_enabled, say_functions, say_patch_state, say_patches,
@@ -19,18 +19,18 @@ use klp_core::Manager;
 use klp_model::Refusal;
 use klp_types::PatchId;
 
-/// Says what a look shows. Says nothing where it is refused, so that the refusal is the whole answer.
+/// Says what a query shows. Says nothing where it is refused, so that the refusal is the whole answer.
 fn show<W: Sink>(
     answers: &mut Answers,
     writer: &mut W,
     manager: &Manager,
-    look: &Query,
+    query: &Query,
 ) -> Result<(), Refusal>
     ensures says { Says (answers.old, W.written writer.old) (answers.new, W.written writer.new)
-        (result_unwrap_or (look_text manager.now look.now) []) }
-    ensures result { result ≡ result_and (look_text manager.now look.now) (Ok tt) }
+        (result_unwrap_or (query_text manager.now query.now) []) }
+    ensures result { result ≡ result_and (query_text manager.now query.now) (Ok tt) }
 {
-    match *look {
+    match *query {
         Query::Enabled(patch) => say_enabled(answers, writer, manager, patch),
         Query::Transition(patch) => say_transition(answers, writer, manager, patch),
         Query::PatchState(task) => say_patch_state(answers, writer, manager, task),
@@ -58,7 +58,7 @@ fn show<W: Sink>(
     }
 }
 
-/// Says what a look shows, or why it is refused: `NotFound` for a file that isn't there, `NoTask` and
+/// Says what a query shows, or why it is refused: `NotFound` for a file that isn't there, `NoTask` and
 /// `NoModule` for a task that isn't there and an object that isn't loaded. The refusal is said, and
 /// answered so that it can be counted.
 ///
@@ -69,14 +69,14 @@ pub(crate) fn say_query<W: Sink>(
     answers: &mut Answers,
     writer: &mut W,
     manager: &Manager,
-    look: &Query,
+    query: &Query,
 ) -> Result<(), Refusal>
     ensures says { Says (answers.old, W.written writer.old) (answers.new, W.written writer.new)
-        (seen_text (look_text manager.now look.now)) }
-    ensures result { result ≡ result_and (look_text manager.now look.now) (Ok tt) }
+        (shown_text (query_text manager.now query.now)) }
+    ensures result { result ≡ result_and (query_text manager.now query.now) (Ok tt) }
 {
     klp_console_io::laws::what_is_said_adds_up();
-    let result = show(answers, writer, manager, look);
+    let result = show(answers, writer, manager, query);
     if let Err(refusal) = result {
         say_refusal(answers, writer, refusal);
     }
@@ -93,7 +93,7 @@ pub(crate) fn say_force_nothing<W: Sink>(
     patch: PatchId,
 ) -> Result<(), Refusal>
     ensures says { Says (answers.old, W.written writer.old) (answers.new, W.written writer.new)
-        (seen_text (force_nothing manager.now patch)) }
+        (shown_text (force_nothing manager.now patch)) }
     ensures result { result ≡ result_and (force_nothing manager.now patch) (Ok tt) }
 {
     if is_installed(manager, patch) {

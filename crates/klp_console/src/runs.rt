@@ -6,8 +6,8 @@ ghost use Rattle.std.specs.Result.{result_and, result_unwrap_or};
 ghost use Rattle.klp_types.specs.World.{variable};
 ghost use Rattle.klp_console_io.specs.Says.{Says};
 ghost use Rattle.klp_catalog.specs.Runs.{callback_runs};
-ghost use Rattle.klp_console_commands.specs.declared.request.Query.TheVariants as look;
-ghost use Rattle.klp_console.specs.Queries.{lines_of, variable_text, count_text, runs_text, look_text};
+ghost use Rattle.klp_console_commands.specs.declared.request.Query.TheVariants as query;
+ghost use Rattle.klp_console.specs.Queries.{lines_of, variable_text, count_text, runs_text, query_text};
 
 use crate::files::has_object;
 use crate::values::say_value_line;
@@ -101,8 +101,8 @@ pub(crate) fn say_runs<W: Sink>(
     object: ObjId,
 ) -> Result<(), Refusal>
     ensures says { Says (answers.old, W.written writer.old) (answers.new, W.written writer.new)
-        (result_unwrap_or (look_text manager.now (look.Runs patch object)) []) }
-    ensures result { result ≡ result_and (look_text manager.now (look.Runs patch object)) (Ok tt) }
+        (result_unwrap_or (query_text manager.now (query.Runs patch object)) []) }
+    ensures result { result ≡ result_and (query_text manager.now (query.Runs patch object)) (Ok tt) }
 {
     klp_console_io::laws::what_is_said_adds_up();
     if !has_object(manager.catalog(), patch, object) {

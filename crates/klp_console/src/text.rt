@@ -4,8 +4,8 @@ ghost use Rattle.std.specs.Result.{result_and, result_unwrap_or};
 ghost use Rattle.klp_model.specs.Entries.{entries_of};
 ghost use Rattle.klp_console_io.specs.Says.{Says};
 ghost use Rattle.klp_manager_state.specs.Managed.{setting_of};
-ghost use Rattle.klp_console_commands.specs.declared.request.Query.TheVariants as look;
-ghost use Rattle.klp_console.specs.Queries.{lines_of, symbol_text, entry_text, stack_text, version_text, look_text};
+ghost use Rattle.klp_console_commands.specs.declared.request.Query.TheVariants as query;
+ghost use Rattle.klp_console.specs.Queries.{lines_of, symbol_text, entry_text, stack_text, version_text, query_text};
 
 use crate::names::{patch_name, say_name, say_new_function};
 use klp_catalog::Catalog;
@@ -50,8 +50,8 @@ pub(crate) fn say_text<W: Sink>(
     object: ObjId,
 ) -> Result<(), Refusal>
     ensures says { Says (answers.old, W.written writer.old) (answers.new, W.written writer.new)
-        (result_unwrap_or (look_text manager.now (look.Text object)) []) }
-    ensures result { result ≡ result_and (look_text manager.now (look.Text object)) (Ok tt) }
+        (result_unwrap_or (query_text manager.now (query.Text object)) []) }
+    ensures result { result ≡ result_and (query_text manager.now (query.Text object)) (Ok tt) }
 {
     klp_console_io::laws::what_is_said_adds_up();
     let text = manager.text(object).ok_or(Refusal::NoModule)?;
@@ -132,8 +132,8 @@ pub(crate) fn say_pick<W: Sink>(
     site: Site,
 ) -> Result<(), Refusal>
     ensures says { Says (answers.old, W.written writer.old) (answers.new, W.written writer.new)
-        (result_unwrap_or (look_text manager.now (look.Pick task site)) []) }
-    ensures result { result ≡ result_and (look_text manager.now (look.Pick task site)) (Ok tt) }
+        (result_unwrap_or (query_text manager.now (query.Pick task site)) []) }
+    ensures result { result ≡ result_and (query_text manager.now (query.Pick task site)) (Ok tt) }
 {
     klp_console_io::laws::what_is_said_adds_up();
     if manager.patch_state(task).is_none() {

@@ -6,7 +6,7 @@ use Rattle.klp_console_commands.specs.declared.request.Asked.{Asked}
 use Rattle.klp_console_commands.specs.declared.request.Asked.TheVariants as asked
 use Rattle.klp_console_commands.specs.declared.request.Query.{Query}
 use Rattle.klp_console_commands.specs.declared.request.Request.{Request}
-use Rattle.klp_console_commands.specs.declared.request.Request.TheVariants.{Take, ForceNothing, Rewind, Seal, See}
+use Rattle.klp_console_commands.specs.declared.request.Request.TheVariants.{Take, ForceNothing, Rewind, Seal, Ask}
 
 -- the request, where this event stands beside it
 abbrev pub request_with : Asked → Event → Request
@@ -14,7 +14,7 @@ request_with asked.Take event = Take event
 request_with (asked.ForceNothing patch) event = ForceNothing patch
 request_with (asked.Rewind mark) event = Rewind mark
 request_with asked.Seal event = Seal
-request_with (asked.See look) event = See look
+request_with (asked.Ask look) event = Ask look
 
 -- the request of a line, or its fault
 abbrev pub line_with : Result Asked LineFault → Event → Result Request LineFault
@@ -28,5 +28,5 @@ asked_with None event = None
 
 -- what is to be shown, or the fault
 abbrev pub shown : Result Query LineFault → Result Request LineFault
-shown (Ok look) = Ok (See look)
+shown (Ok look) = Ok (Ask look)
 shown (Err fault) = Err fault

@@ -10,11 +10,11 @@ use Rattle.klp_console_commands.specs.declared.fault.LineFault.{LineFault}
 use Rattle.klp_console_commands.specs.declared.fault.LineFault.TheVariants.{BadLine, BadValue}
 use Rattle.klp_types.specs.declared.limits.TheConstants.{MAX_TASK_NUMBER, MAX_MARK}
 use Rattle.klp_console_commands.specs.declared.request.Request.{Request}
-use Rattle.klp_console_commands.specs.declared.request.Request.TheVariants.{Take, ForceNothing, Rewind, Seal, See}
+use Rattle.klp_console_commands.specs.declared.request.Request.TheVariants.{Take, ForceNothing, Rewind, Seal, Ask}
 use Rattle.klp_console_commands.specs.declared.request.Query.TheVariants as look
 use Rattle.klp_console_commands.specs.declared.line.Keyword.{Keyword}
 use Rattle.klp_console_commands.specs.declared.line.Keyword.TheVariants as keyword
-use Rattle.klp_console_commands.specs.Words.{words_of, is_name, only_word, only_name, two_words, number_of, value_of, number_to}
+use Rattle.klp_console_commands.specs.Words.{words_of, is_console_name, only_word, only_name, two_words, number_of, value_of, number_to}
 use Rattle.klp_console_commands.specs.Names.{NameResolver, patch_of, object_of, task_of, site_of, versions_of, are_frames}
 
 -- load PATCH
@@ -51,7 +51,7 @@ force_line names value patch = switch value >>= λ v. patch_of names patch >>= �
 
 abbrev pub echo_to : NameResolver → List ℕ → List ℕ → List ℕ → Result Request LineFault
 echo_to names value patch file =
-    if not (is_name patch) then Err BadLine
+    if not (is_console_name patch) then Err BadLine
     else if bytes_eq file (codes "enabled") then enabled_line names value patch
     else if bytes_eq file (codes "force") then force_line names value patch
     else Err BadLine
@@ -71,7 +71,7 @@ echo_line names words = Err BadLine
 abbrev pub task_query : List ℕ → List ℕ → Result Request LineFault
 task_query number file =
     if not (bytes_eq file (codes "patch_state")) then Err BadLine
-    else (number_to MAX_TASK_NUMBER number >>= λ n. task_of n >>= λ t. Ok (See (look.PatchState t)))
+    else (number_to MAX_TASK_NUMBER number >>= λ n. task_of n >>= λ t. Ok (Ask (look.PatchState t)))
 
 -- T/patch_state
 abbrev pub proc_query : List ℕ → Result Request LineFault
@@ -79,9 +79,9 @@ proc_query file = task_query (before_first (λ b. b == 47) file) (after_first (�
 
 abbrev pub patch_file_query : NameResolver → List ℕ → List ℕ → Result Request LineFault
 patch_file_query names patch file =
-    if not (is_name patch) then Err BadLine
-    else if bytes_eq file (codes "enabled") then (patch_of names patch >>= λ p. Ok (See (look.Enabled p)))
-    else if bytes_eq file (codes "transition") then (patch_of names patch >>= λ p. Ok (See (look.Transition p)))
+    if not (is_console_name patch) then Err BadLine
+    else if bytes_eq file (codes "enabled") then (patch_of names patch >>= λ p. Ok (Ask (look.Enabled p)))
+    else if bytes_eq file (codes "transition") then (patch_of names patch >>= λ p. Ok (Ask (look.Transition p)))
     else Err BadLine
 
 -- PATCH/FILE
@@ -100,19 +100,19 @@ cat_line names words = only_word words >>= cat_file names
 
 abbrev pub object_query : NameResolver → List ℕ → List ℕ → Result Request LineFault
 object_query names patch object =
-    if is_name patch && is_name object
-    then (patch_of names patch >>= λ p. object_of names object >>= λ o. Ok (See (look.Object p o)))
+    if is_console_name patch && is_console_name object
+    then (patch_of names patch >>= λ p. object_of names object >>= λ o. Ok (Ask (look.Object p o)))
     else Err BadLine
 
 -- PATCH, or PATCH/OBJECT
 abbrev pub directory_query : NameResolver → List ℕ → Result Request LineFault
 directory_query names directory =
-    if is_name directory then (patch_of names directory >>= λ p. Ok (See (look.Patch p)))
+    if is_console_name directory then (patch_of names directory >>= λ p. Ok (Ask (look.Patch p)))
     else object_query names (before_first (λ b. b == 47) directory) (after_first (λ b. b == 47) directory)
 
 abbrev pub list_query : NameResolver → List ℕ → Result Request LineFault
 list_query names directory =
-    if bytes_eq directory (codes "/sys/kernel/livepatch") then Ok (See look.Patches)
+    if bytes_eq directory (codes "/sys/kernel/livepatch") then Ok (Ask look.Patches)
     else if starts_with nat_eq directory (codes "/sys/kernel/livepatch/") then directory_query names (drop 22 directory)
     else Err BadLine
 
@@ -183,7 +183,7 @@ free_all_line words = only_word words >>= λ id. number_of id >>= λ i. Ok (Take
 
 -- shadow get OBJ ID
 abbrev pub get_line : List (List ℕ) → Result Request LineFault
-get_line words = key_of words >>= λ k. Ok (See (look.Variable k))
+get_line words = key_of words >>= λ k. Ok (Ask (look.Variable k))
 
 abbrev pub shadow_line : List (List ℕ) → Result Request LineFault
 shadow_line [] = Err BadLine
@@ -197,26 +197,26 @@ shadow_line (verb ∷ words) =
 
 -- text OBJECT
 abbrev pub text_line : NameResolver → List (List ℕ) → Result Request LineFault
-text_line names words = only_name words >>= λ object. object_of names object >>= λ o. Ok (See (look.Text o))
+text_line names words = only_name words >>= λ object. object_of names object >>= λ o. Ok (Ask (look.Text o))
 
 -- stack SYM
 abbrev pub stack_line : NameResolver → List (List ℕ) → Result Request LineFault
 stack_line names words =
     only_word words >>= λ symbol. ok_or (spelling_of symbol) BadLine
-    >>= λ s. site_of names s >>= λ site. Ok (See (look.Stack site))
+    >>= λ s. site_of names s >>= λ site. Ok (Ask (look.Stack site))
 
 -- pick T SYM
 abbrev pub pick_line : NameResolver → List (List ℕ) → Result Request LineFault
 pick_line names words =
     two_words words >>= λ w. number_to MAX_TASK_NUMBER w.0 >>= λ n. ok_or (spelling_of w.1) BadLine
-    >>= λ s. task_of n >>= λ t. site_of names s >>= λ site. Ok (See (look.Pick t site))
+    >>= λ s. task_of n >>= λ t. site_of names s >>= λ site. Ok (Ask (look.Pick t site))
 
 -- runs PATCH OBJECT
 abbrev pub runs_line : NameResolver → List (List ℕ) → Result Request LineFault
 runs_line names words =
     two_words words
-    >>= λ w. if is_name w.0 && is_name w.1
-    then (patch_of names w.0 >>= λ p. object_of names w.1 >>= λ o. Ok (See (look.Runs p o)))
+    >>= λ w. if is_console_name w.0 && is_console_name w.1
+    then (patch_of names w.0 >>= λ p. object_of names w.1 >>= λ o. Ok (Ask (look.Runs p o)))
     else Err BadLine
 
 -- rewind K
@@ -258,7 +258,7 @@ line_of names (Some keyword.Text) words = text_line names words
 line_of names (Some keyword.Stack) words = stack_line names words
 line_of names (Some keyword.Pick) words = pick_line names words
 line_of names (Some keyword.Runs) words = runs_line names words
-line_of names (Some keyword.Mark) words = alone (See look.Mark) words
+line_of names (Some keyword.Mark) words = alone (Ask look.Mark) words
 line_of names (Some keyword.Rewind) words = rewind_line words
 line_of names (Some keyword.Seal) words = alone Seal words
 line_of names None words = Err BadLine

@@ -14,7 +14,7 @@ use Rattle.klp_catalog_text.specs.Draft.{patch_names_of}
 use Rattle.klp_catalog.specs.Catalog.{Catalog}
 use Rattle.klp_console_commands.specs.declared.fault.LineFault.{LineFault}
 use Rattle.klp_console_commands.specs.declared.fault.LineFault.TheVariants.{BadLine, Refused}
-use Rattle.klp_console_commands.specs.Words.{is_name, number_to}
+use Rattle.klp_console_commands.specs.Words.{is_console_name, number_to}
 
 -- the names that a line may use: those of the patches, and those of the objects and their symbols
 pub record NameResolver : Type 0 where
@@ -48,7 +48,7 @@ site_of names spelling =
 
 abbrev pub new_function_at : NameResolver → List ℕ → List ℕ → Result Version LineFault
 new_function_at names patch index =
-    if is_name patch then (number_to MAX_INDEX index >>= λ i. patch_of names patch >>= λ p. Ok (New p i)) else Err BadLine
+    if is_console_name patch then (number_to MAX_INDEX index >>= λ i. patch_of names patch >>= λ p. Ok (New p i)) else Err BadLine
 
 -- `PATCH:INDEX`: a new function of a patch, whether the patch has it or not
 abbrev pub new_function_of : NameResolver → List ℕ → Result Version LineFault
@@ -71,7 +71,7 @@ versions_of names (word ∷ words) = version_of names word >>= λ v. versions_of
 abbrev pub is_frame : List ℕ → Bool
 is_frame word =
     is_some (spelling_of word)
-    || (is_name (before_first (λ b. b == 58) word) && is_ok (number_to MAX_INDEX (after_first (λ b. b == 58) word)))
+    || (is_console_name (before_first (λ b. b == 58) word) && is_ok (number_to MAX_INDEX (after_first (λ b. b == 58) word)))
 
 -- as many frames as a task has at most
 abbrev pub are_frames : List (List ℕ) → Bool

@@ -18,8 +18,8 @@ abbrev pub is_name_byte : ℕ → Bool
 is_name_byte b = not (b == 47) && not (b == 58)
 
 -- a word that may name a patch or an object
-abbrev pub is_name : List ℕ → Bool
-is_name word = nat_lt 0 (length word) && list_all is_name_byte word
+abbrev pub is_console_name : List ℕ → Bool
+is_console_name word = nat_lt 0 (length word) && list_all is_name_byte word
 
 -- the one word that is left
 abbrev pub only_word : List (List ℕ) → Result (List ℕ) LineFault
@@ -27,7 +27,7 @@ only_word (word ∷ []) = Ok word
 only_word words = Err BadLine
 
 abbrev pub name_of : List ℕ → Result (List ℕ) LineFault
-name_of word = if is_name word then Ok word else Err BadLine
+name_of word = if is_console_name word then Ok word else Err BadLine
 
 -- the one word that is left, which may name a patch or an object
 abbrev pub only_name : List (List ℕ) → Result (List ℕ) LineFault

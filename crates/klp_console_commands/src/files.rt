@@ -8,10 +8,10 @@ ghost use Rattle.klp_console_commands.specs.Asked.{line_with, shown};
 use crate::fault::LineFault;
 use crate::names::{NameResolver, task};
 use crate::request::{Asked, Query};
-use crate::words::{after_prefix, end, is_name, is_word, number_to, only_word, word};
+use crate::words::{after_prefix, end, is_console_name, is_word, number_to, only_word, word};
 use klp_model::Event;
 use klp_types::MAX_TASK_NUMBER;
-use klp_words::{Words, cut};
+use klp_words::{LineWords, cut};
 
 /// Where the directories of the patches are (livepatch, Sysfs). To list it is to ask for the installed
 /// patches.
@@ -78,7 +78,7 @@ fn echo_file(
     ensures { line_with result event.new ≡ echo_file names.now value.now file.now }
 {
     let (patch, file) = cut(file, b'/');
-    if !is_name(patch) {
+    if !is_console_name(patch) {
         return Err(LineFault::BadLine);
     }
     if is_word(file, b"enabled") {
@@ -93,7 +93,7 @@ fn echo_file(
 /// The words after `echo`: a value, an arrow and a file. There has to be a space on both sides of the
 /// arrow, since only spaces separate words.
 pub(crate) fn echo_line(
-    words: &mut Words<'_>,
+    words: &mut LineWords<'_>,
     names: &NameResolver<'_>,
     event: &mut Event,
 ) -> Result<Asked, LineFault>
@@ -129,7 +129,7 @@ fn patch_query(file: &[u8], names: &NameResolver<'_>) -> Result<Query, LineFault
     ensures { shown result ≡ patch_query names.now file.now }
 {
     let (patch, file) = cut(file, b'/');
-    if !is_name(patch) {
+    if !is_console_name(patch) {
         return Err(LineFault::BadLine);
     }
     if is_word(file, b"enabled") {
@@ -155,22 +155,25 @@ fn cat_file(file: &[u8], names: &NameResolver<'_>) -> Result<Query, LineFault>
 
 /// The word after `cat`. There is no name of a file by itself, since files are those below a patch or a
 /// task.
-pub(crate) fn cat_line(words: &mut Words<'_>, names: &NameResolver<'_>) -> Result<Asked, LineFault>
+pub(crate) fn cat_line(
+    words: &mut LineWords<'_>,
+    names: &NameResolver<'_>,
+) -> Result<Asked, LineFault>
     ensures { (event : Event) → line_with result event ≡ cat_line names.now words.old }
 {
     let file = only_word(words)?;
-    Ok(Asked::See(cat_file(file, names)?))
+    Ok(Asked::Ask(cat_file(file, names)?))
 }
 
 /// The directory of a patch, or of an object in it. A name has no `/`, so the two can't be mixed up.
 fn directory_query(directory: &[u8], names: &NameResolver<'_>) -> Result<Query, LineFault>
     ensures { shown result ≡ directory_query names.now directory.now }
 {
-    if is_name(directory) {
+    if is_console_name(directory) {
         return Ok(Query::Patch(names.patch(directory)?));
     }
     let (patch, object) = cut(directory, b'/');
-    if !is_name(patch) || !is_name(object) {
+    if !is_console_name(patch) || !is_console_name(object) {
         return Err(LineFault::BadLine);
     }
     let patch = names.patch(patch)?;
@@ -190,9 +193,12 @@ fn list_query(directory: &[u8], names: &NameResolver<'_>) -> Result<Query, LineF
 }
 
 /// The word after `ls`: the directory of all patches, of one, or of an object in one.
-pub(crate) fn list_line(words: &mut Words<'_>, names: &NameResolver<'_>) -> Result<Asked, LineFault>
+pub(crate) fn list_line(
+    words: &mut LineWords<'_>,
+    names: &NameResolver<'_>,
+) -> Result<Asked, LineFault>
     ensures { (event : Event) → line_with result event ≡ list_line names.now words.old }
 {
     let directory = only_word(words)?;
-    Ok(Asked::See(list_query(directory, names)?))
+    Ok(Asked::Ask(list_query(directory, names)?))
 }

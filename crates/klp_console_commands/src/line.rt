@@ -14,12 +14,12 @@ use crate::names::{NameResolver, task};
 use crate::request::{Asked, Query};
 use crate::shadow::shadow_line;
 use crate::tasks::task_line;
-use crate::words::{end, is_name, is_word, number_to, only_name, only_word, two_words};
+use crate::words::{end, is_console_name, is_word, number_to, only_name, only_word, two_words};
 use klp_catalog::Catalog;
 use klp_model::Event;
 use klp_modules::Modules;
 use klp_types::{MAX_MARK, MAX_TASK_NUMBER};
-use klp_words::{Separators, Words, spelling_of};
+use klp_words::{LineWords, Separators, spelling_of};
 
 /// The word that a line begins with.
 #[derive(Clone, Copy)]
@@ -83,7 +83,7 @@ fn keyword_of(word: &[u8]) -> Option<Keyword>
 }
 
 fn load_line(
-    words: &mut Words<'_>,
+    words: &mut LineWords<'_>,
     names: &NameResolver<'_>,
     event: &mut Event,
 ) -> Result<Asked, LineFault>
@@ -95,7 +95,7 @@ fn load_line(
 }
 
 fn insmod_line(
-    words: &mut Words<'_>,
+    words: &mut LineWords<'_>,
     names: &NameResolver<'_>,
     event: &mut Event,
 ) -> Result<Asked, LineFault>
@@ -107,7 +107,7 @@ fn insmod_line(
 }
 
 fn rmmod_line(
-    words: &mut Words<'_>,
+    words: &mut LineWords<'_>,
     names: &NameResolver<'_>,
     event: &mut Event,
 ) -> Result<Asked, LineFault>
@@ -119,14 +119,14 @@ fn rmmod_line(
 }
 
 /// What a line of one word asks for.
-fn alone(asked: Asked, words: &mut Words<'_>) -> Result<Asked, LineFault>
+fn alone(asked: Asked, words: &mut LineWords<'_>) -> Result<Asked, LineFault>
     ensures { (event : Event) → line_with result event ≡ alone (request_with asked event) words.old }
 {
     end(words)?;
     Ok(asked)
 }
 
-fn poll_line(words: &mut Words<'_>, event: &mut Event) -> Result<Asked, LineFault>
+fn poll_line(words: &mut LineWords<'_>, event: &mut Event) -> Result<Asked, LineFault>
     ensures { line_with result event.new ≡ alone (Take Poll) words.old }
 {
     end(words)?;
@@ -134,43 +134,43 @@ fn poll_line(words: &mut Words<'_>, event: &mut Event) -> Result<Asked, LineFaul
     Ok(Asked::Take)
 }
 
-fn text_line(words: &mut Words<'_>, names: &NameResolver<'_>) -> Result<Asked, LineFault>
+fn text_line(words: &mut LineWords<'_>, names: &NameResolver<'_>) -> Result<Asked, LineFault>
     ensures { (event : Event) → line_with result event ≡ text_line names.now words.old }
 {
     let object = only_name(words)?;
-    Ok(Asked::See(Query::Text(names.object(object)?)))
+    Ok(Asked::Ask(Query::Text(names.object(object)?)))
 }
 
-fn stack_line(words: &mut Words<'_>, names: &NameResolver<'_>) -> Result<Asked, LineFault>
+fn stack_line(words: &mut LineWords<'_>, names: &NameResolver<'_>) -> Result<Asked, LineFault>
     ensures { (event : Event) → line_with result event ≡ stack_line names.now words.old }
 {
     let symbol = only_word(words)?;
     let spelling = spelling_of(symbol).ok_or(LineFault::BadLine)?;
-    Ok(Asked::See(Query::Stack(names.site(&spelling)?)))
+    Ok(Asked::Ask(Query::Stack(names.site(&spelling)?)))
 }
 
-fn pick_line(words: &mut Words<'_>, names: &NameResolver<'_>) -> Result<Asked, LineFault>
+fn pick_line(words: &mut LineWords<'_>, names: &NameResolver<'_>) -> Result<Asked, LineFault>
     ensures { (event : Event) → line_with result event ≡ pick_line names.now words.old }
 {
     let (number, symbol) = two_words(words)?;
     let number = number_to(MAX_TASK_NUMBER, number)?;
     let spelling = spelling_of(symbol).ok_or(LineFault::BadLine)?;
     let task = task(number)?;
-    Ok(Asked::See(Query::Pick(task, names.site(&spelling)?)))
+    Ok(Asked::Ask(Query::Pick(task, names.site(&spelling)?)))
 }
 
-fn runs_line(words: &mut Words<'_>, names: &NameResolver<'_>) -> Result<Asked, LineFault>
+fn runs_line(words: &mut LineWords<'_>, names: &NameResolver<'_>) -> Result<Asked, LineFault>
     ensures { (event : Event) → line_with result event ≡ runs_line names.now words.old }
 {
     let (patch, object) = two_words(words)?;
-    if !is_name(patch) || !is_name(object) {
+    if !is_console_name(patch) || !is_console_name(object) {
         return Err(LineFault::BadLine);
     }
     let patch = names.patch(patch)?;
-    Ok(Asked::See(Query::Runs(patch, names.object(object)?)))
+    Ok(Asked::Ask(Query::Runs(patch, names.object(object)?)))
 }
 
-fn rewind_line(words: &mut Words<'_>) -> Result<Asked, LineFault>
+fn rewind_line(words: &mut LineWords<'_>) -> Result<Asked, LineFault>
     ensures { (event : Event) → line_with result event ≡ rewind_line words.old }
 {
     let mark = only_word(words)?;
@@ -179,7 +179,7 @@ fn rewind_line(words: &mut Words<'_>) -> Result<Asked, LineFault>
 
 fn line_of(
     keyword: Option<Keyword>,
-    words: &mut Words<'_>,
+    words: &mut LineWords<'_>,
     names: &NameResolver<'_>,
     event: &mut Event,
 ) -> Result<Asked, LineFault>
@@ -199,7 +199,7 @@ fn line_of(
         Some(Keyword::Stack) => stack_line(words, names),
         Some(Keyword::Pick) => pick_line(words, names),
         Some(Keyword::Runs) => runs_line(words, names),
-        Some(Keyword::Mark) => alone(Asked::See(Query::Mark), words),
+        Some(Keyword::Mark) => alone(Asked::Ask(Query::Mark), words),
         Some(Keyword::Rewind) => rewind_line(words),
         Some(Keyword::Seal) => alone(Asked::Seal, words),
         None => Err(LineFault::BadLine),
@@ -220,7 +220,7 @@ pub fn read_request(
 {
     // spaces alone separate words, so a tab or a carriage return is a byte of its word, and no name has one
     // (docs/DECISIONS.md, "Words and bytes of names")
-    let mut words = Words::new(line, Separators::Spaces);
+    let mut words = LineWords::new(line, Separators::Spaces);
     let first = words.next()?;
     let names = NameResolver { catalog, modules };
     Some(line_of(keyword_of(first), &mut words, &names, event))

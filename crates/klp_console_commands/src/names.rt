@@ -6,7 +6,7 @@ ghost use Rattle.std.specs.Str.{is_utf8};
 ghost use Rattle.klp_console_commands.specs.Names.{patch_of, object_of, task_of, site_of, new_function_of, version_of, symbol_found};
 
 use crate::fault::LineFault;
-use crate::words::{is_name, number_to};
+use crate::words::{is_console_name, number_to};
 use klp_catalog::Catalog;
 use klp_model::Refusal;
 use klp_modules::Modules;
@@ -94,7 +94,7 @@ impl<'a> NameResolver<'a> {
         ensures { result ≡ new_function_of self.now word.now }
     {
         let (patch, index) = cut(word, b':');
-        if !is_name(patch) {
+        if !is_console_name(patch) {
             return Err(LineFault::BadLine);
         }
         let index = number_to(MAX_INDEX, index)? as u16;

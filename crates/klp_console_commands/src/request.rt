@@ -17,7 +17,7 @@ pub enum Request {
     /// To empty the journal, so that nothing before can be undone any more.
     Seal,
     /// To see something; nothing changes, so it costs no room in the journal.
-    See(Query),
+    Ask(Query),
 }
 
 /// What a line asks for, in a few bytes: an event stands in room of its own beside it, which has place for the
@@ -32,8 +32,8 @@ pub enum Asked {
     Rewind(u32),
     /// [`Request::Seal`].
     Seal,
-    /// [`Request::See`].
-    See(Query),
+    /// [`Request::Ask`].
+    Ask(Query),
 }
 
 /// What a line asks to see. Nothing changes by it, so it is no event, and isn't undone.

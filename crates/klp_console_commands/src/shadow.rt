@@ -10,10 +10,10 @@ use crate::request::{Asked, Query};
 use crate::words::{end, is_word, number, only_word, two_words, value, word};
 use klp_model::Event;
 use klp_types::{ShadowKey, ShadowValue};
-use klp_words::Words;
+use klp_words::LineWords;
 
 /// The two words that are a key, and nothing behind them: the words are counted before numbers are read.
-fn key(words: &mut Words<'_>) -> Result<ShadowKey, LineFault>
+fn key(words: &mut LineWords<'_>) -> Result<ShadowKey, LineFault>
     ensures { result ≡ key_of words.old }
 {
     let (obj, id) = two_words(words)?;
@@ -23,7 +23,7 @@ fn key(words: &mut Words<'_>) -> Result<ShadowKey, LineFault>
 }
 
 /// The three words that are a key and a value, and nothing behind them.
-fn variable(words: &mut Words<'_>) -> Result<(ShadowKey, ShadowValue), LineFault>
+fn variable(words: &mut LineWords<'_>) -> Result<(ShadowKey, ShadowValue), LineFault>
     ensures { result ≡ variable_of words.old }
 {
     let obj = word(words)?;
@@ -35,7 +35,7 @@ fn variable(words: &mut Words<'_>) -> Result<(ShadowKey, ShadowValue), LineFault
     Ok((ShadowKey { obj, id }, value(bytes)?))
 }
 
-fn alloc_line(words: &mut Words<'_>, event: &mut Event) -> Result<Asked, LineFault>
+fn alloc_line(words: &mut LineWords<'_>, event: &mut Event) -> Result<Asked, LineFault>
     ensures { line_with result event.new ≡ alloc_line words.old }
 {
     let (key, value) = variable(words)?;
@@ -43,7 +43,7 @@ fn alloc_line(words: &mut Words<'_>, event: &mut Event) -> Result<Asked, LineFau
     Ok(Asked::Take)
 }
 
-fn get_or_alloc_line(words: &mut Words<'_>, event: &mut Event) -> Result<Asked, LineFault>
+fn get_or_alloc_line(words: &mut LineWords<'_>, event: &mut Event) -> Result<Asked, LineFault>
     ensures { line_with result event.new ≡ get_or_alloc_line words.old }
 {
     let (key, value) = variable(words)?;
@@ -51,14 +51,14 @@ fn get_or_alloc_line(words: &mut Words<'_>, event: &mut Event) -> Result<Asked, 
     Ok(Asked::Take)
 }
 
-fn free_line(words: &mut Words<'_>, event: &mut Event) -> Result<Asked, LineFault>
+fn free_line(words: &mut LineWords<'_>, event: &mut Event) -> Result<Asked, LineFault>
     ensures { line_with result event.new ≡ free_line words.old }
 {
     *event = Event::ShadowFree(key(words)?);
     Ok(Asked::Take)
 }
 
-fn free_all_line(words: &mut Words<'_>, event: &mut Event) -> Result<Asked, LineFault>
+fn free_all_line(words: &mut LineWords<'_>, event: &mut Event) -> Result<Asked, LineFault>
     ensures { line_with result event.new ≡ free_all_line words.old }
 {
     let id = only_word(words)?;
@@ -66,15 +66,15 @@ fn free_all_line(words: &mut Words<'_>, event: &mut Event) -> Result<Asked, Line
     Ok(Asked::Take)
 }
 
-fn get_line(words: &mut Words<'_>) -> Result<Asked, LineFault>
+fn get_line(words: &mut LineWords<'_>) -> Result<Asked, LineFault>
     ensures { (event : Event) → line_with result event ≡ get_line words.old }
 {
-    Ok(Asked::See(Query::Variable(key(words)?)))
+    Ok(Asked::Ask(Query::Variable(key(words)?)))
 }
 
 /// The words after `shadow`: a verb, and numbers. A key is two of them, since it has a parent object and an
 /// id. Behind the key a value may stand.
-pub(crate) fn shadow_line(words: &mut Words<'_>, event: &mut Event) -> Result<Asked, LineFault>
+pub(crate) fn shadow_line(words: &mut LineWords<'_>, event: &mut Event) -> Result<Asked, LineFault>
     ensures { line_with result event.new ≡ shadow_line words.old }
 {
     let verb = word(words)?;

@@ -9,10 +9,10 @@ ghost use Rattle.klp_console_commands.specs.Asked.{line_with};
 use crate::fault::LineFault;
 use crate::names::{NameResolver, task};
 use crate::request::Asked;
-use crate::words::{end, is_name, is_word, number_to, only_word, word};
+use crate::words::{end, is_console_name, is_word, number_to, only_word, word};
 use klp_model::Event;
 use klp_types::{Frames, MAX_FRAMES, MAX_INDEX, MAX_TASK_NUMBER};
-use klp_words::{Words, cut, spelling_of};
+use klp_words::{LineWords, cut, spelling_of};
 
 /// Whether a word spells a function that a task may be inside of, known or not: shapes come before names.
 fn is_frame(word: &[u8]) -> bool
@@ -22,13 +22,13 @@ fn is_frame(word: &[u8]) -> bool
         return true;
     }
     let (patch, index) = cut(word, b':');
-    is_name(patch) && number_to(MAX_INDEX, index).is_ok()
+    is_console_name(patch) && number_to(MAX_INDEX, index).is_ok()
 }
 
 /// Whether each word spells a function, and there are no more than a task can be inside of. The words are
 /// read once more for their names, so that no list of half-read frames is kept (docs/DECISIONS.md, "Frames
 /// read twice").
-fn are_frames(words: &Words<'_>) -> bool
+fn are_frames(words: &LineWords<'_>) -> bool
     ensures { result ≡ are_frames words.now }
 {
     let mut left = words.again();
@@ -44,7 +44,7 @@ fn are_frames(words: &Words<'_>) -> bool
 
 /// The functions that the words spell, of which there aren't too many: so each finds its place, and the
 /// answer of `push` is dropped.
-fn frames(words: &Words<'_>, names: &NameResolver<'_>) -> Result<Frames, LineFault>
+fn frames(words: &LineWords<'_>, names: &NameResolver<'_>) -> Result<Frames, LineFault>
     requires { length words.now ≤ MAX_FRAMES }
     ensures { result ≡ versions_of names.now words.now }
 {
@@ -60,7 +60,7 @@ fn frames(words: &Words<'_>, names: &NameResolver<'_>) -> Result<Frames, LineFau
 /// may be none.
 fn sleep_line(
     number: u64,
-    words: &mut Words<'_>,
+    words: &mut LineWords<'_>,
     names: &NameResolver<'_>,
     event: &mut Event,
 ) -> Result<Asked, LineFault>
@@ -75,7 +75,7 @@ fn sleep_line(
 }
 
 /// The word after the task that forks: the one that it makes. Its shape is looked at before either task.
-fn fork_line(number: u64, words: &mut Words<'_>, event: &mut Event) -> Result<Asked, LineFault>
+fn fork_line(number: u64, words: &mut LineWords<'_>, event: &mut Event) -> Result<Asked, LineFault>
     ensures { line_with result event.new ≡ fork_line number words.old }
 {
     let child = only_word(words)?;
@@ -109,7 +109,7 @@ fn plain_event(verb: &[u8], number: u64, event: &mut Event) -> Result<Asked, Lin
 fn plain_line(
     verb: &[u8],
     number: u64,
-    words: &mut Words<'_>,
+    words: &mut LineWords<'_>,
     event: &mut Event,
 ) -> Result<Asked, LineFault>
     ensures { line_with result event.new ≡ plain_line verb.now number words.old }
@@ -121,7 +121,7 @@ fn plain_line(
 /// The words after `task`: a verb, a task and what the verb needs. The task's number is read before the
 /// verb is known, since every verb has one.
 pub(crate) fn task_line(
-    words: &mut Words<'_>,
+    words: &mut LineWords<'_>,
     names: &NameResolver<'_>,
     event: &mut Event,
 ) -> Result<Asked, LineFault>

@@ -2,14 +2,14 @@
 
 ghost use Rattle.std.specs.Prelude.{◌≡◌, ℕ, ◌≤◌, true, false, List, ◌∷◌, [], length, drop, nat_eq, bytes_eq, Ok, Err, IfOk, MatchOption, MatchResult};
 ghost use Rattle.std.specs.List.{starts_with};
-ghost use Rattle.klp_console_commands.specs.Words.{is_name, only_word, only_name, two_words, number_of, value_of, number_to};
+ghost use Rattle.klp_console_commands.specs.Words.{is_console_name, only_word, only_name, two_words, number_of, value_of, number_to};
 
 use crate::fault::LineFault;
 use klp_types::ShadowValue;
-use klp_words::{Words, number64, shadow_value};
+use klp_words::{LineWords, number64, shadow_value};
 
 /// The next word, or `BadLine` where there is none: a line with too few words matches no form.
-pub(crate) fn word<'a>(words: &mut Words<'a>) -> Result<&'a [u8], LineFault>
+pub(crate) fn word<'a>(words: &mut LineWords<'a>) -> Result<&'a [u8], LineFault>
     ensures { MatchResult result (λ word. words.old ≡ word.now ∷ words.new)
         (λ fault. (fault ≡ LineFault.BadLine) × (words.old ≡ [])) }
 {
@@ -17,7 +17,7 @@ pub(crate) fn word<'a>(words: &mut Words<'a>) -> Result<&'a [u8], LineFault>
 }
 
 /// `BadLine` where a word is left: a line with too many words matches no form either.
-pub(crate) fn end(words: &mut Words<'_>) -> Result<(), LineFault>
+pub(crate) fn end(words: &mut LineWords<'_>) -> Result<(), LineFault>
     ensures { MatchResult result (λ _. words.old ≡ [])
         (λ fault. (fault ≡ LineFault.BadLine) × (word : List ℕ) × (rest : List (List ℕ)) × (words.old ≡ word ∷ rest)) }
 {
@@ -28,7 +28,7 @@ pub(crate) fn end(words: &mut Words<'_>) -> Result<(), LineFault>
 }
 
 /// The one word that is left, or `BadLine` where there is none or another one behind it.
-pub(crate) fn only_word<'a>(words: &mut Words<'a>) -> Result<&'a [u8], LineFault>
+pub(crate) fn only_word<'a>(words: &mut LineWords<'a>) -> Result<&'a [u8], LineFault>
     ensures { MatchResult result (λ word. only_word words.old ≡ Ok word.now) (λ fault. only_word words.old ≡ Err fault) }
 {
     let (Some(word), None) = (words.next(), words.next()) else {
@@ -38,11 +38,11 @@ pub(crate) fn only_word<'a>(words: &mut Words<'a>) -> Result<&'a [u8], LineFault
 }
 
 /// The one word that is left, which may name a patch or an object.
-pub(crate) fn only_name<'a>(words: &mut Words<'a>) -> Result<&'a [u8], LineFault>
+pub(crate) fn only_name<'a>(words: &mut LineWords<'a>) -> Result<&'a [u8], LineFault>
     ensures { MatchResult result (λ word. only_name words.old ≡ Ok word.now) (λ fault. only_name words.old ≡ Err fault) }
 {
     let word = only_word(words)?;
-    if is_name(word) {
+    if is_console_name(word) {
         Ok(word)
     } else {
         Err(LineFault::BadLine)
@@ -50,7 +50,7 @@ pub(crate) fn only_name<'a>(words: &mut Words<'a>) -> Result<&'a [u8], LineFault
 }
 
 /// The two words that are left.
-pub(crate) fn two_words<'a>(words: &mut Words<'a>) -> Result<(&'a [u8], &'a [u8]), LineFault>
+pub(crate) fn two_words<'a>(words: &mut LineWords<'a>) -> Result<(&'a [u8], &'a [u8]), LineFault>
     ensures { MatchResult result (λ found. two_words words.old ≡ Ok (found.0.now, found.1.now))
         (λ fault. two_words words.old ≡ Err fault) }
 {
@@ -69,8 +69,8 @@ pub(crate) fn is_word(word: &[u8], other: &[u8]) -> bool
 
 /// Whether the word may name a patch or an object: it has neither `/` nor `:`, which separate names.
 /// Whether there is such a name isn't asked.
-pub(crate) fn is_name(word: &[u8]) -> bool
-    ensures { result ≡ is_name word.now }
+pub(crate) fn is_console_name(word: &[u8]) -> bool
+    ensures { result ≡ is_console_name word.now }
 {
     !word.is_empty() && word.iter().all(|b| *b != b'/' && *b != b':')
 }

@@ -78,9 +78,9 @@ impl LineBuffer {
         self.bytes.clear();
     }
 
-    /// The line that a piece has from its first byte to its line feed, lent from the piece, and what comes after the line
-    /// feed, so that a line which one read has whole is copied nowhere. `None` where bytes of the line were heard before,
-    /// where the piece has no line feed, and where the line is longer than [`MAX_CONSOLE_LINE`]: `hear` tells these apart.
+    /// The first line of a piece, without its line feed, and what comes after it. Both are lent from the piece, so a
+    /// line that comes whole in one read isn't copied. `None` where bytes of the line were heard before, where the
+    /// piece has no line feed, and where the line is longer than [`MAX_CONSOLE_LINE`]: `hear` tells these apart.
     pub fn whole_line<'a>(&self, piece: &'a [u8]) -> Option<(&'a [u8], &'a [u8])>
         ensures begins { IfSome result (λ _. self.now ≡ []) }
         ensures finished { IfSome result (λ found. lines_and_rest piece.now ≡ found.0.now ∷ lines_and_rest found.1.now) }

@@ -85,11 +85,11 @@ pub left_behind : (versions : List Version) (move : Transition) (tasks : Tasks)
 left_behind versions move [] = refl
 left_behind versions move (row ∷ tasks) =
     let after = map (option_map (switched versions move.target)) tasks in
-    let told = map (lag_at (λ version. list_any (is_version version) versions) (Some move)) tasks in
+    let effective = map (lag_at (λ version. list_any (is_version version) versions) (Some move)) tasks in
     sum_by-cons (λ (r : Option Task). cond (lags move.target r) 1 0) (option_map (switched versions move.target) row) after
     ∙ ap (λ b. cond b 1 0 + count_by (lags move.target) after) (left_row versions move row)
     ∙ ap (λ n. cond (is_left (lag_at (λ version. list_any (is_version version) versions) (Some move) row)) 1 0 + n) (left_behind versions move tasks)
-    ∙ sym (sum_by-cons (λ (l : Option Lag). cond (is_left l) 1 0) (lag_at (λ version. list_any (is_version version) versions) (Some move) row) told)
+    ∙ sym (sum_by-cons (λ (l : Option Lag). cond (is_left l) 1 0) (lag_at (λ version. list_any (is_version version) versions) (Some move) row) effective)
 
 pub left_by_poll : (setting : Setting) (state : State) (move : Transition) → state.moving ≡ Some move → pending setting state move ≡ count_by is_left (holders setting state)
 left_by_poll setting state move moves =
@@ -97,9 +97,9 @@ left_by_poll setting state move moves =
     (sym moves) (left_behind (blocked setting state move) move state.tasks)
 
 -- rows that have the lag of each number's task are the lags of all
-pub all_told : (lag : Option Task → Option Lag) (tasks : Tasks) (lags : List (Option Lag)) (n : ℕ) → length lags ≡ n → length tasks ≡ n
+pub all_effective : (lag : Option Task → Option Lag) (tasks : Tasks) (lags : List (Option Lag)) (n : ℕ) → length lags ≡ n → length tasks ≡ n
     → ((k : ℕ) → k < n → get_or lags k None ≡ lag (get_or tasks k None)) → lags ≡ map lag tasks
-all_told lag tasks lags n many rows each =
+all_effective lag tasks lags n many rows each =
     fill_by_all (λ k. lag (get_or tasks k None)) lags n None many each
     ∙ sym (fill_by_all (λ k. lag (get_or tasks k None)) (map lag tasks) n None (length-map tasks lag ∙ rows)
     (λ k below. get_or-map lag tasks k None None (omega (arith, below, rows))))

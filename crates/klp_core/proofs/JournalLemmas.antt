@@ -29,10 +29,10 @@ use Rattle.klp_manager_state.specs.declared.state.ManagerState.{ManagerState}
 use Rattle.klp_manager_state.specs.Events.{TakesEvent, after_event}
 use Rattle.klp_manager_state.specs.Invariant.{Invariant}
 use Rattle.klp_manager_state.specs.Managed.{Managed, setting_of, managed_of, setting_in}
-use Rattle.klp_manager_state.specs.Rows.{Rows, Before, rows_in, rows_before, rows_now, undone, are_due, tell_changes}
-use Rattle.klp_manager_state.proofs.RowLemmas.{given_back, told_back}
-use Rattle.klp_core.proofs.ToldLemmas.{noted_told}
-use Rattle.klp_core.specs.Journaled.{Journaled, state_told, rows_before_all, journaled_of, groups_in, AreInStep, AreKept, is_of_a_task, IsSmall, IsStepOf, AreSteps, IsSound, history_in, Stands}
+use Rattle.klp_manager_state.specs.Rows.{Rows, Before, rows_in, rows_before, rows_now, undone, are_due, have_effects}
+use Rattle.klp_manager_state.proofs.RowLemmas.{given_back, effective_back}
+use Rattle.klp_core.proofs.EffectLemmas.{logged_effective}
+use Rattle.klp_core.specs.Journaled.{Journaled, state_in_rows, rows_before_all, journaled_of, groups_in, AreInStep, AreKept, is_of_a_task, IsSmall, IsStepOf, AreSteps, IsSound, history_in, IsWellFormed}
 use Rattle.klp_types.specs.Callbacks.{Call}
 use Rattle.klp_core.specs.Events.{AreCounted}
 use Rattle.klp_core.specs.Rewinding.{IsRewound}
@@ -64,9 +64,9 @@ step_taken_back setting after (first ∷ newer) group steps = (
   step_taken_back setting after newer group steps.1,
 )
 
-newest_told : (setting : Setting) (after : Rows) (groups : List Group) (group : Group) → AreSteps setting after (groups ++ group ∷ []) → tell_changes after group.rows ≡ true
-newest_told setting after [] group steps = steps.0.told
-newest_told setting after (first ∷ newer) group steps = newest_told setting after newer group steps.1
+newest_effective : (setting : Setting) (after : Rows) (groups : List Group) (group : Group) → AreSteps setting after (groups ++ group ∷ []) → have_effects after group.rows ≡ true
+newest_effective setting after [] group steps = steps.0.effective
+newest_effective setting after (first ∷ newer) group steps = newest_effective setting after newer group steps.1
 
 newest_small : (setting : Setting) (after : Rows) (groups : List Group) (group : Group) → AreSteps setting after (groups ++ group ∷ []) → IsSmall group
 newest_small setting after [] group steps = steps.0.small
@@ -84,7 +84,7 @@ pub sound_due : (state : ManagerState) (catalog : Catalog) (groups older : List 
     → groups ≡ older ++ newest ∷ [] → rows ≡ newest.rows → are_due (rows_in state) rows ≡ true
 sound_due state catalog groups older newest rows sound parted is =
     ap (are_due (rows_in state)) is
-    ∙ told_back (rows_in state) newest.rows (newest_told (setting_in state catalog) (rows_in state) older newest (subst (AreSteps (setting_in state catalog) (rows_in state)) parted sound.steps))
+    ∙ effective_back (rows_in state) newest.rows (newest_effective (setting_in state catalog) (rows_in state) older newest (subst (AreSteps (setting_in state catalog) (rows_in state)) parted sound.steps))
 
 -- the others are all but the last
 pub others_are : (groups older : List Group) (newest : Group) → groups ≡ older ++ newest ∷ [] → older ≡ take (length groups - 1) groups
@@ -99,13 +99,13 @@ base_kept setting rows [] steps = steps
 base_kept setting rows (first ∷ newer) steps = steps.0.kept
 
 are_legal : (setting : Setting) (rows : Rows) (groups : List Group) → AreSteps setting rows groups
-    → IsLegal setting (state_told (rows_before_all rows groups)) (history_in groups)
+    → IsLegal setting (state_in_rows (rows_before_all rows groups)) (history_in groups)
 are_legal setting rows [] steps = tt
 are_legal setting rows (first ∷ newer) steps =
     (steps.0.answered, subst (λ s. IsLegal setting s (history_in newer)) (sym steps.0.left) (are_legal setting rows newer steps.1))
 
 lead_on : (setting : Setting) (rows : Rows) (groups : List Group) → AreSteps setting rows groups
-    → state_told rows ≡ state_after_history setting (state_told (rows_before_all rows groups)) (history_in groups)
+    → state_in_rows rows ≡ state_after_history setting (state_in_rows (rows_before_all rows groups)) (history_in groups)
 lead_on setting rows [] steps = refl
 lead_on setting rows (first ∷ newer) steps =
     lead_on setting rows newer steps.1 ∙ ap (λ s. state_after_history setting s (history_in newer)) (sym steps.0.left)
@@ -114,7 +114,7 @@ are_small : (setting : Setting) (rows : Rows) (groups : List Group) → AreSteps
 are_small setting rows [] steps = All-nil IsSmall
 are_small setting rows (first ∷ newer) steps = All-cons IsSmall first newer steps.0.small (are_small setting rows newer steps.1)
 
-pub sound_stands : (state : ManagerState) (catalog : Catalog) (groups : List Group) → IsSound state catalog groups → Stands (journaled_of state catalog groups)
+pub sound_stands : (state : ManagerState) (catalog : Catalog) (groups : List Group) → IsSound state catalog groups → IsWellFormed (journaled_of state catalog groups)
 sound_stands state catalog groups sound =
     let setting = setting_in state catalog in
     record {
@@ -130,47 +130,47 @@ same_setting : (before after : Managed) (event : Event) → after ≡ after_even
 same_setting before after event left = ap setting_of left
 
 is_step : (before after : ManagerState) (catalog now : Catalog) (event : Event) (reply : Reply) (rows : List Record) → Invariant before catalog → TakesEvent before after catalog now event (Ok reply)
-    → tell_changes (rows_in after) rows ≡ true → length rows ≤ MAX_RECORDS → (is_of_a_task event ≡ true → length rows ≡ 1)
+    → have_effects (rows_in after) rows ≡ true → length rows ≤ MAX_RECORDS → (is_of_a_task event ≡ true → length rows ≡ 1)
     → IsStepOf (setting_in before catalog) (rows_in before) (rows_in after) (record { event = event; reply = reply; rows = rows })
-is_step before after catalog now event reply rows holds taken told few one = record {
+is_step before after catalog now event reply rows holds taken effective few one = record {
   kept = kept_in before catalog holds;
   answered = sym taken.takes.answered;
   left = sym (ap (λ (m : Managed). m.state) taken.takes.left);
-  told = told;
+  effective = effective;
   small = record { few = few; one = one };
 }
 
 pub appended_sound : (before after : ManagerState) (catalog now : Catalog) (groups : List Group) (event : Event) (reply : Reply) → IsSound before catalog groups
-    → TakesEvent before after catalog now event (Ok reply) → rows_before after ≡ rows_now before → length after.log.noted ≤ MAX_RECORDS
-    → (is_of_a_task event ≡ true → length after.log.noted ≡ 1)
-    → IsSound after now (groups ++ record { event = event; reply = reply; rows = after.log.noted } ∷ [])
-appended_sound before after catalog now groups event reply sound taken noted few one =
-    let back = given_back (rows_in after) (rows_in before) after.log.noted (ap (λ (b : Before). b.rows) noted) in
+    → TakesEvent before after catalog now event (Ok reply) → rows_before after ≡ rows_now before → length after.log.logged ≤ MAX_RECORDS
+    → (is_of_a_task event ≡ true → length after.log.logged ≡ 1)
+    → IsSound after now (groups ++ record { event = event; reply = reply; rows = after.log.logged } ∷ [])
+appended_sound before after catalog now groups event reply sound taken logged few one =
+    let back = given_back (rows_in after) (rows_in before) after.log.logged (ap (λ (b : Before). b.rows) logged) in
     let same = same_setting (managed_of before catalog) (managed_of after now) event taken.takes.left in
     record {
       holds = taken.kept;
-      steps = subst (λ s. AreSteps s (rows_in after) (groups ++ record { event = event; reply = reply; rows = after.log.noted } ∷ [])) (sym same)
+      steps = subst (λ s. AreSteps s (rows_in after) (groups ++ record { event = event; reply = reply; rows = after.log.logged } ∷ [])) (sym same)
           (step_appended (setting_in before catalog) (rows_in before) (rows_in after) groups _ back.0 sound.steps
-          (is_step before after catalog now event reply after.log.noted sound.holds taken back.1 few one)
+          (is_step before after catalog now event reply after.log.logged sound.holds taken back.1 few one)
           (subst (λ s. AreKept s (rows_in after)) same (kept_in after now taken.kept)));
     }
 
 pub appended : (before after : ManagerState) (catalog now : Catalog) (groups : List Group) (event : Event) (reply : Reply)
     → Invariant before catalog → length after.sites.stacks ≡ site_count after.sites.image
-    → TakesEvent before after catalog now event (Ok reply) → rows_before after ≡ rows_now before → length after.log.noted ≤ MAX_RECORDS
-    → (is_of_a_task event ≡ true → length after.log.noted ≡ 1)
-    → Appends (journaled_of before catalog groups) (journaled_of after now (groups ++ record { event = event; reply = reply; rows = after.log.noted } ∷ [])) event reply
-appended before after catalog now groups event reply holds count taken noted few one = record {
-  group = record { event = event; reply = reply; rows = after.log.noted };
-  noted = record {
+    → TakesEvent before after catalog now event (Ok reply) → rows_before after ≡ rows_now before → length after.log.logged ≤ MAX_RECORDS
+    → (is_of_a_task event ≡ true → length after.log.logged ≡ 1)
+    → Appends (journaled_of before catalog groups) (journaled_of after now (groups ++ record { event = event; reply = reply; rows = after.log.logged } ∷ [])) event reply
+appended before after catalog now groups event reply holds count taken logged few one = record {
+  group = record { event = event; reply = reply; rows = after.log.logged };
+  logged = record {
     event_is = refl;
     reply_is = refl;
     small = record { few = few; one = one };
-    told = noted_told before after catalog now event reply holds count taken (ap (λ (b : Before). b.rows) noted);
+    effective = logged_effective before after catalog now event reply holds count taken (ap (λ (b : Before). b.rows) logged);
   };
   groups = refl;
   left = taken.takes.left;
-  base = ap state_told (before_more (rows_in before) (rows_in after) groups (record { event = event; reply = reply; rows = after.log.noted }) (given_back (rows_in after) (rows_in before) after.log.noted (ap (λ (b : Before). b.rows) noted)).0);
+  base = ap state_in_rows (before_more (rows_in before) (rows_in after) groups (record { event = event; reply = reply; rows = after.log.logged }) (given_back (rows_in after) (rows_in before) after.log.logged (ap (λ (b : Before). b.rows) logged)).0);
 }
 
 -- a full journal refuses what nothing else does
@@ -193,13 +193,13 @@ invariant_again : (before after : ManagerState) (catalog : Catalog) → Invarian
 invariant_again before after catalog holds kept modules log =
     let same : setting_in after catalog ≡ setting_in before catalog = ap (λ (i : Image). setting_of (record (managed_of before catalog) { image = i })) kept.image in
     record {
-      allowed = subst (λ s. Allowed s (state_told (rows_in after))) (sym same) kept.allowed;
-      stated = subst (λ s. IsStated s (state_told (rows_in after))) (sym same) kept.stated;
+      allowed = subst (λ s. Allowed s (state_in_rows (rows_in after))) (sym same) kept.allowed;
+      stated = subst (λ s. IsStated s (state_in_rows (rows_in after))) (sym same) kept.stated;
       limits = subst (λ (i : Image). IsWithinLimits i.objects) (sym kept.image) holds.limits;
       modules_are = modules ∙ ap (λ (m : ModuleTable). record m { loaded = after.sites.loaded }) holds.modules_are
           ∙ ap (λ (i : Image). record { names = names_of i.objects; loaded = after.sites.loaded }) (sym kept.image);
       catalog_names = holds.catalog_names ∙ ap (λ (i : Image). names_of i.objects) (sym kept.image);
-      entries = λ site. kept.entries site ∙ ap (λ s. entries_of s (state_told (rows_in after)) site) (sym same);
+      entries = λ site. kept.entries site ∙ ap (λ s. entries_of s (state_in_rows (rows_in after)) site) (sym same);
       room = log ∙ holds.room;
     }
 
@@ -228,13 +228,13 @@ rewound before after catalog groups left mark sound is base image =
     let own = managed_of before catalog in
     record {
       groups = is;
-      base = ap state_told base;
+      base = ap state_in_rows base;
       image = image;
       catalog = refl;
       state = (sound_stands after catalog left sound).state
-          ∙ ap (λ (i : Image). state_after_history (setting_of (record own { image = i })) (state_told (rows_before_all (rows_in after) left)) (history_in left)) image
-          ∙ ap (λ (r : Rows). state_after_history (setting_of own) (state_told r) (history_in left)) base
-          ∙ ap (λ gs. state_after_history (setting_of own) (state_told (rows_before_all (rows_in before) groups)) (history_in gs)) is;
+          ∙ ap (λ (i : Image). state_after_history (setting_of (record own { image = i })) (state_in_rows (rows_before_all (rows_in after) left)) (history_in left)) image
+          ∙ ap (λ (r : Rows). state_after_history (setting_of own) (state_in_rows r) (history_in left)) base
+          ∙ ap (λ gs. state_after_history (setting_of own) (state_in_rows (rows_before_all (rows_in before) groups)) (history_in gs)) is;
     }
 
 -- an event that the machine accepts is accepted where there is room
@@ -270,9 +270,9 @@ some_newest (group ∷ groups) some = newest_of group groups
         let rest = newest_of second later in
         (first ∷ rest.0, rest.1, ap (λ gs. first ∷ gs) rest.2)
 
--- the state once what it noted is kept, which makes no other difference
+-- the state once what it logged is kept, which makes no other difference
 abbrev pub with_kept : ManagerState → ManagerState
-with_kept state = record state { log = record state.log { noted = []; older = state.log.older ++ state.log.noted } }
+with_kept state = record state { log = record state.log { logged = []; older = state.log.older ++ state.log.logged } }
 
 invariant_kept : (state : ManagerState) (catalog : Catalog) → Invariant state catalog → Invariant (with_kept state) catalog
 invariant_kept state catalog holds = record {
@@ -300,14 +300,14 @@ pub kept_journaled : (after last : ManagerState) (now : Catalog) (events : List 
 kept_journaled after last now events groups is same =
     ap (λ (m : ManagerState). journaled_of m now groups) (sym is) ∙ ap (journaled_of last now) (sym same)
 
--- the newest event is taken back: its records were taken out of the list, and nothing is noted
+-- the newest event is taken back: its records were taken out of the list, and nothing is logged
 pub taken_back_in_step : (before after : ManagerState) (catalog : Catalog) (log : RecordList) (older : List Group) (newest : Group) (left : List Accepted)
-    → IsTakenBack before after catalog older → after.log ≡ record log { noted = [] } → groups_of left log.older ≡ older → records.counted left ≡ length log.older
+    → IsTakenBack before after catalog older → after.log ≡ record log { logged = [] } → groups_of left log.older ≡ older → records.counted left ≡ length log.older
     → AreInStep after catalog left
 taken_back_in_step before after catalog log older newest left back is groups all =
     let same = ap (λ (l : RecordList). groups_of left l.older) is ∙ groups in
     record {
       holds = back.sound.holds;
       steps = subst (AreSteps (setting_in after catalog) (rows_in after)) (sym same) back.sound.steps;
-      kept = record { all = all ∙ ap (λ (l : RecordList). length l.older) (sym is); rests = ap (λ (l : RecordList). l.noted) is };
+      kept = record { all = all ∙ ap (λ (l : RecordList). length l.older) (sym is); rests = ap (λ (l : RecordList). l.logged) is };
     }

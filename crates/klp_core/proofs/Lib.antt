@@ -3,7 +3,7 @@ pub mod EventLemmas
 pub mod PlacedLemmas
 pub mod ViewLemmas
 pub mod HoldersLemmas
-pub mod ToldLemmas
+pub mod EffectLemmas
 pub mod JournalLemmas
 pub mod RunLemmas
 pub mod WithdrawalLemmas

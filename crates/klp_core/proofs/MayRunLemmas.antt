@@ -21,7 +21,7 @@ use Rattle.klp_model.specs.Refusals.{refusal}
 use Rattle.klp_model.specs.Step.{calls_unless, callbacks_of}
 use Rattle.klp_patch.specs.Calls.{are_some}
 use Rattle.klp_patch.specs.Refusing.{pre_calls}
-use Rattle.klp_patch.specs.Brought.{bring_calls}
+use Rattle.klp_patch.specs.UntilRefused.{calls_until_refused}
 use Rattle.klp_patch.proofs.CallLemmas.{clean_calls, enable-parts}
 use Rattle.klp_patch.proofs.ModuleSharesLemmas.{coming-passed, coming-refused, coming-weight, going-weight}
 use Rattle.klp_core.specs.Events.{may_run_some}
@@ -84,12 +84,12 @@ module _ (moving : Option Transition) where
   comes_none parts None is none =
       let weight = coming-weight moving one parts in
       let may = ap (sum_by one) none in
-      coming-passed moving parts is ∙ counted_none (bring_calls moving parts) (omega (arith, weight, may))
+      coming-passed moving parts is ∙ counted_none (calls_until_refused moving parts) (omega (arith, weight, may))
   comes_none parts (Some part) is none =
       let weight = coming-weight moving one parts in
       let may = ap (sum_by one) none in
-      let both = sum_by-append one (bring_calls moving parts) (going_calls moving (parts_before parts)) in
-      coming-refused moving parts part is ∙ counted_none (bring_calls moving parts ++ going_calls moving (parts_before parts)) (omega (arith, weight, may, both))
+      let both = sum_by-append one (calls_until_refused moving parts) (going_calls moving (parts_before parts)) in
+      coming-refused moving parts part is ∙ counted_none (calls_until_refused moving parts ++ going_calls moving (parts_before parts)) (omega (arith, weight, may, both))
 
   goes_none : (parts : List Part) → flat_map (going_may_run moving) parts ≡ [] → going_calls moving parts ≡ []
   goes_none parts none = let may = ap (sum_by one) none in counted_none (going_calls moving parts) (omega (arith, going-weight moving one parts, may))

@@ -19,7 +19,7 @@ use Rattle.klp_manager_state.specs.Managed.{Managed, setting_of}
 use Rattle.klp_manager_state.specs.Events.{after_event}
 use Rattle.klp_core.specs.Events.{after_events}
 use Rattle.klp_core.specs.Journaled.{Journaled}
-use Rattle.klp_core.specs.Taking.{answer_in, IsNotedAs, IsTaken, Outcome, groups_left, IsOutcome, AreOutcomes, AreTaken}
+use Rattle.klp_core.specs.Taking.{answer_in, IsLoggedAs, IsTaken, Outcome, groups_left, IsOutcome, AreOutcomes, AreTaken}
 
 abbrev events_in : List Group → List Event
 events_in groups = map (λ (g : Group). g.event) groups
@@ -98,18 +98,18 @@ one_accepted adds first now after events event reply accepted refused so_far sam
     ap (λ s. answer_in setting s (first.groups ++ older) event) (sym state)
     ∙ ap (λ gs. answer_in setting now.managed.state gs event) (sym so_far.groups)
     ∙ ap (λ (s : Setting). answer_in s now.managed.state now.groups event) (sym same)
-    ∙ sym taken.answered ∙ ap Ok (sym appends.noted.reply_is) in
-    let noted =
-    subst (λ s. IsNotedAs setting s group event group.reply) state
-    (subst (λ (s : Setting). IsNotedAs s now.managed.state group event group.reply) same
-    (subst (IsNotedAs (setting_of now.managed) now.managed.state group event) (sym appends.noted.reply_is) appends.noted)) in
+    ∙ sym taken.answered ∙ ap Ok (sym appends.logged.reply_is) in
+    let logged =
+    subst (λ s. IsLoggedAs setting s group event group.reply) state
+    (subst (λ (s : Setting). IsLoggedAs s now.managed.state group event group.reply) same
+    (subst (IsLoggedAs (setting_of now.managed) now.managed.state group event) (sym appends.logged.reply_is) appends.logged)) in
     let left = left_more so_far.outcomes outcome in
     record {
       outcomes = so_far.outcomes ++ outcome ∷ [];
-      each = outcomes_more setting first.managed.state first.groups events so_far.outcomes event outcome so_far.each (answered, noted);
+      each = outcomes_more setting first.managed.state first.groups events so_far.outcomes event outcome so_far.each (answered, logged);
       groups = appends.groups ∙ ap (λ gs. gs ++ group ∷ []) so_far.groups ∙ append_assoc first.groups older (group ∷ []) ∙ ap (λ gs. first.groups ++ gs) (sym left);
       left = appends.left ∙ ap (λ m. after_event m event) so_far.left ∙ after_more adds first.managed (events_in older) event
-          ∙ ap (λ e. after_events first.managed (events_in older ++ e ∷ [])) (sym appends.noted.event_is)
+          ∙ ap (λ e. after_events first.managed (events_in older ++ e ∷ [])) (sym appends.logged.event_is)
           ∙ ap (after_events first.managed) (sym (map-append (λ (g : Group). g.event) older (group ∷ [])))
           ∙ ap (λ gs. after_events first.managed (events_in gs)) (sym left);
       base = appends.base ∙ so_far.base;

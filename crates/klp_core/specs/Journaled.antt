@@ -19,7 +19,7 @@ use Rattle.klp_stack.specs.Stack.{entries_at}
 use Rattle.klp_manager_state.specs.declared.state.ManagerState.{ManagerState}
 use Rattle.klp_manager_state.specs.Managed.{Managed, setting_of, managed_of, setting_in}
 use Rattle.klp_manager_state.specs.Invariant.{Invariant}
-use Rattle.klp_manager_state.specs.Rows.{Rows, rows_in, undone, tell_changes}
+use Rattle.klp_manager_state.specs.Rows.{Rows, rows_in, undone, have_effects}
 
 -- image, catalog and state of a manager; the state that it was booted or sealed in; and what was accepted since, oldest first
 pub record Journaled : Type 0 where
@@ -28,8 +28,8 @@ pub record Journaled : Type 0 where
   pub groups : List Group
 
 -- the state that rows tell
-abbrev pub state_told : Rows → State
-state_told rows = record { loaded = rows.sites.loaded; world = rows.world; moving = rows.moving; pinned = rows.pinned; tasks = rows.tasks }
+abbrev pub state_in_rows : Rows → State
+state_in_rows rows = record { loaded = rows.sites.loaded; world = rows.world; moving = rows.moving; pinned = rows.pinned; tasks = rows.tasks }
 
 -- the entries of these symbols' sites, the first of which has this number
 abbrev pub stacks_from : Setting → State → ℕ → List Symbol → List (List Entry)
@@ -53,14 +53,14 @@ rows_before_all rows (group ∷ newer) = undone (rows_before_all rows newer) gro
 
 -- what the state of a manager, its catalog and its journal stand for
 abbrev pub journaled_of : ManagerState → Catalog → List Group → Journaled
-journaled_of state catalog groups = record { managed = managed_of state catalog; base = state_told (rows_before_all (rows_in state) groups); groups = groups }
+journaled_of state catalog groups = record { managed = managed_of state catalog; base = state_in_rows (rows_before_all (rows_in state) groups); groups = groups }
 
 -- rows that a manager may have: their state is one that events can lead to, and the stack of each site is the one that it tells
 pub record AreKept (setting : Setting) (rows : Rows) : Type 0 where
   pub image : rows.sites.image ≡ setting.image
-  pub allowed : Allowed setting (state_told rows)
-  pub stated : IsStated setting (state_told rows)
-  pub entries : (site : ℕ) → entries_at rows.sites.stacks site ≡ entries_of setting (state_told rows) site
+  pub allowed : Allowed setting (state_in_rows rows)
+  pub stated : IsStated setting (state_in_rows rows)
+  pub entries : (site : ℕ) → entries_at rows.sites.stacks site ≡ entries_of setting (state_in_rows rows) site
 
 -- the event of a task
 abbrev pub is_of_a_task : Event → Bool
@@ -81,9 +81,9 @@ pub record IsSmall (group : Group) : Type 0 where
 -- a group stands for a step: the event was accepted with this reply, and led from the one rows to the other. Its records tell what changed alone
 pub record IsStepOf (setting : Setting) (before after : Rows) (group : Group) : Type 0 where
   pub kept : AreKept setting before
-  pub answered : answer setting (state_told before) group.event ≡ Ok group.reply
-  pub left : next setting (state_told before) group.event ≡ state_told after
-  pub told : tell_changes after group.rows ≡ true
+  pub answered : answer setting (state_in_rows before) group.event ≡ Ok group.reply
+  pub left : next setting (state_in_rows before) group.event ≡ state_in_rows after
+  pub effective : have_effects after group.rows ≡ true
   pub small : IsSmall group
 
 -- each group stands for a step from the rows that putting it and all newer ones back gives
@@ -97,7 +97,7 @@ pub record IsSound (state : ManagerState) (catalog : Catalog) (groups : List Gro
   pub holds : Invariant state catalog
   pub steps : AreSteps (setting_in state catalog) (rows_in state) groups
 
--- the accepted events with their records, which are kept where they were noted
+-- the accepted events with their records, which are kept where they were logged
 abbrev pub groups_in : ManagerState → List Accepted → List Group
 groups_in state events = groups_of events state.log.older
 
@@ -113,7 +113,7 @@ history_in groups = map (λ (g : Group). (g.event, g.reply)) groups
 
 -- the groups are what happened since the base: each event was accepted in its turn with this reply, and all of them led to the state.
 -- Each group is small
-pub record Stands (manager : Journaled) : Type 0 where
+pub record IsWellFormed (manager : Journaled) : Type 0 where
   pub allowed : Allowed (setting_of manager.managed) manager.base
   pub legal : IsLegal (setting_of manager.managed) manager.base (history_in manager.groups)
   pub state : manager.managed.state ≡ state_after_history (setting_of manager.managed) manager.base (history_in manager.groups)

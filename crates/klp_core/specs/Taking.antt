@@ -12,7 +12,7 @@ use Rattle.klp_journal.specs.Journal.{Group, has_room}
 use Rattle.klp_manager_state.specs.Managed.{setting_of}
 use Rattle.klp_manager_state.specs.Events.{after_event}
 use Rattle.klp_core.specs.Events.{after_events}
-use Rattle.klp_manager_state.specs.Rows.{undone_if_told}
+use Rattle.klp_manager_state.specs.Rows.{undone_if_effective}
 use Rattle.klp_core.specs.Journaled.{Journaled, IsSmall, rows_of}
 
 -- an event that nothing refuses finds the journal full
@@ -27,16 +27,16 @@ answer_in setting state groups event = unless_full (has_room groups) (answer set
 
 -- a small group that an event leaves at a state. Its records, put back newest first, give the rows before the event, and each of them, in its turn,
 -- tells a row that is another one afterwards: none is without effect
-pub record IsNotedAs (setting : Setting) (state : State) (group : Group) (event : Event) (reply : Reply) : Type 0 where
+pub record IsLoggedAs (setting : Setting) (state : State) (group : Group) (event : Event) (reply : Reply) : Type 0 where
   pub event_is : group.event ≡ event
   pub reply_is : group.reply ≡ reply
   pub small : IsSmall group
-  pub told : undone_if_told (rows_of setting (next setting state event)) group.rows ≡ Some (rows_of setting state)
+  pub effective : undone_if_effective (rows_of setting (next setting state event)) group.rows ≡ Some (rows_of setting state)
 
 -- an accepted event is appended to the journal as one group, and leaves what the machine says; the base stays
 pub record Appends (before after : Journaled) (event : Event) (reply : Reply) : Type 0 where
   pub group : Group
-  pub noted : IsNotedAs (setting_of before.managed) before.managed.state group event reply
+  pub logged : IsLoggedAs (setting_of before.managed) before.managed.state group event reply
   pub groups : after.groups ≡ before.groups ++ group ∷ []
   pub left : after.managed ≡ after_event before.managed event
   pub base : after.base ≡ before.base
@@ -63,7 +63,7 @@ groups_left (Ok group ∷ outcomes) = group ∷ groups_left outcomes
 groups_left (Err refusal ∷ outcomes) = groups_left outcomes
 
 abbrev pub IsOutcome : Setting → State → List Group → Event → Outcome → Type 0
-IsOutcome setting state groups event (Ok group) = (answer_in setting state groups event ≡ Ok group.reply) × IsNotedAs setting state group event group.reply
+IsOutcome setting state groups event (Ok group) = (answer_in setting state groups event ≡ Ok group.reply) × IsLoggedAs setting state group event group.reply
 IsOutcome setting state groups event (Err refusal) = answer_in setting state groups event ≡ Err refusal
 
 -- each event in its turn, where the journal has these groups before the first

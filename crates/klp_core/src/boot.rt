@@ -54,7 +54,7 @@ pub(crate) fn parts_over(
       catalog = catalog.now;
       state = opening_state (setting_in made.0 catalog.now);
     }) }
-    ensures log { IfOk result (λ made. made.0.log ≡ record { noted = []; room = MAX_RECORDS; older = [] }) }
+    ensures log { IfOk result (λ made. made.0.log ≡ record { logged = []; room = MAX_RECORDS; older = [] }) }
     ensures journal { IfOk result (λ made. made.1 ≡ []) }
     ensures fault { IfErr result (λ fault. IsFaultOf image.image modules catalog.now fault) }
 {

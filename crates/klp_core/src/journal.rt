@@ -25,16 +25,16 @@ fn append(state: &mut ManagerState, journal: &mut Journal, event: &Event, reply:
     requires room { has_room (groups_in state.old journal.old) ≡ true }
     requires few { state.old.log.room ≡ MAX_RECORDS }
     ensures appended { groups_in state.new journal.new
-        ≡ groups_in state.old journal.old ++ record { event = event.now; reply = reply.now; rows = state.old.log.noted } ∷ [] }
+        ≡ groups_in state.old journal.old ++ record { event = event.now; reply = reply.now; rows = state.old.log.logged } ∷ [] }
     ensures kept { Keeps state.new.log journal.new }
     ensures state { state.new ≡ record state.old {
-      log = record state.old.log { noted = []; older = state.old.log.older ++ state.old.log.noted };
+      log = record state.old.log { logged = []; older = state.old.log.older ++ state.old.log.logged };
     } }
-    ensures few { length state.old.log.noted ≤ MAX_RECORDS }
+    ensures few { length state.old.log.logged ≤ MAX_RECORDS }
     ensures sites { length state.old.sites.stacks ≡ site_count state.old.sites.image }
 {
     let _sites = state.sites.sites();
-    let _noted = state.log.noted();
+    let _logged = state.log.logged();
     journal.append(event, reply, &mut state.log);
 }
 

@@ -15,17 +15,16 @@ ghost use Rattle.klp_manager_state.specs.Managed.{Managed, setting_of};
 ghost use Rattle.klp_manager_state.specs.Events.{after_event};
 ghost use Rattle.klp_core.specs.Events.{after_events, may_run_some};
 ghost use Rattle.klp_core.specs.Holders.{holders, is_left};
-ghost use Rattle.klp_core.specs.Journaled.{Journaled, Stands};
+ghost use Rattle.klp_core.specs.Journaled.{Journaled, IsWellFormed};
 ghost use Rattle.klp_core.specs.Taking.{answer_in};
 ghost use Rattle.klp_core.specs.Withdrawal.{GoesOn, LeavesNoTrace};
 
 use klp_model::round_trip::{gone_at_the_end, only_shadow_events_outside};
 
-/// Where the catalog was assembled over the names of the image, as `Manager::catalog` promises of every
-/// manager, each function of a patch that names a site is in the object of that site. The laws of what
-/// tasks run (`klp_model`) ask for it, since nothing else gives it (docs/DECISIONS.md, "The object of a
-/// function").
-pub fn functions_stand_with_their_objects()
+/// Each function of a patch that names a site is in the object of that site, where the catalog was assembled over the
+/// names of the image, as `Manager::catalog` promises of every manager. The laws of what tasks run (`klp_model`) ask
+/// for it, since nothing else gives it (docs/DECISIONS.md, "The object of a function").
+pub fn functions_are_in_their_objects()
     ensures { (managed : Managed) → managed.catalog.names ≡ names_of managed.image.objects
         → IsInPlace (setting_of managed) }
 {
@@ -36,15 +35,15 @@ pub fn functions_stand_with_their_objects()
 /// them: it is enough that the later one goes on from the earlier one, in the same setting. What was taken
 /// back meanwhile, and how often callbacks ran, makes no difference.
 pub fn what_is_withdrawn_leaves_no_trace()
-    ensures { (earlier later : Journaled) → Stands earlier → Stands later → GoesOn earlier later
+    ensures { (earlier later : Journaled) → IsWellFormed earlier → IsWellFormed later → GoesOn earlier later
         → setting_of later.managed ≡ setting_of earlier.managed → LeavesNoTrace earlier later }
 {
     gone_at_the_end();
     only_shadow_events_outside();
 }
 
-/// An event that may run no callback runs none: so no count of runs changes by it, and to take it back leaves all as it
-/// was.
+/// No callback runs at an event for which `may_run_some` is false: so it changes no count of runs, and a rewind of it
+/// gives all back.
 pub fn what_may_not_run_does_not()
     ensures { (setting : Setting) (state : State) (event : Event) → may_run_some setting state event ≡ false
         → callbacks_of setting state event ≡ [] }

@@ -10,7 +10,7 @@ ghost use Rattle.klp_types.specs.Setting.{Function, functions_of, replaces};
 ghost use Rattle.klp_model.specs.Rows.{row_of, moving_patch};
 ghost use Rattle.klp_manager_state.specs.Managed.{setting_of};
 ghost use Rattle.klp_core.specs.Taking.{IsTaken};
-ghost use Rattle.klp_core.specs.Journaled.{Stands};
+ghost use Rattle.klp_core.specs.Journaled.{IsWellFormed};
 ghost use Rattle.klp_core.specs.Rewinding.{IsRewound};
 ghost use Rattle.klp_core.specs.Sites.{sites_in};
 
@@ -31,13 +31,13 @@ pub trait Machine {
         requires room { length (journaled self.old).groups ≤ MAX_GROUPS }
         ensures taken { IsTaken (journaled self.old) (journaled self.new) event result }
         ensures setting { setting_of (journaled self.new).managed ≡ setting_of (journaled self.old).managed }
-        ensures stands { Stands (journaled self.new) };
+        ensures well_formed { IsWellFormed (journaled self.new) };
 
     /// [`Manager::mark`].
     fn mark(&self) -> u32
         ensures mark { result ≡ length (journaled self.now).groups }
         ensures limit { result ≤ MAX_GROUPS }
-        ensures stands { Stands (journaled self.now) };
+        ensures well_formed { IsWellFormed (journaled self.now) };
 
     /// [`Manager::rewind`].
     fn rewind(&mut self, mark: u32) -> Result<(), BadMark>
@@ -45,7 +45,7 @@ pub trait Machine {
         ensures rewound { IfOk result (λ _. IsRewound (journaled self.old) (journaled self.new) mark) }
         ensures bad_mark { IfErr result (λ _. length (journaled self.old).groups < mark) }
         ensures setting { setting_of (journaled self.new).managed ≡ setting_of (journaled self.old).managed }
-        ensures stands { Stands (journaled self.new) };
+        ensures well_formed { IsWellFormed (journaled self.new) };
 
     /// [`Manager::sites`].
     fn sites(&self) -> usize

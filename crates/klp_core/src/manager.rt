@@ -8,7 +8,7 @@ ghost use Rattle.klp_journal.specs.Journal.{records_free, records_in};
 ghost use Rattle.klp_manager_state.specs.Managed.{setting_of};
 ghost use Rattle.klp_core.specs.Boot.{IsMatch, AreNamed, IsFaultOf};
 ghost use Rattle.klp_core.specs.Events.{AreCounted};
-ghost use Rattle.klp_core.specs.Journaled.{Stands};
+ghost use Rattle.klp_core.specs.Journaled.{IsWellFormed};
 ghost use Rattle.klp_core.specs.Taking.{IsTaken, AreTaken};
 ghost use Rattle.klp_core.specs.Rewinding.{IsRewound};
 ghost use Rattle.klp_core.specs.Withdrawal.{LeavesNoTrace};
@@ -80,7 +80,7 @@ impl Manager {
           base = opening_state (record { image = image.image; patches = patches_of catalog });
           groups = [];
         })) }
-        ensures stands { IfOk result (λ manager. Stands manager) }
+        ensures well_formed { IfOk result (λ manager. IsWellFormed manager) }
         ensures fault { IfErr result (λ fault. IsFaultOf image.image modules catalog fault) }
     {
         let (state, journal) = parts_over(alloc, image, modules, &catalog)?;
@@ -105,7 +105,7 @@ impl Manager {
             (callbacks_of (setting_of self.old.managed) self.old.managed.state event)) }
         // runs of callbacks change no more than their counts, so what is proved of a setting goes on
         ensures setting { setting_of self.new.managed ≡ setting_of self.old.managed }
-        ensures stands { Stands self.new }
+        ensures well_formed { IsWellFormed self.new }
     {
         self.apply_lent(&event)
     }
@@ -118,7 +118,7 @@ impl Manager {
             (λ reply. AreCounted self.old.managed.catalog self.new.managed.catalog
             (callbacks_of (setting_of self.old.managed) self.old.managed.state event.now)) }
         ensures setting { setting_of self.new.managed ≡ setting_of self.old.managed }
-        ensures stands { Stands self.new }
+        ensures well_formed { IsWellFormed self.new }
     {
         klp_catalog::laws::counts_grow_by_runs();
         take_and_append(&mut self.state, &mut self.catalog, &mut self.journal, event)
@@ -132,7 +132,7 @@ impl Manager {
             (λ reply. AreCounted self.old.managed.catalog self.new.managed.catalog
             (callbacks_of (setting_of self.old.managed) self.old.managed.state event.now)) }
         ensures setting { setting_of self.new.managed ≡ setting_of self.old.managed }
-        ensures stands { Stands self.new }
+        ensures well_formed { IsWellFormed self.new }
     {
         klp_catalog::laws::counts_grow_by_runs();
         take_unasked(&mut self.state, &mut self.catalog, &mut self.journal, event)
@@ -146,11 +146,11 @@ impl Manager {
         ensures withdrawn { LeavesNoTrace self.old self.new }
         // so runs can be joined
         ensures setting { setting_of self.new.managed ≡ setting_of self.old.managed }
-        ensures stands { Stands self.new }
+        ensures well_formed { IsWellFormed self.new }
     {
         klp_catalog::laws::runs_add_up();
         what_is_withdrawn_leaves_no_trace();
-        let _standing = self.mark();
+        let _for_its_clause = self.mark();
         let mut accepted = 0;
         let mut refused = 0;
         for event in events {
@@ -167,7 +167,7 @@ impl Manager {
     pub fn mark(&self) -> u32
         ensures mark { result ≡ length self.now.groups }
         ensures limit { result ≤ MAX_GROUPS }
-        ensures stands { Stands self.now }
+        ensures well_formed { IsWellFormed self.now }
     {
         self.journal.mark()
     }
@@ -181,7 +181,7 @@ impl Manager {
         ensures bad_mark { IfErr result (λ _. length self.old.groups < mark) }
         ensures refused { OnErr result (self.new ≡ self.old) }
         ensures setting { setting_of self.new.managed ≡ setting_of self.old.managed }
-        ensures stands { Stands self.new }
+        ensures well_formed { IsWellFormed self.new }
     {
         if mark > self.journal.mark() {
             return Err(BadMark);
@@ -195,7 +195,7 @@ impl Manager {
     /// are let go.
     pub fn seal(&mut self)
         ensures sealed { self.new ≡ record { managed = self.old.managed; base = self.old.managed.state; groups = [] } }
-        ensures stands { Stands self.new }
+        ensures well_formed { IsWellFormed self.new }
     {
         self.journal.clear(&mut self.state.log);
     }

@@ -2,7 +2,7 @@ ghost use Rattle.std.specs.Prelude.{◌≡◌, true, false, length, IfOk};
 ghost use Rattle.klp_manager_state.specs.Invariant.{Invariant};
 ghost use Rattle.klp_manager_state.specs.Managed.{refused_in};
 ghost use Rattle.klp_manager_state.specs.Events.{TakesEvent};
-ghost use Rattle.klp_manager_state.specs.Rows.{IsNoted};
+ghost use Rattle.klp_manager_state.specs.Rows.{IsLogged};
 ghost use Rattle.klp_core.specs.Journaled.{is_of_a_task};
 ghost use Rattle.klp_core.specs.Taking.{is_brief};
 
@@ -13,7 +13,7 @@ use klp_patch_events::{
     coming, coming_refusal, enable, enable_refusal, force, force_refusal, going, going_refusal,
     poll, poll_refusal, set_enabled, set_refusal,
 };
-use klp_task_events::{shadow, tasks};
+use klp_task_shadow_events::{shadow, tasks};
 
 /// Whether the reply to an event has neither the frames of a task nor the value of a variable, as most have none.
 #[inline(always)]
@@ -35,8 +35,8 @@ pub(crate) fn take_brief(
     requires brief { is_brief event.now ≡ true }
     requires kept { Invariant state.old catalog.old }
     ensures taken { TakesEvent state.old state.new catalog.old catalog.new event.now result }
-    ensures noted { IsNoted state.old state.new result }
-    ensures one { is_of_a_task event.now ≡ true → IfOk result (λ reply. length state.new.log.noted ≡ 1) }
+    ensures logged { IsLogged state.old state.new result }
+    ensures one { is_of_a_task event.now ≡ true → IfOk result (λ reply. length state.new.log.logged ≡ 1) }
 {
     match event {
         Event::Enable(patch) => enable(state, catalog, *patch),
@@ -67,8 +67,8 @@ pub(crate) fn take_long(
     requires long { is_brief event.now ≡ false }
     requires kept { Invariant state.old catalog.old }
     ensures taken { TakesEvent state.old state.new catalog.old catalog.new event.now result }
-    ensures noted { IsNoted state.old state.new result }
-    ensures one { is_of_a_task event.now ≡ true → IfOk result (λ reply. length state.new.log.noted ≡ 1) }
+    ensures logged { IsLogged state.old state.new result }
+    ensures one { is_of_a_task event.now ≡ true → IfOk result (λ reply. length state.new.log.logged ≡ 1) }
 {
     match event {
         Event::Wake(task) => tasks::wake(state, *task),

@@ -42,6 +42,8 @@ fn returns<'a>(task: u64, calls: &Calls<'a>) -> Act<'a> {
     }
 }
 
+/// A module goes while a task is inside of it: the first such task, and the module's symbol that it called last. `None`
+/// where no task is.
 fn goes<'a>(module: &'a [u8], calls: &Calls<'a>) -> Option<Act<'a>> {
     let (task, symbol) = calls.first_in(module)?;
     Some(Act::Going(module, task, symbol))

@@ -7,7 +7,7 @@ use crate::wrong::Wrong;
 use klp_catalog_text::{CatalogLine, Lines, TextFault, TextFaultKind, words_of};
 use klp_types::{MAX_BODY, MAX_LINE};
 use klp_words::{
-    Words, hexadecimal, is_name, is_symbol_name, number32, number64, signed, spelling_of,
+    LineWords, hexadecimal, is_name, is_symbol_name, number32, number64, signed, spelling_of,
 };
 use std::alloc::Global;
 
@@ -73,7 +73,7 @@ fn is_spelled(alloc: Global, part: Part, word: &[u8]) -> bool {
 }
 
 /// The first of these words that is no edit.
-fn bad_edit<'a>(alloc: Global, mut words: Words<'a>, most: usize) -> Wrong<'a> {
+fn bad_edit<'a>(alloc: Global, mut words: LineWords<'a>, most: usize) -> Wrong<'a> {
     let mut word = words.next().unwrap_or(&[]);
     for _ in 0..most {
         if !is_edit(alloc, word) {

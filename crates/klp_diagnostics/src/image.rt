@@ -68,7 +68,7 @@ fn sharing<'a>(object: &'a ObjectText, before: usize, symbol: &SymbolText) -> Op
     None
 }
 
-/// What a symbol of this place shares an address with, among all symbols before it.
+/// The first symbol before this one that shares an address with it. This one is at `place` in the last object.
 fn in_the_way<'a>(
     objects: &'a [ObjectText],
     place: usize,

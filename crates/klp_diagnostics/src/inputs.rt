@@ -123,7 +123,7 @@ impl<'a> Inputs<'a> {
 
     /// Tells where a trace isn't honest: the task, and the function that it is inside of. Of an honest one it hints at the
     /// events that are refused.
-    pub fn tell_verdict<E: Write>(&self, alloc: Global, verdict: Verdict, err: &mut E) {
+    pub fn print_verdict<E: Write>(&self, alloc: Global, verdict: Verdict, err: &mut E) {
         let _ = match verdict {
             Verdict::Honest(_) => self.write_refused(alloc, err),
             Verdict::Dishonest(fault) => self.write_item(alloc, fault, err),
@@ -131,7 +131,7 @@ impl<'a> Inputs<'a> {
     }
 
     /// Tells a fault, and answers its exit status.
-    pub fn tell_fault<E: Write>(&self, alloc: Global, fault: Fault, err: &mut E) -> u8
+    pub fn print_fault<E: Write>(&self, alloc: Global, fault: Fault, err: &mut E) -> u8
         ensures { result ≡ 1 }
     {
         let _ = self.write_fault(alloc, fault, err);
@@ -174,9 +174,9 @@ impl<'a> Inputs<'a> {
     /// What is UTF-16 has lines of another kind, of which nothing else is told.
     fn write_stray<E: Write>(&self, stray: Stray, err: &mut E) -> io::Result<()> {
         let text = self.second.bytes;
-        let is_told = matches!(stray, Stray::Utf16) || !begins_as_utf16(text);
+        let is_reported = matches!(stray, Stray::Utf16) || !begins_as_utf16(text);
         match (stray.first_line(text), stray.hint(self.kind)) {
-            (Some(line), Some(hint)) if is_told => {
+            (Some(line), Some(hint)) if is_reported => {
                 self.second.write_place(self.program, line as u64, err)?;
                 writeln!(err, "hint: {hint}")
             }

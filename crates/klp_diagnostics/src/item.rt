@@ -3,10 +3,10 @@
 
 use crate::lines::word_at;
 use crate::names::{Kind, Names, wrong_word};
-use crate::stray::{is_query, is_told_elsewhere};
+use crate::stray::{is_query, is_reported_elsewhere};
 use crate::wrong::Wrong;
 use klp_types::MAX_FRAMES;
-use klp_words::{Separators, Words, number64};
+use klp_words::{LineWords, Separators, number64};
 
 /// How items are written. A word in capital letters stands for one of its kind, and `..` for more of the last kind. The
 /// lines of shadow variables have no names to be told.
@@ -57,8 +57,8 @@ pub(crate) enum Item<'a> {
     Going(&'a [u8]),
 }
 
-fn words_of(line: &[u8]) -> Words<'_> {
-    Words::new(line, Separators::Spaces)
+fn words_of(line: &[u8]) -> LineWords<'_> {
+    LineWords::new(line, Separators::Spaces)
 }
 
 fn word(line: &[u8], number: usize) -> &[u8] {
@@ -183,7 +183,7 @@ pub(crate) fn misspelled_in<'a>(
     names: &Names<'_>,
     catalog: &'a [u8],
 ) -> Option<Wrong<'a>> {
-    if is_told_elsewhere(line) || is_query(line) {
+    if is_reported_elsewhere(line) || is_query(line) {
         return None;
     }
     match form_of(line) {

@@ -2,7 +2,7 @@
 
 use crate::inputs::Inputs;
 use klp_catalog_text::Lines;
-use klp_program::{Verdict, watched};
+use klp_program::{Verdict, watch_over_text};
 use klp_watch::Cause;
 use std::alloc::Global;
 use std::io;
@@ -12,7 +12,7 @@ use std::io::Write;
 const EITHER: &str = "and isn't running in the kernel, or its object isn't loaded";
 
 /// Writes the trace up to a line, in front of which its task is brought into the kernel, wherever it is.
-fn bring_in(text: &mut Vec<u8>, trace: &[u8], line: u64, task: u64) -> io::Result<()> {
+fn load_line(text: &mut Vec<u8>, trace: &[u8], line: u64, task: u64) -> io::Result<()> {
     let mut lines = Lines::new(trace);
     for _ in 1..line {
         text.write_all(lines.next().unwrap_or(&[]))?;
@@ -26,10 +26,10 @@ fn bring_in(text: &mut Vec<u8>, trace: &[u8], line: u64, task: u64) -> io::Resul
 /// nothing but a loaded object.
 pub(crate) fn lack_of(alloc: Global, inputs: &Inputs<'_>, line: u64, task: u64) -> &'static str {
     let mut text = Vec::new(alloc);
-    if bring_in(&mut text, inputs.second.bytes, line, task).is_err() {
+    if load_line(&mut text, inputs.second.bytes, line, task).is_err() {
         return EITHER;
     }
-    match watched(alloc, inputs.catalog.bytes, &text) {
+    match watch_over_text(alloc, inputs.catalog.bytes, &text) {
         Ok(Verdict::Dishonest(fault)) if matches!(fault.cause, Cause::NoCall) => {
             "whose object isn't loaded"
         }

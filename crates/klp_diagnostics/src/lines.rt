@@ -1,7 +1,7 @@
 //! Lines and words of a file, found once more.
 
 use klp_catalog_text::Lines;
-use klp_words::Words;
+use klp_words::LineWords;
 
 /// The line of this number, counted from 1, as a catalog and a trace have lines; an empty one where there is none.
 pub(crate) fn line_at(text: &[u8], number: u64) -> &[u8] {
@@ -13,7 +13,7 @@ pub(crate) fn line_at(text: &[u8], number: u64) -> &[u8] {
 }
 
 /// The word of this number, counted from 1; an empty one where there is none.
-pub(crate) fn word_at<'a>(mut words: Words<'a>, number: usize) -> &'a [u8] {
+pub(crate) fn word_at<'a>(mut words: LineWords<'a>, number: usize) -> &'a [u8] {
     for _ in 1..number {
         words.next();
     }

@@ -1,7 +1,7 @@
 //! A trace, whose events a manager takes once more: which are refused, and which versions a task is inside of.
 ghost use Rattle.std.specs.Prelude.{◌≤◌, length};
 ghost use Rattle.klp_catalog_text.specs.Within.{AreTargetsWithin};
-ghost use Rattle.klp_core.specs.Journaled.{Stands};
+ghost use Rattle.klp_core.specs.Journaled.{IsWellFormed};
 
 use crate::escaped::Escaped;
 use crate::item::Item;
@@ -14,13 +14,13 @@ use klp_core::Manager;
 use klp_model::Refusal;
 use klp_program::{Fault, boot, close, scripted};
 use klp_types::{MAX_GROUPS, MAX_RECORDS, TaskId, Version};
-use klp_words::{Separators, Words, cut};
+use klp_words::{LineWords, Separators, cut};
 use std::alloc::{AllocError, Global};
 use std::io;
 use std::io::Write;
 
 /// How many of a task's versions are told.
-const TOLD: usize = 4;
+const REPORTED: usize = 4;
 
 /// A version that a task called and hasn't returned from.
 #[derive(Clone, Copy)]
@@ -63,7 +63,7 @@ fn function_at(patch: &PlanPatch, number: u16) -> Option<&PlanFunction> {
 
 /// The symbol that a line calls, as it is spelled but for its position.
 fn symbol_in(line: &[u8]) -> &[u8] {
-    let (symbol, _) = cut(word_at(Words::new(line, Separators::Spaces), 3), b',');
+    let (symbol, _) = cut(word_at(LineWords::new(line, Separators::Spaces), 3), b',');
     symbol
 }
 
@@ -93,8 +93,8 @@ fn write_new<E: Write>(patch: &PlanPatch, number: u16, err: &mut E) -> io::Resul
 
 /// Seals the journal where one more event might find no room in it.
 fn make_room(manager: &mut Manager)
-    requires { Stands manager.old }
-    ensures { Stands manager.new }
+    requires { IsWellFormed manager.old }
+    ensures { IsWellFormed manager.new }
 {
     if manager.mark() >= MAX_GROUPS as u32 || manager.records_free() < MAX_RECORDS as u32 {
         manager.seal();
@@ -124,8 +124,8 @@ impl Replay {
 
     /// An event is taken, or refused.
     fn take(&mut self, manager: &mut Manager, line: u64, text: &[u8])
-        requires { Stands manager.old }
-        ensures { Stands manager.new }
+        requires { IsWellFormed manager.old }
+        ensures { IsWellFormed manager.new }
     {
         let Some(event) = event_of(text, manager) else {
             return;
@@ -166,8 +166,8 @@ impl Replay {
 
     /// Does one line.
     fn see(&mut self, manager: &mut Manager, line: u64, text: &[u8]) -> Result<(), AllocError>
-        requires { Stands manager.old }
-        ensures { Stands manager.new }
+        requires { IsWellFormed manager.old }
+        ensures { IsWellFormed manager.new }
     {
         match Item::read(text) {
             Some(Item::Call(task, symbol)) => self.enter(manager, line, task, symbol)?,
@@ -179,11 +179,11 @@ impl Replay {
 
     /// Does so many lines.
     fn see_all(&mut self, manager: &mut Manager, trace: &[u8], lines: u64) -> Result<(), AllocError>
-        requires { Stands manager.old }
+        requires { IsWellFormed manager.old }
     {
         let mut rest = Lines::new(trace);
         for number in 0..lines {
-            let _standing = manager.mark();
+            let _for_its_clause = manager.mark();
             let Some(text) = rest.next() else {
                 break;
             };
@@ -202,14 +202,14 @@ impl Replay {
     ) -> io::Result<()> {
         let mut count: usize = 0;
         for entered in &self.entered {
-            if entered.task == task && count < TOLD {
+            if entered.task == task && count < REPORTED {
                 entered.write(trace, patches, err)?;
             }
             count = count.saturating_add(usize::from(entered.task == task));
         }
         match count {
             0 => writeln!(err, " none"),
-            1..=TOLD => writeln!(err),
+            1..=REPORTED => writeln!(err),
             _ => writeln!(err, " .."),
         }
     }
@@ -218,7 +218,7 @@ impl Replay {
 // The manager goes then.
 fn replay_by(mut manager: Manager, alloc: Global, trace: &[u8], lines: u64) -> Option<Replay> {
     let mut replay = Replay::new(alloc);
-    let _standing = manager.mark();
+    let _for_its_clause = manager.mark();
     let ended = replay.see_all(&mut manager, trace, lines);
     close(manager);
     match ended {

@@ -56,7 +56,7 @@ fn is_call(line: &[u8]) -> bool {
 
 /// Whether a line of a script has no words, is hinted at otherwise or told as a fault, or is about shadow variables, which
 /// have no names.
-pub(crate) fn is_told_elsewhere(line: &[u8]) -> bool {
+pub(crate) fn is_reported_elsewhere(line: &[u8]) -> bool {
     let (first, _) = first_words(line);
     let has_stray = line.iter().any(|b| matches!(*b, b'\r' | b'\t'));
     let is_marked = line.first() == Some(&b'#') || line.starts_with(&BYTE_ORDER_MARK);

@@ -155,7 +155,7 @@ fn is_loaded(text: &[u8], patch: &[u8]) -> bool {
 }
 
 /// Whether it is worth a word: nobody asks for a symbol that isn't there, but of several symbols only where a patch is loaded.
-fn is_told(unpicked: &Unpicked<'_>, patch: &[u8], second: &[u8]) -> bool {
+fn is_reported(unpicked: &Unpicked<'_>, patch: &[u8], second: &[u8]) -> bool {
     match unpicked.why {
         Why::NoSymbol(_) | Why::Fewer(_) => true,
         Why::Several(_) => is_loaded(second, patch),
@@ -172,7 +172,7 @@ pub(crate) fn first_unloadable<'a>(catalog: &'a [u8], second: &[u8]) -> Option<U
             patch = word;
         } else if first == b"func".as_slice() {
             if let Some(unpicked) = unpicked_by(catalog, word) {
-                if is_told(&unpicked, patch, second) {
+                if is_reported(&unpicked, patch, second) {
                     return Some(Unloadable {
                         line: number.saturating_add(1),
                         word,

@@ -26,7 +26,7 @@ pub(crate) struct Held {
     /// The number of its sentence, among all.
     sentence: usize,
     /// Whether the sentence is told.
-    is_told: bool,
+    is_shown: bool,
     /// Whether the task holds the transition up.
     is_holding: bool,
     /// Whether it is still so at the end.
@@ -66,7 +66,7 @@ impl Gathered {
         &mut self,
         sentence: usize,
         sleepers: &Sleepers,
-        is_told: bool,
+        is_shown: bool,
         from: u64,
         to: u64,
     ) -> Result<(), AllocError> {
@@ -74,7 +74,7 @@ impl Gathered {
             self.add(Held {
                 task: *task,
                 sentence,
-                is_told,
+                is_shown,
                 is_holding: matches!(sleepers.stay, Stay::Holds(_, _)),
                 is_lasting: sleepers.to.is_none(),
                 from,
@@ -216,7 +216,7 @@ fn add_tip(sheet: &mut Sheet, manager: &Manager, held: &Held, label: &Label) {
 /// The link to the sentence of a stay, or to its line where the sentence is left out.
 fn add_link(sheet: &mut Sheet, held: &Held, line: u64) {
     let line = Number(line);
-    if held.is_told {
+    if held.is_shown {
         let task = Number(u64::from(held.task.0));
         sheet.fill("<a href=\"#stay-{}-{}\">", &[line, task]);
     } else {

@@ -76,7 +76,7 @@ fn add_some(sheet: &mut Sheet, strip: &Strip, stops: &[Stop], words: &[&'static 
 /// As much of what each bar says as there is room for. One that a sentence tells of has a label of its own.
 pub(crate) fn add_words(sheet: &mut Sheet, strips: &[Strip], stops: &[Stop], is_task: bool) {
     for strip in strips {
-        if strip.look.is_told {
+        if strip.look.is_shown {
             continue;
         }
         let words = words_of(strip.look, is_task);

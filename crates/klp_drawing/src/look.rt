@@ -26,7 +26,7 @@ pub(crate) struct Look {
     pub shade: Shade,
     pub mode: Mode,
     /// Whether a sentence says more: it has a label of its own.
-    pub is_told: bool,
+    pub is_shown: bool,
 }
 
 /// What a task looks like, if it is there.
@@ -40,7 +40,7 @@ pub(crate) fn look_of_task(manager: &Manager, task: TaskId, stay: &Option<Stay>)
     Some(Look {
         shade,
         mode,
-        is_told: stay.is_some(),
+        is_shown: stay.is_some(),
     })
 }
 
@@ -72,7 +72,7 @@ pub(crate) fn look_of_patch(
     Some(Look {
         shade,
         mode: Mode::Kernel,
-        is_told: false,
+        is_shown: false,
     })
 }
 

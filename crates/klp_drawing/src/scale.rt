@@ -83,7 +83,8 @@ fn extent_of(changed: &[u64], lines: u64, max_idle: u64) -> Extent {
     extent.with(lines.saturating_add(1).saturating_sub(from), max_idle)
 }
 
-/// How many lines a stretch may have that isn't cut, such that lines are widest. Where cuts win nothing there are none.
+/// How many lines an idle stretch may have and still be drawn whole: the limit, of those tried, that makes each line
+/// widest. Where no cut makes lines wider, no stretch is cut.
 fn max_idle_of(changed: &[u64], lines: u64) -> u64 {
     let mut max_idle = lines.max(FEWEST_IDLE);
     let mut widest = extent_of(changed, lines, max_idle).line_width();

@@ -27,7 +27,7 @@ fn hold<R: Clock + Files + Print + AllocGlobal>(rt: &R) -> io::Result<bool> {
     let index = fs::read_to_string(rt, "index")?;
     let mut tally = Tally::new();
     examples::run(rt, index.as_str(), &mut tally)?;
-    tally.tell(rt, "scripts print what is written", "don't")
+    tally.print_tally(rt, "scripts print what is written", "don't")
 }
 
 /// The same where so little memory is left that a script can take all of it.
@@ -47,9 +47,9 @@ fn rounds<R: Env + AllocGlobal>(rt: &R) -> io::Result<u32> {
 fn main(rt: HostRuntime) -> io::Result<ExitCode> {
     let rounds = rounds(&rt)?;
     let hold = hold_besieged(&rt)?;
-    let is_told = scarce::run(&rt)?;
+    let is_reported = scarce::run(&rt)?;
     bench::run(&rt, rounds)?;
-    Ok(if hold && is_told {
+    Ok(if hold && is_reported {
         ExitCode::SUCCESS
     } else {
         ExitCode::FAILURE

@@ -38,11 +38,12 @@ const FAULTY_STEPS: [(u16, usize); 1] = [(128, 256)];
 enum Ended {
     // There was memory enough.
     Enough,
-    // Want of memory was told, for a line or by itself.
-    Line,
-    Other,
-    // None of these.
-    Differing,
+    // Want of memory was reported for a line of the catalog.
+    NoMemoryAtLine,
+    // Want of memory was reported, for no line.
+    NoMemory,
+    // It ended in another way, which none may.
+    Unexpected,
 }
 
 // What the runs over a catalog came to.
@@ -63,15 +64,15 @@ impl Seen {
                 self.is_enough = true;
                 true
             }
-            Ended::Line => {
+            Ended::NoMemoryAtLine => {
                 self.lines = true;
                 true
             }
-            Ended::Other => {
+            Ended::NoMemory => {
                 self.others = true;
                 true
             }
-            Ended::Differing => false,
+            Ended::Unexpected => false,
         };
         tally.count(holds);
     }
@@ -139,7 +140,7 @@ impl Siege {
     }
 
     // What was told, if nothing was read and written, and else nothing.
-    fn told(&self, (status, unread): (u8, usize)) -> &[u8] {
+    fn fault_text(&self, (status, unread): (u8, usize)) -> &[u8] {
         if status == 1 && unread == INPUT.len() && self.room.out.is_empty() {
             &self.room.err
         } else {
@@ -149,23 +150,27 @@ impl Siege {
 
     // What a run came to over a catalog that has this fault, or none.
     fn ended(&self, ran: (u8, usize), fault: Option<&str>) -> Ended {
-        let told = self.told(ran).strip_prefix(b"klpsim: ").unwrap_or(b"");
-        match told.strip_suffix(b"NoMemory\n") {
-            Some(b"") => Ended::Other,
-            Some(line) if line.starts_with(b"line ") && line.ends_with(b": ") => Ended::Line,
+        let fault_text = self
+            .fault_text(ran)
+            .strip_prefix(b"klpsim: ")
+            .unwrap_or(b"");
+        match fault_text.strip_suffix(b"NoMemory\n") {
+            Some(b"") => Ended::NoMemory,
+            Some(line) if line.starts_with(b"line ") && line.ends_with(b": ") =>
+                Ended::NoMemoryAtLine,
             _ => self.ended_with_enough(ran, fault),
         }
     }
 
     fn ended_with_enough(&self, ran: (u8, usize), fault: Option<&str>) -> Ended {
         let is_enough = match fault {
-            Some(fault) => self.told(ran).strip_suffix(b"\n") == Some(fault.as_bytes()),
+            Some(fault) => self.fault_text(ran).strip_suffix(b"\n") == Some(fault.as_bytes()),
             None => self.is_answered(ran),
         };
         if is_enough {
             Ended::Enough
         } else {
-            Ended::Differing
+            Ended::Unexpected
         }
     }
 }
@@ -237,7 +242,7 @@ fn run_siege<R: Files + Print + AllocGlobal>(rt: &R, siege: &mut Siege) -> io::R
     }
     all = try_refused(rt, siege, &mut tally)? && all;
     let hold = "times too little memory is told or there is enough";
-    Ok(tally.tell(rt, hold, "times not")? && all)
+    Ok(tally.print_tally(rt, hold, "times not")? && all)
 }
 
 fn run_besieged<R: Files + Print + AllocGlobal>(rt: &R) -> io::Result<bool> {

@@ -27,7 +27,12 @@ impl Tally {
     }
 
     /// Tells how many hold and how many don't, and answers whether all do.
-    pub(crate) fn tell<R: Print>(self, rt: &R, hold: &str, differ: &str) -> io::Result<bool> {
+    pub(crate) fn print_tally<R: Print>(
+        self,
+        rt: &R,
+        hold: &str,
+        differ: &str,
+    ) -> io::Result<bool> {
         println!(rt; "{} {hold}, {} {differ}", self.held, self.differing)?;
         Ok(self.differing == 0)
     }

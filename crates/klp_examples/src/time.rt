@@ -7,7 +7,7 @@ use std::{fmt, io};
 #[derive(Clone, Copy)]
 pub(crate) struct Shortest {
     nanoseconds: u128,
-    is_told: bool,
+    is_printed: bool,
 }
 
 impl Shortest {
@@ -15,7 +15,7 @@ impl Shortest {
     pub(crate) fn of(rounds: u32) -> Self {
         Self {
             nanoseconds: u128::MAX,
-            is_told: rounds > 1,
+            is_printed: rounds > 1,
         }
     }
 
@@ -33,7 +33,7 @@ impl Shortest {
 
 impl fmt::Display for Shortest {
     fn fmt<W: fmt::Write>(&self, f: &mut fmt::Formatter<W>) -> fmt::Result {
-        if self.is_told {
+        if self.is_printed {
             write!(f, ", best {} ns", self.nanoseconds)
         } else {
             Ok(())

@@ -3,9 +3,9 @@ use Rattle.std.proofs.Common.{◌≡◌, ℕ, ◌≤◌, List, [], length, take,
 use Rattle.std.proofs.lemmas.List.{length-drop, take_all}
 use Rattle.klp_types.specs.declared.record.Record.{Record}
 
--- the event has noted nothing
-pub nothing_noted : (rows : List Record) (count : ℕ) → count ≤ length rows → drop count rows ≡ [] → count ≡ length rows
-nothing_noted rows count within none = omega (arith, ap length none, length-drop count rows, within)
+-- the event has logged nothing
+pub nothing_logged : (rows : List Record) (count : ℕ) → count ≤ length rows → drop count rows ≡ [] → count ≡ length rows
+nothing_logged rows count within none = omega (arith, ap length none, length-drop count rows, within)
 
 -- so all are older
 pub all_older : (rows older : List Record) (count : ℕ) → count ≡ length rows → take count rows ≡ older → rows ≡ older

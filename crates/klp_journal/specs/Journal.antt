@@ -12,7 +12,7 @@ pub record Accepted : Type 0 where
   pub reply : Reply
   pub count : ℕ
 
--- an accepted event: its reply, and the rows that it changed as they were, in the order in which they were noted
+-- an accepted event: its reply, and the rows that it changed as they were, in the order in which they were logged
 pub record Group : Type 0 where
   pub event : Event
   pub reply : Reply
@@ -34,7 +34,7 @@ counted events = sum_by (λ (a : Accepted). a.count) events
 -- a list keeps the records of these events and no others, and no event is under way
 pub record Keeps (log : RecordList) (events : List Accepted) : Type 0 where
   pub all : counted events ≡ length log.older
-  pub rests : log.noted ≡ []
+  pub rests : log.logged ≡ []
 
 -- how many records they have together
 abbrev pub records_in : List Group → ℕ
@@ -44,6 +44,6 @@ records_in groups = sum_by (λ (g : Group). length g.rows) groups
 abbrev pub records_free : List Group → ℕ
 records_free groups = MAX_JOURNAL_RECORDS - records_in groups
 
--- one more event can be noted whatever it changes: a group is free, and as many records as one event may note
+-- one more event can be logged whatever it changes: a group is free, and as many records as one event may note
 abbrev pub has_room : List Group → Bool
 has_room groups = nat_lt (length groups) MAX_GROUPS && nat_le MAX_RECORDS (records_free groups)

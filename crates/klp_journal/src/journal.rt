@@ -13,7 +13,7 @@ use std::snapshot::Snapshot;
 /// that runs asks which event it was and what was answered, so both are known to contracts alone: a snapshot
 /// takes no memory (docs/DECISIONS.md, "Events in the journal").
 #[derive(Drop)]
-struct Noted {
+struct StoredEvent {
     event: Snapshot<Event>,
     reply: Snapshot<Reply>,
     count: usize,
@@ -27,7 +27,7 @@ struct Noted {
 /// back, newest first, undoes it.
 #[derive(Drop)]
 pub struct Journal {
-    events: Vec<Noted>,
+    events: Vec<StoredEvent>,
 }
 
 impl Model for Journal {
@@ -89,15 +89,15 @@ impl Journal {
     pub fn append(&mut self, event: &Event, reply: &Reply, log: &mut Records)
         requires all { counted self.old ≡ length log.old.older }
         requires room { has_room (groups_of self.old log.old.older) ≡ true }
-        requires few { length log.old.noted ≤ MAX_RECORDS }
+        requires few { length log.old.logged ≤ MAX_RECORDS }
         ensures groups { groups_of self.new log.new.older ≡ groups_of self.old log.old.older
-            ++ record { event = event.now; reply = reply.now; rows = log.old.noted } ∷ [] }
+            ++ record { event = event.now; reply = reply.now; rows = log.old.logged } ∷ [] }
         ensures kept { Keeps log.new self.new }
-        ensures log { log.new ≡ record log.old { noted = []; older = log.old.older ++ log.old.noted } }
+        ensures log { log.new ≡ record log.old { logged = []; older = log.old.older ++ log.old.logged } }
     {
-        let count = log.noted();
+        let count = log.logged();
         log.keep();
-        let _ = self.events.push(Noted {
+        let _ = self.events.push(StoredEvent {
             event: Snapshot::of(event),
             reply: Snapshot::of(reply),
             count,
@@ -111,7 +111,7 @@ impl Journal {
         requires few { (older : List Group) (newest : Group) → groups_of self.old log.old.older ≡ older ++ newest ∷ []
             → length newest.rows ≤ log.old.room }
         ensures groups { (older : List Group) (newest : Group) → groups_of self.old log.old.older ≡ older ++ newest ∷ []
-            → (groups_of self.new log.new.older ≡ older) × (log.new.noted ≡ newest.rows) }
+            → (groups_of self.new log.new.older ≡ older) × (log.new.logged ≡ newest.rows) }
         ensures all { counted self.new ≡ length log.new.older }
         ensures mark { length self.new ≡ length self.old - 1 }
         ensures room { log.new.room ≡ log.old.room }
@@ -127,7 +127,7 @@ impl Journal {
     /// of the events.
     pub fn clear(&mut self, log: &mut Records)
         ensures events { self.new ≡ [] }
-        ensures log { log.new ≡ record log.old { noted = []; older = [] } }
+        ensures log { log.new ≡ record log.old { logged = []; older = [] } }
     {
         self.events.clear();
         log.clear_all();

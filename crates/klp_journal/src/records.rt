@@ -38,7 +38,7 @@ impl Model for Records {
     ghost Value = { RecordList };
 
     ghost view = { λ r. record {
-      noted = drop r.older r.all.rows;
+      logged = drop r.older r.all.rows;
       room = r.room;
       older = take r.older r.all.rows;
     } };
@@ -51,7 +51,7 @@ impl Records {
     /// An empty list with room for [`MAX_JOURNAL_RECORDS`] records of earlier events and `room` of one event, whatever
     /// they say, which never grows. An error is want of memory.
     pub fn new(alloc: Global, room: usize) -> Result<Self, AllocError>
-        ensures { IfOk result (λ records. records ≡ record { noted = []; room = room; older = [] }) }
+        ensures { IfOk result (λ records. records ≡ record { logged = []; room = room; older = [] }) }
     {
         let most = MAX_JOURNAL_RECORDS.checked_add(room).ok_or(AllocError)?;
         Ok(Self {
@@ -65,12 +65,12 @@ impl Records {
     pub fn spare(&self) -> usize
         ensures { result ≡ spare_of self.now }
     {
-        self.room - self.noted()
+        self.room - self.logged()
     }
 
     /// How many records the event has logged.
-    pub fn noted(&self) -> usize
-        ensures value { result ≡ length self.now.noted }
+    pub fn logged(&self) -> usize
+        ensures value { result ≡ length self.now.logged }
         ensures limit { result ≤ self.now.room }
     {
         self.all.count() - self.older
@@ -88,7 +88,7 @@ impl Records {
     #[inline(always)]
     pub fn note(&mut self, row: Record)
         requires { 0 < spare_of self.old }
-        ensures { self.new ≡ record self.old { noted = self.old.noted ++ row ∷ [] } }
+        ensures { self.new ≡ record self.old { logged = self.old.logged ++ row ∷ [] } }
     {
         self.all.note(row);
     }
@@ -99,7 +99,7 @@ impl Records {
     pub fn note_task(&mut self, task: TaskId, was: &Task, frames: &FrameWords)
         requires room { 0 < spare_of self.old }
         requires frames { frames.now ≡ was.now.frames }
-        ensures { self.new ≡ record self.old { noted = self.old.noted ++ TaskRow task was.now ∷ [] } }
+        ensures { self.new ≡ record self.old { logged = self.old.logged ++ TaskRow task was.now ∷ [] } }
     {
         self.all.note_task(task, was, frames);
     }
@@ -107,11 +107,11 @@ impl Records {
     /// Takes the newest record of the event out, if it has one: undoing takes them newest first.
     pub fn take_newest(&mut self) -> Option<Record>
         ensures newest { IfSome result
-            (λ newest. self.old ≡ record self.new { noted = self.new.noted ++ newest ∷ [] }) }
-        ensures empty { IfNone result (self.old.noted ≡ []) }
+            (λ newest. self.old ≡ record self.new { logged = self.new.logged ++ newest ∷ [] }) }
+        ensures empty { IfNone result (self.old.logged ≡ []) }
         ensures unchanged { IfNone result (self.new ≡ self.old) }
     {
-        if self.noted() == 0 {
+        if self.logged() == 0 {
             return None;
         }
         self.all.take_newest()
@@ -122,10 +122,10 @@ impl Records {
     #[inline(always)]
     pub fn take_small(&mut self) -> Option<SmallRecord>
         ensures newest { IfSome result
-            (λ newest. self.old ≡ record self.new { noted = self.new.noted ++ row_of newest ∷ [] }) }
+            (λ newest. self.old ≡ record self.new { logged = self.new.logged ++ row_of newest ∷ [] }) }
         ensures unchanged { IfNone result (self.new ≡ self.old) }
     {
-        if self.noted() == 0 {
+        if self.logged() == 0 {
             return None;
         }
         self.all.take_small()
@@ -142,11 +142,11 @@ impl Records {
         requires frames { frames.now ≡ map frames_of tasks.now }
         ensures newest { IfSome result (λ was. (now : AnyTask) × ((slice_get tasks.now was.task ≡ Some (Some now))
             × (self.old ≡ record self.new {
-              noted = self.new.noted ++ TaskRow was.task (record now { state = was.state; mode = was.mode }) ∷ [];
+              logged = self.new.logged ++ TaskRow was.task (record now { state = was.state; mode = was.mode }) ∷ [];
             }))) }
         ensures unchanged { IfNone result (self.new ≡ self.old) }
     {
-        if self.noted() == 0 {
+        if self.logged() == 0 {
             return None;
         }
         self.all.take_switched(tasks, frames)
@@ -154,9 +154,9 @@ impl Records {
 
     /// Lets go what the event has logged. The cost is that of these records: none, where it has logged nothing.
     pub fn clear(&mut self)
-        ensures { self.new ≡ record self.old { noted = [] } }
+        ensures { self.new ≡ record self.old { logged = [] } }
     {
-        for _record in 0..self.noted() {
+        for _record in 0..self.logged() {
             let _gone = self.take_newest();
         }
     }
@@ -164,8 +164,8 @@ impl Records {
     /// The event is over: what it has logged is kept behind what earlier ones have, where it stands. The cost is
     /// constant.
     pub fn keep(&mut self)
-        requires { length self.old.older + length self.old.noted ≤ MAX_JOURNAL_RECORDS }
-        ensures { self.new ≡ record self.old { noted = []; older = self.old.older ++ self.old.noted } }
+        requires { length self.old.older + length self.old.logged ≤ MAX_JOURNAL_RECORDS }
+        ensures { self.new ≡ record self.old { logged = []; older = self.old.older ++ self.old.logged } }
     {
         self.older = self.all.count();
     }
@@ -173,11 +173,11 @@ impl Records {
     /// The newest so many records that are kept are again those of the event that is under way, which has logged
     /// nothing, so that they can be taken out. The cost is constant.
     pub fn reopen(&mut self, count: usize)
-        requires none { self.old.noted ≡ [] }
+        requires none { self.old.logged ≡ [] }
         requires few { count ≤ self.old.room }
         requires there { count ≤ length self.old.older }
         ensures { self.new ≡ record self.old {
-          noted = drop (length self.old.older - count) self.old.older;
+          logged = drop (length self.old.older - count) self.old.older;
           older = take (length self.old.older - count) self.old.older;
         } }
     {
@@ -186,7 +186,7 @@ impl Records {
 
     /// Lets all go, also what is kept. The room stays, and the cost is constant.
     pub fn clear_all(&mut self)
-        ensures { self.new ≡ record self.old { noted = []; older = [] } }
+        ensures { self.new ≡ record self.old { logged = []; older = [] } }
     {
         self.all.clear();
         self.older = 0;

@@ -36,7 +36,7 @@ use Rattle.klp_live.proofs.Tables.{below, or_past, no_row}
 use Rattle.klp_manager_state.specs.Managed.{Managed, setting_of}
 use Rattle.klp_model.specs.Legal.{History, state_after_history}
 use Rattle.klp_manager_state.specs.Events.{after_event}
-use Rattle.klp_core.specs.Journaled.{Journaled, Stands, history_in}
+use Rattle.klp_core.specs.Journaled.{Journaled, IsWellFormed, history_in}
 use Rattle.klp_core.specs.Rewinding.{IsRewound}
 use Rattle.klp_model.specs.declared.event.Refusal.TheVariants.{JournalFull}
 use Rattle.klp_core.specs.Taking.{Appends, IsTaken, answer_in, unless_full}
@@ -44,10 +44,10 @@ use Rattle.klp_journal.specs.Journal.{Group, has_room}
 use Rattle.klp_live.specs.Admitting.{IsManagerOf, FindsNoRoom}
 
 -- where an accepted event leads a manager of a list
-pub leads : (setting : Setting) (base : State) (before after : Journaled) (list : History) (event : Event) (reply : Reply) → IsManagerOf setting base before list → Stands before
+pub leads : (setting : Setting) (base : State) (before after : Journaled) (list : History) (event : Event) (reply : Reply) → IsManagerOf setting base before list → IsWellFormed before
     → Appends before after event reply → after.managed.state ≡ next setting (state_after_history setting base list) event
-leads setting base before after list event reply of stands appends =
-    let stood : before.managed.state ≡ state_after_history setting base list = rw (← of.setting_is, ← of.base_is, ← of.groups) stands.state in
+leads setting base before after list event reply of well_formed appends =
+    let stood : before.managed.state ≡ state_after_history setting base list = rw (← of.setting_is, ← of.base_is, ← of.groups) well_formed.state in
     ap (λ (m : Managed). m.state) appends.left ∙ cc (of.setting_is, stood)
 
 accepts : (reply : Reply) (room : Bool) (own : Result Reply Refusal) → Ok reply ≡ unless_full room own → own ≡ Ok reply
@@ -56,10 +56,10 @@ accepts reply true (Ok own) e = sym e
 accepts reply false (Ok own) e = absurd (cc e)
 
 -- what an accepted event is answered in the state of the list
-pub answered : (setting : Setting) (base : State) (before after : Journaled) (list : History) (event : Event) (reply : Reply) → IsManagerOf setting base before list → Stands before
+pub answered : (setting : Setting) (base : State) (before after : Journaled) (list : History) (event : Event) (reply : Reply) → IsManagerOf setting base before list → IsWellFormed before
     → IsTaken before after event (Ok reply) → answer setting (state_after_history setting base list) event ≡ Ok reply
-answered setting base before after list event reply of stands taken =
-    let stood : before.managed.state ≡ state_after_history setting base list = rw (← of.setting_is, ← of.base_is, ← of.groups) stands.state in
+answered setting base before after list event reply of well_formed taken =
+    let stood : before.managed.state ≡ state_after_history setting base list = rw (← of.setting_is, ← of.base_is, ← of.groups) well_formed.state in
     let own = accepts reply (has_room before.groups) (answer (setting_of before.managed) before.managed.state event) taken.answered in
     subst (λ (s : State). answer setting s event ≡ Ok reply) stood (subst (λ (s : Setting). answer s before.managed.state event ≡ Ok reply) of.setting_is own)
 
@@ -68,19 +68,19 @@ reply_of (Ok reply) e = (reply, refl)
 reply_of (Err refusal) e = absurd (cc e)
 
 -- an event that is told of a full journal would be accepted in the state of the list, and there is no room in the journal of its events
-pub finds_no_room : (setting : Setting) (base : State) (before after : Journaled) (list : History) (event : Event) (refusal : Refusal) → IsManagerOf setting base before list → Stands before
+pub finds_no_room : (setting : Setting) (base : State) (before after : Journaled) (list : History) (event : Event) (refusal : Refusal) → IsManagerOf setting base before list → IsWellFormed before
     → ((s : Setting) (state : State) (groups : List Group) (e : Event) → (answer_in s state groups e ≡ Err JournalFull) ↔ ((is_ok (answer s state e) ≡ true) × (has_room groups ≡ false)))
     → IsTaken before after event (Err refusal) → refusal ≡ JournalFull → FindsNoRoom setting base list event
-finds_no_room setting base before after list event refusal of stands alone taken full =
-    let stood : before.managed.state ≡ state_after_history setting base list = rw (← of.setting_is, ← of.base_is, ← of.groups) stands.state in
-    let told : answer_in (setting_of before.managed) before.managed.state before.groups event ≡ Err JournalFull = sym taken.answered ∙ ap Err full in
-    let both = (alone (setting_of before.managed) before.managed.state before.groups event).0 told in
+finds_no_room setting base before after list event refusal of well_formed alone taken full =
+    let stood : before.managed.state ≡ state_after_history setting base list = rw (← of.setting_is, ← of.base_is, ← of.groups) well_formed.state in
+    let receipt : answer_in (setting_of before.managed) before.managed.state before.groups event ≡ Err JournalFull = sym taken.answered ∙ ap Err full in
+    let both = (alone (setting_of before.managed) before.managed.state before.groups event).0 receipt in
     let own = reply_of (answer (setting_of before.managed) before.managed.state event) both.0 in record {
       reply = own.0;
       accepted = subst (λ (s : State). answer setting s event ≡ Ok own.0) stood (subst (λ (s : Setting). answer s before.managed.state event ≡ Ok own.0) of.setting_is own.1);
       groups = before.groups;
       events = of.groups;
-      small = stands.small;
+      small = well_formed.small;
       full = both.1;
     }
 
@@ -95,15 +95,15 @@ pub record IsBack (before after : Journaled) (event : Event) : Type 0 where
 take_front : {A : Type 0} (xs ys : List A) (n : ℕ) → n ≡ length xs → take n (xs ++ ys) ≡ xs
 take_front xs ys n e = take-append-le n xs ys (omega (arith, e)) ∙ take_all n xs (omega (arith, e))
 
-pub taken_back : (before accepted after : Journaled) (event : Event) (reply : Reply) (mark : ℕ) → Stands before → mark ≡ length before.groups → IsTaken before accepted event (Ok reply)
+pub taken_back : (before accepted after : Journaled) (event : Event) (reply : Reply) (mark : ℕ) → IsWellFormed before → mark ≡ length before.groups → IsTaken before accepted event (Ok reply)
     → setting_of accepted.managed ≡ setting_of before.managed → IsRewound accepted after mark → IsBack before after event
-taken_back before accepted after event reply mark stands all taken setting back =
+taken_back before accepted after event reply mark well_formed all taken setting back =
     let on = taken.accepted in
     let left : take mark accepted.groups ≡ before.groups = ap (take mark) on.groups ∙ take_front before.groups (on.group ∷ []) mark all in record {
       ran = back.catalog ∙ ap (λ (m : Managed). m.catalog) on.left;
       state = back.state ∙ ap (λ s. state_after_history s accepted.base (history_in (take mark accepted.groups))) setting
           ∙ ap (λ b. state_after_history (setting_of before.managed) b (history_in (take mark accepted.groups))) on.base
-          ∙ ap (λ gs. state_after_history (setting_of before.managed) before.base (history_in gs)) left ∙ sym stands.state;
+          ∙ ap (λ gs. state_after_history (setting_of before.managed) before.base (history_in gs)) left ∙ sym well_formed.state;
       image = back.image ∙ ap (λ (m : Managed). m.image) on.left;
       base = back.base ∙ on.base;
       groups = back.groups ∙ left;

@@ -9,22 +9,22 @@ use Rattle.klp_model.specs.Legal.{History, IsLegal, state_after_history}
 use Rattle.klp_model.specs.Run.{answer}
 use Rattle.klp_live.specs.Admitting.{Booked, IsAdmitted, IsRefused, FindsNoRoom}
 use Rattle.klp_live.specs.Closing.{IsOutcome}
-use Rattle.klp_live.specs.Seats.{Knows, Told}
+use Rattle.klp_live.specs.Seats.{Knows, ReceiptValue}
 use Rattle.klp_live.specs.declared.refusal.LiveRefusal.{LiveRefusal}
 use Rattle.klp_live.specs.declared.refusal.LiveRefusal.TheVariants.{Refused, NoMemory}
 
-pub outcome : (setting : Setting) (base : State) (event : Event) (old new : Booked) (before after : Knows) (result : Result Told LiveRefusal)
-    → MatchResult result (λ told. IsAdmitted setting base event old new before after told) (λ fault. IsRefused setting base event old new before after fault)
+pub outcome : (setting : Setting) (base : State) (event : Event) (old new : Booked) (before after : Knows) (result : Result ReceiptValue LiveRefusal)
+    → MatchResult result (λ receipt. IsAdmitted setting base event old new before after receipt) (λ fault. IsRefused setting base event old new before after fault)
     → IsOutcome setting base event before after result
-outcome setting base event old new before after (Ok told) a = record {
+outcome setting base event old new before after (Ok receipt) a = record {
   legal = subst (IsLegal setting base) (sym a.knows) a.legal;
   older = old.list;
   knew = a.knew;
   answered = a.answered;
   list = a.knows ∙ a.list;
-  number = omega (arith, a.number, ap length (a.knows ∙ a.list), length-append old.list ((event, told.reply) ∷ []));
+  number = omega (arith, a.number, ap length (a.knows ∙ a.list), length-append old.list ((event, receipt.reply) ∷ []));
   event_is = a.event_is;
-  told_is = a.told_is ∙ sym a.knows;
+  receipt_list = a.receipt_list ∙ sym a.knows;
   counts = a.counts;
 }
 outcome setting base event old new before after (Err (Refused refusal)) a = record {

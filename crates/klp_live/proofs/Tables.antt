@@ -14,7 +14,7 @@ use Rattle.klp_model.specs.declared.event.Reply.{Reply}
 use Rattle.klp_model.specs.Allowed.{Allowed}
 use Rattle.klp_model.specs.Run.{run}
 use Rattle.klp_manager_state.specs.Managed.{setting_of}
-use Rattle.klp_core.specs.Journaled.{Journaled, Stands, history_in}
+use Rattle.klp_core.specs.Journaled.{Journaled, IsWellFormed, history_in}
 
 module _ {A : Type 0} where
   pub or_past : (xs : List A) (i : ℕ) (d : A) → length xs ≤ i → slice_index_or xs i d ≡ d
@@ -62,7 +62,7 @@ set_next xs d f n x at is front i le = ⊎_elim
     (below i n)
 
 -- a manager has a row for each task
-pub tasks_stand : (m : Journaled) → Stands m → ((state : State) (events : List Event) → Allowed (setting_of m.managed) state → Allowed (setting_of m.managed) (run (setting_of m.managed) state events))
+pub tasks_stand : (m : Journaled) → IsWellFormed m → ((state : State) (events : List Event) → Allowed (setting_of m.managed) state → Allowed (setting_of m.managed) (run (setting_of m.managed) state events))
     → length m.managed.state.tasks ≡ 64
-tasks_stand m stands stay =
-    ap (λ (s : State). length s.tasks) stands.state ∙ (stay m.base (map (λ (p : Event × Reply). p.0) (history_in m.groups)) stands.allowed).rows
+tasks_stand m well_formed stay =
+    ap (λ (s : State). length s.tasks) well_formed.state ∙ (stay m.base (map (λ (p : Event × Reply). p.0) (history_in m.groups)) well_formed.allowed).rows

@@ -18,7 +18,7 @@ use Rattle.klp_core.specs.Journaled.{Journaled, IsSmall, history_in}
 use Rattle.klp_core.specs.Taking.{IsTaken}
 use Rattle.klp_live.specs.Boards.{OnBoard}
 use Rattle.klp_live.specs.Shown.{IsTable}
-use Rattle.klp_live.specs.Seats.{Knows, Told}
+use Rattle.klp_live.specs.Seats.{Knows, ReceiptValue}
 use Rattle.klp_live.specs.declared.refusal.LiveRefusal.{LiveRefusal}
 use Rattle.klp_live.specs.declared.refusal.LiveRefusal.TheVariants.{Refused, NoMemory}
 
@@ -41,15 +41,15 @@ pub record IsShown (setting : Setting) (base : State) (book : Book) (board : OnB
   pub done : board.pending ≡ []
 
 -- accepted: one row was appended and published, with the next number
-pub record IsAdmitted (setting : Setting) (base : State) (event : Event) (old new : Booked) (before after : Knows) (told : Told) : Type 0 where
+pub record IsAdmitted (setting : Setting) (base : State) (event : Event) (old new : Booked) (before after : Knows) (receipt : ReceiptValue) : Type 0 where
   pub legal : IsLegal setting base new.list
-  pub answered : answer setting (state_after_history setting base old.list) event ≡ Ok told.reply
-  pub taken : IsTaken old.manager new.manager event (Ok told.reply)
-  pub list : new.list ≡ old.list ++ (event, told.reply) ∷ []
+  pub answered : answer setting (state_after_history setting base old.list) event ≡ Ok receipt.reply
+  pub taken : IsTaken old.manager new.manager event (Ok receipt.reply)
+  pub list : new.list ≡ old.list ++ (event, receipt.reply) ∷ []
   pub knew : IsPrefix before.list old.list
-  pub number : told.number ≡ length old.list + 1
-  pub event_is : told.event ≡ event
-  pub told_is : told.list ≡ new.list
+  pub number : receipt.number ≡ length old.list + 1
+  pub event_is : receipt.event ≡ event
+  pub receipt_list : receipt.list ≡ new.list
   pub knows : after.list ≡ new.list
   pub counts : after.accepted ≡ before.accepted + 1
 

@@ -11,21 +11,21 @@ use Rattle.klp_model.specs.Legal.{History, IsLegal, state_after_history}
 use Rattle.klp_model.specs.Run.{answer}
 use Rattle.klp_core.specs.Journaled.{Journaled}
 use Rattle.klp_live.specs.Admitting.{IsManagerOf, FindsNoRoom}
-use Rattle.klp_live.specs.Seats.{Knows, Told}
+use Rattle.klp_live.specs.Seats.{Knows, ReceiptValue}
 use Rattle.klp_live.specs.declared.refusal.LiveRefusal.{LiveRefusal}
 use Rattle.klp_live.specs.declared.refusal.LiveRefusal.TheVariants.{Refused, NoMemory}
 
 -- the event was taken: it stands last in the list that is known then, behind all that was known before, and was answered as the machine
 -- does in the state before it
-pub record IsSubmitted (setting : Setting) (base : State) (event : Event) (before after : Knows) (told : Told) : Type 0 where
+pub record IsSubmitted (setting : Setting) (base : State) (event : Event) (before after : Knows) (receipt : ReceiptValue) : Type 0 where
   pub legal : IsLegal setting base after.list
   pub older : History
   pub knew : IsPrefix before.list older
-  pub answered : answer setting (state_after_history setting base older) event ≡ Ok told.reply
-  pub list : after.list ≡ older ++ (event, told.reply) ∷ []
-  pub number : told.number ≡ length after.list
-  pub event_is : told.event ≡ event
-  pub told_is : told.list ≡ after.list
+  pub answered : answer setting (state_after_history setting base older) event ≡ Ok receipt.reply
+  pub list : after.list ≡ older ++ (event, receipt.reply) ∷ []
+  pub number : receipt.number ≡ length after.list
+  pub event_is : receipt.event ≡ event
+  pub receipt_list : receipt.list ≡ after.list
   pub counts : after.accepted ≡ before.accepted + 1
 
 -- the event was refused: the list that refused it is known then, and begins with all that was known before
@@ -37,8 +37,8 @@ pub record IsTurnedBack (setting : Setting) (base : State) (event : Event) (befo
   pub counts : after.accepted ≡ before.accepted
 
 -- what was submitted came to this
-abbrev pub IsOutcome : Setting → State → Event → Knows → Knows → Result Told LiveRefusal → Type 0
-IsOutcome setting base event before after (Ok told) = IsSubmitted setting base event before after told
+abbrev pub IsOutcome : Setting → State → Event → Knows → Knows → Result ReceiptValue LiveRefusal → Type 0
+IsOutcome setting base event before after (Ok receipt) = IsSubmitted setting base event before after receipt
 IsOutcome setting base event before after (Err (Refused refusal)) = IsTurnedBack setting base event before after refusal
 IsOutcome setting base event before after (Err NoMemory) = after ≡ before
 

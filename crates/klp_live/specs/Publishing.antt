@@ -5,11 +5,11 @@ use Rattle.klp_model.specs.State.{State}
 use Rattle.klp_model.specs.declared.event.Event.{Event}
 use Rattle.klp_model.specs.declared.event.Reply.{Reply}
 use Rattle.klp_model.specs.Legal.{History, IsLegal}
-use Rattle.klp_live.specs.Seats.{Knows, Told}
+use Rattle.klp_live.specs.Seats.{Knows, ReceiptValue}
 
 -- the row stands last, with the next number. The seat knows the whole list, and has one event more
-pub record IsPublished (setting : Setting) (base : State) (row : Event × Reply) (old new : History) (before after : Knows) (told : Told) : Type 0 where
+pub record IsPublished (setting : Setting) (base : State) (row : Event × Reply) (old new : History) (before after : Knows) (receipt : ReceiptValue) : Type 0 where
   pub legal : IsLegal setting base new
   pub list : new ≡ old ++ row ∷ []
-  pub told_is : told ≡ record { number = length old + 1; event = row.0; reply = row.1; list = new }
+  pub receipt_list : receipt ≡ record { number = length old + 1; event = row.0; reply = row.1; list = new }
   pub knows : after ≡ record { list = new; accepted = before.accepted + 1 }

@@ -11,7 +11,7 @@ pub record Knows : Type 0 where
   pub list : History
   pub accepted : ℕ
 
-pub record Told : Type 0 where
+pub record ReceiptValue : Type 0 where
   pub number : ℕ
   pub event : Event
   pub reply : Reply

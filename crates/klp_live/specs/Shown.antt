@@ -13,9 +13,9 @@ use Rattle.klp_live.specs.declared.published.News.{News}
 use Rattle.klp_live.specs.declared.published.Known.{Known}
 use Rattle.klp_live.specs.declared.published.View.{View}
 
-abbrev pub told : Published → Option News → Published
-told x None = x
-told x (Some news) = record { table = changed x.table news.change; rows = news.rows; seen = news.seen }
+abbrev pub with_news : Published → Option News → Published
+with_news x None = x
+with_news x (Some news) = record { table = changed x.table news.change; rows = news.rows; seen = news.seen }
 
 -- a table of a legal history, with the number of its rows
 pub record IsTable (setting : Setting) (base : State) (x : Published) : Type 0 where

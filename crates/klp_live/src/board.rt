@@ -1,7 +1,7 @@
 //! The board: where the book publishes.
 ghost use Rattle.std.specs.Prelude.{◌≡◌, [], ◌∷◌, ◌++◌, drop, None, Some, MatchBool};
 ghost use Rattle.left_right.specs.Sides.{view};
-ghost use Rattle.klp_live.specs.Shown.{told, Follows, RuleIs, known_of};
+ghost use Rattle.klp_live.specs.Shown.{with_news, Follows, RuleIs, known_of};
 
 use crate::history::Start;
 use crate::published::{News, Published, View};
@@ -45,8 +45,8 @@ pub fn announce<S: Start + Protocol<Published, View>, W: Wait>(
 ) -> Changes<S>
     requires rule { RuleIs S.holds S.first S.setting S.base S.book }
     requires room { drop changes.behind changes.log.items ≡ None ∷ [] }
-    requires follows { Follows S.setting S.base changes.desk.shown.value (told changes.desk.shown.value (Some news)) }
-    ensures shown { result.desk.shown.value ≡ told changes.desk.shown.value (Some news) }
+    requires follows { Follows S.setting S.base changes.desk.shown.value (with_news changes.desk.shown.value (Some news)) }
+    ensures shown { result.desk.shown.value ≡ with_news changes.desk.shown.value (Some news) }
     ensures pending { drop result.behind result.log.items ≡ [] }
     ensures known { view result.desk.place ≡ record { known = known_of result.desk.shown.value ∷ [] } }
 {
@@ -99,8 +99,8 @@ impl<S: Start + Protocol<Published, View>, R: Wait + Drop> Board<S, R> {
     pub fn announce<W: Wait>(&mut self, rt: &W, news: News)
         requires rule { RuleIs S.holds S.first S.setting S.base S.book }
         requires room { self.old.pending ≡ None ∷ [] }
-        requires follows { Follows S.setting S.base self.old.value (told self.old.value (Some news)) }
-        ensures { self.new ≡ record { value = told self.old.value (Some news); pending = [] } }
+        requires follows { Follows S.setting S.base self.old.value (with_news self.old.value (Some news)) }
+        ensures { self.new ≡ record { value = with_news self.old.value (Some news); pending = [] } }
     {
         core::mem::replace_with(&mut self.changes, news, |changes, news| {
             (announce(rt, changes, news), ())

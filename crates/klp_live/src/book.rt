@@ -76,7 +76,7 @@ impl<S: Start + Protocol<Published, View>, M: Machine + Drop, R: Wait + Drop> Bo
         event: Event,
     ) -> Result<Receipt<S>, LiveRefusal>
         ensures { MatchResult result
-            (λ told. IsAdmitted S.setting S.base event self.old self.new seat.old seat.new told)
+            (λ receipt. IsAdmitted S.setting S.base event self.old self.new seat.old seat.new receipt)
             (λ fault. IsRefused S.setting S.base event self.old self.new seat.old seat.new fault) }
     {
         the_journal_alone_is_full();
@@ -85,7 +85,7 @@ impl<S: Start + Protocol<Published, View>, M: Machine + Drop, R: Wait + Drop> Bo
         let moving = self.machine.in_transition();
         match &accept(&mut self.machine, event) {
             Err(refusal) => {
-                self.publisher.tell(seat);
+                self.publisher.catch_up(seat);
                 Err(LiveRefusal::Refused(*refusal))
             }
             Ok(reply) => match publish(
@@ -113,7 +113,7 @@ fn accept<M: Machine>(machine: &mut M, event: Event) -> Result<Reply, Refusal>
     ensures taken { IsTaken (M.journaled machine.old) (M.journaled machine.new) event result }
     ensures setting { setting_of (M.journaled machine.new).managed ≡ setting_of (M.journaled machine.old).managed }
 {
-    let _standing = machine.mark();
+    let _for_its_clause = machine.mark();
     machine.apply(event)
 }
 
@@ -136,7 +136,7 @@ fn publish<S: Start + Protocol<Published, View>, M: Machine, R: Wait + Drop, W: 
     requires moving { moving ≡ moving_patch (state_after_history S.setting S.base publisher.old).moving }
     ensures { MatchOption result
         ((publisher.new ≡ publisher.old) × (seat.new ≡ seat.old))
-        (λ told. IsPublished S.setting S.base (event.now, reply.now) publisher.old publisher.new seat.old seat.new told) }
+        (λ receipt. IsPublished S.setting S.base (event.now, reply.now) publisher.old publisher.new seat.old seat.new receipt) }
 {
     let Ok(change) = change_after(alloc, machine, event, moving) else {
         return None;
@@ -152,6 +152,6 @@ fn take_back<M: Machine>(machine: &mut M, mark: u32)
     requires { mark ≤ length (M.journaled machine.old).groups }
     ensures { IsRewound (M.journaled machine.old) (M.journaled machine.new) mark }
 {
-    let _standing = machine.mark();
+    let _for_its_clause = machine.mark();
     let _ = machine.rewind(mark);
 }

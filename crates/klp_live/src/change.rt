@@ -89,7 +89,7 @@ impl Table {
             IsDispatch (setting_of managed) managed.state self.new }
     {
         states_stay_allowed();
-        let _standing = machine.mark();
+        let _for_its_clause = machine.mark();
         let _sites = machine.sites();
         fill_rows(&mut self.rows, machine);
         fill_states(&mut self.states, machine);
@@ -229,7 +229,7 @@ fn moved<M: Machine>(
         ≡ own_state (M.journaled machine.now).managed.state task) }
 {
     states_stay_allowed();
-    let _standing = machine.mark();
+    let _for_its_clause = machine.mark();
     let states = [None; MAX_TASKS];
     let mut moved = Box::new(alloc, Moved { rows, states })?;
     fill_states(&mut moved.states, machine);

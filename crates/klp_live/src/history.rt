@@ -6,7 +6,7 @@ ghost use Rattle.klp_model.specs.Legal.{IsLegal, state_after_history};
 ghost use Rattle.klp_model.specs.Run.{answer};
 ghost use Rattle.klp_live.specs.Rules.{head_of};
 
-use crate::law::{Add, Law, Noted, Nothing, Row};
+use crate::law::{Accepted, Add, Law, Nothing, StoredEvent};
 use klp_model::laws::histories_grow_and_are_cut_at_their_end;
 use klp_model::{Event, Reply};
 use logbook::{Offer, Seen, Start as Fresh, Word};
@@ -41,8 +41,8 @@ impl Start for Brand {
 /// An empty history, which no start has yet.
 #[derive(Drop)]
 pub struct Opened {
-    pub(crate) head: Word<Row, u64, Law>,
-    pub(crate) seen: Seen<Row, u64, Law>,
+    pub(crate) head: Word<Accepted, u64, Law>,
+    pub(crate) seen: Seen<Accepted, u64, Law>,
     pub ghost empty: { seen.log ≡ [] },
     pub ghost head_is: { head ≡ head_of seen.book },
 }
@@ -80,7 +80,7 @@ impl Opened {
 /// The word that only the book has: who adds to the history has it.
 #[derive(Drop)]
 pub struct Head<S: Start> {
-    pub(crate) word: Word<Row, u64, Law>,
+    pub(crate) word: Word<Accepted, u64, Law>,
     pub(crate) of: PhantomData<S>,
     ghost head_is: { word ≡ head_of S.book },
 }
@@ -89,7 +89,7 @@ pub struct Head<S: Start> {
 #[derive(Drop)]
 pub struct Front<S: Start> {
     pub(crate) rows: u64,
-    pub(crate) seen: Seen<Row, u64, Law>,
+    pub(crate) seen: Seen<Accepted, u64, Law>,
     pub(crate) of: PhantomData<S>,
 }
 
@@ -135,7 +135,7 @@ impl<S: Start> Front<S> {
     }
 
     /// Adds a row to all that was seen, and says whether it did. It did not where the history is longer.
-    pub fn add(&mut self, head: &Head<S>, row: Row) -> bool
+    pub fn add(&mut self, head: &Head<S>, row: Accepted) -> bool
         requires room { length self.old < 2 ^ 62 }
         requires legal { answer S.setting (state_after_history S.setting S.base self.old) row.0 ≡ Ok row.1 }
         ensures { MatchBool result (self.new ≡ self.old ++ row ∷ []) (self.new ≡ self.old) }
@@ -150,9 +150,11 @@ impl<S: Start> Front<S> {
         ensures { MatchBool result (self.new ≡ self.old ++ (event.now, reply.now) ∷ []) (self.new ≡ self.old) }
     {
         histories_grow_and_are_cut_at_their_end();
-        let row = Noted::of(event, reply);
+        let row = StoredEvent::of(event, reply);
         let mut seen = self.seen.again();
-        let mut offer: Offer<Row, u64, Law, Nothing> = seen.plain::<Nothing, Noted, Add>(&row);
+        let mut offer: Offer<Accepted, u64, Law, Nothing> = seen.plain::<Nothing, StoredEvent, Add>(
+            &row,
+        );
         let mut pen = seen.no_pen();
         let rows = self.rows;
         let found = head

@@ -2,7 +2,7 @@
 ghost use Rattle.std.specs.Prelude.{◌≡◌, IfOk};
 ghost use Rattle.klp_live.specs.Kept.{event_kept, reply_kept};
 
-use crate::law::Row;
+use crate::law::Accepted;
 use klp_model::{Event, Reply};
 use klp_types::TaskId;
 use std::alloc::{AllocError, Global};
@@ -24,7 +24,7 @@ pub enum Kept {
     /// The event was done.
     OfTask(TaskEvent),
     /// Any row.
-    Whole(Box<Row>),
+    Whole(Box<Accepted>),
 }
 
 impl Kept {

@@ -6,22 +6,22 @@ use logbook::{Gain, Plain, Play, Rule};
 use std::snapshot::Snapshot;
 
 /// An accepted event with its reply.
-pub type Row = (Event, Reply);
+pub type Accepted = (Event, Reply);
 
 /// A row in contracts alone: what runs copies neither its event nor its reply.
 #[derive(Drop)]
-pub struct Noted {
+pub struct StoredEvent {
     pub event: Snapshot<Event>,
     pub reply: Snapshot<Reply>,
 }
 
-impl Noted {
+impl StoredEvent {
     /// That the event was answered so.
-    pub fn of(event: &Event, reply: &Reply) -> Noted
+    pub fn of(event: &Event, reply: &Reply) -> StoredEvent
         ensures event { result.event.value ≡ event.now }
         ensures reply { result.reply.value ≡ reply.now }
     {
-        Noted {
+        StoredEvent {
             event: Snapshot::of(event),
             reply: Snapshot::of(reply),
         }
@@ -31,7 +31,7 @@ impl Noted {
 /// The rule of the history: its word is its length.
 pub struct Law;
 
-impl Rule<Row, u64> for Law {
+impl Rule<Accepted, u64> for Law {
     ghost use Rattle.std.specs.Prelude.{[]};
     ghost use base.Fml.{ftrue};
     ghost use Rattle.klp_live.specs.Rules.{IsKept};
@@ -52,7 +52,7 @@ impl Rule<Row, u64> for Law {
 /// Callers trade nothing.
 pub struct Nothing;
 
-impl Gain<Row, u64> for Nothing {
+impl Gain<Accepted, u64> for Nothing {
     ghost use base.Fml.{ftrue};
 
     ghost after = { λ names about answer. ftrue };
@@ -61,17 +61,17 @@ impl Gain<Row, u64> for Nothing {
 /// A step that adds a row.
 pub struct Add;
 
-impl Play<Row, u64> for Add {
+impl Play<Accepted, u64> for Add {
     ghost use Rattle.klp_live.specs.Rules.{Adds};
 
     ghost then = { Adds };
 }
 
 /// What a step asks for: the row.
-impl Plain<Noted, Row, u64> for Add {
+impl Plain<StoredEvent, Accepted, u64> for Add {
     ghost use Rattle.std.specs.Prelude.{None};
 
-    ghost ask = { λ noted. (noted.event.value, noted.reply.value) };
+    ghost ask = { λ logged. (logged.event.value, logged.reply.value) };
 
-    ghost state = { λ noted. None };
+    ghost state = { λ logged. None };
 }

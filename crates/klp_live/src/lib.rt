@@ -29,7 +29,7 @@ mod target;
 
 pub use book::Book;
 pub use history::{Front, Head, Opened, Start};
-pub use law::{Law, Row};
+pub use law::{Accepted, Law};
 pub use live::{BadTask, CloseFault, Live};
 pub use opening::{StartCause, StartFault};
 pub use pass::{Reads, TaskPass};

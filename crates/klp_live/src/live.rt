@@ -184,7 +184,8 @@ impl<S: Start + Protocol<Published, View>, M: Machine + Drop, R: Wait + Drop> Li
     }
 }
 
-/// The manager of a book, once all shares of its events are there.
+/// Ends a book and gives its manager back. All seats are handed in, so their accepted events are as many as the history
+/// has.
 fn closed<S: Start + Protocol<Published, View>, M: Machine + Drop, R: Wait + Drop, W: Wait>(
     rt: &W,
     book: Book<S, M, R>,

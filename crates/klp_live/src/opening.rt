@@ -12,7 +12,7 @@ use crate::board::{Board, Changes};
 use crate::book::Book;
 use crate::change::change_of;
 use crate::history::{Front, Opened, Start};
-use crate::law::{Law, Row};
+use crate::law::{Accepted, Law};
 use crate::published::{Published, View};
 use crate::publisher::Publisher;
 use crate::rules::{Adopt, Same, Sees};
@@ -41,7 +41,7 @@ pub struct StartFault<M> {
 }
 
 /// The table of no row.
-fn first_of(table: &Table, seen: &Seen<Row, u64, Law>) -> Published
+fn first_of(table: &Table, seen: &Seen<Accepted, u64, Law>) -> Published
     ensures { result ≡ record { table = table.now; rows = 0; seen = seen.now } }
 {
     Published {
@@ -78,7 +78,7 @@ fn changes<S: Start + Protocol<Published, View>, W: Wait>(
     rt: &W,
     alloc: Global,
     change: Change,
-    seen: &Seen<Row, u64, Law>,
+    seen: &Seen<Accepted, u64, Law>,
     places: usize,
 ) -> Result<Changes<S>, AllocError>
     requires rule { RuleIs S.holds S.first S.setting S.base S.book }
@@ -95,7 +95,8 @@ fn changes<S: Start + Protocol<Published, View>, W: Wait>(
     Ok(known::<S, W>(rt, writer))
 }
 
-/// Takes a place.
+/// A seat with a reader of its own, which knows this history and has this share of the count. An error is a reader that
+/// `left_right` refuses.
 fn seat<S: Start + Protocol<Published, View>>(
     changes: &mut Changes<S>,
     front: &Front<S>,
@@ -118,7 +119,7 @@ fn seat<S: Start + Protocol<Published, View>>(
     })
 }
 
-/// Takes all places.
+/// All seats, each with one part of the share.
 fn seats<S: Start + Protocol<Published, View>>(
     alloc: Global,
     changes: &mut Changes<S>,
@@ -170,7 +171,7 @@ impl<S: Start + Protocol<Published, View>, M: Machine + Drop, R: Wait + Drop> Bo
         ensures seats { IfOk result (λ pair. All (λ seat. seat ≡ record { list = []; accepted = 0 }) pair.1.items) }
         ensures fault { IfErr result (λ fault. fault.manager ≡ machine) }
     {
-        let _standing = machine.mark();
+        let _for_its_clause = machine.mark();
         let (total, share) = blank.open::<S>();
         let Ok(change) = change_of(alloc, &machine) else {
             return Err(StartFault {

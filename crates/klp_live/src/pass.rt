@@ -167,7 +167,7 @@ impl<S: Start + Protocol<Published, View>> TaskPass<S> {
         live.admit(rt, alloc, &mut self.seat, event)
     }
 
-    /// Hears of the event of a receipt: each later entry of this pass sees it, and all before it.
+    /// Hears of the event of a receipt: each later `enter` of this pass sees it, and all before it.
     pub fn hear(&mut self, receipt: &Receipt<S>)
         ensures own { IsPrefix self.old.knows.list self.new.knows.list }
         ensures heard { IsPrefix receipt.now.list self.new.knows.list }

@@ -1,5 +1,5 @@
 //! What running tasks see. Nothing here names a start.
-use crate::law::{Law, Row};
+use crate::law::{Accepted, Law};
 use crate::table::{Change, Table};
 use logbook::Seen;
 
@@ -11,7 +11,7 @@ pub struct Published {
     /// How many rows the history has.
     pub rows: u64,
     /// The history, in contracts alone.
-    pub seen: Seen<Row, u64, Law>,
+    pub seen: Seen<Accepted, u64, Law>,
 }
 
 /// One more row: what it changes of the table, and the history with it.
@@ -21,12 +21,12 @@ pub struct News {
     /// How many rows the history has with it.
     pub rows: u64,
     /// The history with it, in contracts alone.
-    pub seen: Seen<Row, u64, Law>,
+    pub seen: Seen<Accepted, u64, Law>,
 }
 
 /// What a reader knows: the history of what it read last. It is a view of proofs; no value of it is made.
 pub struct Known {
-    pub seen: Seen<Row, u64, Law>,
+    pub seen: Seen<Accepted, u64, Law>,
 }
 
 /// The view of a reader, or of the writer: one history, or none where it knows nothing yet.

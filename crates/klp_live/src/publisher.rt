@@ -124,7 +124,7 @@ impl<S: Start + Protocol<Published, View>, R: Wait + Drop> Publisher<S, R> {
     }
 
     /// The seat then knows all of the history.
-    pub fn tell(&self, seat: &mut Seat<S>)
+    pub fn catch_up(&self, seat: &mut Seat<S>)
         ensures { seat.new ≡ record { list = self.now; accepted = seat.old.accepted } }
     {
         seat.front = self.front.again();
@@ -151,7 +151,7 @@ impl<S: Start + Protocol<Published, View>, R: Wait + Drop> Publisher<S, R> {
             ≤ rows_touched S.setting (moving_patch (state_after_history S.setting S.base self.old).moving) event.now }
         ensures { MatchOption result
             ((self.new ≡ self.old) × (seat.new ≡ seat.old))
-            (λ told. IsPublished S.setting S.base (event.now, reply.now) self.old self.new seat.old seat.new told) }
+            (λ receipt. IsPublished S.setting S.base (event.now, reply.now) self.old self.new seat.old seat.new receipt) }
     {
         if !append(
             rt,
@@ -165,7 +165,7 @@ impl<S: Start + Protocol<Published, View>, R: Wait + Drop> Publisher<S, R> {
             return None;
         }
         self.total.add(&mut seat.share, 1);
-        self.tell(seat);
+        self.catch_up(seat);
         Some(Receipt::new(kept, self.front.again()))
     }
 

@@ -71,9 +71,9 @@ pub struct Receipt<S: Start> {
 impl<S: Start> Model for Receipt<S> {
     ghost use Rattle.std.specs.Prelude.{◌≡◌, length};
     ghost use Rattle.klp_live.specs.Kept.{event_kept, reply_kept};
-    ghost use Rattle.klp_live.specs.Seats.{Told, IsLast};
+    ghost use Rattle.klp_live.specs.Seats.{ReceiptValue, IsLast};
 
-    ghost Value = { Told };
+    ghost Value = { ReceiptValue };
 
     ghost view = { λ r. record { number = r.number; event = event_kept r.kept; reply = reply_kept r.kept; list = r.front } };
 

@@ -7,9 +7,9 @@ use crate::names::{FIRST, NOWHERE, PATCH, PATCHED, SECOND};
 use crate::outcomes::{Detail, show_outcomes};
 use crate::pairs::{attached, seat_of, show_cause};
 use crossbeam_utils::rule::Protocol;
-use klp_bodies::{BodyCause, Gate, Outcome, Step, TaskBody};
 use klp_core::Machine;
 use klp_live::{Live, Published, Seat, Start, View};
+use klp_live_bodies::{BodyCause, Gate, Outcome, Step, TaskBody};
 use klp_model::Event;
 use klp_types::TaskId;
 use std::alloc::Global;
@@ -98,9 +98,9 @@ pub(crate) fn show_both<
     steps: (&[Step], &[Step]),
     detail: Detail,
 ) -> ((Seat<S>, Seat<S>), io::Result<()>) {
-    let (first, told) = show_body(rt, alloc, live, seats.0, FIRST, gates.0, steps.0, detail);
+    let (first, came) = show_body(rt, alloc, live, seats.0, FIRST, gates.0, steps.0, detail);
     let (second, heard) = show_body(rt, alloc, live, seats.1, SECOND, gates.1, steps.1, detail);
-    ((first, second), told.and(heard))
+    ((first, second), came.and(heard))
 }
 
 /// The first task enables a patch, which it runs once it was outside of the kernel.
@@ -172,7 +172,7 @@ fn show_counted<S: Start + Protocol<Published, View>, M: Machine + Drop, R: Wait
         asked: &asked,
         refuses: refuses.unwrap_or(0),
     };
-    let (seats, told) = show_both(
+    let (seats, came) = show_both(
         rt,
         alloc,
         live,
@@ -181,7 +181,7 @@ fn show_counted<S: Start + Protocol<Published, View>, M: Machine + Drop, R: Wait
         (first, second),
         detail,
     );
-    (seats, told.and(show_asked(rt, refuses, &asked)))
+    (seats, came.and(show_asked(rt, refuses, &asked)))
 }
 
 /// How often the gate was asked, where that is told.
@@ -201,13 +201,13 @@ fn show_each<S: Start + Protocol<Published, View>, M: Machine + Drop, R: Wait + 
     all: &[Bodies<'_>],
 ) -> ((Seat<S>, Seat<S>), io::Result<()>) {
     let mut seats = seats;
-    let mut told = Ok(());
+    let mut came = Ok(());
     for bodies in all {
         let (same, shown) = show_counted(rt, alloc, live, seats, bodies);
         seats = same;
-        told = told.and(shown);
+        came = came.and(shown);
     }
-    (seats, told)
+    (seats, came)
 }
 
 /// A patch that is enabled, a nap, deep calls, and a gate that lets the task in late or never.

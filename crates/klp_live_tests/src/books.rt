@@ -57,8 +57,8 @@ fn used<
     let mut seats = seats;
     match how {
         Use::Turns => {
-            let told = turns::all_taken(rt, alloc, &mut book, &mut seats);
-            (book.end(), told)
+            let came = turns::all_taken(rt, alloc, &mut book, &mut seats);
+            (book.end(), came)
         }
         Use::Events(times) => match seats.pop() {
             Some(seat) => measure::admitted(rt, alloc, book, seat, times),
@@ -97,8 +97,8 @@ fn opened<
 {
     match Book::<S, M, &R>::pair(rt, alloc, blank, opened, machine, places) {
         Ok((book, seats)) => {
-            let (machine, told) = used(rt, alloc, book, seats, how);
-            (machine, Ok(told))
+            let (machine, came) = used(rt, alloc, book, seats, how);
+            (machine, Ok(came))
         }
         Err(StartFault { manager, cause }) => (manager, Err(cause)),
     }
@@ -136,9 +136,9 @@ pub(crate) fn booked<M: Shows + Drop, R: Threads + Wait + Clock + Print + Sync>(
     let mut machine = machine;
     empty(&mut machine);
     let before = Shown::of(&machine);
-    let (machine, told) = over(rt, alloc, machine, how);
-    if told.is_err() && Shown::of(&machine) != before {
+    let (machine, came) = over(rt, alloc, machine, how);
+    if came.is_err() && Shown::of(&machine) != before {
         let _ = println!(rt; "another manager");
     }
-    (machine, told)
+    (machine, came)
 }

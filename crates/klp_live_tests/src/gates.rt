@@ -1,5 +1,5 @@
 //! The gates of the tests.
-use klp_bodies::Gate;
+use klp_live_bodies::Gate;
 use klp_types::TaskId;
 use std::sync::atomic::{AtomicBool, AtomicU64, Ordering};
 use std::thread;

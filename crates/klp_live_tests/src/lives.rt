@@ -1,7 +1,7 @@
 //! Has two tasks run the steps of each file, over its catalog, as the program `klpsim` does: what is written has to be as
 //! it stands there, however the two threads come to run.
 
-use klp_live_program::live;
+use klp_live_run::live;
 use std::alloc::Global;
 use std::rt::Files;
 use std::sync::Wait;
@@ -44,19 +44,19 @@ fn holds<R: Threads + Wait + Sync + Files + AllocGlobal>(rt: &R, line: &str) -> 
 }
 
 /// Tells whether a line of the index holds.
-fn tell<R: Threads + Wait + Sync + Files + Print + AllocGlobal>(
+fn print_line<R: Threads + Wait + Sync + Files + Print + AllocGlobal>(
     rt: &R,
     line: &str,
 ) -> io::Result<()> {
     if line.starts_with('#') {
         return Ok(());
     }
-    let told = if holds(rt, line)? {
+    let came = if holds(rt, line)? {
         "as written"
     } else {
         "differs"
     };
-    println!(rt; "{line}: {told}")
+    println!(rt; "{line}: {came}")
 }
 
 /// Tells of each line of the index whether it holds.
@@ -65,7 +65,7 @@ pub(crate) fn run<R: Threads + Wait + Sync + Files + Print + AllocGlobal>(
 ) -> io::Result<()> {
     let index = fs::read_to_string(rt, INDEX)?;
     for line in index.as_str().lines() {
-        tell(rt, line)?;
+        print_line(rt, line)?;
     }
     Ok(())
 }

@@ -3,7 +3,7 @@
 //! Of the book, starts and passes: that calls succeed where memory is left, and what stands where memory is refused. It
 //! prints what two seats were told, and the same where one allocation of the book is refused (`rt try --fail-alloc N`):
 //! the refused call is made again, over what it left. With `book` as its word it does no more, so that each allocation
-//! can be refused in its turn (`./hostile live`).
+//! can be refused in its turn (`tools/hostile live`).
 //!
 //! Of bodies and jobs: that two threads run over one lock and are inside of their bodies at one time, that a call reads
 //! what is published and not what its task was told alone, and that events are taken and gates pass where they should. It

@@ -131,8 +131,8 @@ pub(crate) fn admitted<
     best: &mut Times,
 ) -> (M, io::Result<()>) {
     let mut seated = Seated { alloc, book, seat };
-    let told = take_all(rt, &mut seated, best);
-    (seated.end(), told)
+    let came = take_all(rt, &mut seated, best);
+    (seated.end(), came)
 }
 
 /// The shortest times of all rounds.
@@ -173,7 +173,7 @@ fn round<M: Shows + Drop, R: Threads + Wait + Clock + Print + Sync>(
     (machine, applied.and(admitted.unwrap_or(Ok(()))))
 }
 
-fn tell<R: Print>(rt: &R, best: &Figures) -> io::Result<()> {
+fn print_line<R: Print>(rt: &R, best: &Figures) -> io::Result<()> {
     let Figures {
         applied,
         admitted,
@@ -208,5 +208,5 @@ pub(crate) fn rounds_of<M: Shows + Drop, R: Threads + Wait + Clock + Print + Syn
         machine = same;
         ended = ended.and(took);
     }
-    ended.and(tell(rt, &best))
+    ended.and(print_line(rt, &best))
 }

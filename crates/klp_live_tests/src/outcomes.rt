@@ -1,24 +1,24 @@
 //! What is printed of events and of what steps come to.
-use klp_bodies::{Accepted, Outcome, What};
 use klp_live::{EnterFault, LiveRefusal, Receipt, Start};
+use klp_live_bodies::{Accepted, Outcome, What};
 use klp_model::Reply;
 use klp_types::Target;
 use std::io;
 
 /// The number and the reply of an event, or why it isn't admitted: as plain data, of which the prover has less to carry
 /// than of a receipt.
-pub(crate) type Told = Result<(u64, Reply), LiveRefusal>;
+pub(crate) type Answered = Result<(u64, Reply), LiveRefusal>;
 
 /// What an event was told.
-pub(crate) fn told_of<S: Start>(told: Result<Receipt<S>, LiveRefusal>) -> Told {
-    match told {
+pub(crate) fn answer_of<S: Start>(came: Result<Receipt<S>, LiveRefusal>) -> Answered {
+    match came {
         Ok(receipt) => Ok((receipt.number(), receipt.reply())),
         Err(refusal) => Err(refusal),
     }
 }
 
-pub(crate) fn show_told<R: Print>(rt: &R, told: &Told) -> io::Result<()> {
-    match told {
+pub(crate) fn show_answer<R: Print>(rt: &R, came: &Answered) -> io::Result<()> {
+    match came {
         Ok((number, reply)) => println!(rt; "{number} {reply:?}"),
         Err(refusal) => println!(rt; "{refusal:?}"),
     }

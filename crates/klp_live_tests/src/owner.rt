@@ -19,7 +19,7 @@ fn booted(alloc: Global, text: &[u8]) -> Result<Manager, klp_program::Fault> {
     boot(alloc, plan, Vec::new(alloc))
 }
 
-/// Does something with a manager, which may cross threads.
+/// Hands a manager to `do_work`, which takes any machine that can be sent to another thread.
 fn hand_on<R: Threads + Wait + Clock + Print + Sync>(
     rt: &R,
     alloc: Global,

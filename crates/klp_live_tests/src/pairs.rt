@@ -2,14 +2,14 @@
 //! proved for itself.
 ghost use Rattle.std.specs.Prelude.{◌<◌, ◌^◌, IsSome, vec_len};
 ghost use Rattle.klp_types.specs.declared.limits.TheConstants.{MAX_TASKS};
-ghost use Rattle.klp_bodies.specs.Jobs.{body_of};
+ghost use Rattle.klp_live_bodies.specs.Jobs.{body_of};
 
 use crate::measure::since;
 use crate::names::{FIRST, SECOND};
 use crossbeam_utils::rule::Protocol;
-use klp_bodies::{BodyCause, BodyFault, Gate, Job, Step, TaskBody, run_two};
 use klp_core::Machine;
 use klp_live::{Live, Published, Seat, Start, TaskPass, View};
+use klp_live_bodies::{BodyCause, BodyFault, Gate, Job, Step, TaskBody, run_two};
 use klp_types::TaskId;
 use std::alloc::{AllocError, Global};
 use std::io;

@@ -3,7 +3,7 @@ ghost use Rattle.std.specs.Prelude.{◌<◌};
 ghost use Rattle.klp_types.specs.declared.limits.TheConstants.{MAX_TASKS};
 
 use crate::names::{FIRST, LATER, NOWHERE, PATCH, PATCHED, SECOND};
-use crate::outcomes::{Told, show_found, show_told, told_of};
+use crate::outcomes::{Answered, answer_of, show_answer, show_found};
 use crate::pairs::attached;
 use crossbeam_utils::rule::Protocol;
 use klp_core::Machine;
@@ -35,7 +35,7 @@ enum Act {
     /// Submits an event.
     Submit(Event),
     /// Submits an event, of which the other pass hears.
-    Tell(Event),
+    PrintLine(Event),
 }
 
 /// Which pass does something, the first or the second, and what.
@@ -49,7 +49,7 @@ enum Turn {
 /// the original still, since it wasn't outside.
 fn heard() -> [Turn; 7] {
     const ALL: [Turn; 7] = [
-        Turn::First(Act::Tell(Event::Enable(PATCH))),
+        Turn::First(Act::PrintLine(Event::Enable(PATCH))),
         Turn::First(Act::Enter(PATCHED)),
         Turn::First(Act::Submit(Event::EnterKernel(FIRST))),
         Turn::First(Act::Submit(Event::ExitToUser(FIRST))),
@@ -97,12 +97,12 @@ fn submitted<S: Start + Protocol<Published, View>, M: Machine + Drop, R: Wait>(
     other: &mut TaskPass<S>,
     event: Event,
     is_heard: bool,
-) -> Told {
-    let told = pass.submit(rt, alloc, live, event);
-    if is_heard && let Ok(receipt) = &told {
+) -> Answered {
+    let came = pass.submit(rt, alloc, live, event);
+    if is_heard && let Ok(receipt) = &came {
         other.hear(receipt);
     }
-    told_of(told)
+    answer_of(came)
 }
 
 /// A pass does something, and what comes of it is shown.
@@ -117,12 +117,12 @@ fn show_act<S: Start + Protocol<Published, View>, M: Machine + Drop, R: Wait + P
     match act {
         Act::Enter(site) => show_found(rt, &pass.enter(site)),
         Act::Submit(event) => {
-            let told = submitted(rt, alloc, live, pass, other, event, false);
-            show_told(rt, &told)
+            let came = submitted(rt, alloc, live, pass, other, event, false);
+            show_answer(rt, &came)
         }
-        Act::Tell(event) => {
-            let told = submitted(rt, alloc, live, pass, other, event, true);
-            show_told(rt, &told)
+        Act::PrintLine(event) => {
+            let came = submitted(rt, alloc, live, pass, other, event, true);
+            show_answer(rt, &came)
         }
     }
 }
@@ -181,6 +181,6 @@ pub(crate) fn passed<S: Start + Protocol<Published, View>, M: Machine + Drop, R:
 ) -> ((Seat<S>, Seat<S>), io::Result<()>) {
     let mut first = attached(live, seats.0, first_of(story));
     let mut second = attached(live, seats.1, SECOND);
-    let told = show_story(rt, alloc, live, &mut first, &mut second, story);
-    ((first.detach(), second.detach()), told)
+    let came = show_story(rt, alloc, live, &mut first, &mut second, story);
+    ((first.detach(), second.detach()), came)
 }

@@ -8,9 +8,9 @@ use crate::pairs::{Ran, Steps, run_pair};
 use crate::shows::{Shows, empty, prepare};
 use crate::starts::{Run, started};
 use crossbeam_utils::rule::Protocol;
-use klp_bodies::Step;
 use klp_core::Machine;
 use klp_live::{Live, Published, Seat, Start, View};
+use klp_live_bodies::Step;
 use klp_model::Event;
 use klp_types::TaskId;
 use std::alloc::{AllocError, Global};
@@ -148,7 +148,7 @@ pub(crate) fn rounds_of<M: Shows + Drop + Send, R: Threads + Wait + Print + Cloc
             Err(missing) => return println!(rt; "{missing}"),
         }
     }
-    ended.and(tell(rt, &best))
+    ended.and(print_line(rt, &best))
 }
 
 /// How many in a second.
@@ -156,7 +156,7 @@ fn rate(count: u64, took: u64) -> u128 {
     u128::from(count) * 1_000_000_000 / u128::from(took.max(1))
 }
 
-fn tell<R: Print>(rt: &R, best: &Best) -> io::Result<()> {
+fn print_line<R: Print>(rt: &R, best: &Best) -> io::Result<()> {
     let [submit, enter, beside] = best.0;
     println!(rt;
         "both submit: {} events a second\n\

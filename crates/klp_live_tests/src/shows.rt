@@ -58,7 +58,7 @@ impl Shows for Manager {
 
 /// Has a machine take an event, and tells whether it did.
 pub(crate) fn apply<M: Machine>(machine: &mut M, event: Event) -> bool {
-    let _standing = machine.mark();
+    let _for_its_clause = machine.mark();
     machine.apply(event).is_ok()
 }
 
@@ -68,7 +68,7 @@ pub(crate) fn prepare<M: Shows>(machine: &mut M)
 {
     apply(machine, Event::NewTask(FIRST));
     apply(machine, Event::NewTask(SECOND));
-    let _standing = machine.mark();
+    let _for_its_clause = machine.mark();
     machine.close_journal();
 }
 
@@ -76,6 +76,6 @@ pub(crate) fn prepare<M: Shows>(machine: &mut M)
 pub(crate) fn empty<M: Machine>(machine: &mut M)
     ensures { (M.journaled machine.new).groups ≡ [] }
 {
-    let _standing = machine.mark();
+    let _for_its_clause = machine.mark();
     let _ = machine.rewind(0);
 }

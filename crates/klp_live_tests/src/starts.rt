@@ -39,10 +39,10 @@ fn all_bodies<
     live: &Live<S, M, &R>,
     seats: (Seat<S>, Seat<S>),
 ) -> ((Seat<S>, Seat<S>), io::Result<()>) {
-    let (seats, told) = show_bodies(rt, alloc, live, seats);
+    let (seats, came) = show_bodies(rt, alloc, live, seats);
     let (seats, apart) = show_apart(rt, alloc, live, seats);
     let (seats, met) = show_meetings(rt, alloc, live, seats);
-    (seats, told.and(apart).and(met))
+    (seats, came.and(apart).and(met))
 }
 
 /// All that two seats do, which are handed back.
@@ -100,9 +100,9 @@ fn all_run<
     let Some(two) = take_two(seats) else {
         return Ok(());
     };
-    let (two, told) = both_run(rt, alloc, live, two, run);
+    let (two, came) = both_run(rt, alloc, live, two, run);
     put_back(seats, two);
-    told
+    came
 }
 
 /// What is told where there is no start. There are as many places as seats, so that one is refused is never told.
@@ -138,8 +138,8 @@ fn opened<
     match Live::<S, M, &R>::start(rt, alloc, blank, opened, machine, places) {
         Ok((live, seats)) => {
             let mut seats = seats;
-            let told = all_run(rt, alloc, &live, &mut seats, run);
-            (live.close(rt, seats).ok().ok_or("no end"), told)
+            let came = all_run(rt, alloc, &live, &mut seats, run);
+            (live.close(rt, seats).ok().ok_or("no end"), came)
         }
         Err(fault) => (Err(why_no_start(fault.cause)), Ok(())),
     }
@@ -185,7 +185,7 @@ pub(crate) fn show_start<M: Shows + Drop + Send, R: Threads + Wait + Print + Clo
     let mut machine = machine;
     prepare(&mut machine);
     let before = Shown::of(&machine);
-    let (machine, told) = started(rt, alloc, machine, places, run);
+    let (machine, came) = started(rt, alloc, machine, places, run);
     let ended = match machine {
         Ok(machine) => {
             let mut machine = machine;
@@ -193,5 +193,5 @@ pub(crate) fn show_start<M: Shows + Drop + Send, R: Threads + Wait + Print + Clo
         }
         Err(missing) => println!(rt; "{missing}"),
     };
-    told.and(ended)
+    came.and(ended)
 }

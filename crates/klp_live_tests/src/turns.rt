@@ -1,7 +1,7 @@
 //! Two seats at the book of a manager: what each of their events is answered, and what calls run after it.
 use crate::books::{Use, booked};
 use crate::names::{FIRST, SECOND};
-use crate::outcomes::{Told, show_told, told_of};
+use crate::outcomes::{Answered, answer_of, show_answer};
 use crate::shows::{Shown, Shows};
 use crossbeam_utils::rule::Protocol;
 use klp_live::{Book, LiveRefusal, Published, Seat, Start, StartCause, View};
@@ -88,8 +88,8 @@ fn admitted<S: Start + Protocol<Published, View>, M: Shows + Drop, R: Wait>(
     book: &mut Book<S, M, &R>,
     seat: &mut Seat<S>,
     event: Event,
-) -> Told {
-    told_of(book.admit(rt, alloc, seat, event))
+) -> Answered {
+    answer_of(book.admit(rt, alloc, seat, event))
 }
 
 /// The same again where memory is refused. Nothing has changed then.
@@ -99,11 +99,11 @@ fn taken<S: Start + Protocol<Published, View>, M: Shows + Drop, R: Wait + Print>
     book: &mut Book<S, M, &R>,
     seat: &mut Seat<S>,
     event: Event,
-) -> Told {
+) -> Answered {
     let before = Standing::of(book, seat);
-    let told = admitted(rt, alloc, book, seat, event);
-    if !matches!(told, Err(LiveRefusal::NoMemory)) {
-        return told;
+    let came = admitted(rt, alloc, book, seat, event);
+    if !matches!(came, Err(LiveRefusal::NoMemory)) {
+        return came;
     }
     if Standing::of(book, seat) != before {
         let _ = println!(rt; "not as before");
@@ -144,7 +144,7 @@ fn show_turn<S: Start + Protocol<Published, View>, M: Shows + Drop, R: Wait + Pr
     seat: &mut Seat<S>,
     event: Event,
 ) -> io::Result<()> {
-    show_told(rt, &taken(rt, alloc, book, seat, event))?;
+    show_answer(rt, &taken(rt, alloc, book, seat, event))?;
     if all_picked(book.machine(), seat) {
         return Ok(());
     }
@@ -196,15 +196,15 @@ pub(crate) fn twice<M: Shows + Drop, R: Threads + Wait + Clock + Print + Sync>(
     alloc: Global,
     machine: M,
 ) -> io::Result<()> {
-    let (machine, told) = booked(rt, alloc, machine, Use::Turns);
-    match told {
-        Ok(told) => return told,
+    let (machine, came) = booked(rt, alloc, machine, Use::Turns);
+    match came {
+        Ok(came) => return came,
         Err(StartCause::NoMemory) => {}
         Err(StartCause::NoPlace) => return println!(rt; "another cause"),
     }
-    let (_machine, told) = booked(rt, alloc, machine, Use::Turns);
-    match told {
-        Ok(told) => told,
+    let (_machine, came) = booked(rt, alloc, machine, Use::Turns);
+    match came {
+        Ok(came) => came,
         Err(cause) => println!(rt; "{cause:?}"),
     }
 }

@@ -1,5 +1,5 @@
 pub mod StepLemmas
-pub mod ToldLemmas
+pub mod EffectLemmas
 pub mod RowLemmas
 pub mod UndoLemmas
 pub mod InstalledLemmas

@@ -21,10 +21,10 @@ use Rattle.klp_sites.specs.Changes.{noting}
 use Rattle.klp_sites.specs.Undo as of_sites
 use Rattle.klp_sites.specs.Undo.{is_of_sites}
 use Rattle.klp_world.specs.Undo.{is_of_world}
-use Rattle.klp_sites.proofs.ExactLemmas.{telling, told_due as sites_due}
-use Rattle.klp_manager_state.specs.Rows.{Rows, Before, before_noted, is_of_tasks, row_of_moving, put_back, undone, is_due, are_due, tell_changes, undone_if_told, each_tells, WorldGoesBack, SitesGoBack, TasksGoBack, MovingGoesBack, PinsGoBack}
-use Rattle.klp_tasks.proofs.ToldLemmas.{switched_told}
-use Rattle.klp_manager_state.proofs.ToldLemmas.{undone-append, sites_of, telling as rows_telling, told_both, told_by, world_told, tasks_told, sites_told, loaded_told, moving_told, pinned_told}
+use Rattle.klp_sites.proofs.ExactLemmas.{telling, effective_due as sites_due}
+use Rattle.klp_manager_state.specs.Rows.{Rows, Before, before_logged, is_of_tasks, row_of_moving, put_back, undone, is_due, are_due, have_effects, undone_if_effective, each_has_effect, WorldGoesBack, SitesGoBack, TasksGoBack, MovingGoesBack, PinsGoBack}
+use Rattle.klp_tasks.proofs.EffectLemmas.{switched_effective}
+use Rattle.klp_manager_state.proofs.EffectLemmas.{undone-append, sites_of, telling as rows_telling, effective_both, effective_by, world_effective, tasks_effective, sites_effective, loaded_effective, moving_effective, pinned_effective}
 
 -- where all records are due, the newest is, and once it is put back, the older ones are
 pub due-parts : (rows : Rows) (older : List Record) (row : Record) → are_due rows (older ++ row ∷ []) ≡ true → (is_due rows row ≡ true) × (are_due (put_back rows row) older ≡ true)
@@ -45,19 +45,19 @@ due_at_sites rows (row ∷ newer) due =
 abbrev pub OfOthers : Record → Type 0
 OfOthers row = (table : SiteTable) → (of_sites.is_exact table row None ≡ true) × (of_sites.hook_of row ≡ None)
 
-others_told : (table : SiteTable) (is : Record → Bool) (each : (row : Record) → is row ≡ true → OfOthers row) (records : List Record) → All (λ row. is row ≡ true) records
+others_effective : (table : SiteTable) (is : Record → Bool) (each : (row : Record) → is row ≡ true → OfOthers row) (records : List Record) → All (λ row. is row ≡ true) records
     → (of_sites.are_exact table records ≡ true) × (of_sites.first_hook records ≡ None)
-others_told table is each [] all = (refl, refl)
-others_told table is each (row ∷ newer) all =
-    let rest = others_told table is each newer (All-tail (λ row. is row ≡ true) row newer all) in
+others_effective table is each [] all = (refl, refl)
+others_effective table is each (row ∷ newer) all =
+    let rest = others_effective table is each newer (All-tail (λ row. is row ≡ true) row newer all) in
     let own = each row (All-head (λ row. is row ≡ true) row newer all) (of_sites.undone table newer) in
     (and_from (of_sites.is_exact (of_sites.undone table newer) row (of_sites.first_hook newer)) (of_sites.are_exact table newer) (ap (of_sites.is_exact (of_sites.undone table newer) row) rest.1 ∙ own.0) rest.0, own.1)
 
 others_tell : (table : SiteTable) (is : Record → Bool) (each : (row : Record) → is row ≡ true → OfOthers row) (records : List Record) → All (λ row. is row ≡ true) records
-    → of_sites.tell_changes table records ≡ true
+    → of_sites.have_effects table records ≡ true
 others_tell table is each records all =
-    let told = others_told table is each records all in
-    telling table records ∙ and_from (of_sites.are_exact table records) (is_none (of_sites.first_hook records)) told.0 (ap is_none told.1)
+    let effective = others_effective table is each records all in
+    telling table records ∙ and_from (of_sites.are_exact table records) (is_none (of_sites.first_hook records)) effective.0 (ap is_none effective.1)
 
 world_of_others : (row : Record) → is_of_world row ≡ true → OfOthers row
 world_of_others (StackEntry site patch was) is = let no : ⊥ = cc in absurd no
@@ -139,84 +139,84 @@ abbrev behind : List Record → Option Rows → Before
 behind older found = record { rows = found; older = older }
 
 -- the newest are put back first
-noted_behind : (rows : Rows) (l0 l1 : RecordList) (records : List Record) → l1 ≡ noting l0 records → tell_changes rows records ≡ true
-    → before_noted rows l1 ≡ before_noted (undone rows records) l0
-noted_behind rows l0 l1 records noted told =
-    ap (before_noted rows) noted
-    ∙ ap (λ b. behind l0.older (cond b (Some (undone rows (l0.noted ++ records))) None)) (told_both rows l0.noted records told)
-    ∙ ap (λ r. behind l0.older (cond (tell_changes (undone rows records) l0.noted) (Some r) None)) (undone-append rows l0.noted records)
+logged_behind : (rows : Rows) (l0 l1 : RecordList) (records : List Record) → l1 ≡ noting l0 records → have_effects rows records ≡ true
+    → before_logged rows l1 ≡ before_logged (undone rows records) l0
+logged_behind rows l0 l1 records logged effective =
+    ap (before_logged rows) logged
+    ∙ ap (λ b. behind l0.older (cond b (Some (undone rows (l0.logged ++ records))) None)) (effective_both rows l0.logged records effective)
+    ∙ ap (λ r. behind l0.older (cond (have_effects (undone rows records) l0.logged) (Some r) None)) (undone-append rows l0.logged records)
 
 -- rows of the world give the world back
 pub world_back : (before after : World) (l0 l1 : RecordList) (records : List Record) → All (λ row. is_of_world row ≡ true) records → l1 ≡ noting l0 records
-    → of_world.undone after records ≡ before → of_world.TellChanges after records → WorldGoesBack before after l0 l1
-world_back before after l0 l1 records all noted undo told rows =
+    → of_world.undone after records ≡ before → of_world.HaveEffects after records → WorldGoesBack before after l0 l1
+world_back before after l0 l1 records all logged undo effective rows =
     let now : Rows = record rows { world = after } in
-    noted_behind now l0 l1 records noted (told_by now records (others_tell now.sites is_of_world world_of_others records all) (world_told now records told))
-    ∙ ap (λ r. before_noted r l0) (undone_world now records all ∙ ap (λ (w : World). record rows { world = w }) undo)
+    logged_behind now l0 l1 records logged (effective_by now records (others_tell now.sites is_of_world world_of_others records all) (world_effective now records effective))
+    ∙ ap (λ r. before_logged r l0) (undone_world now records all ∙ ap (λ (w : World). record rows { world = w }) undo)
 
 -- rows of sites give the sites back
 pub sites_back : (before after : SiteTable) (l0 l1 : RecordList) (records : List Record) → All (λ row. is_of_sites row ≡ true) records → l1 ≡ noting l0 records
-    → of_sites.undone after records ≡ before → of_sites.tell_changes after records ≡ true → SitesGoBack before after l0 l1
-sites_back before after l0 l1 records all noted undo told rows =
+    → of_sites.undone after records ≡ before → of_sites.have_effects after records ≡ true → SitesGoBack before after l0 l1
+sites_back before after l0 l1 records all logged undo effective rows =
     let now : Rows = record rows { sites = after } in
-    noted_behind now l0 l1 records noted (sites_told now records all told)
-    ∙ ap (λ r. before_noted r l0) (undone_sites now records all ∙ ap (λ (t : SiteTable). record rows { sites = t }) undo)
+    logged_behind now l0 l1 records logged (sites_effective now records all effective)
+    ∙ ap (λ r. before_logged r l0) (undone_sites now records all ∙ ap (λ (t : SiteTable). record rows { sites = t }) undo)
 
 -- rows of tasks give the tasks back
 pub tasks_back : (before after : Tasks) (l0 l1 : RecordList) (records : List Record) → All (λ row. is_of_tasks row ≡ true) records → l1 ≡ noting l0 records
-    → of_tasks.undone after records ≡ before → of_tasks.TellChanges after records → TasksGoBack before after l0 l1
-tasks_back before after l0 l1 records all noted undo told rows =
+    → of_tasks.undone after records ≡ before → of_tasks.HaveEffects after records → TasksGoBack before after l0 l1
+tasks_back before after l0 l1 records all logged undo effective rows =
     let now : Rows = record rows { tasks = after } in
-    noted_behind now l0 l1 records noted (told_by now records (others_tell now.sites is_of_tasks task_of_others records all) (tasks_told now records told))
-    ∙ ap (λ r. before_noted r l0) (undone_tasks now records all ∙ ap (λ (t : Tasks). record rows { tasks = t }) undo)
+    logged_behind now l0 l1 records logged (effective_by now records (others_tell now.sites is_of_tasks task_of_others records all) (tasks_effective now records effective))
+    ∙ ap (λ r. before_logged r l0) (undone_tasks now records all ∙ ap (λ (t : Tasks). record rows { tasks = t }) undo)
 
 -- tasks that are brought to another state
 pub switched_back : (before after to : Tasks) (l0 l1 : RecordList) → after ≡ to → l1 ≡ noting l0 (of_tasks.records_switched 0 before to)
     → of_tasks.undone after (of_tasks.records_switched 0 before to) ≡ before → TasksGoBack before after l0 l1
-switched_back before after to l0 l1 is noted undo =
-    tasks_back before after l0 l1 (of_tasks.records_switched 0 before to) (switched_of_tasks 0 before to) noted undo
-    (subst (λ t. of_tasks.TellChanges t (of_tasks.records_switched 0 before to)) (sym is) (switched_told before to))
+switched_back before after to l0 l1 is logged undo =
+    tasks_back before after l0 l1 (of_tasks.records_switched 0 before to) (switched_of_tasks 0 before to) logged undo
+    (subst (λ t. of_tasks.HaveEffects t (of_tasks.records_switched 0 before to)) (sym is) (switched_effective before to))
 
--- what moved is noted
+-- what moved is logged
 pub moving_back : (before after : Option Transition) (l0 l1 : RecordList) → l1 ≡ noting l0 (row_of_moving before ∷ []) → (before ≡ after → ⊥) → MovingGoesBack before after l0 l1
-moving_back before after l0 l1 noted differ rows =
+moving_back before after l0 l1 logged differ rows =
     let now : Rows = record rows { moving = after } in
-    noted_behind now l0 l1 (row_of_moving before ∷ []) noted (moving_told now before differ) ∙ ap (λ r. before_noted r l0) (back before)
+    logged_behind now l0 l1 (row_of_moving before ∷ []) logged (moving_effective now before differ) ∙ ap (λ r. before_logged r l0) (back before)
   where
     back : (was : Option Transition) → put_back (record rows { moving = after }) (row_of_moving was) ≡ record rows { moving = was }
     back None = refl
     back (Some was) = refl
 
--- whether an object was loaded is noted
+-- whether an object was loaded is logged
 pub loaded_back : (before after : SiteTable) (object : ℕ) (was : Bool) (l0 l1 : RecordList) → l1 ≡ noting l0 (LoadedFlag object was ∷ [])
-    → of_sites.put_back after (LoadedFlag object was) ≡ before → was ≡ slice_index_or before.loaded object false → of_sites.tell_changes after (LoadedFlag object was ∷ []) ≡ true
+    → of_sites.put_back after (LoadedFlag object was) ≡ before → was ≡ slice_index_or before.loaded object false → of_sites.have_effects after (LoadedFlag object was ∷ []) ≡ true
     → SitesGoBack before after l0 l1
-loaded_back before after object was l0 l1 noted undo is told rows =
+loaded_back before after object was l0 l1 logged undo is effective rows =
     let now : Rows = record rows { sites = after } in
-    noted_behind now l0 l1 (LoadedFlag object was ∷ []) noted (loaded_told now before object was undo is told) ∙ ap (λ (t : SiteTable). before_noted (record rows { sites = t }) l0) undo
+    logged_behind now l0 l1 (LoadedFlag object was ∷ []) logged (loaded_effective now before object was undo is effective) ∙ ap (λ (t : SiteTable). before_logged (record rows { sites = t }) l0) undo
 
 -- a patch that wasn't pinned is pinned
 pub pinned_now : (flags after : List Bool) (patch : ℕ) (l0 l1 : RecordList) → patch < length flags → after ≡ slice_set flags patch true → l1 ≡ noting l0 (PinnedFlag patch false ∷ [])
     → slice_index_or flags patch false ≡ false → PinsGoBack flags after l0 l1
-pinned_now flags after patch l0 l1 there is noted free rows =
+pinned_now flags after patch l0 l1 there is logged free rows =
     let now : Rows = record rows { pinned = after } in
     let back : slice_set after patch false ≡ flags =
     ap (λ fs. slice_set fs patch false) is ∙ set-set flags patch true false ∙ ap (slice_set flags patch) (sym free) ∙ set-get_or flags patch false in
-    noted_behind now l0 l1 (PinnedFlag patch false ∷ []) noted (pinned_told now flags patch there is) ∙ ap (λ (p : List Bool). before_noted (record rows { pinned = p }) l0) back
+    logged_behind now l0 l1 (PinnedFlag patch false ∷ []) logged (pinned_effective now flags patch there is) ∙ ap (λ (p : List Bool). before_logged (record rows { pinned = p }) l0) back
 
 -- rows that all records give are those that they give put back, and the records tell what changed
-pub given_back : (rows before : Rows) (records : List Record) → undone_if_told rows records ≡ Some before → (undone rows records ≡ before) × (tell_changes rows records ≡ true)
+pub given_back : (rows before : Rows) (records : List Record) → undone_if_effective rows records ≡ Some before → (undone rows records ≡ before) × (have_effects rows records ≡ true)
 given_back rows before records given =
-    elim (tell_changes rows records) as (λ b. tell_changes rows records ≡ b → cond b (Some (undone rows records)) None ≡ Some before
-    → (undone rows records ≡ before) × (tell_changes rows records ≡ true)) [
-      | true ↦ λ told given. (cc, told)
+    elim (have_effects rows records) as (λ b. have_effects rows records ≡ b → cond b (Some (undone rows records)) None ≡ Some before
+    → (undone rows records ≡ before) × (have_effects rows records ≡ true)) [
+      | true ↦ λ effective given. (cc, effective)
       | false ↦ λ other given. let no : ⊥ = cc in absurd no
     ] refl given
 
 -- records that tell what changed can be put back
-pub told_back : (rows : Rows) (records : List Record) → tell_changes rows records ≡ true → are_due rows records ≡ true
-told_back rows records told =
-    due_at_sites rows records (sites_due rows.sites records (and_parts (of_sites.tell_changes rows.sites records) (each_tells rows records) (sym (rows_telling rows records) ∙ told)).0)
+pub effective_back : (rows : Rows) (records : List Record) → have_effects rows records ≡ true → are_due rows records ≡ true
+effective_back rows records effective =
+    due_at_sites rows records (sites_due rows.sites records (and_parts (of_sites.have_effects rows.sites records) (each_has_effect rows records) (sym (rows_telling rows records) ∙ effective)).0)
 
 flag_put : (table : SiteTable) (object : ℕ) (was : Bool) (within : Bool) → length table.loaded ≡ length table.image.objects
     → length (cond within (record table { loaded = slice_set table.loaded object was }) table).loaded ≡ length (cond within (record table { loaded = slice_set table.loaded object was }) table).image.objects

@@ -82,68 +82,68 @@ are_same rows other =
 
 -- whether a record tells a row that is another one now: put back, it changes the rows. That is asked of the rows and not of each kind of record, so
 -- no kind has a rule of its own, and a record for which there is no row or no room tells nothing either. A hook's changes nothing itself
-abbrev pub tells : Rows → Record → Bool
-tells rows row = is_some (of_sites.hook_of row) || not (are_same (put_back rows row) rows)
+abbrev pub has_effect : Rows → Record → Bool
+has_effect rows row = is_some (of_sites.hook_of row) || not (are_same (put_back rows row) rows)
 
 -- whether each of these records does, in its turn: at the rows that the newer ones, put back before it, give
-abbrev pub each_tells : Rows → List Record → Bool
-each_tells rows [] = true
-each_tells rows (row ∷ newer) = tells (undone rows newer) row && each_tells rows newer
+abbrev pub each_has_effect : Rows → List Record → Bool
+each_has_effect rows [] = true
+each_has_effect rows (row ∷ newer) = has_effect (undone rows newer) row && each_has_effect rows newer
 
 -- whether records tell what changed and nothing else: so does each, and those of hooks have the places that the sites give them
-unfoldable pub tell_rows : Rows → Record → List Record → Bool
-tell_rows rows oldest newer = of_sites.tell_changes rows.sites (oldest ∷ newer) && each_tells rows (oldest ∷ newer)
+unfoldable pub rows_have_effects : Rows → Record → List Record → Bool
+rows_have_effects rows oldest newer = of_sites.have_effects rows.sites (oldest ∷ newer) && each_has_effect rows (oldest ∷ newer)
 
 -- the same of any list; none tell nothing wrong
-abbrev pub tell_changes : Rows → List Record → Bool
-tell_changes rows [] = true
-tell_changes rows (oldest ∷ newer) = tell_rows rows oldest newer
+abbrev pub have_effects : Rows → List Record → Bool
+have_effects rows [] = true
+have_effects rows (oldest ∷ newer) = rows_have_effects rows oldest newer
 
 -- the rows once all records are put back; none where one of them tells a row that didn't change
-abbrev pub undone_if_told : Rows → List Record → Option Rows
-undone_if_told rows records = if tell_changes rows records then Some (undone rows records) else None
+abbrev pub undone_if_effective : Rows → List Record → Option Rows
+undone_if_effective rows records = if have_effects rows records then Some (undone rows records) else None
 
--- what there was before all that an event has noted: the rows, and the records of earlier events
+-- what there was before all that an event has logged: the rows, and the records of earlier events
 pub record Before : Type 0 where
   pub rows : Option Rows
   pub older : List Record
 
--- it is what putting back all that is noted gives
-abbrev pub before_noted : Rows → RecordList → Before
-before_noted rows log = record { rows = undone_if_told rows log.noted; older = log.older }
+-- it is what putting back all that is logged gives
+abbrev pub before_logged : Rows → RecordList → Before
+before_logged rows log = record { rows = undone_if_effective rows log.logged; older = log.older }
 
 abbrev pub rows_before : ManagerState → Before
-rows_before manager = before_noted (rows_in manager) manager.log
+rows_before manager = before_logged (rows_in manager) manager.log
 
 -- the same where an event begins
 abbrev pub rows_now : ManagerState → Before
 rows_now manager = record { rows = Some (rows_in manager); older = manager.log.older }
 
--- What there was before all that is noted stays what it was, whatever the other rows are: of a change of the world, of the sites, of
+-- What there was before all that is logged stays what it was, whatever the other rows are: of a change of the world, of the sites, of
 -- the tasks, of what moves and of what is pinned.
 
 abbrev pub WorldGoesBack : World → World → RecordList → RecordList → Type 0
 WorldGoesBack before after log_before log_after =
-    (rows : Rows) → before_noted (record rows { world = after }) log_after ≡ before_noted (record rows { world = before }) log_before
+    (rows : Rows) → before_logged (record rows { world = after }) log_after ≡ before_logged (record rows { world = before }) log_before
 
 abbrev pub SitesGoBack : SiteTable → SiteTable → RecordList → RecordList → Type 0
 SitesGoBack before after log_before log_after =
-    (rows : Rows) → before_noted (record rows { sites = after }) log_after ≡ before_noted (record rows { sites = before }) log_before
+    (rows : Rows) → before_logged (record rows { sites = after }) log_after ≡ before_logged (record rows { sites = before }) log_before
 
 abbrev pub TasksGoBack : Tasks → Tasks → RecordList → RecordList → Type 0
 TasksGoBack before after log_before log_after =
-    (rows : Rows) → before_noted (record rows { tasks = after }) log_after ≡ before_noted (record rows { tasks = before }) log_before
+    (rows : Rows) → before_logged (record rows { tasks = after }) log_after ≡ before_logged (record rows { tasks = before }) log_before
 
 abbrev pub MovingGoesBack : Option Transition → Option Transition → RecordList → RecordList → Type 0
 MovingGoesBack before after log_before log_after =
-    (rows : Rows) → before_noted (record rows { moving = after }) log_after ≡ before_noted (record rows { moving = before }) log_before
+    (rows : Rows) → before_logged (record rows { moving = after }) log_after ≡ before_logged (record rows { moving = before }) log_before
 
 abbrev pub PinsGoBack : List Bool → List Bool → RecordList → RecordList → Type 0
 PinsGoBack before after log_before log_after =
-    (rows : Rows) → before_noted (record rows { pinned = after }) log_after ≡ before_noted (record rows { pinned = before }) log_before
+    (rows : Rows) → before_logged (record rows { pinned = after }) log_after ≡ before_logged (record rows { pinned = before }) log_before
 
--- an event was taken: where it was accepted, what is noted gives the rows before it, behind the records of earlier events, and where it was refused,
+-- an event was taken: where it was accepted, what is logged gives the rows before it, behind the records of earlier events, and where it was refused,
 -- nothing has changed
-pub record IsNoted (before after : ManagerState) (result : Result Reply Refusal) : Type 0 where
+pub record IsLogged (before after : ManagerState) (result : Result Reply Refusal) : Type 0 where
   pub accepted : IfOk result (λ reply. rows_before after ≡ rows_now before)
   pub refused : OnErr result (after ≡ before)

@@ -1,13 +1,13 @@
--- What an event noted is put back, record by record.
+-- What an event logged is put back, record by record.
 use Rattle.std.specs.Prelude.{◌≡◌, ◌<◌, true, [], length}
 use Rattle.klp_manager_state.specs.declared.state.ManagerState.{ManagerState}
 use Rattle.klp_manager_state.specs.Rows.{rows_in, undone, are_due}
 
 -- one record fewer is left: those that are left give what all of them gave, and they can be put back
 pub record IsOneBack (before after : ManagerState) : Type 0 where
-  pub rows : undone (rows_in after) after.log.noted ≡ undone (rows_in before) before.log.noted
-  pub due : are_due (rows_in after) after.log.noted ≡ true
+  pub rows : undone (rows_in after) after.log.logged ≡ undone (rows_in before) before.log.logged
+  pub due : are_due (rows_in after) after.log.logged ≡ true
   pub modules : after.modules ≡ record before.modules { loaded = after.sites.loaded }
   pub objects : length after.sites.loaded ≡ length after.sites.image.objects
-  pub log : record after.log { noted = [] } ≡ record before.log { noted = [] }
-  pub fewer : length after.log.noted < length before.log.noted
+  pub log : record after.log { logged = [] } ≡ record before.log { logged = [] }
+  pub fewer : length after.log.logged < length before.log.logged

@@ -6,14 +6,14 @@ ghost use Rattle.klp_types.specs.declared.record.Record.{Record};
 ghost use Rattle.klp_types.specs.Records.{RecordList};
 ghost use Rattle.klp_types.specs.World.{World};
 ghost use Rattle.klp_model.specs.Task.{Tasks};
-ghost use Rattle.klp_world.specs.Noted.{noting};
+ghost use Rattle.klp_world.specs.StoredEvent.{noting};
 ghost use Rattle.klp_world.specs.Undo as of_world;
 ghost use Rattle.klp_world.specs.Undo.{is_of_world};
 ghost use Rattle.klp_tasks.specs.Changes as of_tasks;
 ghost use Rattle.klp_sites.specs.Undo.{hook_of};
 ghost use Rattle.klp_manager_state.specs.StepLaws.{StepLaws};
 ghost use Rattle.klp_manager_state.specs.Alone.{AreTasksTaken, IsWorldTaken};
-ghost use Rattle.klp_manager_state.specs.Rows.{Rows, is_of_tasks, put_back, tells, WorldGoesBack, TasksGoBack};
+ghost use Rattle.klp_manager_state.specs.Rows.{Rows, is_of_tasks, put_back, has_effect, WorldGoesBack, TasksGoBack};
 ghost use Rattle.klp_types.specs.World.{previous_patch};
 ghost use Rattle.klp_model.specs.State.{installed_patches};
 ghost use Rattle.klp_model.specs.Stated.{IsStated};
@@ -49,20 +49,20 @@ pub fn changes_of_one_kind_are_taken()
 /// What is logged of a change, put back, gives the rows before, whatever is logged of other rows, where each
 /// record changes its own: so each part is proved by itself.
 #[tactic(auto, using(crate::proofs::RowLemmas::world_back, crate::proofs::RowLemmas::tasks_back))]
-pub fn what_is_noted_gives_the_rows_back()
+pub fn what_is_logged_gives_the_rows_back()
     ensures world { (before after : World) (log_before log_after : RecordList) (rows : List Record)
         → All (λ row. is_of_world row ≡ true) rows → log_after ≡ noting log_before rows
-        → of_world.undone after rows ≡ before → of_world.TellChanges after rows
+        → of_world.undone after rows ≡ before → of_world.HaveEffects after rows
         → WorldGoesBack before after log_before log_after }
     ensures tasks { (before after : Tasks) (log_before log_after : RecordList) (rows : List Record)
         → All (λ row. is_of_tasks row ≡ true) rows → log_after ≡ noting log_before rows
-        → of_tasks.undone after rows ≡ before → of_tasks.TellChanges after rows
+        → of_tasks.undone after rows ≡ before → of_tasks.HaveEffects after rows
         → TasksGoBack before after log_before log_after }
 {}
 
 /// A record that tells a row that changed changes the rows when it is put back. A hook's doesn't: the hook of
 /// a site follows its entries, so its record has its place, behind that of the entry, in place of an effect.
-#[tactic(auto, using(crate::proofs::ToldLemmas::changed_if))]
+#[tactic(auto, using(crate::proofs::EffectLemmas::changed_if))]
 pub fn what_tells_a_change_has_an_effect()
-    ensures { (rows : Rows) (row : Record) → tells rows row ≡ true → hook_of row ≡ None → put_back rows row ≢ rows }
+    ensures { (rows : Rows) (row : Record) → has_effect rows row ≡ true → hook_of row ≡ None → put_back rows row ≢ rows }
 {}

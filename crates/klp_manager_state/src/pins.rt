@@ -49,8 +49,8 @@ impl Pins {
     pub fn pin(&mut self, patch: PatchId, log: &mut Records)
         requires { 0 < spare_of log.old }
         ensures flags { self.new ≡ slice_set self.old patch true }
-        ensures noted { PinsGoBack self.old self.new log.old log.new }
-        ensures records { length log.new.noted ≤ length log.old.noted + 1 }
+        ensures logged { PinsGoBack self.old self.new log.old log.new }
+        ensures records { length log.new.logged ≤ length log.old.logged + 1 }
         ensures room { log.new.room ≡ log.old.room }
     {
         let place = usize::from(patch.0);
@@ -64,7 +64,7 @@ impl Pins {
     pub fn pin_others(&mut self, patches: &[PatchId], patch: PatchId, log: &mut Records)
         requires { length patches.now ≤ spare_of log.old }
         ensures flags { self.new ≡ pin_all (filter (λ p. not (p == patch)) patches.now) self.old }
-        ensures noted { PinsGoBack self.old self.new log.old log.new }
+        ensures logged { PinsGoBack self.old self.new log.old log.new }
         ensures room { log.new.room ≡ log.old.room }
     {
         for &other in patches {

@@ -10,8 +10,8 @@ ghost use Rattle.klp_manager_state.specs.Invariant.{Invariant};
 use crate::opening::opening_keeps;
 use crate::pins::Pins;
 use klp_catalog::Catalog;
-use klp_modules::Modules;
 use klp_journal::Records;
+use klp_modules::Modules;
 use klp_sites::Sites;
 use klp_tasks::{Tasks, VersionSet};
 use klp_text::Image;
@@ -35,7 +35,7 @@ pub struct ManagerState {
     pub pinned: Pins,
     /// Where a transition puts the versions that hold sleepers back, while it is tried.
     pub blocked: VersionSet,
-    /// The rows that an event changed, as they were, in the order in which they were noted, behind those of earlier
+    /// The rows that an event changed, as they were, in the order in which they were logged, behind those of earlier
     /// events. An event empties it of its own before it changes anything.
     pub log: Records,
 }
@@ -54,7 +54,7 @@ fn make_room(alloc: Global, catalog: &Catalog) -> Result<Room, AllocError>
     ensures world { IfOk result (λ made. made.world ≡ record { installed = []; shadow = finite.empty }) }
     ensures tasks { IfOk result (λ made. made.tasks ≡ replicate MAX_TASKS None) }
     ensures pinned { IfOk result (λ made. made.pinned ≡ replicate (length catalog.now.patches) false) }
-    ensures log { IfOk result (λ made. made.log ≡ record { noted = []; room = MAX_RECORDS; older = [] }) }
+    ensures log { IfOk result (λ made. made.log ≡ record { logged = []; room = MAX_RECORDS; older = [] }) }
 {
     let world = World::new(alloc)?;
     let tasks = Tasks::new(alloc)?;
@@ -92,7 +92,7 @@ impl ManagerState {
           catalog = catalog.now;
           state = opening_state (setting_in manager catalog.now);
         }) }
-        ensures log { IfOk result (λ manager. manager.log ≡ record { noted = []; room = MAX_RECORDS; older = [] }) }
+        ensures log { IfOk result (λ manager. manager.log ≡ record { logged = []; room = MAX_RECORDS; older = [] }) }
     {
         opening_keeps();
         let made = make_room(alloc, catalog)?;

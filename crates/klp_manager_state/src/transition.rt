@@ -40,7 +40,7 @@ impl ManagerState {
         requires other { self.old.moving ≢ moving }
         ensures parts { self.new
             ≡ record self.old { moving = moving; log = noting self.old.log (row_of_moving self.old.moving ∷ []) } }
-        ensures noted { rows_before self.new ≡ rows_before self.old }
+        ensures logged { rows_before self.new ≡ rows_before self.old }
     {
         let row = match self.moving {
             Some(was) => Record::Moving { was },

@@ -17,10 +17,10 @@ impl ManagerState {
     pub fn undo(&mut self)
         requires modules { self.old.modules.loaded ≡ self.old.sites.loaded }
         requires objects { length self.old.sites.loaded ≡ length self.old.sites.image.objects }
-        requires due { are_due (rows_in self.old) self.old.log.noted ≡ true }
-        ensures rows { rows_in self.new ≡ undone (rows_in self.old) self.old.log.noted }
+        requires due { are_due (rows_in self.old) self.old.log.logged ≡ true }
+        ensures rows { rows_in self.new ≡ undone (rows_in self.old) self.old.log.logged }
         ensures modules { self.new.modules ≡ record self.old.modules { loaded = self.new.sites.loaded } }
-        ensures log { self.new.log ≡ record self.old.log { noted = [] } }
+        ensures log { self.new.log ≡ record self.old.log { logged = [] } }
         ensures blocked { self.new.blocked ≡ self.old.blocked }
     {
         while self.put_newest_back() {}
@@ -31,12 +31,12 @@ impl ManagerState {
     fn put_newest_back(&mut self) -> bool
         requires modules { self.old.modules.loaded ≡ self.old.sites.loaded }
         requires objects { length self.old.sites.loaded ≡ length self.old.sites.image.objects }
-        requires due { are_due (rows_in self.old) self.old.log.noted ≡ true }
+        requires due { are_due (rows_in self.old) self.old.log.logged ≡ true }
         ensures one { result ≡ true → IsOneBack self.old self.new }
-        ensures none { result ≡ false → (self.old.log.noted ≡ []) × (self.new ≡ self.old) }
+        ensures none { result ≡ false → (self.old.log.logged ≡ []) × (self.new ≡ self.old) }
         ensures blocked { self.new.blocked ≡ self.old.blocked }
     {
-        if self.log.noted() == 0 {
+        if self.log.logged() == 0 {
             return false;
         }
         if let Some(newest) = self.log.take_small() {
@@ -55,10 +55,10 @@ impl ManagerState {
     /// caller, which would clear the room for a record at each turn.
     #[cold]
     fn put_other_back(&mut self)
-        requires some { 0 < length self.old.log.noted }
+        requires some { 0 < length self.old.log.logged }
         requires modules { self.old.modules.loaded ≡ self.old.sites.loaded }
         requires objects { length self.old.sites.loaded ≡ length self.old.sites.image.objects }
-        requires due { are_due (rows_in self.old) self.old.log.noted ≡ true }
+        requires due { are_due (rows_in self.old) self.old.log.logged ≡ true }
         ensures one { IsOneBack self.old self.new }
         ensures blocked { self.new.blocked ≡ self.old.blocked }
     {

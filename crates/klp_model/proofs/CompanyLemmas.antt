@@ -21,8 +21,8 @@ use Rattle.klp_model.proofs.ShadowEventLemmas.{shadow_at, shadow_changed_at, sha
 use Rattle.klp_model.specs.Refusals.{NoneHolds}
 use Rattle.klp_model.specs.EventCalls.{calls, poll_calls}
 use Rattle.klp_model.specs.Rounds.{enablings}
-use Rattle.klp_model.proofs.Phases.{IsGone, IsOnTheMove, IsStanding, PhaseAt, Stage, Onward, IsBase}
-use Rattle.klp_model.proofs.Phases.Stage.{Away, Moving, Standing}
+use Rattle.klp_model.proofs.Phases.{IsGone, IsOnTheMove, IsSettled, PhaseAt, Stage, Onward, IsBase}
+use Rattle.klp_model.proofs.Phases.Stage.{Away, Moving, Settled}
 use Rattle.klp_model.proofs.Phases.Advance.{stays}
 use Rattle.klp_model.proofs.PlaceLemmas.{ran_none}
 use Rattle.klp_model.proofs.PhaseLemmas as phases
@@ -38,8 +38,8 @@ module _ (setting : Setting) (patch : ℕ) (start : State) (fair : IsFairStart s
     pub installed_moving : (target : Bool) → IsOnTheMove setting patch start base state target → is_installed state patch ≡ true
     installed_moving target is = ap (is_among patch) is.last.is ∙ is_among-last patch start.world.installed is.last.values
 
-    pub installed_standing : IsStanding setting patch start base state → is_installed state patch ≡ true
-    installed_standing is = ap (is_among patch) is.last.is ∙ is_among-last patch start.world.installed is.last.values
+    pub installed_settled : IsSettled setting patch start base state → is_installed state patch ≡ true
+    installed_settled is = ap (is_among patch) is.last.is ∙ is_among-last patch start.world.installed is.last.values
 
     abbrev Then : Stage → Event → Type 0
     Then stage event =
@@ -48,12 +48,12 @@ module _ (setting : Setting) (patch : ℕ) (start : State) (fair : IsFairStart s
     enable_kept : NoneHolds (refusals setting state (Enable patch)) → (stage : Stage) → PhaseAt setting patch start base stage state → Then stage (Enable patch)
     enable_kept open_ Away is = phases.enabled_from_gone setting patch start fair base is_base state is
     enable_kept open_ Moving phase = absurd (both_ways _ open_.1.0 (installed_moving phase.0 phase.1))
-    enable_kept open_ Standing is = absurd (both_ways _ open_.1.0 (installed_standing is))
+    enable_kept open_ Settled is = absurd (both_ways _ open_.1.0 (installed_settled is))
 
     set_enabled_kept : (value : Bool) → NoneHolds (refusals setting state (SetEnabled patch value)) → (stage : Stage) → PhaseAt setting patch start base stage state → Then stage (SetEnabled patch value)
     set_enabled_kept value open_ Away is = absurd (both_ways _ (installed_gone is) (not-false _ open_.1.0))
     set_enabled_kept value open_ Moving phase = phases.turned_on_the_move setting patch start fair base is_base state phase.0 value phase.1
-    set_enabled_kept value open_ Standing is = phases.turned_standing setting patch start fair base is_base state value is
+    set_enabled_kept value open_ Settled is = phases.turned_settled setting patch start fair base is_base state value is
 
     poll_moving : (target : Bool) (moving : Option Transition) → Some (record { patch = patch; target = target }) ≡ moving
         → IsOnTheMove setting patch start base state target → replaces_older setting state moving ≡ false
@@ -68,7 +68,7 @@ module _ (setting : Setting) (patch : ℕ) (start : State) (fair : IsFairStart s
     poll_kept : NoneHolds (refusals setting state Poll) → drops_older setting state Poll ≡ false → (stage : Stage) → PhaseAt setting patch start base stage state → Then stage Poll
     poll_kept open_ none Away is = absurd (still_refused is.moving open_)
     poll_kept open_ none Moving phase = poll_moving phase.0 state.moving (sym phase.1.moving) phase.1 none
-    poll_kept open_ none Standing is = absurd (still_refused is.moving open_)
+    poll_kept open_ none Settled is = absurd (still_refused is.moving open_)
 
     -- what callbacks and a shadow event do to a variable may change places
     module _ (event : Event) (apart : (key : ShadowKey) → concerns event key ≡ true → keys key ≡ false) where
@@ -110,7 +110,7 @@ module _ (setting : Setting) (patch : ℕ) (start : State) (fair : IsFairStart s
               (λ outside was. objects_leave Pre (taking_part setting start patch) key was outside) (is.variables key);
         },
       )
-      changed_phase Standing is = record {
+      changed_phase Settled is = record {
         steady = record { loaded = is.steady.loaded; pinned = is.steady.pinned };
         none_refuses = is.none_refuses;
         moving = is.moving;

@@ -23,7 +23,7 @@ use Rattle.klp_model.proofs.OrderLemmas.{equal_either_way}
 use Rattle.klp_model.specs.declared.seen.Seen.{Seen}
 use Rattle.klp_model.specs.Observed.{Frame, seen_from, IsHonestRun}
 use Rattle.klp_model.specs.InPlace.{IsInPlace}
-use Rattle.klp_model.specs.Consistent.{AreCurrent, is_number, StandsIn, AllStand, NoneLeft, is_of_patch, below}
+use Rattle.klp_model.specs.Consistent.{AreCurrent, is_number, HasEntryIn, AllHaveEntries, NoneLeft, is_of_patch, below}
 use Rattle.klp_model.specs.Versions.{version_in, chosen, others}
 use Rattle.klp_model.proofs.VersionLemmas.{newest_in, nothing_in}
 use Rattle.klp_model.proofs.PickLemmas.{now, current}
@@ -31,36 +31,36 @@ use Rattle.klp_model.proofs.KeptLemmas.{IsKept}
 use Rattle.klp_model.proofs.ObservedLemmas.{kept_from}
 
 -- what is run has an entry
-stands_newest : (site : ℕ) (entries : List Entry) → StandsIn entries (newest_version site entries)
+stands_newest : (site : ℕ) (entries : List Entry) → HasEntryIn entries (newest_version site entries)
 stands_newest site [] = tt
 stands_newest site (newest ∷ older) = by newest.func refl
   where
-    by : (function : Option ℕ) → newest.func ≡ function → StandsIn (newest ∷ older) (version_of site function newest.patch)
+    by : (function : Option ℕ) → newest.func ≡ function → HasEntryIn (newest ∷ older) (version_of site function newest.patch)
     by None is = tt
     by (Some function) is =
         ap (λ b. (b && is_number newest.func function) || list_any (λ (e : Entry). e.patch == newest.patch && is_number e.func function) older) (eq-eqb newest.patch newest.patch refl)
         ∙ ap (λ o. is_number o function || list_any (λ (e : Entry). e.patch == newest.patch && is_number e.func function) older) is
         ∙ ap (λ b. b || list_any (λ (e : Entry). e.patch == newest.patch && is_number e.func function) older) (eq-eqb function function refl)
 
-stands_behind : (entry : Entry) (entries : List Entry) (version : Version) → StandsIn entries version → StandsIn (entry ∷ entries) version
-stands_behind entry entries (Original site) stands = tt
-stands_behind entry entries (New patch function) stands = ap (λ b. (entry.patch == patch && is_number entry.func function) || b) stands ∙ or-true (entry.patch == patch && is_number entry.func function)
+stands_behind : (entry : Entry) (entries : List Entry) (version : Version) → HasEntryIn entries version → HasEntryIn (entry ∷ entries) version
+stands_behind entry entries (Original site) well_formed = tt
+stands_behind entry entries (New patch function) well_formed = ap (λ b. (entry.patch == patch && is_number entry.func function) || b) well_formed ∙ or-true (entry.patch == patch && is_number entry.func function)
 
-stands_for : (site : ℕ) (moving : Option Transition) (task : ℤ) (entries : List Entry) → StandsIn entries (newest_version site (entries_for moving task entries))
+stands_for : (site : ℕ) (moving : Option Transition) (task : ℤ) (entries : List Entry) → HasEntryIn entries (newest_version site (entries_for moving task entries))
 stands_for site moving task [] = tt
 stands_for site moving task (newest ∷ older) = by (moves moving newest.patch && is_unpatched task)
   where
-    by : (t : Bool) → StandsIn (newest ∷ older) (newest_version site (if t then older else newest ∷ older))
+    by : (t : Bool) → HasEntryIn (newest ∷ older) (newest_version site (if t then older else newest ∷ older))
     by true = stands_behind newest older (newest_version site older) (stands_newest site older)
     by false = stands_newest site (newest ∷ older)
 
 module _ (setting : Setting) (state : State) where
-  all_stand : (task : ℤ) (frames : List Frame) → AreCurrent (now setting state task) frames → AllStand setting state frames
+  all_stand : (task : ℤ) (frames : List Frame) → AreCurrent (now setting state task) frames → AllHaveEntries setting state frames
   all_stand task [] are = tt
   all_stand task (frame ∷ frames) are =
       let found = current setting (is_site_loaded setting state frame.site) state.moving (installed_patches state) task frame.site frame.version are.0 in (
-        subst (λ l. StandsIn (if l then entries_from setting frame.site (reverse (installed_patches state)) else []) frame.version) (sym found.0)
-            (subst (StandsIn (entries_from setting frame.site (reverse (installed_patches state)))) found.1
+        subst (λ l. HasEntryIn (if l then entries_from setting frame.site (reverse (installed_patches state)) else []) frame.version) (sym found.0)
+            (subst (HasEntryIn (entries_from setting frame.site (reverse (installed_patches state)))) found.1
             (stands_for frame.site state.moving task (entries_from setting frame.site (reverse (installed_patches state))))),
         all_stand task frames are.1,
       )
@@ -71,8 +71,8 @@ none_left setting start first second place run number =
     by (task_at (seen_from setting start first).state.tasks number) ((kept_from setting start first second place run).1 number)
   where
     by : (task : Option Task) → IsKept setting (seen_from setting start first).state task ((seen_from setting start first).stacks number)
-        → AllStand setting (seen_from setting start first).state ((seen_from setting start first).stacks number)
-    by None k = subst (AllStand setting (seen_from setting start first).state) (sym k) tt
+        → AllHaveEntries setting (seen_from setting start first).state ((seen_from setting start first).stacks number)
+    by None k = subst (AllHaveEntries setting (seen_from setting start first).state) (sym k) tt
     by (Some task) k = all_stand setting (seen_from setting start first).state task.state ((seen_from setting start first).stacks number) k.0
 
 -- versions

@@ -38,10 +38,10 @@ history_is_legal setting state (event ∷ events) = by (answer setting state eve
     rest : History
     rest = history_of setting (next setting state event) events
 
-    by : (told : Result Reply Refusal) → answer setting state event ≡ told
+    by : (known : Result Reply Refusal) → answer setting state event ≡ known
         → IsLegal setting (next setting state event) rest × (state_after_history setting (next setting state event) rest ≡ run setting (next setting state event) events)
-        → IsLegal setting state (entry_of event told ++ rest)
-        × (state_after_history setting state (entry_of event told ++ rest) ≡ run setting (next setting state event) events)
+        → IsLegal setting state (entry_of event known ++ rest)
+        × (state_after_history setting state (entry_of event known ++ rest) ≡ run setting (next setting state event) events)
     by (Ok reply) is there = ((is, there.0), there.1)
     by (Err refusal) is there =
         let stays = refused_leaves state (step setting state event) refusal is in (
@@ -49,18 +49,18 @@ history_is_legal setting state (event ∷ events) = by (answer setting state eve
           ap (λ s. state_after_history setting s rest) (sym stays) ∙ there.1,
         )
 
-same_reply : (a b : Reply) (told : Result Reply Refusal) → told ≡ Ok a → told ≡ Ok b → a ≡ b
+same_reply : (a b : Reply) (known : Result Reply Refusal) → known ≡ Ok a → known ≡ Ok b → a ≡ b
 same_reply a b (Ok reply) is is_too = cc
 same_reply a b (Err refusal) is is_too = cc
 
-pub told_by_events : (setting : Setting) (base : State) (one other : History) → IsLegal setting base one → IsLegal setting base other
+pub known_by_events : (setting : Setting) (base : State) (one other : History) → IsLegal setting base one → IsLegal setting base other
     → map (λ (p : Event × Reply). p.0) one ≡ map (λ (p : Event × Reply). p.0) other → one ≡ other
-told_by_events setting base [] [] legal legal_too same = refl
-told_by_events setting base [] (b ∷ other) legal legal_too same = cc
-told_by_events setting base (a ∷ one) [] legal legal_too same = cc
-told_by_events setting base (a ∷ one) (b ∷ other) legal legal_too same =
+known_by_events setting base [] [] legal legal_too same = refl
+known_by_events setting base [] (b ∷ other) legal legal_too same = cc
+known_by_events setting base (a ∷ one) [] legal legal_too same = cc
+known_by_events setting base (a ∷ one) (b ∷ other) legal legal_too same =
     let event : a.0 ≡ b.0 = cc in
     let events : map (λ (p : Event × Reply). p.0) one ≡ map (λ (p : Event × Reply). p.0) other = cc in
     let reply = same_reply a.1 b.1 (answer setting base a.0) legal.0 (ap (answer setting base) event ∙ legal_too.0) in
-    let rest = told_by_events setting (next setting base a.0) one other legal.1 (subst (λ e. IsLegal setting (next setting base e) other) (sym event) legal_too.1) events in
+    let rest = known_by_events setting (next setting base a.0) one other legal.1 (subst (λ e. IsLegal setting (next setting base e) other) (sym event) legal_too.1) events in
     λ i. (event i, reply i) ∷ rest i

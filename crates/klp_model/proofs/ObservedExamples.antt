@@ -187,8 +187,8 @@ pub dishonest : (setting : Setting) (w : Watched) (event : Event) → accepts se
 dishonest setting w event taken wrong honest = wrong (honest taken)
 
 -- a sleeper that tells no frames, a task that leaves the kernel inside of a function, and a module that goes from under a task
-pub no_frames_told : IsHonestItem kernel w3 (Happens (Sleep 1 [])) → ⊥
-no_frames_told = dishonest kernel w3 (Sleep 1 []) (all_open (refusals kernel w3.state (Sleep 1 [])) (refl, (refl, (refl, tt)))) (λ e. cc)
+pub no_frames_known : IsHonestItem kernel w3 (Happens (Sleep 1 [])) → ⊥
+no_frames_known = dishonest kernel w3 (Sleep 1 []) (all_open (refusals kernel w3.state (Sleep 1 [])) (refl, (refl, (refl, tt)))) (λ e. cc)
 
 pub still_inside : IsHonestItem kernel late (Happens (ExitToUser 1)) → ⊥
 still_inside = dishonest kernel late (ExitToUser 1) (all_open (refusals kernel late.state (ExitToUser 1)) (refl, (refl, tt))) (λ e. cc)

@@ -22,8 +22,8 @@ use Rattle.klp_model.specs.Company.{taking_part, company_keys, has_older, is_non
 use Rattle.klp_model.proofs.WorldLemmas.{after_calls_at, last_of, IsLast, take_last}
 use Rattle.klp_model.proofs.ObjectLemmas.{Objects, objects_at, objects_leave, calls_of_at, all_pre_undone, all_post_undone, none_refuses, enabled_at, refused_at, calls_last, enable_last}
 use Rattle.klp_model.proofs.PlaceLemmas.{ran_none, ran_calls, ran_enabled, ran_refused, rise_loaded, rise_taking}
-use Rattle.klp_model.proofs.Phases.{IsSteady, IsGone, IsOnTheMove, IsStanding, PhaseAt, Stage, Onward, IsBase}
-use Rattle.klp_model.proofs.Phases.Stage.{Away, Moving, Standing}
+use Rattle.klp_model.proofs.Phases.{IsSteady, IsGone, IsOnTheMove, IsSettled, PhaseAt, Stage, Onward, IsBase}
+use Rattle.klp_model.proofs.Phases.Stage.{Away, Moving, Settled}
 use Rattle.klp_model.proofs.Phases.Advance.{stays, enables, fails, settles, departs, begins_to_leave}
 
 pub moves_same : (patch : ℕ) (target : Bool) → moves (Some (record { patch = patch; target = target })) patch ≡ true
@@ -152,12 +152,12 @@ module _ (setting : Setting) (patch : ℕ) (start : State) (fair : IsFairStart s
         })
 
     -- a disabling starts
-    pub turned_standing : (state : State) (value : Bool) → IsStanding setting patch start base state
-        → Onward setting patch start base Standing (disable_calls setting state patch) 0 (turned setting state patch value).1
-    turned_standing state value is =
-        subst (λ m. Onward setting patch start base Standing (cond m [] (calls_of patch PreUn (loaded_objects setting state patch))) 0 (turned_or_started setting state patch value m).1)
+    pub turned_settled : (state : State) (value : Bool) → IsSettled setting patch start base state
+        → Onward setting patch start base Settled (disable_calls setting state patch) 0 (turned setting state patch value).1
+    turned_settled state value is =
+        subst (λ m. Onward setting patch start base Settled (cond m [] (calls_of patch PreUn (loaded_objects setting state patch))) 0 (turned_or_started setting state patch value m).1)
         (sym (ap (λ m. moves m patch) is.moving))
-        (subst (λ objects. Onward setting patch start base Standing (calls_of patch PreUn objects) 0 (record state { world = after_calls state.world (calls_of patch PreUn objects); moving = move_to patch false; tasks = all_in (at_target true) state.tasks }))
+        (subst (λ objects. Onward setting patch start base Settled (calls_of patch PreUn objects) 0 (record state { world = after_calls state.world (calls_of patch PreUn objects); moving = move_to patch false; tasks = all_in (at_target true) state.tasks }))
         (sym (calls_same state is.steady is.none_refuses))
         (record {
           reached = Moving;
@@ -201,7 +201,7 @@ module _ (setting : Setting) (patch : ℕ) (start : State) (fair : IsFairStart s
         by : (replace : Bool) → (replace && has_older patch state.world) ≡ false
             → Onward setting patch start base Moving (calls_of patch Post taking) 0 (record state { world = without_older replace world patch; moving = None; tasks = all_in at_rest state.tasks })
         by false none = record {
-          reached = Standing;
+          reached = Settled;
           kinds = Post ∷ [];
           advance = settles;
           ran = ran_calls patch Post 0 taking (rise_taking setting start patch);
@@ -214,7 +214,7 @@ module _ (setting : Setting) (patch : ℕ) (start : State) (fair : IsFairStart s
           };
         }
         by true none = record {
-          reached = Standing;
+          reached = Settled;
           kinds = Post ∷ [];
           advance = settles;
           ran = ran_calls patch Post 0 taking (rise_taking setting start patch);
@@ -275,7 +275,7 @@ module _ (setting : Setting) (patch : ℕ) (start : State) (fair : IsFairStart s
         variables = is.variables;
       },
     )
-    other_tasks Standing state tasks is = record {
+    other_tasks Settled state tasks is = record {
       steady = record { loaded = is.steady.loaded; pinned = is.steady.pinned };
       none_refuses = is.none_refuses;
       moving = is.moving;

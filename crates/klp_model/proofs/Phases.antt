@@ -36,7 +36,7 @@ pub record IsOnTheMove (setting : Setting) (patch : ℕ) (start : State) (base :
   pub variables : (key : ShadowKey) → variable state.world key ≡ objects_at key (variable base key) Pre (taking_part setting start patch)
 
 -- the patch is installed and doesn't move: pre-patch and post-patch have run
-pub record IsStanding (setting : Setting) (patch : ℕ) (start : State) (base : World) (state : State) : Type 0 where
+pub record IsSettled (setting : Setting) (patch : ℕ) (start : State) (base : World) (state : State) : Type 0 where
   pub steady : IsSteady start state
   pub none_refuses : find refuses (loaded_objects setting start patch) ≡ None
   pub moving : state.moving ≡ None
@@ -46,22 +46,22 @@ pub record IsStanding (setting : Setting) (patch : ℕ) (start : State) (base : 
 
 -- where a patch is
 pub data Stage : Type 0 where
-  Away Moving Standing : Stage
+  Away Moving Settled : Stage
 
 -- The base is the world of the start with the changes of the shadow events since.
 abbrev pub PhaseAt : Setting → ℕ → State → World → Stage → State → Type 0
 PhaseAt setting patch start base Away state = IsGone setting patch start base state
 PhaseAt setting patch start base Moving state = (target : Bool) × IsOnTheMove setting patch start base state target
-PhaseAt setting patch start base Standing state = IsStanding setting patch start base state
+PhaseAt setting patch start base Settled state = IsSettled setting patch start base state
 
 -- from stage to stage: what runs of each object that takes part, and how many enablings that is
 pub data Advance : Stage → List Which → Stage → ℕ → Type 0 where
   stays : {stage : Stage} → Advance stage [] stage 0
   enables : Advance Away (Pre ∷ []) Moving 1
   fails : Advance Away (Pre ∷ PostUn ∷ []) Away 1
-  settles : Advance Moving (Post ∷ []) Standing 0
+  settles : Advance Moving (Post ∷ []) Settled 0
   departs : Advance Moving (PostUn ∷ []) Away 0
-  begins_to_leave : Advance Standing (PreUn ∷ []) Moving 0
+  begins_to_leave : Advance Settled (PreUn ∷ []) Moving 0
 
 -- of each of the objects these kinds ran, of those that are there
 abbrev pub Ran : List (ℕ × PatchObject) → List Call → List Which → Type 0

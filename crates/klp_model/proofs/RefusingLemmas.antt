@@ -22,7 +22,7 @@ use Rattle.klp_model.proofs.ObjectLemmas.{Objects, before_first-cons, find_holds
 use Rattle.klp_model.specs.Refusals.{NoneHolds}
 use Rattle.klp_model.proofs.RefusalLemmas.{none_holds}
 use Rattle.klp_model.proofs.Phases.{IsGone, PhaseAt, Stage, IsBase}
-use Rattle.klp_model.proofs.Phases.Stage.{Away, Moving, Standing}
+use Rattle.klp_model.proofs.Phases.Stage.{Away, Moving, Settled}
 use Rattle.klp_model.proofs.PlaceLemmas.{RiseFrom, kinds_for-append, other_call, own_call, apart_places', found_above, rise_loaded}
 use Rattle.klp_model.proofs.PhaseLemmas.{loaded_same}
 use Rattle.klp_model.proofs.RoundLemmas.{calls_accepted, enablings_first}
@@ -105,7 +105,7 @@ module _ (setting : Setting) (patch : ℕ) (start : State) (fair : IsFairStart s
   always_away : (base : World) (state : State) (stage : Stage) → PhaseAt setting patch start base stage state → IsGone setting patch start base state
   always_away base state Away is = is
   always_away base state Moving phase = absurd (some_refuses phase.1.none_refuses)
-  always_away base state Standing is = absurd (some_refuses is.none_refuses)
+  always_away base state Settled is = absurd (some_refuses is.none_refuses)
 
   of_event : (base : World) (state : State) → IsGone setting patch start base state → (event : Event) → NoneHolds (refusals setting state event)
       → IsOfCompany patch (company_keys setting start patch) event → kinds_for place (calls setting state event) ≡ repeated (enablings (event ∷ [])) kinds

@@ -14,7 +14,7 @@ use Rattle.klp_types.specs.World.{World}
 use Rattle.klp_types.specs.Script.{alloc_count, effect}
 use Rattle.klp_model.specs.State.{State}
 use Rattle.klp_types.specs.Callbacks.{Call, call_of, calls_of, script_for, refuses, refused_calls, enable_calls, after_calls, allocs_of}
-use Rattle.klp_model.specs.ModuleCalls.{Part, part_call, still_call, brought, let_go, part_refuses, parts_before, refused_parts, coming_calls, going_calls}
+use Rattle.klp_model.specs.ModuleCalls.{Part, part_call, still_call, part_coming, part_going, part_refuses, parts_before, refused_parts, coming_calls, going_calls}
 use Rattle.klp_model.specs.EventCalls.{once_done, coming_may_run, going_may_run, may_run, lacks_room}
 use Rattle.klp_types.proofs.ScriptLemmas.{script_room}
 
@@ -103,11 +103,11 @@ module _ (moving : Option Transition) where
   more_parts : (f : Part → List Call) (part : Part) (parts : List Part) → allocs_of (flat_map f (part ∷ parts)) ≡ allocs_of (f part) + allocs_of (flat_map f parts)
   more_parts f part parts = allocs-append (f part) (flat_map f parts)
 
-  of_brought : (part : Part) → allocs_of (brought moving part) ≡ allocs_of (part_call Pre part) + allocs_of (still_call moving Post part)
-  of_brought part = allocs-append (part_call Pre part) (still_call moving Post part)
+  of_part_coming : (part : Part) → allocs_of (part_coming moving part) ≡ allocs_of (part_call Pre part) + allocs_of (still_call moving Post part)
+  of_part_coming part = allocs-append (part_call Pre part) (still_call moving Post part)
 
-  of_let_go : (part : Part) → allocs_of (let_go moving part) ≡ allocs_of (still_call moving PreUn part) + allocs_of (part_call PostUn part)
-  of_let_go part = allocs-append (still_call moving PreUn part) (part_call PostUn part)
+  of_part_going : (part : Part) → allocs_of (part_going moving part) ≡ allocs_of (still_call moving PreUn part) + allocs_of (part_call PostUn part)
+  of_part_going part = allocs-append (still_call moving PreUn part) (part_call PostUn part)
 
   of_going : (part : Part) → allocs_of (going_may_run moving part) ≡ allocs_of (part_call PostUn part) + allocs_of (still_call moving PreUn part)
   of_going part = allocs-append (part_call PostUn part) (still_call moving PreUn part)
@@ -122,14 +122,14 @@ module _ (moving : Option Transition) where
         allocs-append (part_call Pre part) (part_call PostUn part),
       )
 
-  few_parts : (parts : List Part) → allocs_of (flat_map (brought moving) (parts_before parts)) + allocs_of (flat_map (let_go moving) (parts_before parts)) + allocs_of (part_pre (find part_refuses parts))
+  few_parts : (parts : List Part) → allocs_of (flat_map (part_coming moving) (parts_before parts)) + allocs_of (flat_map (part_going moving) (parts_before parts)) + allocs_of (part_pre (find part_refuses parts))
       ≤ allocs_of (flat_map (coming_may_run moving) parts)
   few_parts [] = omega arith
   few_parts (part ∷ parts) = by (part_refuses part) (few_parts parts)
     where
-      by : (t : Bool) → allocs_of (flat_map (brought moving) (parts_before parts)) + allocs_of (flat_map (let_go moving) (parts_before parts)) + allocs_of (part_pre (find part_refuses parts))
+      by : (t : Bool) → allocs_of (flat_map (part_coming moving) (parts_before parts)) + allocs_of (flat_map (part_going moving) (parts_before parts)) + allocs_of (part_pre (find part_refuses parts))
           ≤ allocs_of (flat_map (coming_may_run moving) parts)
-          → allocs_of (flat_map (brought moving) (cond t [] (part ∷ parts_before parts))) + allocs_of (flat_map (let_go moving) (cond t [] (part ∷ parts_before parts)))
+          → allocs_of (flat_map (part_coming moving) (cond t [] (part ∷ parts_before parts))) + allocs_of (flat_map (part_going moving) (cond t [] (part ∷ parts_before parts)))
           + allocs_of (part_pre (cond t (Some part) (find part_refuses parts)))
           ≤ allocs_of (flat_map (coming_may_run moving) (part ∷ parts))
       by true rest = omega (arith, more_parts (coming_may_run moving) part parts, of_coming part)
@@ -138,16 +138,16 @@ module _ (moving : Option Transition) where
             arith,
             more_parts (coming_may_run moving) part parts,
             of_coming part,
-            more_parts (brought moving) part (parts_before parts),
-            of_brought part,
-            more_parts (let_go moving) part (parts_before parts),
-            of_let_go part,
+            more_parts (part_coming moving) part (parts_before parts),
+            of_part_coming part,
+            more_parts (part_going moving) part (parts_before parts),
+            of_part_going part,
             rest,
           )
 
-  few_refused_parts : (parts : List Part) (found : Option Part) → allocs_of (refused_parts moving parts found) ≤ allocs_of (part_pre found) + allocs_of (flat_map (let_go moving) parts)
+  few_refused_parts : (parts : List Part) (found : Option Part) → allocs_of (refused_parts moving parts found) ≤ allocs_of (part_pre found) + allocs_of (flat_map (part_going moving) parts)
   few_refused_parts parts None = omega arith
-  few_refused_parts parts (Some part) = omega (arith, allocs-append (part_call Pre part) (flat_map (let_go moving) parts))
+  few_refused_parts parts (Some part) = omega (arith, allocs-append (part_call Pre part) (flat_map (part_going moving) parts))
 
   pub few_coming : (parts : List Part) → allocs_of (coming_calls moving parts) ≤ allocs_of (flat_map (coming_may_run moving) parts)
   few_coming parts =
@@ -155,12 +155,12 @@ module _ (moving : Option Transition) where
         arith,
         few_parts parts,
         few_refused_parts (parts_before parts) (find part_refuses parts),
-        allocs-append (flat_map (brought moving) (parts_before parts)) (refused_parts moving (parts_before parts) (find part_refuses parts)),
+        allocs-append (flat_map (part_coming moving) (parts_before parts)) (refused_parts moving (parts_before parts) (find part_refuses parts)),
       )
 
   pub few_going : (parts : List Part) → allocs_of (going_calls moving parts) ≤ allocs_of (flat_map (going_may_run moving) parts)
   few_going [] = omega arith
-  few_going (part ∷ parts) = omega (arith, few_going parts, more_parts (let_go moving) part parts, more_parts (going_may_run moving) part parts, of_let_go part, of_going part)
+  few_going (part ∷ parts) = omega (arith, few_going parts, more_parts (part_going moving) part parts, more_parts (going_may_run moving) part parts, of_part_going part, of_going part)
 
 -- where room isn't lacking, there is room after callbacks that add no more
 pub room_after : (setting : Setting) (state : State) (event : Event) (world : World) (calls : List Call) → lacks_room setting state event ≡ false

@@ -20,7 +20,7 @@ use Rattle.klp_model.specs.Rounds.{turns, round, rounds, those_there, kinds_for,
 use Rattle.klp_model.specs.Company.{taking_part, company_keys, AreFair, IsFairStart, IsFairCompany}
 use Rattle.klp_model.proofs.RunLemmas.{run-append}
 use Rattle.klp_model.proofs.Phases.{PhaseAt, Stage, Advance, Ran, IsBase}
-use Rattle.klp_model.proofs.Phases.Stage.{Away, Moving, Standing}
+use Rattle.klp_model.proofs.Phases.Stage.{Away, Moving, Settled}
 use Rattle.klp_model.proofs.Phases.Advance.{stays, enables, fails, settles, departs, begins_to_leave}
 use Rattle.klp_model.proofs.PlaceLemmas.{ran_none, ran_both}
 use Rattle.klp_model.proofs.TripLemmas as trip
@@ -29,7 +29,7 @@ use Rattle.klp_model.proofs.TripLemmas as trip
 abbrev pub left_of : Stage → ℕ → List ℕ → List Which
 left_of Away n ns = rounds ns
 left_of Moving n ns = turns n ++ PostUn ∷ rounds ns
-left_of Standing n ns = PreUn ∷ turns n ++ PostUn ∷ rounds ns
+left_of Settled n ns = PreUn ∷ turns n ++ PostUn ∷ rounds ns
 
 pub record Left (stage : Stage) (kinds : List Which) (enabled : ℕ) : Type 0 where
   pub turns_left : ℕ
@@ -92,7 +92,7 @@ module _ (setting : Setting) (patch : ℕ) (start : State) (fair : IsFairStart s
   ran_in_rounds [] base state is_base are_fair Away phase away =
       record { kinds = []; ran = ran_none (taking_part setting start patch); left = record { turns_left = 0; rounds_left = []; count = refl; is = refl } }
   ran_in_rounds [] base state is_base are_fair Moving phase away = absurd (both_ways _ away (trip.installed_at_moving setting patch start fair base state is_base phase))
-  ran_in_rounds [] base state is_base are_fair Standing phase away = absurd (both_ways _ away (trip.installed_at_standing setting patch start fair base state is_base phase))
+  ran_in_rounds [] base state is_base are_fair Settled phase away = absurd (both_ways _ away (trip.installed_at_settled setting patch start fair base state is_base phase))
   ran_in_rounds (event ∷ events) base state is_base are_fair stage phase away =
       let on = trip.onward setting patch start fair event base state is_base are_fair.0 stage phase in
       let rest = ran_in_rounds events (shadow_changed base event) (next setting state event)

@@ -28,7 +28,7 @@ use Rattle.klp_types.proofs.KeyLemmas.{key_total, key_antisymmetric}
 use Rattle.klp_model.proofs.RefusalLemmas.{none_holds, next_accepted}
 use Rattle.klp_model.proofs.TextLemmas.{text_of-same}
 use Rattle.klp_model.proofs.Phases.{IsGone, PhaseAt, Stage, Onward, IsBase}
-use Rattle.klp_model.proofs.Phases.Stage.{Away, Moving, Standing}
+use Rattle.klp_model.proofs.Phases.Stage.{Away, Moving, Settled}
 use Rattle.klp_model.proofs.CompanyLemmas as company
 
 -- a prefix of a fair company is one
@@ -128,13 +128,13 @@ module _ (setting : Setting) (patch : ℕ) (start : State) (fair : IsFairStart s
       → IsGone setting patch start base state
   phase_away base state is_base Away is away = is
   phase_away base state is_base Moving phase away = absurd (both_ways _ away (company.installed_moving setting patch start fair base is_base state phase.0 phase.1))
-  phase_away base state is_base Standing is away = absurd (both_ways _ away (company.installed_standing setting patch start fair base is_base state is))
+  phase_away base state is_base Settled is away = absurd (both_ways _ away (company.installed_settled setting patch start fair base is_base state is))
 
   pub installed_at_moving : (base : World) (state : State) → IsBase setting patch start base → PhaseAt setting patch start base Moving state → is_installed state patch ≡ true
   installed_at_moving base state is_base phase = company.installed_moving setting patch start fair base is_base state phase.0 phase.1
 
-  pub installed_at_standing : (base : World) (state : State) → IsBase setting patch start base → PhaseAt setting patch start base Standing state → is_installed state patch ≡ true
-  installed_at_standing base state is_base is = company.installed_standing setting patch start fair base is_base state is
+  pub installed_at_settled : (base : World) (state : State) → IsBase setting patch start base → PhaseAt setting patch start base Settled state → is_installed state patch ≡ true
+  installed_at_settled base state is_base is = company.installed_settled setting patch start fair base is_base state is
 
   pub gone_footprint : (base : World) (state : State) → IsBase setting patch start base → IsGone setting patch start base state → SameFootprint setting keys state start
   gone_footprint base state is_base is = record {
@@ -150,7 +150,7 @@ module _ (setting : Setting) (patch : ℕ) (start : State) (fair : IsFairStart s
   pub outside_same : (base : World) (state : State) (stage : Stage) → PhaseAt setting patch start base stage state → (key : ShadowKey) → keys key ≡ false → variable state.world key ≡ variable base key
   outside_same base state Away is key out = is.variables key
   outside_same base state Moving phase key out = phase.1.variables key ∙ objects_leave Pre (taking_part setting start patch) key _ out
-  outside_same base state Standing is key out =
+  outside_same base state Settled is key out =
       is.variables key ∙ objects_leave Post (taking_part setting start patch) key _ out ∙ objects_leave Pre (taking_part setting start patch) key _ out
 
 pub changes_installed : (events : List Event) (world : World) → (shadow_changes world events).installed ≡ world.installed

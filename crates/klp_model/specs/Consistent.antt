@@ -33,16 +33,16 @@ is_number None function = false
 is_number (Some own) function = own == function
 
 -- a new function that a task is inside of has an entry at the site
-abbrev pub StandsIn : List Entry → Version → Type 0
-StandsIn entries (Original site) = Unit {0}
-StandsIn entries (New patch function) = list_any (λ (e : Entry). e.patch == patch && is_number e.func function) entries ≡ true
+abbrev pub HasEntryIn : List Entry → Version → Type 0
+HasEntryIn entries (Original site) = Unit {0}
+HasEntryIn entries (New patch function) = list_any (λ (e : Entry). e.patch == patch && is_number e.func function) entries ≡ true
 
-abbrev pub AllStand : Setting → State → List Frame → Type 0
-AllStand setting state [] = Unit {0}
-AllStand setting state (frame ∷ frames) = StandsIn (entries_of setting state frame.site) frame.version × AllStand setting state frames
+abbrev pub AllHaveEntries : Setting → State → List Frame → Type 0
+AllHaveEntries setting state [] = Unit {0}
+AllHaveEntries setting state (frame ∷ frames) = HasEntryIn (entries_of setting state frame.site) frame.version × AllHaveEntries setting state frames
 
 abbrev pub NoneLeft : Setting → Watched → Type 0
-NoneLeft setting w = (task : ℕ) → AllStand setting w.state (w.stacks task)
+NoneLeft setting w = (task : ℕ) → AllHaveEntries setting w.state (w.stacks task)
 
 abbrev pub is_of_patch : ℕ → Version → Bool
 is_of_patch patch (Original site) = false

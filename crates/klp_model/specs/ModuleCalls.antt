@@ -33,12 +33,12 @@ abbrev pub still_call : Option Transition → Which → Part → List Call
 still_call moving which part = if moves moving part.0 then [] else part_call which part
 
 -- the module comes: pre-patch, and post-patch if the patch doesn't move
-abbrev pub brought : Option Transition → Part → List Call
-brought moving part = part_call Pre part ++ still_call moving Post part
+abbrev pub part_coming : Option Transition → Part → List Call
+part_coming moving part = part_call Pre part ++ still_call moving Post part
 
 -- the module goes, or is cleaned up: pre-unpatch if the patch doesn't move, and post-unpatch
-abbrev pub let_go : Option Transition → Part → List Call
-let_go moving part = still_call moving PreUn part ++ part_call PostUn part
+abbrev pub part_going : Option Transition → Part → List Call
+part_going moving part = still_call moving PreUn part ++ part_call PostUn part
 
 abbrev pub part_refuses : Part → Bool
 part_refuses part = refuses part.1
@@ -50,11 +50,11 @@ parts_before (part ∷ parts) = if part_refuses part then [] else part ∷ parts
 -- the pre-patch that refused, and the cleaning up of the patches before it
 abbrev pub refused_parts : Option Transition → List Part → Option Part → List Call
 refused_parts moving before None = []
-refused_parts moving before (Some part) = part_call Pre part ++ flat_map (let_go moving) before
+refused_parts moving before (Some part) = part_call Pre part ++ flat_map (part_going moving) before
 
 abbrev pub coming_calls : Option Transition → List Part → List Call
 coming_calls moving parts =
-    flat_map (brought moving) (parts_before parts) ++ refused_parts moving (parts_before parts) (find part_refuses parts)
+    flat_map (part_coming moving) (parts_before parts) ++ refused_parts moving (parts_before parts) (find part_refuses parts)
 
 abbrev pub going_calls : Option Transition → List Part → List Call
-going_calls moving parts = flat_map (let_go moving) parts
+going_calls moving parts = flat_map (part_going moving) parts

@@ -19,7 +19,7 @@ use Rattle.klp_views.specs.Views.{IsView}
 use Rattle.klp_views.proofs.StayLemmas.{stay_seen, quiet_at_first}
 use Rattle.klp_page.specs.declared.head.Title.{Title}
 use Rattle.klp_page.specs.declared.row.Row.{Row}
-use Rattle.klp_page.specs.Faithful.{AreLeft, last_left, stay_now, Begins, HasPart, IsTrueTo, IsTrueOver, IsEachHoldTold, IsNoHoldMadeUp}
+use Rattle.klp_page.specs.Faithful.{AreLeft, last_left, stay_now, Begins, HasPart, IsTrueTo, IsTrueOver, IsEachHoldShown, IsNoHoldMadeUp}
 use Rattle.klp_page.specs.Pages.{IsPage, IsPageOf}
 use Rattle.klp_page.specs.Rows.{AreRows, last_view}
 use Rattle.klp_page.specs.Text.{all_refused, opening_text, front_text, story_and_drawing, page_text}
@@ -129,9 +129,9 @@ story_part title catalog view sentences picture rows =
     part_on _ _ _ (part_on _ _ _ (part_behind (front_text title catalog view sentences) (story_and_drawing catalog sentences picture) (story_text catalog sentences)
     (part_on _ _ _ (part_on _ _ _ (part_first (story_text catalog sentences) _)))))
 
-told_of_managers : (opening : View) (managers : List Journaled) (run : List Moment) → IsQuiet opening → AreShown managers run
-    → IsEachHoldTold managers (sentences_of opening run)
-told_of_managers opening managers run quiet are = λ index task manager stay is stays.
+shown_of_managers : (opening : View) (managers : List Journaled) (run : List Moment) → IsQuiet opening → AreShown managers run
+    → IsEachHoldShown managers (sentences_of opening run)
+shown_of_managers opening managers run quiet are = λ index task manager stay is stays.
     no_sleeper_left_out opening run quiet index task stay (seen_is managers run index task manager are is ∙ stays)
 
 true_of_managers : (opening : View) (managers : List Journaled) (run : List Moment) → AreShown managers run
@@ -150,7 +150,7 @@ true_to booted name script page is quiet =
       managers = s.managers;
       left = s.left;
       sentences = sentences;
-      told = told_of_managers is.opening s.managers is.run quiet s.shown;
+      shown = shown_of_managers is.opening s.managers is.run quiet s.shown;
       true_are = true_of_managers is.opening s.managers is.run s.shown;
       last = last;
       seen_last = last_is booted is.opening s.managers is.run is.begins s.shown;

@@ -2,7 +2,7 @@
 use Rattle.std.proofs.Common.{◌≡◌, ℕ, List, [], ◌∷◌, ◌++◌, Option, Some, None, length, map, take, option_map, refl, sym, ap, inl, inr}
 use Rattle.std.specs.List.{slice_get}
 use Rattle.klp_types.specs.Script.{Script}
-use Rattle.klp_callback.specs.Told.{Told}
+use Rattle.klp_callback.specs.LentCallback.{LentCallback}
 use Rattle.std.specs.Prelude.{Result, Ok, Err, IfOk}
 use Rattle.klp_catalog_text.specs.Plan.{Plan}
 use Rattle.klp_core.specs.Journaled.{Journaled}
@@ -13,24 +13,24 @@ use Rattle.klp_program.specs.Booted.{never_ran, IsBootedOver}
 use Rattle.klp_page.specs.Pages.{IsPage, IsPageOver, IsFaultOf, Writes}
 
 -- as many of the scripts as there are callbacks, and no other, have theirs
-abbrev pub first_made : List Told → List Script → List Told
+abbrev pub first_made : List LentCallback → List Script → List LentCallback
 first_made made scripts = map never_ran (take (length made) scripts)
 
 -- the callback of the next script
-pub next_made : (made : List Told) (scripts : List Script) (told : Told)
-    → option_map never_ran (slice_get scripts (length made)) ≡ Some told → made ≡ first_made made scripts
-    → made ++ told ∷ [] ≡ first_made (made ++ told ∷ []) scripts
-next_made [] [] told next so_far = let no : ⊥ = cc in absurd no
-next_made [] (first ∷ scripts) told next so_far = let same : never_ran first ≡ told = cc in ap (λ (t : Told). t ∷ []) (sym same)
-next_made (one ∷ made) [] told next so_far = let no : ⊥ = cc in absurd no
-next_made (one ∷ made) (first ∷ scripts) told next so_far =
+pub next_made : (made : List LentCallback) (scripts : List Script) (lent : LentCallback)
+    → option_map never_ran (slice_get scripts (length made)) ≡ Some lent → made ≡ first_made made scripts
+    → made ++ lent ∷ [] ≡ first_made (made ++ lent ∷ []) scripts
+next_made [] [] lent next so_far = let no : ⊥ = cc in absurd no
+next_made [] (first ∷ scripts) lent next so_far = let same : never_ran first ≡ lent = cc in ap (λ (t : LentCallback). t ∷ []) (sym same)
+next_made (one ∷ made) [] lent next so_far = let no : ⊥ = cc in absurd no
+next_made (one ∷ made) (first ∷ scripts) lent next so_far =
     let head : one ≡ never_ran first = cc in
     let tail : made ≡ first_made made scripts = cc in
-    let more = next_made made scripts told next tail in
+    let more = next_made made scripts lent next tail in
     cc
 
 -- where no script is next, each has its callback
-pub all_made : (made : List Told) (scripts : List Script)
+pub all_made : (made : List LentCallback) (scripts : List Script)
     → option_map never_ran (slice_get scripts (length made)) ≡ None → made ≡ first_made made scripts → made ≡ map never_ran scripts
 all_made [] [] past so_far = refl
 all_made [] (first ∷ scripts) past so_far = let no : ⊥ = cc in absurd no
@@ -42,16 +42,16 @@ all_made (one ∷ made) (first ∷ scripts) past so_far =
     cc
 
 -- what a box tells, by its parts
-pub told_of : (told : Told) (given script : Script) (count runs : ℕ)
-    → told ≡ record { script = given; runs = count } → given ≡ script → count ≡ runs → told ≡ record { script = script; runs = runs }
-told_of told given script count runs made same counted = rw (made, same, counted) refl
+pub shown_of : (lent : LentCallback) (given script : Script) (count runs : ℕ)
+    → lent ≡ record { script = given; runs = count } → given ≡ script → count ≡ runs → lent ≡ record { script = script; runs = runs }
+shown_of lent given script count runs made same counted = rw (made, same, counted) refl
 
 -- what a booted manager shows is shown over its plan
-pub page_over : {A E : Type 0} (plan : Plan) (booted : Journaled) (name script : List ℕ) (result : Result A E) (text : A → List ℕ)
+pub page_over_text : {A E : Type 0} (plan : Plan) (booted : Journaled) (name script : List ℕ) (result : Result A E) (text : A → List ℕ)
     → IsBootedOver plan booted → IfOk result (λ page. IsPage booted name script (text page))
     → IfOk result (λ page. IsPageOver plan name script (text page))
-page_over plan booted name script (Ok page) text is shown = record { booted = booted; is_booted = is; is_page = shown }
-page_over plan booted name script (Err fault) text is shown = tt
+page_over_text plan booted name script (Ok page) text is shown = record { booted = booted; is_booted = is; is_page = shown }
+page_over_text plan booted name script (Err fault) text is shown = tt
 
 -- where there is no page, nothing is written
 pub writes_none : (A : Type 0) (text name script : List ℕ) (before : Option (List ℕ)) (fault : Fault)

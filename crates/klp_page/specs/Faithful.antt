@@ -15,7 +15,7 @@ use Rattle.klp_timeline.specs.declared.moment.Sentence.{Sentence}
 use Rattle.klp_timeline.specs.declared.moment.Sleepers.{Sleepers}
 use Rattle.klp_timeline.specs.declared.moment.Stay.{Stay}
 use Rattle.klp_timeline.specs.declared.moment.View.{View}
-use Rattle.klp_timeline.specs.Telling.{Spans, IsTold}
+use Rattle.klp_timeline.specs.Telling.{Spans, IsShown}
 use Rattle.klp_views.specs.Views.{IsView, stay_in}
 use Rattle.klp_page.specs.declared.head.Title.{Title}
 use Rattle.klp_page.specs.Text.{all_refused, opening_text}
@@ -35,9 +35,9 @@ abbrev pub stay_now : Journaled → ℕ → Option Stay
 stay_now manager task = stay_in (setting_of manager.managed) manager.managed.state (task_at manager.managed.state.tasks task)
 
 -- whoever holds the transition up after any line, or sleeps in code that isn't called now, is named by a sentence that spans the line
-abbrev pub IsEachHoldTold : List Journaled → List Sentence → Type 0
-IsEachHoldTold managers sentences = (index task : ℕ) (manager : Journaled) (stay : Stay) → slice_get managers index ≡ Some manager
-    → stay_now manager task ≡ Some stay → IsTold sentences task stay (suc index)
+abbrev pub IsEachHoldShown : List Journaled → List Sentence → Type 0
+IsEachHoldShown managers sentences = (index task : ℕ) (manager : Journaled) (stay : Stay) → slice_get managers index ≡ Some manager
+    → stay_now manager task ≡ Some stay → IsShown sentences task stay (suc index)
 
 -- and after each line that a sentence spans, each task that it names does what it says
 abbrev pub IsNoHoldMadeUp : List Journaled → List Sentence → Type 0
@@ -56,12 +56,12 @@ pub record HasPart (text part : List ℕ) : Type 0 where
   pub is : text ≡ before ++ (part ++ behind)
 
 -- The page's first line tells how the run ends, by the manager that the last line left. Its sentences tell of each hold after each line, and of no
--- other. Where they are many, `told` of them stand on the page, with each that lasts to the end
+-- other. Where they are many, `shown` of them stand on the page, with each that lasts to the end
 pub record IsTrueTo (booted : Journaled) (script page : List ℕ) : Type 0 where
   pub managers : List Journaled
   pub left : AreLeft booted (lines_of script) managers
   pub sentences : List Sentence
-  pub told : IsEachHoldTold managers sentences
+  pub shown : IsEachHoldShown managers sentences
   pub true_are : IsNoHoldMadeUp managers sentences
   pub last : View
   pub seen_last : IsView (setting_of (last_left booted managers).managed) (last_left booted managers).managed.state last

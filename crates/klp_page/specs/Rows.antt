@@ -24,8 +24,8 @@ holders_from task [] = []
 holders_from task (stay ∷ stays) = holder_of task stay ++ holders_from (task + 1) stays
 
 -- a row names them where something changed in where tasks sleep that matters
-abbrev pub holders_told : View → View → List ℕ
-holders_told before after = if are_same before.stays after.stays then [] else holders_from 0 after.stays
+abbrev pub holders_shown : View → View → List ℕ
+holders_shown before after = if are_same before.stays after.stays then [] else holders_from 0 after.stays
 
 -- a line may be folded away: it was done, and a page has nothing to say of it
 abbrev pub is_quiet : Outcome → View → Moment → Bool
@@ -44,7 +44,7 @@ pub record IsRowOf (before after : Journaled) (view : View) (line : List ℕ) (r
   pub answer_is : row.answer.items ≡ answer.text
   pub refused : row.is_refused ≡ answer.is_refused
   pub quiet : row.is_quiet ≡ is_quiet outcome view moment
-  pub holders : row.holders.items ≡ holders_told view moment.view
+  pub holders : row.holders.items ≡ holders_shown view moment.view
 
 -- what was seen last
 abbrev pub last_view : View → List Moment → View

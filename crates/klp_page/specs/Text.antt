@@ -12,7 +12,7 @@ use Rattle.klp_timeline.specs.declared.moment.Said.TheVariants.{Did}
 use Rattle.klp_timeline.specs.declared.moment.Sentence.{Sentence}
 use Rattle.klp_timeline.specs.declared.moment.View.{View}
 use Rattle.klp_drawing.specs.declared.style.TheConstants as drawing
-use Rattle.klp_chronicle.specs.declared.style.TheConstants as cards
+use Rattle.klp_page_layout.specs.declared.style.TheConstants as cards
 use Rattle.klp_page.specs.declared.head.Title.{Title}
 use Rattle.klp_page.specs.declared.row.Row.{Row}
 use Rattle.klp_page.specs.declared.style.TheConstants.{
@@ -57,8 +57,8 @@ abbrev pub open_text : Bool → List ℕ
 open_text is_open = if is_open then OPEN.now else []
 
 -- the line with its number, its answer and its mark
-unfoldable pub told_text : ℕ → Row → List ℕ
-told_text number row =
+unfoldable pub shown_text : ℕ → Row → List ℕ
+shown_text number row =
     decimal number ++ LINE.now ++ escaped row.line.items ++ ANSWER.now ++ escaped row.answer.items ++ ANSWER_END.now ++ mark_text row.holders.items
 
 -- what stands in front of the number of a line
@@ -69,8 +69,8 @@ start_text tag number row = tag ++ refused_text row.is_refused ++ ID.now ++ deci
 unfoldable pub row_text : ℕ → Row → List ℕ
 row_text number row =
     if length row.cards.text == 0
-    then start_text PLAIN_ROW.now number row ++ NUMBER.now ++ told_text number row ++ PLAIN_END.now
-    else start_text CARD_ROW.now number row ++ open_text row.is_open ++ CARD_NUMBER.now ++ told_text number row ++ CARDS.now ++ row.cards.text ++ CARDS_END.now
+    then start_text PLAIN_ROW.now number row ++ NUMBER.now ++ shown_text number row ++ PLAIN_END.now
+    else start_text CARD_ROW.now number row ++ open_text row.is_open ++ CARD_NUMBER.now ++ shown_text number row ++ CARDS.now ++ row.cards.text ++ CARDS_END.now
 
 -- of quiet lines in a row the first few are shown; then a fold begins
 abbrev pub fold_start : ℕ → List ℕ

@@ -93,7 +93,7 @@ fn add_opening(sheet: &mut Sheet, title: &Title<'_>)
     add_title(sheet, title);
     sheet.markup(STYLE);
     sheet.markup(klp_drawing::STYLE);
-    sheet.markup(klp_chronicle::STYLE);
+    sheet.markup(klp_page_layout::STYLE);
     sheet.markup(STYLE_END);
 }
 

@@ -1,11 +1,11 @@
 //! What of a page is layout: the drawing, and what a row shows that opens.
 
 use klp_catalog_text::Plan;
-use klp_chronicle::{Chronicle, Told};
 use klp_console::Outcome;
 use klp_core::Manager;
 use klp_drawing::{Bars, add_drawing};
 use klp_markup::Sheet;
+use klp_page_layout::{Chronicle, RowParts};
 use klp_timeline::{Fact, Moment, Sentence, View};
 use std::alloc::{AllocError, Global};
 
@@ -26,8 +26,8 @@ pub(crate) struct Layout {
 
 /// Whether the cards of a line stand open: where a patch came, moves, turned or left, where a callback ran, and where the
 /// line did what views don't show.
-fn stands_open(told: &Told, act: &Option<Fact>) -> bool {
-    told.patches || told.callbacks || act.is_some()
+fn stands_open(parts: &RowParts, act: &Option<Fact>) -> bool {
+    parts.patches || parts.callbacks || act.is_some()
 }
 
 impl Layout {
@@ -67,12 +67,12 @@ impl Layout {
             });
         }
         self.bars.see(self.lines, before, moment, manager);
-        let told = self
+        let parts = self
             .chronicle
-            .tell(alloc, manager, outcome, before, moment)?;
-        let is_open = stands_open(&told, &moment.act);
+            .describe(alloc, manager, outcome, before, moment)?;
+        let is_open = stands_open(&parts, &moment.act);
         Ok(Cards {
-            sheet: told.cards,
+            sheet: parts.cards,
             is_open,
         })
     }

@@ -113,7 +113,7 @@ fn paged(
 }
 
 // The manager goes then.
-fn page_by(
+fn page_over_manager(
     alloc: Global,
     mut manager: Manager,
     name: &[u8],
@@ -130,7 +130,7 @@ fn page_by(
 
 // Boots a manager over a plan, and shows the script by it. The callbacks are made here, as where a trace is
 // watched.
-fn page_plan(alloc: Global, plan: Plan, name: &[u8], script: &[u8]) -> Result<Vec<u8>, Fault>
+fn page_over_plan(alloc: Global, plan: Plan, name: &[u8], script: &[u8]) -> Result<Vec<u8>, Fault>
     requires { AreTargetsWithin (length plan.objects) plan.patches }
     ensures page { IfOk result (λ page. IsPageOver plan name.now script.now page.items) }
     ensures fault { IfErr result (λ fault. IsFaultOver plan script.now fault) }
@@ -142,12 +142,12 @@ fn page_plan(alloc: Global, plan: Plan, name: &[u8], script: &[u8]) -> Result<Ve
         callbacks.push(Boxed::new(callback))?;
     }
     let manager = boot(alloc, plan, callbacks)?;
-    page_by(alloc, manager, name, script, layout)
+    page_over_manager(alloc, manager, name, script, layout)
 }
 
 /// Boots a manager over the catalog's text, and shows the script by it: a page with a row for each line, which has this name.
 /// Memory is taken by the script's length.
-pub fn page_over(
+pub fn page_over_text(
     alloc: Global,
     catalog: &[u8],
     name: &[u8],
@@ -157,7 +157,7 @@ pub fn page_over(
     ensures fault { IfErr result (λ fault. IsFaultOf catalog.now script.now fault) }
 {
     let plan = Catalog::read(alloc, catalog)?;
-    page_plan(alloc, plan, name, script)
+    page_over_plan(alloc, plan, name, script)
 }
 
 /// Writes the page of a script to `out`. Nothing is written before all lines are served. Where the page can't be written,
@@ -171,7 +171,7 @@ pub fn write_page<W: Write>(
 ) -> Result<(), Fault>
     ensures { Writes catalog.now name.now script.now (W.contents out.old) (W.contents out.new) result }
 {
-    let page = match page_over(alloc, catalog, name, script) {
+    let page = match page_over_text(alloc, catalog, name, script) {
         Ok(page) => page,
         Err(fault) => return Err(fault),
     };

@@ -4,7 +4,7 @@ ghost use Rattle.klp_types.specs.declared.limits.TheConstants.{MAX_TASKS};
 ghost use Rattle.klp_manager_state.specs.Managed.{setting_of};
 ghost use Rattle.klp_views.specs.Views.{IsView, act_of};
 ghost use Rattle.klp_console.specs.Lines.{lines_of};
-ghost use Rattle.klp_page.specs.Rows.{IsAnsweredBy, IsRowOf, AddsRow, AreRows, holders_from, holders_told, is_quiet, last_view};
+ghost use Rattle.klp_page.specs.Rows.{IsAnsweredBy, IsRowOf, AddsRow, AreRows, holders_from, holders_shown, is_quiet, last_view};
 ghost use Rattle.klp_page.specs.Pages.{HasRows, IsScriptFault};
 
 use crate::layout::Layout;
@@ -95,8 +95,8 @@ fn add_holders(
 }
 
 /// The tasks that hold the transition up, where something changed in where tasks sleep that matters.
-fn holders_told(alloc: Global, before: &View, after: &View) -> Result<Vec<TaskId>, AllocError>
-    ensures { IfOk result (λ tasks. tasks.items ≡ holders_told before.now after.now) }
+fn holders_shown(alloc: Global, before: &View, after: &View) -> Result<Vec<TaskId>, AllocError>
+    ensures { IfOk result (λ tasks. tasks.items ≡ holders_shown before.now after.now) }
 {
     let mut tasks = Vec::new(alloc);
     if !are_same(&before.stays, &after.stays) {
@@ -113,7 +113,7 @@ fn record_line(
     before: &View,
     layout: &mut Layout,
 ) -> Result<(Row, Moment), AllocError>
-    ensures { IfOk result (λ told. IsRowOf manager.old manager.new before.now line.now told.0 told.1) }
+    ensures { IfOk result (λ made. IsRowOf manager.old manager.new before.now line.now made.0 made.1) }
 {
     let from = manager.mark();
     let writes = Blank::new(2);
@@ -125,7 +125,7 @@ fn record_line(
         answer: text,
         is_refused: outcome.is_refusal(),
         is_quiet: !outcome.is_refusal() && is_still(before, &moment),
-        holders: holders_told(alloc, before, &moment.view)?,
+        holders: holders_shown(alloc, before, &moment.view)?,
         is_open: cards.is_open,
         cards: cards.sheet,
     };

@@ -2,7 +2,7 @@
 ghost use Rattle.std.specs.Prelude.{◌≡◌, ◌<◌, ◌+◌, ◌-◌, ◌^◌, ◌++◌, length};
 ghost use Rattle.std.specs.Fmt.{decimal};
 ghost use Rattle.klp_markup.specs.Adds.{Adds};
-ghost use Rattle.klp_page.specs.Text.{mark_text, refused_text, open_text, told_text, start_text, row_text, fold_start, fold_end, rows_text};
+ghost use Rattle.klp_page.specs.Text.{mark_text, refused_text, open_text, shown_text, start_text, row_text, fold_start, fold_end, rows_text};
 
 use crate::style::{
     ANSWER, ANSWER_END, CARD_NUMBER, CARD_ROW, CARDS, CARDS_END, FOLD, FOLD_END, FOLDED, HELD,
@@ -58,9 +58,9 @@ fn add_open(sheet: &mut Sheet, is_open: bool)
 }
 
 /// The line with its number, its answer and its mark.
-#[tactic(auto, unfolding(crate::specs::Text::told_text))]
-fn add_told(sheet: &mut Sheet, number: u64, row: &Row)
-    ensures { Adds sheet.old sheet.new (told_text number row.now) }
+#[tactic(auto, unfolding(crate::specs::Text::shown_text))]
+fn add_shown(sheet: &mut Sheet, number: u64, row: &Row)
+    ensures { Adds sheet.old sheet.new (shown_text number row.now) }
 {
     klp_markup::laws::what_is_added_adds_up();
     sheet.number(number);
@@ -86,26 +86,26 @@ fn add_start(sheet: &mut Sheet, tag: &'static str, number: u64, row: &Row)
 /// A row that doesn't open.
 fn add_plain_row(sheet: &mut Sheet, number: u64, row: &Row)
     ensures { Adds sheet.old sheet.new
-        (start_text PLAIN_ROW.now number row.now ++ NUMBER.now ++ told_text number row.now ++ PLAIN_END.now) }
+        (start_text PLAIN_ROW.now number row.now ++ NUMBER.now ++ shown_text number row.now ++ PLAIN_END.now) }
 {
     klp_markup::laws::what_is_added_adds_up();
     add_start(sheet, PLAIN_ROW, number, row);
     sheet.markup(NUMBER);
-    add_told(sheet, number, row);
+    add_shown(sheet, number, row);
     sheet.markup(PLAIN_END);
 }
 
 /// A row that opens, with its cards.
 fn add_card_row(sheet: &mut Sheet, number: u64, row: &Row)
     ensures { Adds sheet.old sheet.new
-        (start_text CARD_ROW.now number row.now ++ open_text row.now.is_open ++ CARD_NUMBER.now ++ told_text number row.now
+        (start_text CARD_ROW.now number row.now ++ open_text row.now.is_open ++ CARD_NUMBER.now ++ shown_text number row.now
         ++ CARDS.now ++ row.now.cards.text ++ CARDS_END.now) }
 {
     klp_markup::laws::what_is_added_adds_up();
     add_start(sheet, CARD_ROW, number, row);
     add_open(sheet, row.is_open);
     sheet.markup(CARD_NUMBER);
-    add_told(sheet, number, row);
+    add_shown(sheet, number, row);
     sheet.markup(CARDS);
     sheet.append(&row.cards);
     sheet.markup(CARDS_END);

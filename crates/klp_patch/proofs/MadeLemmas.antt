@@ -13,8 +13,8 @@ use Rattle.klp_stack.specs.Stack.{entries_at}
 use Rattle.klp_stack.specs.Undo.{put_entry}
 use Rattle.klp_sites.specs.Table.{SiteTable, is_stacked, is_hooked_at}
 use Rattle.klp_sites.specs.Changes.{noting}
-use Rattle.klp_sites.specs.Undo.{put_back, undone, tell_changes}
-use Rattle.klp_sites.proofs.ExactLemmas.{undone_both, told_both}
+use Rattle.klp_sites.specs.Undo.{put_back, undone, have_effects}
+use Rattle.klp_sites.proofs.ExactLemmas.{undone_both, effective_both}
 use Rattle.klp_patch.specs.Covered.{is_covered, is_object_in_scope}
 use Rattle.klp_patch.specs.Changes.{AreMade, Notes, hooked_count}
 use Rattle.klp_patch.proofs.SiteLemmas.{Entries, OfSites}
@@ -39,12 +39,12 @@ module _ (before now after : SiteTable) (log_before log_now log_after : RecordLi
   pub notes_both : (most from to : ℕ) → first + second ≤ most → from + (to_first + to_second) ≡ from_first + from_second + to → Notes before after log_before log_after most from to
   notes_both most from to enough balance = record {
     rows = notes.rows ++ more.rows;
-    noted =
-        more.noted ∙ ap (λ (log : RecordList). noting log more.rows) notes.noted
-        ∙ ap (λ rows. record log_before { noted = rows }) (append_assoc log_before.noted notes.rows more.rows);
+    logged =
+        more.logged ∙ ap (λ (log : RecordList). noting log more.rows) notes.logged
+        ∙ ap (λ rows. record log_before { logged = rows }) (append_assoc log_before.logged notes.rows more.rows);
     of_sites = All-append OfSites notes.rows more.rows notes.of_sites more.of_sites;
     undo = undone_both after notes.rows more.rows ∙ ap (λ t. undone t notes.rows) more.undo ∙ notes.undo;
-    told = told_both after notes.rows more.rows more.told ∙ ap (λ t. tell_changes t notes.rows) more.undo ∙ notes.told;
+    effective = effective_both after notes.rows more.rows more.effective ∙ ap (λ t. have_effects t notes.rows) more.undo ∙ notes.effective;
     few = omega (arith, length-append notes.rows more.rows, notes.few, more.few, enough, balance);
   }
 
@@ -60,14 +60,14 @@ module _ (before now after : SiteTable) (log_before log_now log_after : RecordLi
       notes_both before now after log_before log_now log_after first second (hooked_count now) (hooked_count before) (hooked_count after) (hooked_count now) notes more most (hooked_count after) (hooked_count before) enough (omega arith)
 
 pub notes_longer : (before after : SiteTable) (log_before log_after : RecordList) (most more from to : ℕ) → most ≤ more → Notes before after log_before log_after most from to → Notes before after log_before log_after more from to
-notes_longer before after log_before log_after most more from to longer notes = record { rows = notes.rows; noted = notes.noted; of_sites = notes.of_sites; undo = notes.undo; told = notes.told; few = omega (arith, notes.few) }
+notes_longer before after log_before log_after most more from to longer notes = record { rows = notes.rows; logged = notes.logged; of_sites = notes.of_sites; undo = notes.undo; effective = notes.effective; few = omega (arith, notes.few) }
 
 -- how much room a change leaves
 spare_after : (before after : SiteTable) (log_before log_after : RecordList) (most from to : ℕ) (notes : Notes before after log_before log_after most from to)
     → spare_of log_after ≡ spare_of log_before - length notes.rows
 spare_after before after log_before log_after most from to notes =
-    let count = length-append log_before.noted notes.rows in
-    ap spare_of notes.noted ∙ (let e : log_before.room - length (log_before.noted ++ notes.rows) ≡ log_before.room - length log_before.noted - length notes.rows = omega (arith, count) in e)
+    let count = length-append log_before.logged notes.rows in
+    ap spare_of notes.logged ∙ (let e : log_before.room - length (log_before.logged ++ notes.rows) ≡ log_before.room - length log_before.logged - length notes.rows = omega (arith, count) in e)
 
 module _ (before after : SiteTable) (log_before log_after : RecordList) (most : ℕ) where
   pub room_when_put : (left : ℕ) → Notes before after log_before log_after most (hooked_count before) (hooked_count after)

@@ -12,7 +12,7 @@ use Rattle.klp_model.specs.ModuleCalls.{Part, part_refuses, parts_before, coming
 use Rattle.klp_model.specs.EventCalls.{coming_may_run, going_may_run}
 use Rattle.klp_patch.specs.Calls.{records_of}
 use Rattle.klp_patch.specs.Refusing.{pre_calls}
-use Rattle.klp_patch.specs.Brought.{bring_calls}
+use Rattle.klp_patch.specs.UntilRefused.{calls_until_refused}
 use Rattle.klp_patch.proofs.CallLemmas.{clean_calls, enable-parts, clean-few}
 use Rattle.klp_patch.proofs.RanLemmas.{pre_notes_few}
 use Rattle.klp_patch.proofs.ModuleSharesLemmas.{coming-passed, coming-refused, coming-weight, going-weight}
@@ -42,7 +42,7 @@ coming_found moving parts None is =
     omega (arith, whole, coming-weight moving notes_of parts)
 coming_found moving parts (Some part) is =
     let whole = ap records_of (coming-refused moving parts part is) in
-    let halves = sum_by-append notes_of (bring_calls moving parts) (going_calls moving (parts_before parts)) in
+    let halves = sum_by-append notes_of (calls_until_refused moving parts) (going_calls moving (parts_before parts)) in
     omega (arith, whole, halves, coming-weight moving notes_of parts)
 
 pub coming-few : (moving : Option Transition) (parts : List Part) → records_of (coming_calls moving parts) ≤ records_of (flat_map (coming_may_run moving) parts)

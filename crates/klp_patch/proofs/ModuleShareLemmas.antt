@@ -12,14 +12,14 @@ use Rattle.klp_types.specs.Pick.{moves}
 use Rattle.klp_types.specs.Script.{is_success}
 use Rattle.klp_types.specs.Callbacks.{Call, script_for, call_of, is_refusing}
 use Rattle.klp_model.specs.Callbacks.{status_of}
-use Rattle.klp_model.specs.ModuleCalls.{Part, parts_among, part_call, still_call, part_refuses, parts_before, let_go}
+use Rattle.klp_model.specs.ModuleCalls.{Part, parts_among, part_call, still_call, part_refuses, parts_before, part_going}
 use Rattle.klp_model.specs.EventCalls.{coming_may_run, going_may_run}
 use Rattle.klp_catalog.specs.Catalog.{Catalog}
 use Rattle.klp_catalog.specs.Runs.{callbacks_of, callbacks_at, objects_at, place_of, script_at}
 use Rattle.klp_patch.specs.Refusing.{refusal_of}
-use Rattle.klp_patch.specs.Places.{call_at, still_at, bring_at, let_go_at}
+use Rattle.klp_patch.specs.Places.{call_at, still_at, coming_at, going_at}
 use Rattle.klp_patch.specs.ModuleShares.{parts_at}
-use Rattle.klp_patch.specs.Brought.{bring_calls, refusal}
+use Rattle.klp_patch.specs.UntilRefused.{calls_until_refused, refusal}
 use Rattle.klp_patch.proofs.LoopLemmas.{refusing-status}
 
 module _ (object : ℕ) where
@@ -103,33 +103,33 @@ module _ (catalog : Catalog) (object patch place : ℕ) (part : IsPart catalog o
   alone : (f : Part → List Call) → flat_map f (parts_at catalog object patch) ≡ f whole
   alone f = ap (flat_map f) part.only ∙ append-nil (f whole)
 
-  pub brings : bring_calls moving (parts_at catalog object patch) ≡ bring_at moving catalog patch place
+  pub brings : calls_until_refused moving (parts_at catalog object patch) ≡ coming_at moving catalog patch place
   brings =
-      ap (bring_calls moving) part.only
+      ap (calls_until_refused moving) part.only
       ∙ ap (λ rest. part_call Pre whole ++ cond (part_refuses whole) [] rest) (append-nil (still_call moving Post whole))
       ∙ ap (λ cs. call_of patch place Pre (script_for Pre cs)
       ++ cond (is_refusing (script_for Pre cs)) [] (cond (moves moving patch) [] (call_of patch place Post (script_for Post cs)))) part.there
 
-  pub lets_go : flat_map (let_go moving) (parts_at catalog object patch) ≡ let_go_at moving catalog patch place
+  pub lets_go : flat_map (part_going moving) (parts_at catalog object patch) ≡ going_at moving catalog patch place
   lets_go =
-      alone (let_go moving)
+      alone (part_going moving)
       ∙ ap (λ cs. cond (moves moving patch) [] (call_of patch place PreUn (script_for PreUn cs)) ++ call_of patch place PostUn (script_for PostUn cs)) part.there
 
-  pub may_let_go : flat_map (going_may_run moving) (parts_at catalog object patch) ≡ call_at catalog patch place PostUn ++ still_at moving catalog patch place PreUn
-  may_let_go =
+  pub may_go : flat_map (going_may_run moving) (parts_at catalog object patch) ≡ call_at catalog patch place PostUn ++ still_at moving catalog patch place PreUn
+  may_go =
       alone (going_may_run moving)
       ∙ ap (λ cs. call_of patch place PostUn (script_for PostUn cs) ++ cond (moves moving patch) [] (call_of patch place PreUn (script_for PreUn cs))) part.there
 
-  pub may_bring : flat_map (coming_may_run moving) (parts_at catalog object patch)
+  pub may_come : flat_map (coming_may_run moving) (parts_at catalog object patch)
       ≡ call_at catalog patch place Pre ++ call_at catalog patch place PostUn ++ still_at moving catalog patch place Post ++ still_at moving catalog patch place PreUn
-  may_bring =
+  may_come =
       alone (coming_may_run moving)
       ∙ ap (λ cs. call_of patch place Pre (script_for Pre cs) ++ call_of patch place PostUn (script_for PostUn cs)
       ++ cond (moves moving patch) [] (call_of patch place Post (script_for Post cs)) ++ cond (moves moving patch) [] (call_of patch place PreUn (script_for PreUn cs))) part.there
 
   -- the status with which it refuses
-  pub tells : option_map (λ status. (patch, status)) (refusal_of (status_of (script_at catalog patch place Pre))) ≡ option_map refusal (find part_refuses (parts_at catalog object patch))
-  tells =
+  pub has_effect : option_map (λ status. (patch, status)) (refusal_of (status_of (script_at catalog patch place Pre))) ≡ option_map refusal (find part_refuses (parts_at catalog object patch))
+  has_effect =
       ap (λ cs. option_map (λ status. (patch, status)) (refusal_of (status_of (script_for Pre cs)))) (sym part.there)
       ∙ by (is_success (status_of (script_for Pre part.own.callbacks))) (is_refusing (script_for Pre part.own.callbacks)) (refusing-status (script_for Pre part.own.callbacks))
       ∙ ap (λ parts. option_map refusal (find part_refuses parts)) (sym part.only)

@@ -14,11 +14,11 @@ use Rattle.klp_types.specs.Records.{RecordList}
 use Rattle.klp_types.specs.World.{World}
 use Rattle.klp_types.specs.Script.{alloc_count}
 use Rattle.klp_types.specs.Callbacks.{Call}
-use Rattle.klp_model.specs.ModuleCalls.{Part, part_call, still_call, brought, let_go, part_refuses, parts_before, refused_parts, coming_calls, going_calls}
+use Rattle.klp_model.specs.ModuleCalls.{Part, part_call, still_call, part_coming, part_going, part_refuses, parts_before, refused_parts, coming_calls, going_calls}
 use Rattle.klp_model.specs.EventCalls.{coming_may_run, going_may_run}
 use Rattle.klp_catalog.specs.Catalog.{Catalog}
 use Rattle.klp_patch.specs.ModuleShares.{parts_at, parts_in}
-use Rattle.klp_patch.specs.Brought.{bring_calls, refusal}
+use Rattle.klp_patch.specs.UntilRefused.{calls_until_refused, refusal}
 use Rattle.klp_patch.specs.Calls.{HaveRun, HasRoomFor}
 use Rattle.klp_patch.proofs.CallLemmas.{drop_past}
 use Rattle.klp_patch.proofs.RanLemmas.{SoFar}
@@ -52,9 +52,9 @@ unless_found None xs = xs
 unless_found (Some part) xs = []
 
 module _ (moving : Option Transition) where
-  pub bring-append : (xs ys : List Part) → bring_calls moving (xs ++ ys) ≡ bring_calls moving xs ++ unless_found (find part_refuses xs) (bring_calls moving ys)
-  bring-append [] ys = refl
-  bring-append (x ∷ xs) ys = by (bring-append xs ys) (part_refuses x)
+  pub part_coming-append : (xs ys : List Part) → calls_until_refused moving (xs ++ ys) ≡ calls_until_refused moving xs ++ unless_found (find part_refuses xs) (calls_until_refused moving ys)
+  part_coming-append [] ys = refl
+  part_coming-append (x ∷ xs) ys = by (part_coming-append xs ys) (part_refuses x)
     where
       own : List Call
       own = part_call Pre x
@@ -62,14 +62,14 @@ module _ (moving : Option Transition) where
       still : List Call
       still = still_call moving Post x
 
-      by : bring_calls moving (xs ++ ys) ≡ bring_calls moving xs ++ unless_found (find part_refuses xs) (bring_calls moving ys)
-          → (refuses : Bool) → own ++ cond refuses [] (still ++ bring_calls moving (xs ++ ys))
-          ≡ (own ++ cond refuses [] (still ++ bring_calls moving xs)) ++ unless_found (cond refuses (Some x) (find part_refuses xs)) (bring_calls moving ys)
+      by : calls_until_refused moving (xs ++ ys) ≡ calls_until_refused moving xs ++ unless_found (find part_refuses xs) (calls_until_refused moving ys)
+          → (refuses : Bool) → own ++ cond refuses [] (still ++ calls_until_refused moving (xs ++ ys))
+          ≡ (own ++ cond refuses [] (still ++ calls_until_refused moving xs)) ++ unless_found (cond refuses (Some x) (find part_refuses xs)) (calls_until_refused moving ys)
       by rest true = sym (append-nil (own ++ []))
       by rest false =
           ap (λ calls. own ++ (still ++ calls)) rest
-          ∙ ap (λ calls. own ++ calls) (sym (append_assoc still (bring_calls moving xs) (unless_found (find part_refuses xs) (bring_calls moving ys))))
-          ∙ sym (append_assoc own (still ++ bring_calls moving xs) (unless_found (find part_refuses xs) (bring_calls moving ys)))
+          ∙ ap (λ calls. own ++ calls) (sym (append_assoc still (calls_until_refused moving xs) (unless_found (find part_refuses xs) (calls_until_refused moving ys))))
+          ∙ sym (append_assoc own (still ++ calls_until_refused moving xs) (unless_found (find part_refuses xs) (calls_until_refused moving ys)))
 
 pub before-append : (xs ys : List Part) → parts_before (xs ++ ys) ≡ parts_before xs ++ unless_found (find part_refuses xs) (parts_before ys)
 before-append [] ys = refl
@@ -97,12 +97,12 @@ refused_call (Some part) = part_call Pre part
 -- the clean-up, where one refused
 abbrev clean_up : Option Transition → List Part → Option Part → List Call
 clean_up moving before None = []
-clean_up moving before (Some part) = flat_map (let_go moving) before
+clean_up moving before (Some part) = flat_map (part_going moving) before
 
 module _ (moving : Option Transition) where
-  bring-parts : (parts : List Part) → flat_map (brought moving) (parts_before parts) ++ refused_call (find part_refuses parts) ≡ bring_calls moving parts
-  bring-parts [] = refl
-  bring-parts (x ∷ xs) = by (bring-parts xs) (part_refuses x)
+  part_coming-parts : (parts : List Part) → flat_map (part_coming moving) (parts_before parts) ++ refused_call (find part_refuses parts) ≡ calls_until_refused moving parts
+  part_coming-parts [] = refl
+  part_coming-parts (x ∷ xs) = by (part_coming-parts xs) (part_refuses x)
     where
       own : List Call
       own = part_call Pre x
@@ -110,32 +110,32 @@ module _ (moving : Option Transition) where
       still : List Call
       still = still_call moving Post x
 
-      by : flat_map (brought moving) (parts_before xs) ++ refused_call (find part_refuses xs) ≡ bring_calls moving xs
-          → (refuses : Bool) → flat_map (brought moving) (cond refuses [] (x ∷ parts_before xs)) ++ refused_call (cond refuses (Some x) (find part_refuses xs))
-          ≡ own ++ cond refuses [] (still ++ bring_calls moving xs)
+      by : flat_map (part_coming moving) (parts_before xs) ++ refused_call (find part_refuses xs) ≡ calls_until_refused moving xs
+          → (refuses : Bool) → flat_map (part_coming moving) (cond refuses [] (x ∷ parts_before xs)) ++ refused_call (cond refuses (Some x) (find part_refuses xs))
+          ≡ own ++ cond refuses [] (still ++ calls_until_refused moving xs)
       by rest true = sym (append-nil own)
       by rest false =
-          append_assoc (own ++ still) (flat_map (brought moving) (parts_before xs)) (refused_call (find part_refuses xs))
-          ∙ ap (λ calls. (own ++ still) ++ calls) rest ∙ append_assoc own still (bring_calls moving xs)
+          append_assoc (own ++ still) (flat_map (part_coming moving) (parts_before xs)) (refused_call (find part_refuses xs))
+          ∙ ap (λ calls. (own ++ still) ++ calls) rest ∙ append_assoc own still (calls_until_refused moving xs)
 
   refused-halves : (before : List Part) (found : Option Part) → refused_parts moving before found ≡ refused_call found ++ clean_up moving before found
   refused-halves before None = refl
   refused-halves before (Some part) = refl
 
-  coming-halves : (parts : List Part) → coming_calls moving parts ≡ bring_calls moving parts ++ clean_up moving (parts_before parts) (find part_refuses parts)
+  coming-halves : (parts : List Part) → coming_calls moving parts ≡ calls_until_refused moving parts ++ clean_up moving (parts_before parts) (find part_refuses parts)
   coming-halves parts =
-      ap (λ calls. flat_map (brought moving) (parts_before parts) ++ calls) (refused-halves (parts_before parts) (find part_refuses parts))
-      ∙ sym (append_assoc (flat_map (brought moving) (parts_before parts)) (refused_call (find part_refuses parts)) (clean_up moving (parts_before parts) (find part_refuses parts)))
-      ∙ ap (λ calls. calls ++ clean_up moving (parts_before parts) (find part_refuses parts)) (bring-parts parts)
+      ap (λ calls. flat_map (part_coming moving) (parts_before parts) ++ calls) (refused-halves (parts_before parts) (find part_refuses parts))
+      ∙ sym (append_assoc (flat_map (part_coming moving) (parts_before parts)) (refused_call (find part_refuses parts)) (clean_up moving (parts_before parts) (find part_refuses parts)))
+      ∙ ap (λ calls. calls ++ clean_up moving (parts_before parts) (find part_refuses parts)) (part_coming-parts parts)
 
   -- none refuses
-  pub coming-passed : (parts : List Part) → find part_refuses parts ≡ None → coming_calls moving parts ≡ bring_calls moving parts
-  coming-passed parts none = coming-halves parts ∙ ap (λ found. bring_calls moving parts ++ clean_up moving (parts_before parts) found) none ∙ append-nil (bring_calls moving parts)
+  pub coming-passed : (parts : List Part) → find part_refuses parts ≡ None → coming_calls moving parts ≡ calls_until_refused moving parts
+  coming-passed parts none = coming-halves parts ∙ ap (λ found. calls_until_refused moving parts ++ clean_up moving (parts_before parts) found) none ∙ append-nil (calls_until_refused moving parts)
 
   -- one refuses
   pub coming-refused : (parts : List Part) (part : Part) → find part_refuses parts ≡ Some part
-      → coming_calls moving parts ≡ bring_calls moving parts ++ going_calls moving (parts_before parts)
-  coming-refused parts part is = coming-halves parts ∙ ap (λ found. bring_calls moving parts ++ clean_up moving (parts_before parts) found) is
+      → coming_calls moving parts ≡ calls_until_refused moving parts ++ going_calls moving (parts_before parts)
+  coming-refused parts part is = coming-halves parts ∙ ap (λ found. calls_until_refused moving parts ++ clean_up moving (parts_before parts) found) is
 
   -- ---- what they may add and note
 
@@ -144,7 +144,7 @@ module _ (moving : Option Transition) where
   going-weight weight (x ∷ xs) =
       omega (
         arith,
-        sum_by-append weight (let_go moving x) (going_calls moving xs),
+        sum_by-append weight (part_going moving x) (going_calls moving xs),
         sum_by-append weight (still_call moving PreUn x) (part_call PostUn x),
         sum_by-append weight (going_may_run moving x) (flat_map (going_may_run moving) xs),
         sum_by-append weight (part_call PostUn x) (still_call moving PreUn x),
@@ -152,7 +152,7 @@ module _ (moving : Option Transition) where
       )
 
   pub coming-weight : (weight : Call → ℕ) (parts : List Part)
-      → sum_by weight (bring_calls moving parts) + sum_by weight (going_calls moving (parts_before parts)) ≤ sum_by weight (flat_map (coming_may_run moving) parts)
+      → sum_by weight (calls_until_refused moving parts) + sum_by weight (going_calls moving (parts_before parts)) ≤ sum_by weight (flat_map (coming_may_run moving) parts)
   coming-weight weight [] = omega arith
   coming-weight weight (x ∷ xs) = by (coming-weight weight xs) (part_refuses x)
     where
@@ -179,17 +179,17 @@ module _ (moving : Option Transition) where
             sum_by-append weight pre post_un,
           )
 
-      by : sum_by weight (bring_calls moving xs) + sum_by weight (going_calls moving (parts_before xs)) ≤ sum_by weight (flat_map (coming_may_run moving) xs)
-          → (refuses : Bool) → sum_by weight (pre ++ cond refuses [] (post ++ bring_calls moving xs)) + sum_by weight (going_calls moving (cond refuses [] (x ∷ parts_before xs)))
+      by : sum_by weight (calls_until_refused moving xs) + sum_by weight (going_calls moving (parts_before xs)) ≤ sum_by weight (flat_map (coming_may_run moving) xs)
+          → (refuses : Bool) → sum_by weight (pre ++ cond refuses [] (post ++ calls_until_refused moving xs)) + sum_by weight (going_calls moving (cond refuses [] (x ∷ parts_before xs)))
           ≤ sum_by weight (coming_may_run moving x ++ flat_map (coming_may_run moving) xs)
       by rest true = omega (arith, own, sum_by-append weight pre [])
       by rest false =
           omega (
             arith,
             own,
-            sum_by-append weight pre (post ++ bring_calls moving xs),
-            sum_by-append weight post (bring_calls moving xs),
-            sum_by-append weight (let_go moving x) (going_calls moving (parts_before xs)),
+            sum_by-append weight pre (post ++ calls_until_refused moving xs),
+            sum_by-append weight post (calls_until_refused moving xs),
+            sum_by-append weight (part_going moving x) (going_calls moving (parts_before xs)),
             sum_by-append weight pre_un post_un,
             rest,
           )
@@ -224,15 +224,15 @@ module _ (moving : Option Transition) (first now : Catalog) (object : ℕ) (patc
   next = parts-next first object patches k patch below is ∙ ap (λ parts. parts ++ behind) (sym same)
 
   pub going-next : going_calls moving left ≡ going_calls moving own ++ going_calls moving behind
-  going-next = ap (going_calls moving) next ∙ flat_map-append (let_go moving) own behind
+  going-next = ap (going_calls moving) next ∙ flat_map-append (part_going moving) own behind
 
-  pub bring-next : bring_calls moving left ≡ bring_calls moving own ++ unless_found (find part_refuses own) (bring_calls moving behind)
-  bring-next = ap (bring_calls moving) next ∙ bring-append moving own behind
+  pub part_coming-next : calls_until_refused moving left ≡ calls_until_refused moving own ++ unless_found (find part_refuses own) (calls_until_refused moving behind)
+  part_coming-next = ap (calls_until_refused moving) next ∙ part_coming-append moving own behind
 
   -- it doesn't refuse
   module _ (none : find part_refuses own ≡ None) where
-    pub passed-calls : bring_calls moving left ≡ bring_calls moving own ++ bring_calls moving behind
-    passed-calls = bring-next ∙ ap (λ found. bring_calls moving own ++ unless_found found (bring_calls moving behind)) none
+    pub passed-calls : calls_until_refused moving left ≡ calls_until_refused moving own ++ calls_until_refused moving behind
+    passed-calls = part_coming-next ∙ ap (λ found. calls_until_refused moving own ++ unless_found found (calls_until_refused moving behind)) none
 
     pub passed-refused : find part_refuses left ≡ find part_refuses behind
     passed-refused = ap (find part_refuses) next ∙ find-append part_refuses own behind ∙ ap (λ found. option_or found (find part_refuses behind)) none
@@ -248,8 +248,8 @@ module _ (moving : Option Transition) (first now : Catalog) (object : ℕ) (patc
 
   -- it refuses
   module _ (part : Part) (found : find part_refuses own ≡ Some part) where
-    pub stopped-calls : bring_calls moving left ≡ bring_calls moving own ++ []
-    stopped-calls = bring-next ∙ ap (λ refusing. bring_calls moving own ++ unless_found refusing (bring_calls moving behind)) found
+    pub stopped-calls : calls_until_refused moving left ≡ calls_until_refused moving own ++ []
+    stopped-calls = part_coming-next ∙ ap (λ refusing. calls_until_refused moving own ++ unless_found refusing (calls_until_refused moving behind)) found
 
     pub stopped-refused : find part_refuses left ≡ Some part
     stopped-refused = ap (find part_refuses) next ∙ find-append part_refuses own behind ∙ ap (λ refusing. option_or refusing (find part_refuses behind)) found
@@ -276,16 +276,16 @@ module _ (moving : Option Transition) (parts : List Part) (world : World) (log :
       record { variables = omega (arith, allocs, room.variables); records = omega (arith, records, room.records) }
 
   module _ (room : HasRoomFor world log (flat_map (coming_may_run moving) parts)) where
-    pub room_to_bring : HasRoomFor world log (bring_calls moving parts)
-    room_to_bring =
+    pub room_to_coming : HasRoomFor world log (calls_until_refused moving parts)
+    room_to_coming =
         let allocs = coming-weight moving (λ (c : Call). alloc_count c.script.edits) parts in
         let records = coming-weight moving (λ (c : Call). length c.script.edits + alloc_count c.script.edits) parts in
         record { variables = omega (arith, allocs, room.variables); records = omega (arith, records, room.records) }
 
     -- once they came as far as they do, those before the one that refuses have room to be cleaned up
-    pub room_to_clean : (first now : Catalog) (later : World) (noted : RecordList) → HaveRun first now world later log noted (bring_calls moving parts)
-        → HasRoomFor later noted (going_calls moving (parts_before parts))
-    room_to_clean first now later noted ran =
+    pub room_to_clean : (first now : Catalog) (later : World) (logged : RecordList) → HaveRun first now world later log logged (calls_until_refused moving parts)
+        → HasRoomFor later logged (going_calls moving (parts_before parts))
+    room_to_clean first now later logged ran =
         let allocs = coming-weight moving (λ (c : Call). alloc_count c.script.edits) parts in
         let records = coming-weight moving (λ (c : Call). length c.script.edits + alloc_count c.script.edits) parts in
         record { variables = omega (arith, allocs, room.variables, ran.variables); records = omega (arith, records, room.records, ran.records, ran.room) }

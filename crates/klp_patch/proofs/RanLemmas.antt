@@ -14,10 +14,10 @@ use Rattle.klp_types.specs.Setting.{PatchObject}
 use Rattle.klp_types.specs.World.{World}
 use Rattle.klp_types.specs.Script.{Script, alloc_count, effect, is_success}
 use Rattle.klp_types.specs.Callbacks.{Call, script_for, call_of, calls_of, refuses, allocs_of, after_calls}
-use Rattle.klp_world.specs.Noted.{noting, rows_of_script}
+use Rattle.klp_world.specs.StoredEvent.{noting, rows_of_script}
 use Rattle.klp_world.specs.Changes.{HasRoom}
-use Rattle.klp_world.specs.Undo.{undone, TellChanges}
-use Rattle.klp_world.proofs.ToldLemmas.{told_both}
+use Rattle.klp_world.specs.Undo.{undone, HaveEffects}
+use Rattle.klp_world.proofs.EffectLemmas.{effective_both}
 use Rattle.klp_catalog.specs.Catalog.{Catalog}
 use Rattle.klp_catalog.specs.Runs.{after_runs, objects_at, rows_if, RunsAddUp}
 use Rattle.klp_modules.specs.Names.{ModuleTable}
@@ -39,10 +39,10 @@ none_ran catalog world log = record {
   installed = refl;
   variables = omega arith;
   rows = [];
-  noted = sym (ap (λ (rows : List Record). record log { noted = rows }) (append-nil log.noted));
+  logged = sym (ap (λ (rows : List Record). record log { logged = rows }) (append-nil log.logged));
   of_world = All-nil OfWorld;
   undo = refl;
-  told = tt;
+  effective = tt;
   records = omega arith;
   room = refl;
 }
@@ -59,10 +59,10 @@ then_ran adds first next last w0 w1 w2 l0 l1 l2 xs ys old new =
       installed = new.installed ∙ old.installed;
       variables = omega (arith, allocs, old.variables, new.variables);
       rows = old.rows ++ new.rows;
-      noted = new.noted ∙ ap (λ (l : RecordList). noting l new.rows) old.noted ∙ ap (λ (rows : List Record). record l0 { noted = rows }) (append_assoc l0.noted old.rows new.rows);
+      logged = new.logged ∙ ap (λ (l : RecordList). noting l new.rows) old.logged ∙ ap (λ (rows : List Record). record l0 { logged = rows }) (append_assoc l0.logged old.rows new.rows);
       of_world = All-append OfWorld old.rows new.rows old.of_world new.of_world;
       undo = undone-append w2 old.rows new.rows ∙ ap (λ (w : World). undone w old.rows) new.undo ∙ old.undo;
-      told = told_both w2 old.rows new.rows (subst (λ (w : World). TellChanges w old.rows) (sym new.undo) old.told) new.told;
+      effective = effective_both w2 old.rows new.rows (subst (λ (w : World). HaveEffects w old.rows) (sym new.undo) old.effective) new.effective;
       records = omega (arith, records, old.records, new.records);
       room = new.room ∙ old.room;
     }
@@ -126,39 +126,39 @@ pub room_fits : RecordsAreFew → (patch place : ℕ) (which : Which) (world : W
     → IfSome script (λ (s : Script). HasRoom world log (alloc_count s.edits) (rows_of_script patch world s))
 room_fits few patch place which world log None calls is room = tt
 room_fits few patch place which world log (Some script) calls is room =
-    let noted = ap records_of is in
+    let logged = ap records_of is in
     let added = ap allocs_of is in
     let own = few patch world script in
     record {
       variables = omega (arith, added, room.variables);
-      records = omega (arith, noted, own, room.records);
+      records = omega (arith, logged, own, room.records);
     }
 
-pub one_ran : VariablesAreFew → RecordsAreFew → PatchesStay → (before after : Catalog) (patch place : ℕ) (which : Which) (world changed : World) (log noted : RecordList)
+pub one_ran : VariablesAreFew → RecordsAreFew → PatchesStay → (before after : Catalog) (patch place : ℕ) (which : Which) (world changed : World) (log logged : RecordList)
     (script : Option Script)
     → after ≡ after_runs before (call_of patch place which script)
     → changed ≡ after_calls world (call_of patch place which script)
-    → noted ≡ noting log (rows_if patch world script) → undone changed (rows_if patch world script) ≡ world → TellChanges changed (rows_if patch world script)
-    → HaveRun before after world changed log noted (call_of patch place which script)
-one_ran few_variables few_records stay before after patch place which world changed log noted None counted did notes back told =
+    → logged ≡ noting log (rows_if patch world script) → undone changed (rows_if patch world script) ≡ world → HaveEffects changed (rows_if patch world script)
+    → HaveRun before after world changed log logged (call_of patch place which script)
+one_ran few_variables few_records stay before after patch place which world changed log logged None counted did notes back effective =
     let same = ap (λ (w : World). finite.len w.shadow) did in
-    let count = ap (λ (l : RecordList). length l.noted) notes ∙ ap length (append-nil log.noted) in
+    let count = ap (λ (l : RecordList). length l.logged) notes ∙ ap length (append-nil log.logged) in
     record {
       catalog = counted;
       world = did;
       installed = ap patches_in did;
       variables = omega (arith, same);
       rows = [];
-      noted = notes;
+      logged = notes;
       of_world = of_script patch world None;
       undo = back;
-      told = told;
+      effective = effective;
       records = omega (arith, same, count);
       room = ap (λ (l : RecordList). l.room) notes;
     }
-one_ran few_variables few_records stay before after patch place which world changed log noted (Some script) counted did notes back told =
+one_ran few_variables few_records stay before after patch place which world changed log logged (Some script) counted did notes back effective =
     let same = ap (λ (w : World). finite.len w.shadow) did in
-    let count = ap (λ (l : RecordList). length l.noted) notes ∙ length-append log.noted (rows_of_script patch world script) in
+    let count = ap (λ (l : RecordList). length l.logged) notes ∙ length-append log.logged (rows_of_script patch world script) in
     let variables = few_variables patch world script in
     let records = few_records patch world script in
     record {
@@ -167,10 +167,10 @@ one_ran few_variables few_records stay before after patch place which world chan
       installed = ap patches_in did ∙ stay patch world script;
       variables = omega (arith, same, variables);
       rows = rows_of_script patch world script;
-      noted = notes;
+      logged = notes;
       of_world = of_script patch world (Some script);
       undo = back;
-      told = told;
+      effective = effective;
       records = omega (arith, same, count, records);
       room = ap (λ (l : RecordList). l.room) notes;
     }

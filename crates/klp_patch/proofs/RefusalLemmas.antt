@@ -40,9 +40,9 @@ module _ (patch : ℕ) (objects : List (ℕ × PatchObject)) where
         let short = pre_notes_few patch objects in
         record { variables = omega (arith, allocs, few, room.variables); records = omega (arith, records, short, room.records) }
 
-    pub room_to_clean : (first now : Catalog) (later : World) (noted : RecordList) → HaveRun first now world later log noted (pre_calls patch objects)
-        → HasRoomFor later noted (calls_of patch PostUn (before_first refuses objects))
-    room_to_clean first now later noted ran =
+    pub room_to_clean : (first now : Catalog) (later : World) (logged : RecordList) → HaveRun first now world later log logged (pre_calls patch objects)
+        → HasRoomFor later logged (calls_of patch PostUn (before_first refuses objects))
+    room_to_clean first now later logged ran =
         let allocs = allocs-append (calls_of patch Pre objects) (calls_of patch PostUn objects) in
         let records = records-append (calls_of patch Pre objects) (calls_of patch PostUn objects) in
         let few = pre_adds_few patch objects in

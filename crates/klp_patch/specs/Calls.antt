@@ -8,8 +8,8 @@ use Rattle.klp_types.specs.Records.{RecordList}
 use Rattle.klp_types.specs.Script.{alloc_count}
 use Rattle.klp_types.specs.World.{World}
 use Rattle.klp_types.specs.Callbacks.{Call, allocs_of, after_calls}
-use Rattle.klp_world.specs.Noted.{noting}
-use Rattle.klp_world.specs.Undo.{undone, is_of_world, TellChanges}
+use Rattle.klp_world.specs.StoredEvent.{noting}
+use Rattle.klp_world.specs.Undo.{undone, is_of_world, HaveEffects}
 use Rattle.klp_catalog.specs.Catalog.{Catalog}
 use Rattle.klp_catalog.specs.Runs.{after_runs}
 use Rattle.klp_patch.specs.Loaded.{patches_in}
@@ -34,19 +34,19 @@ pub record HaveRun (before after : Catalog) (world_before world_after : World) (
   pub installed : patches_in world_after ≡ patches_in world_before
   -- no more shadow variables are there than were before and are added
   pub variables : finite.len world_after.shadow ≤ finite.len world_before.shadow + allocs_of calls
-  -- each row that changed is noted as it was, as the newest, and no other row
+  -- each row that changed is logged as it was, as the newest, and no other row
   pub rows : List Record
-  pub noted : log_after ≡ noting log_before rows
+  pub logged : log_after ≡ noting log_before rows
   pub of_world : All (λ row. is_of_world row ≡ true) rows
   -- put back newest first, they give the world before
   pub undo : undone world_after rows ≡ world_before
   -- and each of them, in its turn, changes the world
-  pub told : TellChanges world_after rows
-  -- no more records are noted than those of the callbacks, and one for each shadow variable that is gone
-  pub records : length log_after.noted + finite.len world_after.shadow ≤ length log_before.noted + finite.len world_before.shadow + records_of calls
+  pub effective : HaveEffects world_after rows
+  -- no more records are logged than those of the callbacks, and one for each shadow variable that is gone
+  pub records : length log_after.logged + finite.len world_after.shadow ≤ length log_before.logged + finite.len world_before.shadow + records_of calls
   pub room : log_after.room ≡ log_before.room
 
 -- there is room for the shadow variables that callbacks add, and for the records that they note
 pub record HasRoomFor (world : World) (log : RecordList) (calls : List Call) : Type 0 where
   pub variables : finite.len world.shadow + allocs_of calls ≤ MAX_VARIABLES
-  pub records : length log.noted + finite.len world.shadow + records_of calls ≤ log.room
+  pub records : length log.logged + finite.len world.shadow + records_of calls ≤ log.room

@@ -11,7 +11,7 @@ use Rattle.klp_catalog.specs.States.{is_cumulative}
 use Rattle.klp_stack.specs.Stack.{entries_at, has_entry}
 use Rattle.klp_sites.specs.Table.{SiteTable, is_stacked}
 use Rattle.klp_sites.specs.Changes.{noting}
-use Rattle.klp_sites.specs.Undo.{is_of_sites, undone, tell_changes}
+use Rattle.klp_sites.specs.Undo.{is_of_sites, undone, have_effects}
 use Rattle.klp_patch.specs.Covered.{functions_in}
 
 -- what a patch puts on the entries of a site: its function, or a nop where it replaces and there are entries
@@ -42,14 +42,14 @@ hooked_count table = count_by is_stacked table.stacks
 abbrev pub most_entries : Catalog → ℕ → SiteTable → ℕ
 most_entries catalog patch table = length (functions_in catalog patch) + (if is_cumulative catalog patch then length table.stacks else 0)
 
--- the rows that changed are noted as they were, as the newest: no more than these many entries, and one for each site that is
+-- the rows that changed are logged as they were, as the newest: no more than these many entries, and one for each site that is
 -- hooked or unhooked. So many sites were hooked before, or are afterwards, and so many are afterwards, or were before.
 pub record Notes (before after : SiteTable) (log_before log_after : RecordList) (most from to : ℕ) : Type 0 where
   pub rows : List Record
-  pub noted : log_after ≡ noting log_before rows
+  pub logged : log_after ≡ noting log_before rows
   pub of_sites : All (λ row. is_of_sites row ≡ true) rows
   -- put back newest first, they give the table before
   pub undo : undone after rows ≡ before
   -- and each of them tells an entry or a hook that changed, so that it can be put back
-  pub told : tell_changes after rows ≡ true
+  pub effective : have_effects after rows ≡ true
   pub few : length rows + from ≤ most + to

@@ -7,4 +7,4 @@ pub mod Refusing
 pub mod Places
 pub mod Calls
 pub mod ModuleShares
-pub mod Brought
+pub mod UntilRefused

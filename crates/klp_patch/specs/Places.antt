@@ -17,10 +17,10 @@ abbrev pub still_at : Option Transition → Catalog → ℕ → ℕ → Which �
 still_at moving catalog patch place which = if moves moving patch then [] else call_at catalog patch place which
 
 -- the module comes: pre-patch, and, where that doesn't refuse, post-patch if the patch doesn't move
-abbrev pub bring_at : Option Transition → Catalog → ℕ → ℕ → List Call
-bring_at moving catalog patch place =
+abbrev pub coming_at : Option Transition → Catalog → ℕ → ℕ → List Call
+coming_at moving catalog patch place =
     call_at catalog patch place Pre ++ (if is_refusing (script_at catalog patch place Pre) then [] else still_at moving catalog patch place Post)
 
 -- it goes, or is cleaned up: pre-unpatch if the patch doesn't move, and post-unpatch
-abbrev pub let_go_at : Option Transition → Catalog → ℕ → ℕ → List Call
-let_go_at moving catalog patch place = still_at moving catalog patch place PreUn ++ call_at catalog patch place PostUn
+abbrev pub going_at : Option Transition → Catalog → ℕ → ℕ → List Call
+going_at moving catalog patch place = still_at moving catalog patch place PreUn ++ call_at catalog patch place PostUn

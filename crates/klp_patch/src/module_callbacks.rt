@@ -9,11 +9,11 @@ ghost use Rattle.klp_model.specs.Callbacks.{status_of};
 ghost use Rattle.klp_model.specs.ModuleCalls.{Part, part_refuses, parts_before, coming_calls, going_calls};
 ghost use Rattle.klp_model.specs.EventCalls.{coming_may_run, going_may_run};
 ghost use Rattle.klp_patch.specs.ModuleShares.{parts_in};
-ghost use Rattle.klp_patch.specs.Brought.{bring_calls, refusal};
+ghost use Rattle.klp_patch.specs.UntilRefused.{calls_until_refused, refusal};
 ghost use Rattle.klp_patch.specs.Calls.{HaveRun, HasRoomFor, records_of, are_some};
 
 use crate::module_share::{
-    allocs_to_bring, allocs_to_let_go, bring, let_go, may_run_to_bring, may_run_to_let_go,
+    a_coming_may_run, a_going_may_run, coming_allocs, going_allocs, part_coming, part_going,
 };
 use klp_catalog::Catalog;
 use klp_journal::Records;
@@ -36,7 +36,7 @@ pub fn allocs_of_coming(
 {
     let mut sum = 0;
     for &patch in installed {
-        sum += allocs_to_bring(catalog, patch, object, &moving);
+        sum += coming_allocs(catalog, patch, object, &moving);
     }
     sum
 }
@@ -55,7 +55,7 @@ pub fn allocs_of_going(
 {
     let mut sum = 0;
     for &patch in installed {
-        sum += allocs_to_let_go(catalog, patch, object, &moving);
+        sum += going_allocs(catalog, patch, object, &moving);
     }
     sum
 }
@@ -70,7 +70,7 @@ pub fn may_run_coming(
     ensures { result ≡ are_some (flat_map (coming_may_run moving) (parts_in catalog.now object installed.now)) }
 {
     for &patch in installed {
-        if may_run_to_bring(catalog, patch, object, &moving) {
+        if a_coming_may_run(catalog, patch, object, &moving) {
             return true;
         }
     }
@@ -87,7 +87,7 @@ pub fn may_run_going(
     ensures { result ≡ are_some (flat_map (going_may_run moving) (parts_in catalog.now object installed.now)) }
 {
     for &patch in installed {
-        if may_run_to_let_go(catalog, patch, object, &moving) {
+        if a_going_may_run(catalog, patch, object, &moving) {
             return true;
         }
     }
@@ -97,7 +97,7 @@ pub fn may_run_going(
 /// For each of these patches that has the module, pre-unpatch if the patch doesn't move, and post-unpatch.
 /// It is the going of a module, and also the cleaning up of one that was refused, since both undo what
 /// came.
-fn let_go_each(
+fn each_going(
     catalog: &mut Catalog,
     installed: &[PatchId],
     object: ObjId,
@@ -111,14 +111,14 @@ fn let_go_each(
 {
     klp_catalog::laws::runs_add_up();
     for &patch in installed {
-        let_go(catalog, patch, object, moving, world, log);
+        part_going(catalog, patch, object, moving, world, log);
     }
 }
 
 /// For each of these patches that has the module, pre-patch, and post-patch if the patch doesn't move; up
 /// to and with the first pre-patch that refuses. If one does, its place among these, before which the
 /// cleaning up stops, its patch and the status are answered.
-fn bring_each(
+fn each_coming(
     catalog: &mut Catalog,
     installed: &[PatchId],
     object: ObjId,
@@ -126,7 +126,7 @@ fn bring_each(
     world: &mut World,
     log: &mut Records,
 ) -> Option<(usize, PatchId, i32)>
-    requires { HasRoomFor world.old log.old (bring_calls moving.now (parts_in catalog.old object installed.now)) }
+    requires { HasRoomFor world.old log.old (calls_until_refused moving.now (parts_in catalog.old object installed.now)) }
     ensures refused { MatchOption result
         (find part_refuses (parts_in catalog.old object installed.now) ≡ None)
         (λ r. (r.0 ≤ length installed.now)
@@ -134,11 +134,11 @@ fn bring_each(
         × (parts_before (parts_in catalog.old object installed.now) ≡ parts_in catalog.old object
         (take r.0 installed.now))) }
     ensures ran { HaveRun catalog.old catalog.new world.old world.new log.old log.new
-        (bring_calls moving.now (parts_in catalog.old object installed.now)) }
+        (calls_until_refused moving.now (parts_in catalog.old object installed.now)) }
 {
     klp_catalog::laws::runs_add_up();
     for (end, &patch) in installed.iter().enumerate() {
-        if let Some(status) = bring(catalog, patch, object, moving, world, log) {
+        if let Some(status) = part_coming(catalog, patch, object, moving, world, log) {
             return Some((end, patch, status));
         }
     }
@@ -166,8 +166,8 @@ pub fn run_coming(
         (coming_calls moving (parts_in catalog.old object installed.now)) }
 {
     klp_catalog::laws::runs_add_up();
-    let (end, patch, status) = bring_each(catalog, installed, object, &moving, world, log)?;
-    let_go_each(catalog, &installed[..end], object, &moving, world, log);
+    let (end, patch, status) = each_coming(catalog, installed, object, &moving, world, log)?;
+    each_going(catalog, &installed[..end], object, &moving, world, log);
     Some((patch, status))
 }
 
@@ -187,5 +187,5 @@ pub fn run_going(
     ensures { HaveRun catalog.old catalog.new world.old world.new log.old log.new
         (going_calls moving (parts_in catalog.old object installed.now)) }
 {
-    let_go_each(catalog, installed, object, &moving, world, log);
+    each_going(catalog, installed, object, &moving, world, log);
 }

@@ -14,7 +14,7 @@ ghost use Rattle.klp_patch.specs.Refusing.{refusal_of};
 ghost use Rattle.klp_patch.specs.Places as places;
 ghost use Rattle.klp_patch.specs.Places.{call_at, still_at};
 ghost use Rattle.klp_patch.specs.ModuleShares.{parts_at};
-ghost use Rattle.klp_patch.specs.Brought.{bring_calls, refusal};
+ghost use Rattle.klp_patch.specs.UntilRefused.{calls_until_refused, refusal};
 ghost use Rattle.klp_patch.specs.Calls.{HaveRun, HasRoomFor, records_of, are_some};
 
 use crate::callback_run::run_at;
@@ -53,7 +53,7 @@ fn allocs_still(
 
 /// How many shadow variables the patch's callbacks that may run when the module comes add at most: all four
 /// kinds, since a patch behind this one may refuse and this one be cleaned up.
-pub(crate) fn allocs_to_bring(
+pub(crate) fn coming_allocs(
     catalog: &Catalog,
     patch: PatchId,
     object: ObjId,
@@ -78,7 +78,7 @@ pub(crate) fn allocs_to_bring(
 
 /// How many shadow variables the patch's callbacks that may run when the module goes add at most: the two
 /// kinds of leaving.
-pub(crate) fn allocs_to_let_go(
+pub(crate) fn going_allocs(
     catalog: &Catalog,
     patch: PatchId,
     object: ObjId,
@@ -112,7 +112,7 @@ fn has_still(
 }
 
 /// Whether the patch has a callback that may run when the module comes.
-pub(crate) fn may_run_to_bring(
+pub(crate) fn a_coming_may_run(
     catalog: &Catalog,
     patch: PatchId,
     object: ObjId,
@@ -133,7 +133,7 @@ pub(crate) fn may_run_to_bring(
 }
 
 /// Whether the patch has a callback that may run when the module goes.
-pub(crate) fn may_run_to_let_go(
+pub(crate) fn a_going_may_run(
     catalog: &Catalog,
     patch: PatchId,
     object: ObjId,
@@ -192,7 +192,7 @@ fn run_pre_at(
 
 /// Runs pre-patch, and post-patch if the patch doesn't move, for the object at this place. Where pre-patch
 /// refuses it runs alone, since nothing was set up, and its status is answered.
-fn bring_at(
+fn coming_at(
     catalog: &mut Catalog,
     patch: PatchId,
     place: u8,
@@ -200,10 +200,10 @@ fn bring_at(
     world: &mut World,
     log: &mut Records,
 ) -> Option<i32>
-    requires { HasRoomFor world.old log.old (places.bring_at moving.now catalog.old patch place) }
+    requires { HasRoomFor world.old log.old (places.coming_at moving.now catalog.old patch place) }
     ensures status { result ≡ refusal_of (status_of (script_at catalog.old patch place Pre)) }
     ensures ran { HaveRun catalog.old catalog.new world.old world.new log.old log.new
-        (places.bring_at moving.now catalog.old patch place) }
+        (places.coming_at moving.now catalog.old patch place) }
 {
     klp_catalog::laws::runs_add_up();
     match run_pre_at(catalog, patch, place, world, log) {
@@ -217,7 +217,7 @@ fn bring_at(
 
 /// Brings a module to one patch: where the patch has it, pre-patch runs for it, and post-patch if the patch
 /// doesn't move. Answers the status of a pre-patch that refuses.
-pub(crate) fn bring(
+pub(crate) fn part_coming(
     catalog: &mut Catalog,
     patch: PatchId,
     object: ObjId,
@@ -225,21 +225,21 @@ pub(crate) fn bring(
     world: &mut World,
     log: &mut Records,
 ) -> Option<i32>
-    requires { HasRoomFor world.old log.old (bring_calls moving.now (parts_at catalog.old object patch)) }
+    requires { HasRoomFor world.old log.old (calls_until_refused moving.now (parts_at catalog.old object patch)) }
     ensures refused { option_map (λ status. (patch, status)) result
         ≡ option_map refusal (find part_refuses (parts_at catalog.old object patch)) }
     // nothing of the patch comes before what refuses, since a patch has the module once
     ensures first { is_some result ≡ true → parts_before (parts_at catalog.old object patch) ≡ [] }
     ensures ran { HaveRun catalog.old catalog.new world.old world.new log.old log.new
-        (bring_calls moving.now (parts_at catalog.old object patch)) }
+        (calls_until_refused moving.now (parts_at catalog.old object patch)) }
 {
     let place = catalog.place(patch, object)?;
-    bring_at(catalog, patch, place, moving, world, log)
+    coming_at(catalog, patch, place, moving, world, log)
 }
 
 /// Runs pre-unpatch if the patch doesn't move, and post-unpatch, for the object at this place. One that
 /// moves gets post-unpatch alone, because it has run pre-unpatch already, or never post-patch.
-fn let_go_at(
+fn going_at(
     catalog: &mut Catalog,
     patch: PatchId,
     place: u8,
@@ -247,9 +247,9 @@ fn let_go_at(
     world: &mut World,
     log: &mut Records,
 )
-    requires { HasRoomFor world.old log.old (places.let_go_at moving.now catalog.old patch place) }
+    requires { HasRoomFor world.old log.old (places.going_at moving.now catalog.old patch place) }
     ensures { HaveRun catalog.old catalog.new world.old world.new log.old log.new
-        (places.let_go_at moving.now catalog.old patch place) }
+        (places.going_at moving.now catalog.old patch place) }
 {
     klp_catalog::laws::runs_add_up();
     run_still(catalog, patch, place, Which::PreUn, moving, world, log);
@@ -258,7 +258,7 @@ fn let_go_at(
 
 /// Lets a module go from one patch: where the patch has it, pre-unpatch runs for it if the patch doesn't
 /// move, and post-unpatch.
-pub(crate) fn let_go(
+pub(crate) fn part_going(
     catalog: &mut Catalog,
     patch: PatchId,
     object: ObjId,
@@ -271,6 +271,6 @@ pub(crate) fn let_go(
         (going_calls moving.now (parts_at catalog.old object patch)) }
 {
     if let Some(place) = catalog.place(patch, object) {
-        let_go_at(catalog, patch, place, moving, world, log);
+        going_at(catalog, patch, place, moving, world, log);
     }
 }

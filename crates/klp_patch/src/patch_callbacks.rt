@@ -12,8 +12,8 @@ ghost use Rattle.klp_patch.specs.Calls.{HaveRun, HasRoomFor, records_of, are_som
 
 use crate::callback_run::run_at;
 use klp_catalog::Catalog;
-use klp_modules::Modules;
 use klp_journal::Records;
+use klp_modules::Modules;
 use klp_types::{ObjId, PatchId, Which};
 use klp_world::World;
 

@@ -28,9 +28,9 @@ without_all patches entries = filter (λ (e : Entry). not (is_one_of e.patch pat
 abbrev pub where_covered : Bool → List ℕ → List Entry → List Entry
 where_covered covered patches entries = if covered then without_all patches entries else entries
 
--- the records that are noted, or are to be noted where these patches leave the sites
+-- the records that are logged, or are to be logged where these patches leave the sites
 abbrev pub budget : Catalog → SiteTable → RecordList → List ℕ → ℕ
-budget catalog table log patches = length log.noted + hooked_count table + 64 * length patches + 256 * count_by (is_cumulative catalog) patches
+budget catalog table log patches = length log.logged + hooked_count table + 64 * length patches + 256 * count_by (is_cumulative catalog) patches
 
 -- some of the patches have left the sites, and these are left
 pub record SoFar (catalog : Catalog) (first now : SiteTable) (log_first log_now : RecordList) (all left : List ℕ) : Type 0 where
@@ -98,14 +98,14 @@ next_so_far catalog first now after log_first log_now log_after all left patch s
       ∙ covered_more (is_covered first None site) patch left (entries_at now.stacks site)
       ∙ so.entries site;
   budget =
-      let noted = ap (λ (l : RecordList). length l.noted) notes.noted in
-      let both = length-append log_now.noted notes.rows in
+      let logged = ap (λ (l : RecordList). length l.logged) notes.logged in
+      let both = length-append log_now.logged notes.rows in
       let most = most_of (length (functions_in catalog patch)) (length now.stacks) (is_cumulative catalog patch) few sites in
       let spent = so.budget in
       let one = sum_by-cons (λ p. cond (is_cumulative catalog p) 1 0) patch left in
-      omega (arith, noted, both, notes.few, most, spent, one);
+      omega (arith, logged, both, notes.few, most, spent, one);
   back = λ rows. patch_back now after log_now log_after _ _ _ notes rows ∙ so.back rows;
-  room = ap (λ (l : RecordList). l.room) notes.noted ∙ so.room;
+  room = ap (λ (l : RecordList). l.room) notes.logged ∙ so.room;
 }
 
 pub few_functions : (catalog : Catalog) (patch : ℕ) (functions : List CatalogFunction) → map setting_function functions ≡ functions_in catalog patch → length functions ≤ 64

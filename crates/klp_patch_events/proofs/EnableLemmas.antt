@@ -69,15 +69,15 @@ world_then parts catalog patch =
     after_calls (with_patch parts.world patch (state_ids (setting_in parts catalog) patch)) (enable_calls patch (objects_in parts catalog patch))
 
 -- the object whose pre-patch refuses, and the status
-abbrev pub told : ℕ × PatchObject → ℕ × ℤ
-told object = (object.1.object, status_of (script_for Pre object.1.callbacks))
+abbrev pub effective : ℕ × PatchObject → ℕ × ℤ
+effective object = (object.1.object, status_of (script_for Pre object.1.callbacks))
 
-nothing_told : (found : Option (ℕ × PatchObject)) → None ≡ option_map told found → found ≡ None
-nothing_told None is = refl
-nothing_told (Some object) is = let no : ⊥ = cc in absurd no
+nothing_effective : (found : Option (ℕ × PatchObject)) → None ≡ option_map effective found → found ≡ None
+nothing_effective None is = refl
+nothing_effective (Some object) is = let no : ⊥ = cc in absurd no
 
-pub none_refused : (one other : List (ℕ × PatchObject)) → None ≡ option_map told (find refuses one) → one ≡ other → find refuses other ≡ None
-none_refused one other none same = nothing_told (find refuses other) (none ∙ ap (λ os. option_map told (find refuses os)) same)
+pub none_refused : (one other : List (ℕ × PatchObject)) → None ≡ option_map effective (find refuses one) → one ≡ other → find refuses other ≡ None
+none_refused one other none same = nothing_effective (find refuses other) (none ∙ ap (λ os. option_map effective (find refuses os)) same)
 
 pub record Refused (objects : List (ℕ × PatchObject)) (object : ℕ) (status : ℤ) : Type 0 where
   pub refusing : ℕ × PatchObject
@@ -85,17 +85,17 @@ pub record Refused (objects : List (ℕ × PatchObject)) (object : ℕ) (status 
   pub named : refusing.1.object ≡ object
   pub says : status_of (script_for Pre refusing.1.callbacks) ≡ status
 
-something_told : (object : ℕ) (status : ℤ) (objects : List (ℕ × PatchObject)) (found : Option (ℕ × PatchObject)) → find refuses objects ≡ found
-    → Some (object, status) ≡ option_map told found → Refused objects object status
-something_told object status objects None at is = let no : ⊥ = cc in absurd no
-something_told object status objects (Some refusing) at is =
-    let same : (◌≡◌ {A = ℕ × ℤ} (object, status) (told refusing)) = cc in
+something_effective : (object : ℕ) (status : ℤ) (objects : List (ℕ × PatchObject)) (found : Option (ℕ × PatchObject)) → find refuses objects ≡ found
+    → Some (object, status) ≡ option_map effective found → Refused objects object status
+something_effective object status objects None at is = let no : ⊥ = cc in absurd no
+something_effective object status objects (Some refusing) at is =
+    let same : (◌≡◌ {A = ℕ × ℤ} (object, status) (effective refusing)) = cc in
     record { refusing = refusing; found = at; named = sym (ap (λ (t : ℕ × ℤ). t.0) same); says = sym (ap (λ (t : ℕ × ℤ). t.1) same) }
 
-pub one_refused : (one other : List (ℕ × PatchObject)) (object : ℕ) (status : ℤ) → Some (object, status) ≡ option_map told (find refuses one) → one ≡ other
+pub one_refused : (one other : List (ℕ × PatchObject)) (object : ℕ) (status : ℤ) → Some (object, status) ≡ option_map effective (find refuses one) → one ≡ other
     → Refused other object status
 one_refused one other object status is same =
-    something_told object status other (find refuses other) refl (is ∙ ap (λ os. option_map told (find refuses os)) same)
+    something_effective object status other (find refuses other) refl (is ∙ ap (λ os. option_map effective (find refuses os)) same)
 
 pub same_reply : (patch one other : ℕ) (status result : ℤ) → one ≡ other → status ≡ result → PreFailed patch one status ≡ PreFailed patch other result
 same_reply patch one other status result same says = rw (same, says) refl

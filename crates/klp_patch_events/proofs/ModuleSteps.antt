@@ -21,7 +21,7 @@ use Rattle.klp_types.specs.Script.{alloc_count}
 use Rattle.klp_model.specs.Allowed.{AreKnown}
 use Rattle.klp_model.specs.Entries.{is_object_loaded, entries_of}
 use Rattle.klp_model.specs.EventCalls.{lacks_room, coming_may_run, going_may_run}
-use Rattle.klp_model.specs.ModuleCalls.{Part, part_call, still_call, brought, let_go, part_refuses, parts_before, refused_parts, coming_calls, going_calls}
+use Rattle.klp_model.specs.ModuleCalls.{Part, part_call, still_call, part_coming, part_going, part_refuses, parts_before, refused_parts, coming_calls, going_calls}
 use Rattle.klp_model.specs.declared.event.Event.TheVariants.{Coming, Going}
 use Rattle.klp_model.specs.declared.event.Reply.{Reply}
 use Rattle.klp_model.specs.declared.event.Reply.TheVariants.{PreFailed}
@@ -95,32 +95,32 @@ may_go setting state object free =
 both : (one other : List Call) → records_of (one ++ other) ≡ records_of one + records_of other
 both one other = sum_by-append (λ (c : Call). length c.script.edits + alloc_count c.script.edits) one other
 
-brought_few : (moving : Option Transition) (parts : List Part) → records_of (flat_map (brought moving) (parts_before parts)) ≤ records_of (flat_map (coming_may_run moving) parts)
-brought_few moving [] = omega arith
-brought_few moving (part ∷ parts) =
-    elim (part_refuses part) as (λ b. records_of (flat_map (brought moving) (if b then [] else part ∷ parts_before parts)) ≤ records_of (flat_map (coming_may_run moving) (part ∷ parts))) [
+part_coming_few : (moving : Option Transition) (parts : List Part) → records_of (flat_map (part_coming moving) (parts_before parts)) ≤ records_of (flat_map (coming_may_run moving) parts)
+part_coming_few moving [] = omega arith
+part_coming_few moving (part ∷ parts) =
+    elim (part_refuses part) as (λ b. records_of (flat_map (part_coming moving) (if b then [] else part ∷ parts_before parts)) ≤ records_of (flat_map (coming_may_run moving) (part ∷ parts))) [
       | true ↦ omega arith
       | false ↦
-          let own = both (brought moving part) (flat_map (brought moving) (parts_before parts)) in
+          let own = both (part_coming moving part) (flat_map (part_coming moving) (parts_before parts)) in
           let all = both (coming_may_run moving part) (flat_map (coming_may_run moving) parts) in
           let ran = both (part_call Pre part) (still_call moving Post part) in
           let may = both (part_call Pre part ++ part_call PostUn part ++ still_call moving Post part) (still_call moving PreUn part) in
           let may_2 = both (part_call Pre part ++ part_call PostUn part) (still_call moving Post part) in
           let may_3 = both (part_call Pre part) (part_call PostUn part) in
-          omega (arith, own, all, ran, may, may_2, may_3, brought_few moving parts)
+          omega (arith, own, all, ran, may, may_2, may_3, part_coming_few moving parts)
     ]
 
 -- where no pre-patch refuses
 pub coming_few : (moving : Option Transition) (parts : List Part) → find part_refuses parts ≡ None → records_of (coming_calls moving parts) ≤ records_of (flat_map (coming_may_run moving) parts)
 coming_few moving parts none =
-    let all = both (flat_map (brought moving) (parts_before parts)) (refused_parts moving (parts_before parts) (find part_refuses parts)) in
+    let all = both (flat_map (part_coming moving) (parts_before parts)) (refused_parts moving (parts_before parts) (find part_refuses parts)) in
     let last : records_of (refused_parts moving (parts_before parts) (find part_refuses parts)) ≡ 0 = ap (λ found. records_of (refused_parts moving (parts_before parts) found)) none in
-    omega (arith, all, last, brought_few moving parts)
+    omega (arith, all, last, part_coming_few moving parts)
 
 pub going_few : (moving : Option Transition) (parts : List Part) → records_of (going_calls moving parts) ≤ records_of (flat_map (going_may_run moving) parts)
 going_few moving [] = omega arith
 going_few moving (part ∷ parts) =
-    let own = both (let_go moving part) (flat_map (let_go moving) parts) in
+    let own = both (part_going moving part) (flat_map (part_going moving) parts) in
     let all = both (going_may_run moving part) (flat_map (going_may_run moving) parts) in
     let ran = both (still_call moving PreUn part) (part_call PostUn part) in
     let may = both (part_call PostUn part) (still_call moving PreUn part) in
@@ -132,21 +132,21 @@ pub none_found : {A B : Type 0} (f : A → B) (found : Option A) → None ≡ op
 none_found f None is = refl
 none_found f (Some x) is = let no : ⊥ = cc in absurd no
 
-pub refused_by : (state : State) (object : ℕ) (told : ℕ × ℤ) (found : Option Part)
-    → (◌≡◌ {A = Option (ℕ × ℤ)} (Some told) (option_map (λ (p : Part). (p.0, status_of (script_for Pre p.1.1.callbacks))) found))
-    → (◌≡◌ {A = Reply × State} (come_or_refused state object found) (PreFailed told.0 object told.1, state))
-refused_by state object told None is = let no : ⊥ = cc in absurd no
-refused_by state object told (Some part) is =
+pub refused_by : (state : State) (object : ℕ) (effective : ℕ × ℤ) (found : Option Part)
+    → (◌≡◌ {A = Option (ℕ × ℤ)} (Some effective) (option_map (λ (p : Part). (p.0, status_of (script_for Pre p.1.1.callbacks))) found))
+    → (◌≡◌ {A = Reply × State} (come_or_refused state object found) (PreFailed effective.0 object effective.1, state))
+refused_by state object effective None is = let no : ⊥ = cc in absurd no
+refused_by state object effective (Some part) is =
     let own : ℕ × ℤ = (part.0, status_of (script_for Pre part.1.1.callbacks)) in
-    let same : told ≡ own = cc in
+    let same : effective ≡ own = cc in
     ap (λ (p : ℕ × ℤ). (PreFailed p.0 object p.1, state)) (sym same)
 
 -- a status is kept in 32 bits
-pub told_as : (object patch : ℕ) (status : ℤ) (told : ℕ × ℤ) → (◌≡◌ {A = Option (ℕ × ℤ)} (Some told) (Some (patch, status))) → to_z w32 (of_z w32 status) ≡ status
-    → PreFailed told.0 object (to_z w32 (of_z w32 told.1)) ≡ PreFailed patch object status
-told_as object patch status told is stored =
+pub effective_as : (object patch : ℕ) (status : ℤ) (effective : ℕ × ℤ) → (◌≡◌ {A = Option (ℕ × ℤ)} (Some effective) (Some (patch, status))) → to_z w32 (of_z w32 status) ≡ status
+    → PreFailed effective.0 object (to_z w32 (of_z w32 effective.1)) ≡ PreFailed patch object status
+effective_as object patch status effective is stored =
     let own : ℕ × ℤ = (patch, status) in
-    let same : told ≡ own = cc in
+    let same : effective ≡ own = cc in
     ap (λ (p : ℕ × ℤ). PreFailed p.0 object (to_z w32 (of_z w32 p.1))) same ∙ ap (PreFailed patch object) stored
 
 -- the entries of a site, by which objects are loaded

@@ -31,7 +31,7 @@ same_objects parts catalog patch holds =
 
 -- callbacks that note few records find room where the records are emptied before
 pub room_for : (world : World) (log : RecordList) (calls : List Call) (most : ℕ) → ltb MAX_VARIABLES (finite.len world.shadow + allocs_of calls) ≡ false
-    → records_of calls ≤ most → most ≤ 3584 → length log.noted ≡ 0 → log.room ≡ MAX_RECORDS → HasRoomFor world log calls
+    → records_of calls ≤ most → most ≤ 3584 → length log.logged ≡ 0 → log.room ≡ MAX_RECORDS → HasRoomFor world log calls
 room_for world log calls most fits few short empty room =
     let variables = ltb-false MAX_VARIABLES (finite.len world.shadow + allocs_of calls) fits in
     record { variables = variables; records = omega (arith, variables, few, short, empty, room) }
@@ -46,27 +46,27 @@ records-append = sum_by-append (λ (c : Call). length c.script.edits + alloc_cou
 
 -- the same of a world with the same shadow variables
 pub room_with : (world : World) (log : RecordList) (calls : List Call) (shadow : ℕ) → finite.len world.shadow ≡ shadow
-    → ltb MAX_VARIABLES (shadow + allocs_of calls) ≡ false → records_of calls ≤ 512 → length log.noted ≤ 17 → log.room ≡ MAX_RECORDS → HasRoomFor world log calls
-room_with world log calls shadow same fits few noted room =
+    → ltb MAX_VARIABLES (shadow + allocs_of calls) ≡ false → records_of calls ≤ 512 → length log.logged ≤ 17 → log.room ≡ MAX_RECORDS → HasRoomFor world log calls
+room_with world log calls shadow same fits few logged room =
     let variables = ltb-false MAX_VARIABLES (shadow + allocs_of calls) fits in
-    record { variables = omega (arith, variables, same); records = omega (arith, variables, same, few, noted, room) }
+    record { variables = omega (arith, variables, same); records = omega (arith, variables, same, few, logged, room) }
 
--- of changes that set or clear few hooks few rows are noted
-pub few_noted : (before after : SiteTable) (one other : RecordList) (most : ℕ) → Notes before after one other most (hooked_count before) (hooked_count after)
-    → length after.stacks ≤ MAX_SITES → length other.noted ≤ length one.noted + most + MAX_SITES
-few_noted before after one other most notes sites =
-    let noted = ap (λ (l : RecordList). length l.noted) notes.noted in
-    let both = length-append one.noted notes.rows in
+-- of changes that set or clear few hooks few rows are logged
+pub few_logged : (before after : SiteTable) (one other : RecordList) (most : ℕ) → Notes before after one other most (hooked_count before) (hooked_count after)
+    → length after.stacks ≤ MAX_SITES → length other.logged ≤ length one.logged + most + MAX_SITES
+few_logged before after one other most notes sites =
+    let logged = ap (λ (l : RecordList). length l.logged) notes.logged in
+    let both = length-append one.logged notes.rows in
     let hooks = count_by-le-length is_stacked after.stacks in
-    omega (arith, noted, both, notes.few, hooks, sites)
+    omega (arith, logged, both, notes.few, hooks, sites)
 
-pub few_noted_back : (before after : SiteTable) (one other : RecordList) (most : ℕ) → Notes before after one other most (hooked_count after) (hooked_count before)
-    → length before.stacks ≤ MAX_SITES → length other.noted ≤ length one.noted + most + MAX_SITES
-few_noted_back before after one other most notes sites =
-    let noted = ap (λ (l : RecordList). length l.noted) notes.noted in
-    let both = length-append one.noted notes.rows in
+pub few_logged_back : (before after : SiteTable) (one other : RecordList) (most : ℕ) → Notes before after one other most (hooked_count after) (hooked_count before)
+    → length before.stacks ≤ MAX_SITES → length other.logged ≤ length one.logged + most + MAX_SITES
+few_logged_back before after one other most notes sites =
+    let logged = ap (λ (l : RecordList). length l.logged) notes.logged in
+    let both = length-append one.logged notes.rows in
     let hooks = count_by-le-length is_stacked before.stacks in
-    omega (arith, noted, both, notes.few, hooks, sites)
+    omega (arith, logged, both, notes.few, hooks, sites)
 
 -- how many entries a patch has at most
 pub most_at : (catalog : Catalog) (patch : ℕ) (table : SiteTable) → length (functions_in catalog patch) ≤ MAX_FUNCTIONS → length table.stacks ≤ MAX_SITES

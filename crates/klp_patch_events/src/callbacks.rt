@@ -14,58 +14,53 @@ use klp_patch::{has_callbacks, may_run_coming, may_run_going};
 use klp_types::{PatchId, Which, is_in_transition};
 
 /// Pre-patch, and post-unpatch where a pre-patch refuses.
-fn may_run_enabling(manager: &ManagerState, catalog: &Catalog, patch: PatchId) -> bool
-    requires { Invariant manager.now catalog.now }
-    ensures { result ≡ are_some (may_run_in manager.now catalog.now (Enable patch)) }
+fn may_run_enabling(state: &ManagerState, catalog: &Catalog, patch: PatchId) -> bool
+    requires { Invariant state.now catalog.now }
+    ensures { result ≡ are_some (may_run_in state.now catalog.now (Enable patch)) }
 {
-    let pre = has_callbacks(catalog, &manager.modules, patch, Which::Pre);
-    let post_un = has_callbacks(catalog, &manager.modules, patch, Which::PostUn);
+    let pre = has_callbacks(catalog, &state.modules, patch, Which::Pre);
+    let post_un = has_callbacks(catalog, &state.modules, patch, Which::PostUn);
     pre | post_un
 }
 
 /// Pre-unpatch, unless a transition turns round.
-fn may_run_setting(manager: &ManagerState, catalog: &Catalog, patch: PatchId, value: bool) -> bool
-    requires { Invariant manager.now catalog.now }
-    ensures { result ≡ are_some (may_run_in manager.now catalog.now (SetEnabled patch value)) }
+fn may_run_setting(state: &ManagerState, catalog: &Catalog, patch: PatchId, value: bool) -> bool
+    requires { Invariant state.now catalog.now }
+    ensures { result ≡ are_some (may_run_in state.now catalog.now (SetEnabled patch value)) }
 {
-    if is_in_transition(&manager.moving, patch) {
+    if is_in_transition(&state.moving, patch) {
         false
     } else {
-        has_callbacks(catalog, &manager.modules, patch, Which::PreUn)
+        has_callbacks(catalog, &state.modules, patch, Which::PreUn)
     }
 }
 
 /// What runs at the end of the transition, if there is one.
-fn may_run_polling(manager: &ManagerState, catalog: &Catalog) -> bool
-    requires { Invariant manager.now catalog.now }
-    ensures { result ≡ are_some (may_run_in manager.now catalog.now Poll) }
+fn may_run_polling(state: &ManagerState, catalog: &Catalog) -> bool
+    requires { Invariant state.now catalog.now }
+    ensures { result ≡ are_some (may_run_in state.now catalog.now Poll) }
 {
-    match manager.moving {
-        Some(moving) => has_callbacks(
-            catalog,
-            &manager.modules,
-            moving.patch,
-            end_of(moving.target),
-        ),
+    match state.moving {
+        Some(moving) => has_callbacks(catalog, &state.modules, moving.patch, end_of(moving.target)),
         None => false,
     }
 }
 
 /// Whether one of the callbacks is there that the event may run where nothing refuses it. They are those for which an
 /// event asks whether there is room. It costs as much as the objects of the patch, or of installed patches for a module.
-pub fn may_run(manager: &ManagerState, catalog: &Catalog, event: &Event) -> bool
-    requires { Invariant manager.now catalog.now }
-    ensures { result ≡ are_some (may_run_in manager.now catalog.now event.now) }
+pub fn may_run(state: &ManagerState, catalog: &Catalog, event: &Event) -> bool
+    requires { Invariant state.now catalog.now }
+    ensures { result ≡ are_some (may_run_in state.now catalog.now event.now) }
 {
     match *event {
-        Event::Enable(patch) => may_run_enabling(manager, catalog, patch),
-        Event::SetEnabled(patch, value) => may_run_setting(manager, catalog, patch, value),
-        Event::Poll => may_run_polling(manager, catalog),
+        Event::Enable(patch) => may_run_enabling(state, catalog, patch),
+        Event::SetEnabled(patch, value) => may_run_setting(state, catalog, patch, value),
+        Event::Poll => may_run_polling(state, catalog),
         Event::Coming(object) => {
-            may_run_coming(catalog, manager.world.installed(), object, manager.moving)
+            may_run_coming(catalog, state.world.installed(), object, state.moving)
         }
         Event::Going(object) => {
-            may_run_going(catalog, manager.world.installed(), object, manager.moving)
+            may_run_going(catalog, state.world.installed(), object, state.moving)
         }
         _ => false,
     }

@@ -24,7 +24,7 @@ ghost use Rattle.klp_manager_state.specs.Managed.{setting_in, state_in, refused_
 ghost use Rattle.klp_manager_state.specs.Invariant.{Invariant};
 ghost use Rattle.klp_manager_state.specs.Events.{TakesEvent, AcceptsEvent};
 ghost use Rattle.klp_patch_events.specs.Complete.{IsCompleted};
-ghost use Rattle.klp_manager_state.specs.Rows.{rows_before, rows_now, IsNoted};
+ghost use Rattle.klp_manager_state.specs.Rows.{rows_before, rows_now, IsLogged};
 
 use crate::replacing::{drop_older, older_than, unpatch_each};
 use klp_catalog::Catalog;
@@ -47,240 +47,233 @@ pub(crate) fn end_of(target: bool) -> Which
 /// target, and where no task lags it is completed. Nothing completes by itself, while a kernel tries
 /// every second; where there are no tasks the first try completes it (docs/DECISIONS.md, "When
 /// transitions complete").
-pub fn poll(manager: &mut ManagerState, catalog: &mut Catalog) -> Result<BriefReply, Refusal>
-    requires { Invariant manager.old catalog.old }
-    ensures taken { TakesEvent manager.old manager.new catalog.old catalog.new Poll result }
-    ensures noted { IsNoted manager.old manager.new result }
+pub fn poll(state: &mut ManagerState, catalog: &mut Catalog) -> Result<BriefReply, Refusal>
+    requires { Invariant state.old catalog.old }
+    ensures taken { TakesEvent state.old state.new catalog.old catalog.new Poll result }
+    ensures logged { IsLogged state.old state.new result }
 {
-    match poll_refusal(manager, catalog) {
+    match poll_refusal(state, catalog) {
         Some(refusal) => Err(refusal),
-        None => Ok(try_once_more(manager, catalog)),
+        None => Ok(try_once_more(state, catalog)),
     }
 }
 
 /// Why the transition isn't tried, if it isn't: the first reason that holds. Room is asked for also
 /// where a task will lag, since nobody knows before.
-pub fn poll_refusal(manager: &ManagerState, catalog: &Catalog) -> Option<Refusal>
-    requires { Invariant manager.now catalog.now }
-    ensures refusal { result ≡ refused_in manager.now catalog.now Poll }
-    ensures records { records_of (may_run_in manager.now catalog.now Poll) ≤ MAX_KIND_RECORDS }
+pub fn poll_refusal(state: &ManagerState, catalog: &Catalog) -> Option<Refusal>
+    requires { Invariant state.now catalog.now }
+    ensures refusal { result ≡ refused_in state.now catalog.now Poll }
+    ensures records { records_of (may_run_in state.now catalog.now Poll) ≤ MAX_KIND_RECORDS }
 {
-    let Some(moving) = manager.moving else {
+    let Some(moving) = state.moving else {
         return Some(Refusal::NotMoving);
     };
     // The sum over all callbacks of the end decides, before any of them runs (docs/DECISIONS.md,
     // "`Full` at the end of a transition").
-    let end = allocs(
-        catalog,
-        &manager.modules,
-        moving.patch,
-        end_of(moving.target),
-    );
-    if usize::from(manager.world.count()) + end > MAX_VARIABLES {
+    let end = allocs(catalog, &state.modules, moving.patch, end_of(moving.target));
+    if usize::from(state.world.count()) + end > MAX_VARIABLES {
         return Some(Refusal::Full);
     }
     None
 }
 
 /// A transition that nothing refuses is tried. A task that lags leaves all else as it was.
-fn try_once_more(manager: &mut ManagerState, catalog: &mut Catalog) -> BriefReply
-    requires kept { Invariant manager.old catalog.old }
-    requires free { refused_in manager.old catalog.old Poll ≡ None }
-    requires records { records_of (may_run_in manager.old catalog.old Poll) ≤ MAX_KIND_RECORDS }
-    ensures accepted { AcceptsEvent manager.old manager.new catalog.old catalog.new Poll result }
-    ensures noted { rows_before manager.new ≡ rows_now manager.old }
+fn try_once_more(state: &mut ManagerState, catalog: &mut Catalog) -> BriefReply
+    requires kept { Invariant state.old catalog.old }
+    requires free { refused_in state.old catalog.old Poll ≡ None }
+    requires records { records_of (may_run_in state.old catalog.old Poll) ≤ MAX_KIND_RECORDS }
+    ensures accepted { AcceptsEvent state.old state.new catalog.old catalog.new Poll result }
+    ensures logged { rows_before state.new ≡ rows_now state.old }
 {
     klp_manager_state::laws::steps_keep();
-    let Some(moving) = manager.moving else {
+    let Some(moving) = state.moving else {
         // Can't be: where nothing moves, the poll is refused.
         return BriefReply(Brief::Completed(false));
     };
-    let left = try_tasks(manager, catalog, &moving);
+    let left = try_tasks(state, catalog, &moving);
     if left > 0 {
         return BriefReply(Brief::Pending(left));
     }
-    complete(manager, catalog, &moving);
+    complete(state, catalog, &moving);
     BriefReply(Brief::Completed(moving.target))
 }
 
 /// Brings sleepers to the target that are inside of nothing blocked, and answers how many tasks lag
 /// then. What was logged before is forgotten, since an event begins here.
-fn try_tasks(manager: &mut ManagerState, catalog: &Catalog, moving: &Transition) -> u8
-    requires kept { Invariant manager.old catalog.now }
-    requires moving { manager.old.moving ≡ Some moving.now }
-    ensures parts { manager.new ≡ record manager.old {
-      tasks = tried (setting_in manager.old catalog.now) (state_in manager.old catalog.now) moving.now;
-      blocked = manager.new.blocked;
-      log = manager.new.log;
+fn try_tasks(state: &mut ManagerState, catalog: &Catalog, moving: &Transition) -> u8
+    requires kept { Invariant state.old catalog.now }
+    requires moving { state.old.moving ≡ Some moving.now }
+    ensures parts { state.new ≡ record state.old {
+      tasks = tried (setting_in state.old catalog.now) (state_in state.old catalog.now) moving.now;
+      blocked = state.new.blocked;
+      log = state.new.log;
     } }
-    ensures left { result ≡ pending (setting_in manager.old catalog.now) (state_in manager.old catalog.now) moving.now }
-    ensures kept { Invariant manager.new catalog.now }
-    ensures noted { rows_before manager.new ≡ rows_now manager.old }
-    ensures records { length manager.new.log.noted ≤ MAX_TASKS }
+    ensures left { result ≡ pending (setting_in state.old catalog.now) (state_in state.old catalog.now) moving.now }
+    ensures kept { Invariant state.new catalog.now }
+    ensures logged { rows_before state.new ≡ rows_now state.old }
+    ensures records { length state.new.log.logged ≤ MAX_TASKS }
 {
     klp_model::laws::where_none_lags_none_is_switched();
-    manager.log.clear();
-    if manager.tasks.lagging(moving.target) == 0 {
+    state.log.clear();
+    if state.tasks.lagging(moving.target) == 0 {
         return 0;
     }
-    switch_sleepers(manager, catalog, moving);
-    manager.tasks.lagging(moving.target)
+    switch_sleepers(state, catalog, moving);
+    state.tasks.lagging(moving.target)
 }
 
 /// Brings sleepers to the target that are inside of nothing blocked. The set of what is blocked is made
 /// anew, because entries and modules may have come or gone since the last try.
-fn switch_sleepers(manager: &mut ManagerState, catalog: &Catalog, moving: &Transition)
-    requires state { Allowed (setting_in manager.old catalog.now) (state_in manager.old catalog.now) }
-    requires limits { IsWithinLimits manager.old.sites.image.objects }
-    requires names { catalog.now.names ≡ names_of manager.old.sites.image.objects }
-    requires entries { (site : ℕ) → entries_at manager.old.sites.stacks site ≡ entries_in manager.old catalog.now site }
-    requires log { manager.old.log ≡ record manager.old.log { noted = []; room = MAX_RECORDS } }
-    ensures parts { manager.new ≡ record manager.old {
-      tasks = tried (setting_in manager.old catalog.now) (state_in manager.old catalog.now) moving.now;
-      blocked = manager.new.blocked;
-      log = manager.new.log;
+fn switch_sleepers(state: &mut ManagerState, catalog: &Catalog, moving: &Transition)
+    requires state { Allowed (setting_in state.old catalog.now) (state_in state.old catalog.now) }
+    requires limits { IsWithinLimits state.old.sites.image.objects }
+    requires names { catalog.now.names ≡ names_of state.old.sites.image.objects }
+    requires entries { (site : ℕ) → entries_at state.old.sites.stacks site ≡ entries_in state.old catalog.now site }
+    requires log { state.old.log ≡ record state.old.log { logged = []; room = MAX_RECORDS } }
+    ensures parts { state.new ≡ record state.old {
+      tasks = tried (setting_in state.old catalog.now) (state_in state.old catalog.now) moving.now;
+      blocked = state.new.blocked;
+      log = state.new.log;
     } }
-    ensures noted { rows_before manager.new ≡ rows_now manager.old }
-    ensures records { length manager.new.log.noted ≤ MAX_TASKS }
-    ensures log { manager.new.log.room ≡ MAX_RECORDS }
+    ensures logged { rows_before state.new ≡ rows_now state.old }
+    ensures records { length state.new.log.logged ≤ MAX_TASKS }
+    ensures log { state.new.log.room ≡ MAX_RECORDS }
 {
     klp_types::laws::entries_are_of_their_patches();
     klp_patch::laws::the_stacks_tell_what_is_blocked();
     klp_tasks::laws::records_are_few();
     prove!(usize::from(catalog.patches()) <= MAX_PATCHES);
-    prove!(manager.sites.sites() <= MAX_SITES);
-    block(&manager.sites, catalog, *moving, &mut manager.blocked);
-    manager
+    prove!(state.sites.sites() <= MAX_SITES);
+    block(&state.sites, catalog, *moving, &mut state.blocked);
+    state
         .tasks
-        .try_all(&manager.blocked, moving.target, &mut manager.log);
+        .try_all(&state.blocked, moving.target, &mut state.log);
 }
 
 /// Every task is at the target: the transition is complete. As in the kernel
 /// (`klp_complete_transition`) the entries go before the callbacks run, and these still find the
 /// patches that leave.
-fn complete(manager: &mut ManagerState, catalog: &mut Catalog, moving: &Transition)
-    requires kept { Invariant manager.old catalog.old }
-    requires moving { manager.old.moving ≡ Some moving.now }
-    requires variables { finite.len manager.old.world.shadow
-        + allocs_of (end_calls (setting_in manager.old catalog.old) (state_in manager.old catalog.old)
+fn complete(state: &mut ManagerState, catalog: &mut Catalog, moving: &Transition)
+    requires kept { Invariant state.old catalog.old }
+    requires moving { state.old.moving ≡ Some moving.now }
+    requires variables { finite.len state.old.world.shadow
+        + allocs_of (end_calls (setting_in state.old catalog.old) (state_in state.old catalog.old)
         (Some moving.now)) ≤ MAX_VARIABLES }
     requires calls { records_of
-        (end_calls (setting_in manager.old catalog.old) (state_in manager.old catalog.old) (Some moving.now)) ≤ MAX_KIND_RECORDS }
-    requires records { length manager.old.log.noted ≤ MAX_TASKS }
-    ensures completed { IsCompleted manager.old manager.new catalog.old catalog.new moving.now }
-    ensures noted { rows_before manager.new ≡ rows_before manager.old }
+        (end_calls (setting_in state.old catalog.old) (state_in state.old catalog.old) (Some moving.now)) ≤ MAX_KIND_RECORDS }
+    requires records { length state.old.log.logged ≤ MAX_TASKS }
+    ensures completed { IsCompleted state.old state.new catalog.old catalog.new moving.now }
+    ensures logged { rows_before state.new ≡ rows_before state.old }
 {
-    settle_sites(manager, catalog, moving);
+    settle_sites(state, catalog, moving);
     run_callbacks(
         catalog,
-        &manager.modules,
+        &state.modules,
         moving.patch,
         end_of(moving.target),
-        &mut manager.world,
-        &mut manager.log,
+        &mut state.world,
+        &mut state.log,
     );
-    settle_list(manager, catalog, moving);
-    rest(manager);
+    settle_list(state, catalog, moving);
+    rest(state);
 }
 
 /// Nothing moves any more: each task has the state -1, as `/proc/<pid>/patch_state` shows it at rest.
-fn rest(manager: &mut ManagerState)
-    requires moves { manager.old.moving ≢ None }
-    requires tasks { length manager.old.tasks ≡ MAX_TASKS }
-    requires records { length manager.old.log.noted ≤ RECORDS_AFTER_LIST }
-    requires log { manager.old.log.room ≡ MAX_RECORDS }
-    ensures parts { manager.new
-        ≡ record manager.old { tasks = all_in at_rest manager.old.tasks; moving = None; log = manager.new.log } }
-    ensures noted { rows_before manager.new ≡ rows_before manager.old }
-    ensures log { manager.new.log.room ≡ MAX_RECORDS }
+fn rest(state: &mut ManagerState)
+    requires moves { state.old.moving ≢ None }
+    requires tasks { length state.old.tasks ≡ MAX_TASKS }
+    requires records { length state.old.log.logged ≤ RECORDS_AFTER_LIST }
+    requires log { state.old.log.room ≡ MAX_RECORDS }
+    ensures parts { state.new
+        ≡ record state.old { tasks = all_in at_rest state.old.tasks; moving = None; log = state.new.log } }
+    ensures logged { rows_before state.new ≡ rows_before state.old }
+    ensures log { state.new.log.room ≡ MAX_RECORDS }
 {
     klp_tasks::laws::records_are_few();
-    manager
-        .tasks
-        .set_all(PatchState::UNDEFINED, &mut manager.log);
-    manager.set_moving(None);
+    state.tasks.set_all(PatchState::UNDEFINED, &mut state.log);
+    state.set_moving(None);
 }
 
 /// Leaves at the sites the entries of the patches that stay. A patch that came in without replacing
 /// anything changes no site now.
-fn settle_sites(manager: &mut ManagerState, catalog: &Catalog, moving: &Transition)
-    requires kept { Invariant manager.old catalog.now }
-    requires moving { manager.old.moving ≡ Some moving.now }
-    requires records { length manager.old.log.noted ≤ MAX_TASKS }
-    ensures parts { manager.new ≡ record manager.old { sites = manager.new.sites; log = manager.new.log } }
-    ensures image { manager.new.sites.image ≡ manager.old.sites.image }
-    ensures loaded { manager.new.sites.loaded ≡ manager.old.sites.loaded }
-    ensures entries { (site : ℕ) → entries_at manager.new.sites.stacks site
-        ≡ entries_of (setting_in manager.old catalog.now)
-        (with_world (state_in manager.old catalog.now)
-        (settled (setting_in manager.old catalog.now) manager.old.world moving.now)) site }
-    ensures noted { rows_before manager.new ≡ rows_before manager.old }
-    ensures records { length manager.new.log.noted ≤ RECORDS_AFTER_SITES }
-    ensures log { manager.new.log.room ≡ MAX_RECORDS }
+fn settle_sites(state: &mut ManagerState, catalog: &Catalog, moving: &Transition)
+    requires kept { Invariant state.old catalog.now }
+    requires moving { state.old.moving ≡ Some moving.now }
+    requires records { length state.old.log.logged ≤ MAX_TASKS }
+    ensures parts { state.new ≡ record state.old { sites = state.new.sites; log = state.new.log } }
+    ensures image { state.new.sites.image ≡ state.old.sites.image }
+    ensures loaded { state.new.sites.loaded ≡ state.old.sites.loaded }
+    ensures entries { (site : ℕ) → entries_at state.new.sites.stacks site
+        ≡ entries_of (setting_in state.old catalog.now)
+        (with_world (state_in state.old catalog.now)
+        (settled (setting_in state.old catalog.now) state.old.world moving.now)) site }
+    ensures logged { rows_before state.new ≡ rows_before state.old }
+    ensures records { length state.new.log.logged ≤ RECORDS_AFTER_SITES }
+    ensures log { state.new.log.room ≡ MAX_RECORDS }
 {
     klp_model::laws::a_patch_leaves_the_entries_of_the_others();
     klp_types::laws::entries_are_of_their_patches();
-    prove!(manager.sites.sites() <= MAX_SITES);
+    prove!(state.sites.sites() <= MAX_SITES);
     if !moving.target {
         prove!(catalog.functions(moving.patch).len() <= MAX_FUNCTIONS);
         unpatch_sites(
-            &mut manager.sites,
+            &mut state.sites,
             catalog,
             moving.patch,
             None,
-            &mut manager.log,
+            &mut state.log,
         );
     } else if catalog.is_cumulative(moving.patch) {
-        replace_sites(manager, catalog, moving);
+        replace_sites(state, catalog, moving);
     }
 }
 
 /// Takes the entries of the older patches away, and the nops of the patch that replaces them, which
 /// were there for nothing but these.
-fn replace_sites(manager: &mut ManagerState, catalog: &Catalog, moving: &Transition)
-    requires kept { Invariant manager.old catalog.now }
-    requires moving { manager.old.moving ≡ Some moving.now }
+fn replace_sites(state: &mut ManagerState, catalog: &Catalog, moving: &Transition)
+    requires kept { Invariant state.old catalog.now }
+    requires moving { state.old.moving ≡ Some moving.now }
     requires replaces { is_cumulative catalog.now moving.now.patch ≡ true }
-    requires records { length manager.old.log.noted ≤ MAX_TASKS }
-    ensures parts { manager.new ≡ record manager.old { sites = manager.new.sites; log = manager.new.log } }
-    ensures image { manager.new.sites.image ≡ manager.old.sites.image }
-    ensures loaded { manager.new.sites.loaded ≡ manager.old.sites.loaded }
-    ensures entries { (site : ℕ) → entries_at manager.new.sites.stacks site
-        ≡ entries_of (setting_in manager.old catalog.now)
-        (with_world (state_in manager.old catalog.now) (without_older true manager.old.world moving.now.patch)) site }
-    ensures noted { rows_before manager.new ≡ rows_before manager.old }
-    ensures records { length manager.new.log.noted ≤ RECORDS_AFTER_SITES }
-    ensures log { manager.new.log.room ≡ MAX_RECORDS }
+    requires records { length state.old.log.logged ≤ MAX_TASKS }
+    ensures parts { state.new ≡ record state.old { sites = state.new.sites; log = state.new.log } }
+    ensures image { state.new.sites.image ≡ state.old.sites.image }
+    ensures loaded { state.new.sites.loaded ≡ state.old.sites.loaded }
+    ensures entries { (site : ℕ) → entries_at state.new.sites.stacks site
+        ≡ entries_of (setting_in state.old catalog.now)
+        (with_world (state_in state.old catalog.now) (without_older true state.old.world moving.now.patch)) site }
+    ensures logged { rows_before state.new ≡ rows_before state.old }
+    ensures records { length state.new.log.logged ≤ RECORDS_AFTER_SITES }
+    ensures log { state.new.log.room ≡ MAX_RECORDS }
 {
     klp_model::laws::a_replacement_takes_the_older_entries_along();
     klp_model::laws::at_most_two_patches_replace();
     klp_types::laws::entries_are_of_their_patches();
-    prove!(manager.sites.sites() <= MAX_SITES);
-    let older = older_than(moving.patch, manager.world.installed());
-    unpatch_each(&mut manager.sites, catalog, older, &mut manager.log);
-    prove!(manager.sites.sites() <= MAX_SITES);
-    drop_nops(&mut manager.sites, moving.patch, &mut manager.log);
+    prove!(state.sites.sites() <= MAX_SITES);
+    let older = older_than(moving.patch, state.world.installed());
+    unpatch_each(&mut state.sites, catalog, older, &mut state.log);
+    prove!(state.sites.sites() <= MAX_SITES);
+    drop_nops(&mut state.sites, moving.patch, &mut state.log);
 }
 
 /// Leaves the patches that stay in the list, and the values of their states with them.
-fn settle_list(manager: &mut ManagerState, catalog: &Catalog, moving: &Transition)
-    requires records { length manager.old.log.noted ≤ RECORDS_AFTER_CALLBACKS }
-    requires log { manager.old.log.room ≡ MAX_RECORDS }
-    ensures parts { manager.new
-        ≡ record manager.old {
+fn settle_list(state: &mut ManagerState, catalog: &Catalog, moving: &Transition)
+    requires records { length state.old.log.logged ≤ RECORDS_AFTER_CALLBACKS }
+    requires log { state.old.log.room ≡ MAX_RECORDS }
+    ensures parts { state.new
+        ≡ record state.old {
           world = settled
-              (setting_in manager.old catalog.now) manager.old.world moving.now;
-          log = manager.new.log;
+              (setting_in state.old catalog.now) state.old.world moving.now;
+          log = state.new.log;
         } }
-    ensures noted { rows_before manager.new ≡ rows_before manager.old }
-    ensures records { length manager.new.log.noted ≤ RECORDS_AFTER_LIST }
-    ensures log { manager.new.log.room ≡ MAX_RECORDS }
+    ensures logged { rows_before state.new ≡ rows_before state.old }
+    ensures records { length state.new.log.logged ≤ RECORDS_AFTER_LIST }
+    ensures log { state.new.log.room ≡ MAX_RECORDS }
 {
-    klp_world::laws::what_is_noted_is_of_the_world();
+    klp_world::laws::what_is_logged_is_of_the_world();
     if !moving.target {
-        prove!(manager.world.drop_records(moving.patch) <= manager.log.spare());
-        manager.world.drop_states(moving.patch, &mut manager.log);
+        prove!(state.world.drop_records(moving.patch) <= state.log.spare());
+        state.world.drop_states(moving.patch, &mut state.log);
     } else if catalog.is_cumulative(moving.patch) {
-        drop_older(&mut manager.world, moving.patch, &mut manager.log);
+        drop_older(&mut state.world, moving.patch, &mut state.log);
     }
 }

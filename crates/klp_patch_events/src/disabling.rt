@@ -10,7 +10,7 @@ ghost use Rattle.klp_patch.specs.Calls.{records_of};
 ghost use Rattle.klp_manager_state.specs.Managed.{setting_in, state_in, refused_in, lacks_room_in};
 ghost use Rattle.klp_manager_state.specs.Invariant.{Invariant};
 ghost use Rattle.klp_manager_state.specs.Events.{TakesEvent, AcceptsEvent};
-ghost use Rattle.klp_manager_state.specs.Rows.{rows_before, rows_now, IsNoted};
+ghost use Rattle.klp_manager_state.specs.Rows.{rows_before, rows_now, IsLogged};
 
 use klp_catalog::Catalog;
 use klp_manager_state::{Brief, BriefReply, ManagerState};
@@ -23,18 +23,18 @@ use klp_types::{MAX_VARIABLES, PatchId, Transition, Which, is_in_transition};
 /// transition of the patch turns round, and nothing runs, since what was set up is still there; else
 /// the patch starts to be disabled, object by object with pre-unpatch.
 pub fn set_enabled(
-    manager: &mut ManagerState,
+    state: &mut ManagerState,
     catalog: &mut Catalog,
     patch: PatchId,
     value: bool,
 ) -> Result<BriefReply, Refusal>
-    requires { Invariant manager.old catalog.old }
-    ensures taken { TakesEvent manager.old manager.new catalog.old catalog.new (SetEnabled patch value) result }
-    ensures noted { IsNoted manager.old manager.new result }
+    requires { Invariant state.old catalog.old }
+    ensures taken { TakesEvent state.old state.new catalog.old catalog.new (SetEnabled patch value) result }
+    ensures logged { IsLogged state.old state.new result }
 {
-    match set_refusal(manager, catalog, patch, value) {
+    match set_refusal(state, catalog, patch, value) {
         Some(refusal) => Err(refusal),
-        None => Ok(turn(manager, catalog, patch, value)),
+        None => Ok(turn(state, catalog, patch, value)),
     }
 }
 
@@ -42,24 +42,24 @@ pub fn set_enabled(
 /// though it is the last, since its proof bounds the records too (docs/DECISIONS.md, "Room computed
 /// before the refusals").
 pub fn set_refusal(
-    manager: &ManagerState,
+    state: &ManagerState,
     catalog: &Catalog,
     patch: PatchId,
     value: bool,
 ) -> Option<Refusal>
-    requires { Invariant manager.now catalog.now }
-    ensures refusal { result ≡ refused_in manager.now catalog.now (SetEnabled patch value) }
+    requires { Invariant state.now catalog.now }
+    ensures refusal { result ≡ refused_in state.now catalog.now (SetEnabled patch value) }
     ensures records { records_of
-        (disable_calls (setting_in manager.now catalog.now) (state_in manager.now catalog.now) patch) ≤ MAX_KIND_RECORDS }
+        (disable_calls (setting_in state.now catalog.now) (state_in state.now catalog.now) patch) ≤ MAX_KIND_RECORDS }
 {
-    let lacks_room = lacks_room_to_set(manager, catalog, patch, value);
+    let lacks_room = lacks_room_to_set(state, catalog, patch, value);
     if patch.0 >= catalog.patches() {
         Some(Refusal::NoPatch)
-    } else if !manager.world.is_installed(patch) {
+    } else if !state.world.is_installed(patch) {
         Some(Refusal::NotFound)
-    } else if value == manager.enabled_value(patch) {
+    } else if value == state.enabled_value(patch) {
         Some(Refusal::SameValue)
-    } else if !value && manager.moving.is_some() && !is_in_transition(&manager.moving, patch) {
+    } else if !value && state.moving.is_some() && !is_in_transition(&state.moving, patch) {
         Some(Refusal::Busy)
     } else if lacks_room {
         Some(Refusal::Full)
@@ -70,75 +70,70 @@ pub fn set_refusal(
 
 /// Whether there is no room for what the callbacks add. A patch that moves runs none, since its
 /// transition turns round.
-fn lacks_room_to_set(manager: &ManagerState, catalog: &Catalog, patch: PatchId, value: bool) -> bool
-    requires { Invariant manager.now catalog.now }
-    ensures room { result ≡ lacks_room_in manager.now catalog.now (SetEnabled patch value) }
+fn lacks_room_to_set(state: &ManagerState, catalog: &Catalog, patch: PatchId, value: bool) -> bool
+    requires { Invariant state.now catalog.now }
+    ensures room { result ≡ lacks_room_in state.now catalog.now (SetEnabled patch value) }
     ensures records { records_of
-        (disable_calls (setting_in manager.now catalog.now) (state_in manager.now catalog.now) patch) ≤ MAX_KIND_RECORDS }
+        (disable_calls (setting_in state.now catalog.now) (state_in state.now catalog.now) patch) ≤ MAX_KIND_RECORDS }
 {
-    let pre_un = if is_in_transition(&manager.moving, patch) {
+    let pre_un = if is_in_transition(&state.moving, patch) {
         0
     } else {
-        allocs(catalog, &manager.modules, patch, Which::PreUn)
+        allocs(catalog, &state.modules, patch, Which::PreUn)
     };
-    usize::from(manager.world.count()) + pre_un > MAX_VARIABLES
+    usize::from(state.world.count()) + pre_un > MAX_VARIABLES
 }
 
 /// A transition turns round, or a disabling starts, by whether the patch moves.
-fn turn(
-    manager: &mut ManagerState,
-    catalog: &mut Catalog,
-    patch: PatchId,
-    value: bool,
-) -> BriefReply
-    requires kept { Invariant manager.old catalog.old }
-    requires free { refused_in manager.old catalog.old (SetEnabled patch value) ≡ None }
+fn turn(state: &mut ManagerState, catalog: &mut Catalog, patch: PatchId, value: bool) -> BriefReply
+    requires kept { Invariant state.old catalog.old }
+    requires free { refused_in state.old catalog.old (SetEnabled patch value) ≡ None }
     requires records { records_of
-        (disable_calls (setting_in manager.old catalog.old) (state_in manager.old catalog.old) patch) ≤ MAX_KIND_RECORDS }
-    ensures accepted { AcceptsEvent manager.old manager.new catalog.old catalog.new (SetEnabled patch value) result }
-    ensures noted { rows_before manager.new ≡ rows_now manager.old }
+        (disable_calls (setting_in state.old catalog.old) (state_in state.old catalog.old) patch) ≤ MAX_KIND_RECORDS }
+    ensures accepted { AcceptsEvent state.old state.new catalog.old catalog.new (SetEnabled patch value) result }
+    ensures logged { rows_before state.new ≡ rows_now state.old }
 {
     klp_manager_state::laws::steps_keep();
-    if is_in_transition(&manager.moving, patch) {
-        manager.log.clear();
-        manager.set_moving(Some(Transition {
+    if is_in_transition(&state.moving, patch) {
+        state.log.clear();
+        state.set_moving(Some(Transition {
             patch,
             target: value,
         }));
         return BriefReply(Brief::Reversed);
     }
-    disable(manager, catalog, patch, value)
+    disable(state, catalog, patch, value)
 }
 
 /// A disabling starts. The tasks are at 1, because all of them run the patch, and the entries stay
 /// until the end.
 fn disable(
-    manager: &mut ManagerState,
+    state: &mut ManagerState,
     catalog: &mut Catalog,
     patch: PatchId,
     value: bool,
 ) -> BriefReply
-    requires kept { Invariant manager.old catalog.old }
-    requires free { refused_in manager.old catalog.old (SetEnabled patch value) ≡ None }
+    requires kept { Invariant state.old catalog.old }
+    requires free { refused_in state.old catalog.old (SetEnabled patch value) ≡ None }
     requires records { records_of
-        (disable_calls (setting_in manager.old catalog.old) (state_in manager.old catalog.old) patch) ≤ MAX_KIND_RECORDS }
-    requires rests { moves manager.old.moving patch ≡ false }
-    ensures accepted { AcceptsEvent manager.old manager.new catalog.old catalog.new (SetEnabled patch value) result }
-    ensures noted { rows_before manager.new ≡ rows_now manager.old }
+        (disable_calls (setting_in state.old catalog.old) (state_in state.old catalog.old) patch) ≤ MAX_KIND_RECORDS }
+    requires rests { moves state.old.moving patch ≡ false }
+    ensures accepted { AcceptsEvent state.old state.new catalog.old catalog.new (SetEnabled patch value) result }
+    ensures logged { rows_before state.new ≡ rows_now state.old }
 {
     klp_manager_state::laws::steps_keep();
     klp_tasks::laws::records_are_few();
-    manager.log.clear();
+    state.log.clear();
     run_callbacks(
         catalog,
-        &manager.modules,
+        &state.modules,
         patch,
         Which::PreUn,
-        &mut manager.world,
-        &mut manager.log,
+        &mut state.world,
+        &mut state.log,
     );
-    manager.tasks.set_all(target_state(true), &mut manager.log);
-    manager.set_moving(Some(Transition {
+    state.tasks.set_all(target_state(true), &mut state.log);
+    state.set_moving(Some(Transition {
         patch,
         target: false,
     }));

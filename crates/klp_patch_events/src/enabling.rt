@@ -22,7 +22,7 @@ ghost use Rattle.klp_patch.specs.Calls.{records_of};
 ghost use Rattle.klp_manager_state.specs.Managed.{setting_in, state_in, refused_in, may_run_in, lacks_room_in};
 ghost use Rattle.klp_manager_state.specs.Invariant.{Invariant};
 ghost use Rattle.klp_manager_state.specs.Events.{TakesEvent, AcceptsEvent};
-ghost use Rattle.klp_manager_state.specs.Rows.{rows_before, rows_now, IsNoted};
+ghost use Rattle.klp_manager_state.specs.Rows.{rows_before, rows_now, IsLogged};
 
 use klp_catalog::{Catalog, CatalogPatch};
 use klp_manager_state::{Brief, BriefReply, ManagerState};
@@ -37,15 +37,15 @@ use klp_types::{
 /// Whether a function of the patch for a loaded object names no site, so that the patch couldn't be put in
 /// whole. One for an object that isn't loaded may, since it is looked at when the module comes
 /// (docs/DECISIONS.md, "Symbols of objects that aren't loaded").
-fn lacks_symbol(manager: &ManagerState, found: &CatalogPatch) -> bool
-    ensures { result ≡ list_any (λ (f : FunctionOf). slice_index_or manager.now.modules.loaded f.object false
+fn lacks_symbol(state: &ManagerState, found: &CatalogPatch) -> bool
+    ensures { result ≡ list_any (λ (f : FunctionOf). slice_index_or state.now.modules.loaded f.object false
         && is_none f.site) found.now.functions }
 {
     if found.names_sites() {
         return false;
     }
     for function in found.functions() {
-        if manager.modules.is_loaded(function.object()) && function.site().is_none() {
+        if state.modules.is_loaded(function.object()) && function.site().is_none() {
             return true;
         }
     }
@@ -65,43 +65,43 @@ fn pre_failed(patch: PatchId, refused: &(ObjId, i32)) -> BriefReply
 /// by object, and its entries come to the sites of loaded objects. Where pre-patch refuses, the objects
 /// before get post-unpatch, and the patch is gone again.
 pub fn enable(
-    manager: &mut ManagerState,
+    state: &mut ManagerState,
     catalog: &mut Catalog,
     patch: PatchId,
 ) -> Result<BriefReply, Refusal>
-    requires { Invariant manager.old catalog.old }
-    ensures taken { TakesEvent manager.old manager.new catalog.old catalog.new (Enable patch) result }
-    ensures noted { IsNoted manager.old manager.new result }
+    requires { Invariant state.old catalog.old }
+    ensures taken { TakesEvent state.old state.new catalog.old catalog.new (Enable patch) result }
+    ensures logged { IsLogged state.old state.new result }
 {
-    match enable_refusal(manager, catalog, patch) {
+    match enable_refusal(state, catalog, patch) {
         Some(refusal) => Err(refusal),
-        None => Ok(install(manager, catalog, patch)),
+        None => Ok(install(state, catalog, patch)),
     }
 }
 
 /// Why the patch isn't enabled, if it isn't: the first reason that holds. It may be asked without
 /// enabling, as a full journal does.
-pub fn enable_refusal(manager: &ManagerState, catalog: &Catalog, patch: PatchId) -> Option<Refusal>
-    requires { Invariant manager.now catalog.now }
-    ensures refusal { result ≡ refused_in manager.now catalog.now (Enable patch) }
-    ensures records { records_of (may_run_in manager.now catalog.now (Enable patch)) ≤ MAX_ENABLING_RECORDS }
+pub fn enable_refusal(state: &ManagerState, catalog: &Catalog, patch: PatchId) -> Option<Refusal>
+    requires { Invariant state.now catalog.now }
+    ensures refusal { result ≡ refused_in state.now catalog.now (Enable patch) }
+    ensures records { records_of (may_run_in state.now catalog.now (Enable patch)) ≤ MAX_ENABLING_RECORDS }
 {
     // Computed before the refusals, though it comes last, since its proof bounds the records on every
     // way out (docs/DECISIONS.md, "Room computed before the refusals").
-    let lacks_room = lacks_room_to_enable(manager, catalog, patch);
+    let lacks_room = lacks_room_to_enable(state, catalog, patch);
     let Some(found) = catalog.get(patch) else {
         return Some(Refusal::NoPatch);
     };
-    if manager.world.is_installed(patch) {
+    if state.world.is_installed(patch) {
         Some(Refusal::AlreadyThere)
-    } else if manager.moving.is_some() {
+    } else if state.moving.is_some() {
         Some(Refusal::Busy)
-    } else if manager.pinned.is_pinned(patch) {
+    } else if state.pinned.is_pinned(patch) {
         Some(Refusal::Pinned)
-    } else if !catalog.is_compatible(patch, manager.world.installed()) {
+    } else if !catalog.is_compatible(patch, state.world.installed()) {
         // Those that it would replace count too, since it takes their states over.
         Some(Refusal::Incompatible)
-    } else if lacks_symbol(manager, found) {
+    } else if lacks_symbol(state, found) {
         Some(Refusal::NoSymbol)
     } else if lacks_room {
         Some(Refusal::Full)
@@ -112,26 +112,26 @@ pub fn enable_refusal(manager: &ManagerState, catalog: &Catalog, patch: PatchId)
 
 /// Whether there is no room for what the callbacks that may run add. It is asked once, so that none
 /// fails for want of room.
-fn lacks_room_to_enable(manager: &ManagerState, catalog: &Catalog, patch: PatchId) -> bool
-    requires { Invariant manager.now catalog.now }
-    ensures room { result ≡ lacks_room_in manager.now catalog.now (Enable patch) }
-    ensures records { records_of (may_run_in manager.now catalog.now (Enable patch)) ≤ MAX_ENABLING_RECORDS }
+fn lacks_room_to_enable(state: &ManagerState, catalog: &Catalog, patch: PatchId) -> bool
+    requires { Invariant state.now catalog.now }
+    ensures room { result ≡ lacks_room_in state.now catalog.now (Enable patch) }
+    ensures records { records_of (may_run_in state.now catalog.now (Enable patch)) ≤ MAX_ENABLING_RECORDS }
 {
     // Both kinds count, whatever the statuses are, so that one can add it up from the catalog
     // (docs/DECISIONS.md, "Room for the callbacks that may run").
-    let pre = allocs(catalog, &manager.modules, patch, Which::Pre);
-    let post_un = allocs(catalog, &manager.modules, patch, Which::PostUn);
-    usize::from(manager.world.count()) + pre + post_un > MAX_VARIABLES
+    let pre = allocs(catalog, &state.modules, patch, Which::Pre);
+    let post_un = allocs(catalog, &state.modules, patch, Which::PostUn);
+    usize::from(state.world.count()) + pre + post_un > MAX_VARIABLES
 }
 
 /// A patch that nothing refuses is put last, and starts to move where no pre-patch callback refuses. It
 /// is in the list before they run, so that they can set its states.
-fn install(manager: &mut ManagerState, catalog: &mut Catalog, patch: PatchId) -> BriefReply
-    requires kept { Invariant manager.old catalog.old }
-    requires free { refused_in manager.old catalog.old (Enable patch) ≡ None }
-    requires records { records_of (may_run_in manager.old catalog.old (Enable patch)) ≤ MAX_ENABLING_RECORDS }
-    ensures accepted { AcceptsEvent manager.old manager.new catalog.old catalog.new (Enable patch) result }
-    ensures noted { rows_before manager.new ≡ rows_now manager.old }
+fn install(state: &mut ManagerState, catalog: &mut Catalog, patch: PatchId) -> BriefReply
+    requires kept { Invariant state.old catalog.old }
+    requires free { refused_in state.old catalog.old (Enable patch) ≡ None }
+    requires records { records_of (may_run_in state.old catalog.old (Enable patch)) ≤ MAX_ENABLING_RECORDS }
+    ensures accepted { AcceptsEvent state.old state.new catalog.old catalog.new (Enable patch) result }
+    ensures logged { rows_before state.new ≡ rows_now state.old }
 {
     klp_manager_state::laws::steps_keep();
     klp_model::laws::events_are_accepted_where_no_case_holds();
@@ -139,23 +139,23 @@ fn install(manager: &mut ManagerState, catalog: &mut Catalog, patch: PatchId) ->
     klp_types::laws::entries_are_of_their_patches();
     klp_types::laws::the_newest_entry_is_on_top();
     prove!(usize::from(catalog.patches()) <= MAX_PATCHES);
-    prove!(manager.sites.sites() <= MAX_SITES);
-    put_last(manager, catalog, patch);
+    prove!(state.sites.sites() <= MAX_SITES);
+    put_last(state, catalog, patch);
     // For all objects before the first site is hooked, since a refused patch mustn't touch the text
     // (docs/DECISIONS.md, "Pre-patch before the first hook").
     match run_pre_patch(
         catalog,
-        &manager.modules,
+        &state.modules,
         patch,
-        &mut manager.world,
-        &mut manager.log,
+        &mut state.world,
+        &mut state.log,
     ) {
         None => {
-            start(manager, catalog, patch);
+            start(state, catalog, patch);
             BriefReply(Brief::Started)
         }
         Some(refused) => {
-            take_out(manager, patch);
+            take_out(state, patch);
             pre_failed(patch, &refused)
         }
     }
@@ -163,70 +163,70 @@ fn install(manager: &mut ManagerState, catalog: &mut Catalog, patch: PatchId) ->
 
 /// Puts a patch last, with its system states at 0. What was logged before is forgotten, since an event
 /// begins here.
-fn put_last(manager: &mut ManagerState, catalog: &Catalog, patch: PatchId)
-    requires fresh { is_among patch manager.old.world.installed ≡ false }
-    requires room { length manager.old.world.installed < MAX_PATCHES }
-    requires log { manager.old.log.room ≡ MAX_RECORDS }
-    ensures parts { manager.new
-        ≡ record manager.old {
-          world = with_patch manager.old.world patch
+fn put_last(state: &mut ManagerState, catalog: &Catalog, patch: PatchId)
+    requires fresh { is_among patch state.old.world.installed ≡ false }
+    requires room { length state.old.world.installed < MAX_PATCHES }
+    requires log { state.old.log.room ≡ MAX_RECORDS }
+    ensures parts { state.new
+        ≡ record state.old {
+          world = with_patch state.old.world patch
               (state_ids catalog.now patch);
-          log = manager.new.log;
+          log = state.new.log;
         } }
-    ensures noted { rows_before manager.new ≡ rows_now manager.old }
-    ensures records { length manager.new.log.noted ≤ MAX_LIST_RECORDS }
-    ensures log { manager.new.log.room ≡ MAX_RECORDS }
+    ensures logged { rows_before state.new ≡ rows_now state.old }
+    ensures records { length state.new.log.logged ≤ MAX_LIST_RECORDS }
+    ensures log { state.new.log.room ≡ MAX_RECORDS }
 {
-    klp_world::laws::what_is_noted_is_of_the_world();
-    manager.log.clear();
+    klp_world::laws::what_is_logged_is_of_the_world();
+    state.log.clear();
     let ids = catalog.state_ids(patch);
-    manager.world.add_states(patch, &ids, &mut manager.log);
+    state.world.add_states(patch, &ids, &mut state.log);
 }
 
 /// Takes a patch out again after a refusal, with its states and the values that callbacks gave these.
-fn take_out(manager: &mut ManagerState, patch: PatchId)
-    requires { length manager.old.log.noted + MAX_LIST_RECORDS ≤ manager.old.log.room }
-    ensures parts { manager.new
-        ≡ record manager.old { world = without_patch manager.old.world patch; log = manager.new.log } }
-    ensures noted { rows_before manager.new ≡ rows_before manager.old }
-    ensures log { manager.new.log.room ≡ manager.old.log.room }
+fn take_out(state: &mut ManagerState, patch: PatchId)
+    requires { length state.old.log.logged + MAX_LIST_RECORDS ≤ state.old.log.room }
+    ensures parts { state.new
+        ≡ record state.old { world = without_patch state.old.world patch; log = state.new.log } }
+    ensures logged { rows_before state.new ≡ rows_before state.old }
+    ensures log { state.new.log.room ≡ state.old.log.room }
 {
-    klp_world::laws::what_is_noted_is_of_the_world();
-    prove!(manager.world.drop_records(patch) <= manager.log.spare());
-    manager.world.drop_states(patch, &mut manager.log);
+    klp_world::laws::what_is_logged_is_of_the_world();
+    prove!(state.world.drop_records(patch) <= state.log.spare());
+    state.world.drop_states(patch, &mut state.log);
 }
 
 /// A patch that is put last starts to move to the target 1. Its entries are there before any task is at
 /// 1: a task of state 0 passes over them, so nothing changes for it yet.
-fn start(manager: &mut ManagerState, catalog: &Catalog, patch: PatchId)
+fn start(state: &mut ManagerState, catalog: &Catalog, patch: PatchId)
     requires number { patch < MAX_PATCHES }
-    requires rests { manager.old.moving ≡ None }
-    requires sites { site_count manager.old.sites.image ≤ MAX_SITES }
-    requires names { catalog.now.names ≡ names_of manager.old.sites.image.objects }
-    requires fresh { (site : ℕ) → has_entry patch (entries_at manager.old.sites.stacks site) ≡ false }
-    requires fit { HasRoom manager.old.sites (is_covered manager.old.sites None) (with_entry catalog.now patch) }
-    requires tasks { length manager.old.tasks ≡ MAX_TASKS }
-    requires records { length manager.old.log.noted ≤ RECORDS_BEFORE_SITES }
-    requires log { manager.old.log.room ≡ MAX_RECORDS }
-    ensures entries { AreMade manager.old.sites manager.new.sites (is_covered manager.old.sites None)
+    requires rests { state.old.moving ≡ None }
+    requires sites { site_count state.old.sites.image ≤ MAX_SITES }
+    requires names { catalog.now.names ≡ names_of state.old.sites.image.objects }
+    requires fresh { (site : ℕ) → has_entry patch (entries_at state.old.sites.stacks site) ≡ false }
+    requires fit { HasRoom state.old.sites (is_covered state.old.sites None) (with_entry catalog.now patch) }
+    requires tasks { length state.old.tasks ≡ MAX_TASKS }
+    requires records { length state.old.log.logged ≤ RECORDS_BEFORE_SITES }
+    requires log { state.old.log.room ≡ MAX_RECORDS }
+    ensures entries { AreMade state.old.sites state.new.sites (is_covered state.old.sites None)
         (with_entry catalog.now patch) }
-    ensures parts { manager.new ≡ record manager.old {
-      sites = manager.new.sites;
-      tasks = all_in (at_target false) manager.old.tasks;
+    ensures parts { state.new ≡ record state.old {
+      sites = state.new.sites;
+      tasks = all_in (at_target false) state.old.tasks;
       moving = move_to patch true;
-      log = manager.new.log;
+      log = state.new.log;
     } }
-    ensures noted { rows_before manager.new ≡ rows_before manager.old }
-    ensures log { manager.new.log.room ≡ MAX_RECORDS }
+    ensures logged { rows_before state.new ≡ rows_before state.old }
+    ensures log { state.new.log.room ≡ MAX_RECORDS }
 {
     klp_tasks::laws::records_are_few();
-    prove!(manager.sites.sites() <= MAX_SITES);
+    prove!(state.sites.sites() <= MAX_SITES);
     // for its contract, which bounds the patch's functions
     let _found = catalog.get(patch);
-    patch_sites(&mut manager.sites, catalog, patch, None, &mut manager.log);
-    prove!(manager.sites.sites() <= MAX_SITES);
-    manager.tasks.set_all(target_state(false), &mut manager.log);
-    manager.set_moving(Some(Transition {
+    patch_sites(&mut state.sites, catalog, patch, None, &mut state.log);
+    prove!(state.sites.sites() <= MAX_SITES);
+    state.tasks.set_all(target_state(false), &mut state.log);
+    state.set_moving(Some(Transition {
         patch,
         target: true,
     }));

@@ -15,7 +15,7 @@ ghost use Rattle.klp_patch.specs.Room.{FindRoom};
 ghost use Rattle.klp_manager_state.specs.Managed.{setting_in, state_in, refused_in, may_run_in, lacks_room_in};
 ghost use Rattle.klp_manager_state.specs.Invariant.{Invariant};
 ghost use Rattle.klp_manager_state.specs.Events.{TakesEvent, AcceptsEvent};
-ghost use Rattle.klp_manager_state.specs.Rows.{rows_before, rows_now, IsNoted};
+ghost use Rattle.klp_manager_state.specs.Rows.{rows_before, rows_now, IsLogged};
 
 use crate::module_sites::{patch_object, unpatch_object};
 use arrayvec::ArrayVec;
@@ -61,17 +61,17 @@ fn some_lacks_symbol(catalog: &Catalog, patches: &[PatchId], object: ObjId) -> b
 /// pre-patch for it, and post-patch if it doesn't move, and puts its entries on the module's sites.
 /// Where a pre-patch refuses, the patches before are cleaned up, and the module isn't loaded.
 pub fn coming(
-    manager: &mut ManagerState,
+    state: &mut ManagerState,
     catalog: &mut Catalog,
     object: ObjId,
 ) -> Result<BriefReply, Refusal>
-    requires { Invariant manager.old catalog.old }
-    ensures taken { TakesEvent manager.old manager.new catalog.old catalog.new (Coming object) result }
-    ensures noted { IsNoted manager.old manager.new result }
+    requires { Invariant state.old catalog.old }
+    ensures taken { TakesEvent state.old state.new catalog.old catalog.new (Coming object) result }
+    ensures logged { IsLogged state.old state.new result }
 {
-    match coming_refusal(manager, catalog, object) {
+    match coming_refusal(state, catalog, object) {
         Some(refusal) => Err(refusal),
-        None => Ok(come(manager, catalog, object)),
+        None => Ok(come(state, catalog, object)),
     }
 }
 
@@ -79,34 +79,34 @@ pub fn coming(
 /// pre-unpatch for it if it doesn't move, and post-unpatch, and takes its entries out of the module's
 /// sites.
 pub fn going(
-    manager: &mut ManagerState,
+    state: &mut ManagerState,
     catalog: &mut Catalog,
     object: ObjId,
 ) -> Result<BriefReply, Refusal>
-    requires { Invariant manager.old catalog.old }
-    ensures taken { TakesEvent manager.old manager.new catalog.old catalog.new (Going object) result }
-    ensures noted { IsNoted manager.old manager.new result }
+    requires { Invariant state.old catalog.old }
+    ensures taken { TakesEvent state.old state.new catalog.old catalog.new (Going object) result }
+    ensures logged { IsLogged state.old state.new result }
 {
-    match going_refusal(manager, catalog, object) {
+    match going_refusal(state, catalog, object) {
         Some(refusal) => Err(refusal),
-        None => Ok(go(manager, catalog, object)),
+        None => Ok(go(state, catalog, object)),
     }
 }
 
 /// Why a module isn't loaded, if it isn't: the first reason that holds. Room is computed before the
 /// refusals, since its proof bounds the records too (docs/DECISIONS.md, "Room computed before the
 /// refusals").
-pub fn coming_refusal(manager: &ManagerState, catalog: &Catalog, object: ObjId) -> Option<Refusal>
-    requires { Invariant manager.now catalog.now }
-    ensures refusal { result ≡ refused_in manager.now catalog.now (Coming object) }
-    ensures records { records_of (may_run_in manager.now catalog.now (Coming object))
-        ≤ MAX_COMING_EDITS + allocs_of (may_run_in manager.now catalog.now (Coming object)) }
+pub fn coming_refusal(state: &ManagerState, catalog: &Catalog, object: ObjId) -> Option<Refusal>
+    requires { Invariant state.now catalog.now }
+    ensures refusal { result ≡ refused_in state.now catalog.now (Coming object) }
+    ensures records { records_of (may_run_in state.now catalog.now (Coming object))
+        ≤ MAX_COMING_EDITS + allocs_of (may_run_in state.now catalog.now (Coming object)) }
 {
-    let lacks_symbol = part_lacks_symbol(manager, catalog, object);
-    let lacks_room = lacks_room_to_come(manager, catalog, object);
-    if !is_module(manager, object) {
+    let lacks_symbol = part_lacks_symbol(state, catalog, object);
+    let lacks_room = lacks_room_to_come(state, catalog, object);
+    if !is_module(state, object) {
         Some(Refusal::NoModule)
-    } else if manager.sites.is_loaded(object) {
+    } else if state.sites.is_loaded(object) {
         Some(Refusal::AlreadyThere)
     } else if lacks_symbol {
         Some(Refusal::NoSymbol)
@@ -119,15 +119,15 @@ pub fn coming_refusal(manager: &ManagerState, catalog: &Catalog, object: ObjId) 
 
 /// Why a module isn't unloaded, if it isn't: the first reason that holds. A task inside of it is one,
 /// since a kernel has the module's reference count for that.
-pub fn going_refusal(manager: &ManagerState, catalog: &Catalog, object: ObjId) -> Option<Refusal>
-    requires { Invariant manager.now catalog.now }
-    ensures refusal { result ≡ refused_in manager.now catalog.now (Going object) }
-    ensures records { records_of (may_run_in manager.now catalog.now (Going object))
-        ≤ MAX_GOING_EDITS + allocs_of (may_run_in manager.now catalog.now (Going object)) }
+pub fn going_refusal(state: &ManagerState, catalog: &Catalog, object: ObjId) -> Option<Refusal>
+    requires { Invariant state.now catalog.now }
+    ensures refusal { result ≡ refused_in state.now catalog.now (Going object) }
+    ensures records { records_of (may_run_in state.now catalog.now (Going object))
+        ≤ MAX_GOING_EDITS + allocs_of (may_run_in state.now catalog.now (Going object)) }
 {
-    let is_in_use = manager.is_in_use(catalog, object);
-    let lacks_room = lacks_room_to_go(manager, catalog, object);
-    if !is_module(manager, object) || !manager.sites.is_loaded(object) {
+    let is_in_use = state.is_in_use(catalog, object);
+    let lacks_room = lacks_room_to_go(state, catalog, object);
+    if !is_module(state, object) || !state.sites.is_loaded(object) {
         Some(Refusal::NoModule)
     } else if is_in_use {
         Some(Refusal::InUse)
@@ -139,92 +139,92 @@ pub fn going_refusal(manager: &ManagerState, catalog: &Catalog, object: ObjId) -
 }
 
 /// Whether the image has this object, and it isn't `vmlinux`, which never comes or goes.
-fn is_module(manager: &ManagerState, object: ObjId) -> bool
-    ensures { result ≡ (not (object == 0) && nat_lt object (length manager.now.sites.image.objects)) }
+fn is_module(state: &ManagerState, object: ObjId) -> bool
+    ensures { result ≡ (not (object == 0) && nat_lt object (length state.now.sites.image.objects)) }
 {
-    object.0 != 0 && object.0 < manager.sites.image().objects()
+    object.0 != 0 && object.0 < state.sites.image().objects()
 }
 
 /// Whether an installed patch has a function for the module that names no site of it.
-fn part_lacks_symbol(manager: &ManagerState, catalog: &Catalog, object: ObjId) -> bool
+fn part_lacks_symbol(state: &ManagerState, catalog: &Catalog, object: ObjId) -> bool
     ensures { result
-        ≡ part_lacks_symbol (setting_in manager.now catalog.now) (state_in manager.now catalog.now) object }
+        ≡ part_lacks_symbol (setting_in state.now catalog.now) (state_in state.now catalog.now) object }
 {
-    some_lacks_symbol(catalog, manager.world.installed(), object)
+    some_lacks_symbol(catalog, state.world.installed(), object)
 }
 
 /// Whether there is no room for what the callbacks add when the module comes, whether they run or not.
-fn lacks_room_to_come(manager: &ManagerState, catalog: &Catalog, object: ObjId) -> bool
-    ensures room { result ≡ lacks_room_in manager.now catalog.now (Coming object) }
-    ensures records { records_of (may_run_in manager.now catalog.now (Coming object))
-        ≤ MAX_COMING_EDITS + allocs_of (may_run_in manager.now catalog.now (Coming object)) }
+fn lacks_room_to_come(state: &ManagerState, catalog: &Catalog, object: ObjId) -> bool
+    ensures room { result ≡ lacks_room_in state.now catalog.now (Coming object) }
+    ensures records { records_of (may_run_in state.now catalog.now (Coming object))
+        ≤ MAX_COMING_EDITS + allocs_of (may_run_in state.now catalog.now (Coming object)) }
 {
-    let added = allocs_of_coming(catalog, manager.world.installed(), object, manager.moving);
-    added > MAX_VARIABLES - usize::from(manager.world.count())
+    let added = allocs_of_coming(catalog, state.world.installed(), object, state.moving);
+    added > MAX_VARIABLES - usize::from(state.world.count())
 }
 
 /// Whether there is no room for what the callbacks add when the module goes.
-fn lacks_room_to_go(manager: &ManagerState, catalog: &Catalog, object: ObjId) -> bool
-    ensures room { result ≡ lacks_room_in manager.now catalog.now (Going object) }
-    ensures records { records_of (may_run_in manager.now catalog.now (Going object))
-        ≤ MAX_GOING_EDITS + allocs_of (may_run_in manager.now catalog.now (Going object)) }
+fn lacks_room_to_go(state: &ManagerState, catalog: &Catalog, object: ObjId) -> bool
+    ensures room { result ≡ lacks_room_in state.now catalog.now (Going object) }
+    ensures records { records_of (may_run_in state.now catalog.now (Going object))
+        ≤ MAX_GOING_EDITS + allocs_of (may_run_in state.now catalog.now (Going object)) }
 {
-    let added = allocs_of_going(catalog, manager.world.installed(), object, manager.moving);
-    added > MAX_VARIABLES - usize::from(manager.world.count())
+    let added = allocs_of_going(catalog, state.world.installed(), object, state.moving);
+    added > MAX_VARIABLES - usize::from(state.world.count())
 }
 
 /// The installed patches, oldest first, in a list that stays while the world changes: callbacks are
 /// handed the world, and so the world's own list can't be lent meanwhile.
-fn installed_patches(manager: &ManagerState, catalog: &Catalog) -> ArrayVec<PatchId, MAX_PATCHES>
-    requires { Invariant manager.now catalog.now }
-    ensures value { result.items ≡ installed_patches (state_in manager.now catalog.now) }
+fn installed_patches(state: &ManagerState, catalog: &Catalog) -> ArrayVec<PatchId, MAX_PATCHES>
+    requires { Invariant state.now catalog.now }
+    ensures value { result.items ≡ installed_patches (state_in state.now catalog.now) }
     ensures few { length result.items ≤ MAX_PATCHES }
     ensures numbers { All (λ p. p < MAX_PATCHES) result.items }
     ensures replace { count_by (is_cumulative catalog.now) result.items ≤ 2 }
     // the entries of them all find room, on all sites
-    ensures fit { FindRoom (λ site. entries_from (setting_in manager.now catalog.now) site
-        (reverse (installed_patches (state_in manager.now catalog.now)))) (length manager.now.sites.stacks) }
+    ensures fit { FindRoom (λ site. entries_from (setting_in state.now catalog.now) site
+        (reverse (installed_patches (state_in state.now catalog.now)))) (length state.now.sites.stacks) }
 {
     klp_model::laws::at_most_two_patches_replace();
     // for their contracts, which bound the entries
     let _patches = catalog.patches();
-    let _sites = manager.sites.sites();
-    manager.world.installed_list()
+    let _sites = state.sites.sites();
+    state.world.installed_list()
 }
 
 /// A module is loaded that nothing speaks against. Callbacks see no function stack, and an event is one
 /// step, so they all run before the entries come, and a refused module costs no entry
 /// (docs/DECISIONS.md, "Callbacks of a module before its entries").
-fn come(manager: &mut ManagerState, catalog: &mut Catalog, object: ObjId) -> BriefReply
-    requires kept { Invariant manager.old catalog.old }
-    requires free { refused_in manager.old catalog.old (Coming object) ≡ None }
-    requires records { records_of (may_run_in manager.old catalog.old (Coming object))
-        ≤ MAX_COMING_EDITS + allocs_of (may_run_in manager.old catalog.old (Coming object)) }
-    ensures accepted { AcceptsEvent manager.old manager.new catalog.old catalog.new (Coming object) result }
-    ensures noted { rows_before manager.new ≡ rows_now manager.old }
+fn come(state: &mut ManagerState, catalog: &mut Catalog, object: ObjId) -> BriefReply
+    requires kept { Invariant state.old catalog.old }
+    requires free { refused_in state.old catalog.old (Coming object) ≡ None }
+    requires records { records_of (may_run_in state.old catalog.old (Coming object))
+        ≤ MAX_COMING_EDITS + allocs_of (may_run_in state.old catalog.old (Coming object)) }
+    ensures accepted { AcceptsEvent state.old state.new catalog.old catalog.new (Coming object) result }
+    ensures logged { rows_before state.new ≡ rows_now state.old }
 {
     klp_manager_state::laws::steps_keep();
-    let installed = installed_patches(manager, catalog);
-    manager.log.clear();
+    let installed = installed_patches(state, catalog);
+    state.log.clear();
     match run_coming(
         catalog,
         &installed,
         object,
-        manager.moving,
-        &mut manager.world,
-        &mut manager.log,
+        state.moving,
+        &mut state.world,
+        &mut state.log,
     ) {
         Some((patch, status)) => BriefReply(Brief::PreFailed(patch, object, status)),
         None => {
-            manager.log.note(manager.sites.load(object));
+            state.log.note(state.sites.load(object));
             // the one row is logged by the sites, and by its record both get their flag back
-            manager.modules.set_loaded(object, true);
+            state.modules.set_loaded(object, true);
             patch_object(
-                &mut manager.sites,
+                &mut state.sites,
                 catalog,
                 &installed,
                 object,
-                &mut manager.log,
+                &mut state.log,
             );
             BriefReply(Brief::Done)
         }
@@ -233,33 +233,33 @@ fn come(manager: &mut ManagerState, catalog: &mut Catalog, object: ObjId) -> Bri
 
 /// A module is unloaded that nothing speaks against. The callbacks run before the entries go, as when
 /// one is loaded; the flag goes last, so that undo loads the module before its entries are back.
-fn go(manager: &mut ManagerState, catalog: &mut Catalog, object: ObjId) -> BriefReply
-    requires kept { Invariant manager.old catalog.old }
-    requires free { refused_in manager.old catalog.old (Going object) ≡ None }
-    requires records { records_of (may_run_in manager.old catalog.old (Going object))
-        ≤ MAX_GOING_EDITS + allocs_of (may_run_in manager.old catalog.old (Going object)) }
-    ensures accepted { AcceptsEvent manager.old manager.new catalog.old catalog.new (Going object) result }
-    ensures noted { rows_before manager.new ≡ rows_now manager.old }
+fn go(state: &mut ManagerState, catalog: &mut Catalog, object: ObjId) -> BriefReply
+    requires kept { Invariant state.old catalog.old }
+    requires free { refused_in state.old catalog.old (Going object) ≡ None }
+    requires records { records_of (may_run_in state.old catalog.old (Going object))
+        ≤ MAX_GOING_EDITS + allocs_of (may_run_in state.old catalog.old (Going object)) }
+    ensures accepted { AcceptsEvent state.old state.new catalog.old catalog.new (Going object) result }
+    ensures logged { rows_before state.new ≡ rows_now state.old }
 {
     klp_manager_state::laws::steps_keep();
-    let installed = installed_patches(manager, catalog);
-    manager.log.clear();
+    let installed = installed_patches(state, catalog);
+    state.log.clear();
     run_going(
         catalog,
         &installed,
         object,
-        manager.moving,
-        &mut manager.world,
-        &mut manager.log,
+        state.moving,
+        &mut state.world,
+        &mut state.log,
     );
     unpatch_object(
-        &mut manager.sites,
+        &mut state.sites,
         catalog,
         &installed,
         object,
-        &mut manager.log,
+        &mut state.log,
     );
-    manager.log.note(manager.sites.unload(object));
-    manager.modules.set_loaded(object, false);
+    state.log.note(state.sites.unload(object));
+    state.modules.set_loaded(object, false);
     BriefReply(Brief::Done)
 }

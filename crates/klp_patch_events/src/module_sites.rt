@@ -16,8 +16,8 @@ ghost use Rattle.klp_patch.specs.Covered.{is_covered};
 ghost use Rattle.klp_manager_state.specs.Rows.{SitesGoBack};
 
 use klp_catalog::Catalog;
-use klp_patch::{patch_sites, unpatch_sites};
 use klp_journal::Records;
+use klp_patch::{patch_sites, unpatch_sites};
 use klp_sites::Sites;
 use klp_types::{MAX_PATCHES, ObjId, PatchId};
 
@@ -61,7 +61,7 @@ pub(crate) fn patch_object(
     requires fit { HasRoom sites.old (is_covered sites.old (Some object))
         (λ site entries. entries_from (record { image = sites.old.image; patches = patches_of catalog.now }) site
         (reverse patches.now)) }
-    requires records { length log.old.noted ≤ RECORDS_BEFORE_SITES }
+    requires records { length log.old.logged ≤ RECORDS_BEFORE_SITES }
     requires room { log.old.room ≡ MAX_RECORDS }
     ensures image { sites.new.image ≡ sites.old.image }
     ensures loaded { sites.new.loaded ≡ sites.old.loaded }
@@ -70,7 +70,7 @@ pub(crate) fn patch_object(
         then entries_from (record { image = sites.old.image; patches = patches_of catalog.now }) site
         (reverse patches.now)
         else entries_at sites.old.stacks site) }
-    ensures noted { SitesGoBack sites.old sites.new log.old log.new }
+    ensures logged { SitesGoBack sites.old sites.new log.old log.new }
     ensures room { log.new.room ≡ MAX_RECORDS }
 {
     klp_types::laws::the_newest_entry_is_on_top();
@@ -98,14 +98,14 @@ pub(crate) fn unpatch_object(
     requires names { catalog.now.names ≡ names_of sites.old.image.objects }
     requires own { (site : ℕ) → is_covered sites.old (Some object) site ≡ true
         → entries_at sites.old.stacks site ≡ entries_from (record { image = sites.old.image; patches = patches_of catalog.now }) site (reverse patches.now) }
-    requires records { length log.old.noted ≤ RECORDS_BEFORE_SITES }
+    requires records { length log.old.logged ≤ RECORDS_BEFORE_SITES }
     requires room { log.old.room ≡ MAX_RECORDS }
     ensures image { sites.new.image ≡ sites.old.image }
     ensures loaded { sites.new.loaded ≡ sites.old.loaded }
     ensures entries { (site : ℕ) → entries_at sites.new.stacks site
         ≡ (if is_covered sites.old (Some object) site then [] else entries_at sites.old.stacks site) }
-    ensures noted { SitesGoBack sites.old sites.new log.old log.new }
-    ensures records { length log.new.noted < MAX_RECORDS }
+    ensures logged { SitesGoBack sites.old sites.new log.old log.new }
+    ensures records { length log.new.logged < MAX_RECORDS }
     ensures room { log.new.room ≡ MAX_RECORDS }
 {
     klp_types::laws::entries_are_of_their_patches();

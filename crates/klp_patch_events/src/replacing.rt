@@ -16,8 +16,8 @@ ghost use Rattle.klp_patch_events.specs.Complete.{AreOwn};
 ghost use Rattle.klp_manager_state.specs.Rows.{WorldGoesBack, SitesGoBack};
 
 use klp_catalog::Catalog;
-use klp_patch::unpatch_sites;
 use klp_journal::Records;
+use klp_patch::unpatch_sites;
 use klp_sites::Sites;
 use klp_types::{MAX_FUNCTIONS, MAX_SITES, PatchId};
 use klp_world::World;
@@ -47,7 +47,7 @@ pub(crate) fn unpatch_each(
     requires sites { site_count sites.old.image ≤ MAX_SITES }
     requires names { catalog.now.names ≡ names_of sites.old.image.objects }
     requires own { AreOwn catalog.now sites.old.stacks }
-    requires records { length log.old.noted + hooked_count sites.old + MAX_FUNCTIONS * length patches.now
+    requires records { length log.old.logged + hooked_count sites.old + MAX_FUNCTIONS * length patches.now
         + MAX_SITES * count_by (is_cumulative catalog.now) patches.now ≤ RECORDS_AFTER_SITES }
     requires log { log.old.room ≡ MAX_RECORDS }
     ensures image { sites.new.image ≡ sites.old.image }
@@ -55,9 +55,9 @@ pub(crate) fn unpatch_each(
     ensures entries { (site : ℕ) → entries_at sites.new.stacks site
         ≡ (if is_covered sites.old None site then filter (λ (e : Entry). not (is_one_of e.patch patches.now))
         (entries_at sites.old.stacks site) else entries_at sites.old.stacks site) }
-    ensures noted { SitesGoBack sites.old sites.new log.old log.new }
-    ensures records { length log.new.noted + hooked_count sites.new
-        ≤ length log.old.noted + hooked_count sites.old + MAX_FUNCTIONS * length patches.now
+    ensures logged { SitesGoBack sites.old sites.new log.old log.new }
+    ensures records { length log.new.logged + hooked_count sites.new
+        ≤ length log.old.logged + hooked_count sites.old + MAX_FUNCTIONS * length patches.now
         + MAX_SITES * count_by (is_cumulative catalog.now) patches.now }
     ensures log { log.new.room ≡ MAX_RECORDS }
 {
@@ -78,14 +78,14 @@ fn oldest(world: &World) -> Option<PatchId>
 /// Takes the patches before this one out of the list, oldest first, so that the one to go is always the
 /// first.
 pub(crate) fn drop_older(world: &mut World, patch: PatchId, log: &mut Records)
-    requires records { length log.old.noted ≤ RECORDS_AFTER_CALLBACKS }
+    requires records { length log.old.logged ≤ RECORDS_AFTER_CALLBACKS }
     requires log { log.old.room ≡ MAX_RECORDS }
     ensures world { world.new ≡ without_older true world.old patch }
-    ensures noted { WorldGoesBack world.old world.new log.old log.new }
-    ensures records { length log.new.noted ≤ RECORDS_AFTER_LIST }
+    ensures logged { WorldGoesBack world.old world.new log.old log.new }
+    ensures records { length log.new.logged ≤ RECORDS_AFTER_LIST }
     ensures log { log.new.room ≡ MAX_RECORDS }
 {
-    klp_world::laws::what_is_noted_is_of_the_world();
+    klp_world::laws::what_is_logged_is_of_the_world();
     for _dropped in 0..world.installed().len() {
         let Some(oldest) = oldest(world) else {
             return;

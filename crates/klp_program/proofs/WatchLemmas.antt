@@ -21,9 +21,9 @@ pub found_by : {A : Type 0} (before after : Managed) (items : List Seen) (ended 
     → IfOk ended (λ _. LeadHonestly before after items) → IfOk ended (λ _. IsConsistent (setting_of before) before.state items)
     → IfErr ended (λ (fault : NotHonest). IsFaultOfWhole before after items fault.item fault.cause)
     → MatchResult ended (λ _. verdict ≡ Honest (counted items)) (λ fault. verdict ≡ Dishonest fault) → IsFound before after items verdict
-found_by before after items (Ok value) verdict lead consistent told is =
+found_by before after items (Ok value) verdict lead consistent reported is =
     subst (IsFound before after items) (sym is) (record { lead = lead; consistent = consistent; counts_are = refl })
-found_by before after items (Err fault) verdict lead consistent told is = subst (IsFound before after items) (sym is) told
+found_by before after items (Err fault) verdict lead consistent reported is = subst (IsFound before after items) (sym is) reported
 
 -- what is watched by a booted manager is watched over its plan
 pub watches_plan : (plan : Plan) (booted : Journaled) (trace : List ℕ) (result : Result Verdict Fault)

@@ -1,7 +1,7 @@
 -- What the words behind the name of a program ask for.
 use Rattle.std.specs.Prelude.{ℕ, Bool, false, not, ◌==◌, ◌&&◌, ◌||◌, if◌then◌else◌, List, [], ◌∷◌, codes, bytes_eq, string_bytes, Option, Some, None, option_map, option_and_then}
-use Rattle.klp_program.specs.declared.wanted.Words.{Words}
-use Rattle.klp_program.specs.declared.wanted.Words.TheVariants.{Console, Live}
+use Rattle.klp_program.specs.declared.wanted.Wanted.{Wanted}
+use Rattle.klp_program.specs.declared.wanted.Wanted.TheVariants.{Console, Live}
 
 abbrev pub begins_with_dash : List ℕ → Bool
 begins_with_dash [] = false
@@ -45,7 +45,7 @@ asked_of (word ∷ words) = if bytes_eq (codes "console") word then option_and_t
     else if bytes_eq (codes "live") word then option_and_then live_over (files_of words)
     else if bytes_eq word (codes "--") then none_over words else None
 
-abbrev pub meaning : Words → Asked
+abbrev pub meaning : Wanted → Asked
 meaning (Console None) = console None
 meaning (Console (Some path)) = console (Some (string_bytes path))
 meaning (Live catalog steps) = live (string_bytes catalog) (string_bytes steps)

@@ -5,10 +5,10 @@ use Rattle.klp_text.specs.declared.fault.ImageFault.TheVariants as image
 use Rattle.klp_text.specs.Faults.{image_fault}
 use Rattle.klp_types.specs.Script.{Script}
 use Rattle.klp_modules.specs.Names.{names_of}
-use Rattle.klp_callback.specs.Told.{Told}
+use Rattle.klp_callback.specs.LentCallback.{LentCallback}
 use Rattle.klp_catalog_text.specs.Plan.{Plan}
 use Rattle.klp_catalog_text.specs.Scripts.{scripts_of}
-use Rattle.klp_catalog.specs.Assembled.{without_scripts, counts_told, IsAssembleFault}
+use Rattle.klp_catalog.specs.Assembled.{without_scripts, lent_counts, IsAssembleFault}
 use Rattle.klp_catalog.specs.Runs.{HasCounts}
 use Rattle.klp_core.specs.declared.fault.BootFault.TheVariants as boot
 use Rattle.klp_model.specs.Opening.{opening_state}
@@ -18,7 +18,7 @@ use Rattle.klp_program.specs.declared.fault.Fault.{Fault}
 use Rattle.klp_program.specs.declared.fault.Fault.TheVariants.{NoMemory, Image, Assemble, Boot}
 
 -- a callback that runs this script and never ran
-abbrev pub never_ran : Script → Told
+abbrev pub never_ran : Script → LentCallback
 never_ran script = record { script = script; runs = 0 }
 
 -- the image that a plan tells of
@@ -34,7 +34,7 @@ pub record IsBootedOver (plan : Plan) (manager : Journaled) : Type 0 where
   pub patches : map without_scripts manager.managed.catalog.patches ≡ map without_scripts plan.patches
   pub scripts : scripts_of manager.managed.catalog.patches ≡ scripts_of plan.patches
   pub shape : HasCounts manager.managed.catalog.patches manager.managed.catalog.runs
-  pub counts : manager.managed.catalog.runs ≡ counts_told (map never_ran (scripts_of plan.patches))
+  pub counts : manager.managed.catalog.runs ≡ lent_counts (map never_ran (scripts_of plan.patches))
   pub state : manager.managed.state ≡ opening_state (setting_of manager.managed)
   pub base : manager.base ≡ manager.managed.state
   pub groups : manager.groups ≡ []

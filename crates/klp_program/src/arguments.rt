@@ -4,7 +4,7 @@ ghost use Rattle.klp_program.specs.Asked.{asked_of, begins_with_dash, meaning, t
 ghost use Rattle.klp_program.specs.Commands.{asked_in, console_app, klpsim_app, live_app, IsCommand};
 
 use crate::fault::Fault;
-use crate::wanted::Words;
+use crate::wanted::Wanted;
 use clap::error::ErrorKind as WordsErrorKind;
 use clap::{Arg, ArgMatches, Command};
 use std::alloc::{AllocError, Global};
@@ -69,18 +69,18 @@ fn path_of(
 }
 
 // What words ask for that were read.
-fn asked(alloc: Global, matches: &ArgMatches<'_>) -> Result<Option<Words>, AllocError>
+fn wanted(alloc: Global, matches: &ArgMatches<'_>) -> Result<Option<Wanted>, AllocError>
     ensures { IfOk result (λ words. option_map meaning words ≡ asked_in (subcommand_rows_of matches.now)) }
 {
     let Some((name, given)) = matches.subcommand() else {
-        return Ok(Some(Words::Console(None)));
+        return Ok(Some(Wanted::Console(None)));
     };
     let catalog = path_of(alloc, given, CATALOG)?;
     if name != LIVE {
-        return Ok(Some(Words::Console(catalog)));
+        return Ok(Some(Wanted::Console(catalog)));
     }
     match (catalog, path_of(alloc, given, STEPS)?) {
-        (Some(catalog), Some(steps)) => Ok(Some(Words::Live(catalog, steps))),
+        (Some(catalog), Some(steps)) => Ok(Some(Wanted::Live(catalog, steps))),
         _ => Ok(None),
     }
 }
@@ -96,7 +96,7 @@ fn words_given<R: Env + AllocGlobal>(rt: &R) -> io::Result<Vec<String>> {
 
 /// The words behind the program's name, which is this. Where they aren't text, or memory runs out, a line on `err` says
 /// so, and the answer is the exit status: 2 for words, 1 for memory.
-pub fn given<R: Env + AllocGlobal, W: Write>(
+pub fn program_arguments<R: Env + AllocGlobal, W: Write>(
     rt: &R,
     name: &str,
     err: &mut W,
@@ -106,20 +106,20 @@ pub fn given<R: Env + AllocGlobal, W: Write>(
     match words_given(rt) {
         Ok(given) => Ok(given),
         Err(error) if error.kind() == ErrorKind::OutOfMemory => {
-            Err(told_by(name, Fault::NoMemory, err))
+            Err(report_fault_as(name, Fault::NoMemory, err))
         }
-        Err(_) => Err(refused_by(name, err)),
+        Err(_) => Err(report_usage_as(name, err)),
     }
 }
 
 // The words are read, or refused; or memory ran out.
-fn parsed(alloc: Global, given: &[String]) -> Result<Words, Option<Fault>>
+fn parse(alloc: Global, given: &[String]) -> Result<Wanted, Option<Fault>>
     ensures meant { IfOk result (λ words. asked_of (map string_bytes given.now) ≡ Some (meaning words)) }
     ensures refused { IfErr result (λ fault. fault ≡ None → asked_of (map string_bytes given.now) ≡ None) }
 {
     let command = command(alloc).map_err(|_| Some(Fault::NoMemory))?;
     match command.try_get_matches_from(given) {
-        Ok(matches) => match asked(alloc, &matches) {
+        Ok(matches) => match wanted(alloc, &matches) {
             Ok(Some(words)) => Ok(words),
             Ok(None) => Err(None),
             Err(_) => Err(Some(Fault::NoMemory)),
@@ -132,15 +132,15 @@ fn parsed(alloc: Global, given: &[String]) -> Result<Words, Option<Fault>>
 /// Reads the words behind the program's name. Where they are refused, or memory runs out, a line on
 /// `err` says so, and the answer is the exit status: 2 for words (`--help` is refused too), 1 for
 /// memory.
-pub fn words<W: Write>(alloc: Global, given: &[String], err: &mut W) -> Result<Words, u8>
+pub fn parse_arguments<W: Write>(alloc: Global, given: &[String], err: &mut W) -> Result<Wanted, u8>
     ensures meant { IfOk result (λ words. asked_of (map string_bytes given.now) ≡ Some (meaning words)) }
     ensures refused { IfErr result (λ status. status ≡ 2 → asked_of (map string_bytes given.now) ≡ None) }
     ensures status { IfErr result (λ status. (status ≡ 1) ⊎ (status ≡ 2)) }
 {
-    match parsed(alloc, given) {
+    match parse(alloc, given) {
         Ok(words) => Ok(words),
-        Err(Some(fault)) => Err(told(fault, err)),
-        Err(None) => Err(refused(err)),
+        Err(Some(fault)) => Err(report_fault(fault, err)),
+        Err(None) => Err(report_usage(err)),
     }
 }
 
@@ -165,22 +165,22 @@ pub fn file_words<'a, W: Write>(
             if !begins_with_dash(first.as_str()) && !begins_with_dash(second.as_str()) => {
             Ok((first.as_str(), second.as_str()))
         }
-        _ => Err(refused_by(name, err)),
+        _ => Err(report_usage_as(name, err)),
     }
 }
 
 /// Writes the fault down, and answers its exit status.
-pub fn told<W: Write>(fault: Fault, err: &mut W) -> u8
+pub fn report_fault<W: Write>(fault: Fault, err: &mut W) -> u8
     ensures { result ≡ 1 }
 {
-    told_by(NAME, fault, err)
+    report_fault_as(NAME, fault, err)
 }
 
 /// Says that words are refused, and answers their exit status.
-pub fn refused<W: Write>(err: &mut W) -> u8
+pub fn report_usage<W: Write>(err: &mut W) -> u8
     ensures { result ≡ 2 }
 {
-    refused_by(NAME, err)
+    report_usage_as(NAME, err)
 }
 
 /// How the program of this name is called, and where that is explained. Scripts ask for the line of klpsim, which so has
@@ -194,14 +194,14 @@ fn usage_of(name: &str) -> &'static str {
 }
 
 /// The same of the program of this name.
-pub fn told_by<W: Write>(name: &str, fault: Fault, err: &mut W) -> u8
+pub fn report_fault_as<W: Write>(name: &str, fault: Fault, err: &mut W) -> u8
     ensures { result ≡ 1 }
 {
     let _ = writeln!(err, "{name}: {fault}");
     FAULT
 }
 
-pub fn refused_by<W: Write>(name: &str, err: &mut W) -> u8
+pub fn report_usage_as<W: Write>(name: &str, err: &mut W) -> u8
     ensures { result ≡ 2 }
 {
     let _ = writeln!(err, "{name}: {}", usage_of(name));

@@ -41,9 +41,9 @@ pub enum Fault {
     Trace(TraceFault),
 }
 
-// A conversion that is derived has no clause, and `boot` and `served` promise which fault they answer.
+// A conversion that is derived has no clause, and `boot` and `over_text` promise which fault they answer.
 impl From<TextFault> for Fault {
-    ghost from_gives = { λ fault told. told ≡ Text fault };
+    ghost from_gives = { λ fault own. own ≡ Text fault };
 
     fn from(fault: TextFault) -> Fault {
         Fault::Text(fault)
@@ -51,7 +51,7 @@ impl From<TextFault> for Fault {
 }
 
 impl From<ServeFault> for Fault {
-    ghost from_gives = { λ fault told. told ≡ Serve fault };
+    ghost from_gives = { λ fault own. own ≡ Serve fault };
 
     fn from(fault: ServeFault) -> Fault {
         Fault::Serve(fault)
@@ -59,7 +59,7 @@ impl From<ServeFault> for Fault {
 }
 
 impl From<ImageFault> for Fault {
-    ghost from_gives = { λ fault told. told ≡ Image fault };
+    ghost from_gives = { λ fault own. own ≡ Image fault };
 
     fn from(fault: ImageFault) -> Fault {
         Fault::Image(fault)
@@ -67,7 +67,7 @@ impl From<ImageFault> for Fault {
 }
 
 impl From<AssembleFault> for Fault {
-    ghost from_gives = { λ fault told. told ≡ Assemble fault };
+    ghost from_gives = { λ fault own. own ≡ Assemble fault };
 
     fn from(fault: AssembleFault) -> Fault {
         Fault::Assemble(fault)
@@ -75,7 +75,7 @@ impl From<AssembleFault> for Fault {
 }
 
 impl From<BootFault> for Fault {
-    ghost from_gives = { λ fault told. told ≡ Boot fault };
+    ghost from_gives = { λ fault own. own ≡ Boot fault };
 
     fn from(fault: BootFault) -> Fault {
         Fault::Boot(fault)
@@ -83,7 +83,7 @@ impl From<BootFault> for Fault {
 }
 
 impl From<AllocError> for Fault {
-    ghost from_gives = { λ _ told. told ≡ NoMemory };
+    ghost from_gives = { λ _ fault. fault ≡ NoMemory };
 
     fn from(_error: AllocError) -> Fault {
         Fault::NoMemory
@@ -91,7 +91,7 @@ impl From<AllocError> for Fault {
 }
 
 impl<T: Drop> From<AllocFailed<T>> for Fault {
-    ghost from_gives = { λ _ told. told ≡ NoMemory };
+    ghost from_gives = { λ _ fault. fault ≡ NoMemory };
 
     fn from(_error: AllocFailed<T>) -> Fault {
         Fault::NoMemory

@@ -1,7 +1,7 @@
 ghost use Rattle.std.specs.Prelude.{◌≡◌, option_map, slice_get, IfOk};
 ghost use Rattle.klp_catalog_text.specs.Scripts.{scripts_of};
 ghost use Rattle.klp_program.specs.Booted.{never_ran};
-ghost use Rattle.klp_program.specs.Kinds.{told_by};
+ghost use Rattle.klp_program.specs.Kinds.{lent_by};
 
 use klp_callback::{Quiet, Refusing, Scripted};
 use klp_catalog_text::Plan;
@@ -21,7 +21,7 @@ pub(crate) enum Kind {
 
 // A callback of the simplest kind that means the script.
 fn kind_of(alloc: Global, script: &Script) -> Result<Kind, AllocError>
-    ensures { IfOk result (λ kind. told_by kind ≡ never_ran script.now) }
+    ensures { IfOk result (λ kind. lent_by kind ≡ never_ran script.now) }
 {
     if !script.edits.is_empty() {
         let scripted = Scripted::new(script.copy());
@@ -57,7 +57,7 @@ pub(crate) fn callback_of(
     plan: &Plan,
     number: usize,
 ) -> Result<Option<Kind>, AllocError>
-    ensures { IfOk result (λ kind. option_map told_by kind ≡ option_map never_ran
+    ensures { IfOk result (λ kind. option_map lent_by kind ≡ option_map never_ran
         (slice_get (scripts_of plan.now.patches) number)) }
 {
     match plan.script(number) {

@@ -15,13 +15,16 @@ mod verdict;
 mod wanted;
 mod watch;
 
-pub use arguments::{file_words, given, refused, refused_by, told, told_by, words};
+pub use arguments::{
+    file_words, parse_arguments, program_arguments, report_fault, report_fault_as, report_usage,
+    report_usage_as,
+};
 pub use booted::{boot, opened};
 pub use fault::{Fault, TraceFault};
 pub use file::{bytes_in, bytes_in_both, catalog_in};
 pub use kind::scripted;
 pub use sample::CATALOG;
-pub use serve::{close, console, served};
+pub use serve::{close, console, over_text};
 pub use verdict::{Counts, Verdict};
-pub use wanted::Words;
-pub use watch::{status_of, trace_words, watch_trace, watched};
+pub use wanted::Wanted;
+pub use watch::{status_of, trace_words, watch_over_text, watch_trace};

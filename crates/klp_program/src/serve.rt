@@ -3,7 +3,7 @@ ghost use Rattle.std.specs.Prelude.{◌≡◌, ◌≤◌, length};
 ghost use Rattle.klp_catalog_text.specs.Within.{AreTargetsWithin};
 ghost use Rattle.klp_program.specs.Runs.{Exits, Runs, RunsOver, RunsPlan, ServesBy};
 
-use crate::arguments::told;
+use crate::arguments::report_fault;
 use crate::booted::boot;
 use crate::fault::Fault;
 use crate::kind::{Kind, callback_of};
@@ -23,7 +23,7 @@ use std::sync::ledger::{Blank, Ledger};
 pub fn close(_manager: Manager) {}
 
 // Serves the console by a manager, which goes then.
-fn serve_by<R: Source, W: Sink>(
+fn over_manager<R: Source, W: Sink>(
     mut manager: Manager,
     reader: &mut R,
     writer: &mut W,
@@ -44,7 +44,7 @@ fn serve_by<R: Source, W: Sink>(
 // Each script of the text gets a callback of the simplest kind that means it. The boxes of any
 // callback are made here, and the manager lives here and where it serves, since a function that hands
 // out such a box which it made hides what is proved of boxes.
-fn serve_plan<R: Source, W: Sink>(
+fn over_plan<R: Source, W: Sink>(
     alloc: Global,
     plan: Plan,
     reader: &mut R,
@@ -64,12 +64,12 @@ fn serve_plan<R: Source, W: Sink>(
         callbacks.push(callback)?;
     }
     let manager = boot(alloc, plan, callbacks)?;
-    serve_by(manager, reader, writer)
+    over_manager(manager, reader, writer)
 }
 
 /// Boots a manager over the catalog's text, and serves the console by it. Nothing is read or written
 /// before the text is known to have no fault.
-pub fn served<R: Source, W: Sink>(
+pub fn over_text<R: Source, W: Sink>(
     alloc: Global,
     catalog: &[u8],
     reader: &mut R,
@@ -79,11 +79,11 @@ pub fn served<R: Source, W: Sink>(
         (record { supply = R.supply reader.new; written = W.written writer.new }) result }
 {
     let plan = Catalog::read(alloc, catalog)?;
-    serve_plan(alloc, plan, reader, writer)
+    over_plan(alloc, plan, reader, writer)
 }
 
 // The same over streams of std.
-fn served_over_std<R: Read, W: Write, L: Ledger, M: Ledger>(
+fn over_std<R: Read, W: Write, L: Ledger, M: Ledger>(
     alloc: Global,
     catalog: &[u8],
     input: &mut R,
@@ -97,7 +97,7 @@ fn served_over_std<R: Read, W: Write, L: Ledger, M: Ledger>(
 {
     let mut reader = OverRead::<&mut R, L>::new(input, reads);
     let mut writer = OverWrite::<&mut W, M>::new(out, writes);
-    served(alloc, catalog, &mut reader, &mut writer)
+    over_text(alloc, catalog, &mut reader, &mut writer)
 }
 
 /// Serves the input over a catalog's text, until it ends. The answer is the exit status: 0, or 1
@@ -115,8 +115,8 @@ pub fn console<R: Read, W: Write, E: Write>(
 {
     let reads = Blank::new(3);
     let writes = Blank::new(2);
-    match served_over_std::<R, W, Brand, Brand>(alloc, catalog, input, out, reads, writes) {
+    match over_std::<R, W, Brand, Brand>(alloc, catalog, input, out, reads, writes) {
         Ok(_) => 0,
-        Err(fault) => told(fault, err),
+        Err(fault) => report_fault(fault, err),
     }
 }

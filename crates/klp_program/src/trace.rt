@@ -10,7 +10,7 @@ use klp_console::{event_of, site_of};
 use klp_core::Manager;
 use klp_model::{Event, Seen};
 use klp_types::{MAX_TASKS, TaskId};
-use klp_words::{Separators, Words, number64};
+use klp_words::{LineWords, Separators, number64};
 use std::alloc::Global;
 
 fn task_of(word: &[u8]) -> Option<TaskId>
@@ -25,7 +25,7 @@ fn task_of(word: &[u8]) -> Option<TaskId>
 }
 
 /// The words behind `call`: a task, and the symbol that it calls.
-fn call_of(words: &mut Words<'_>, manager: &Manager) -> Option<Seen>
+fn call_of(words: &mut LineWords<'_>, manager: &Manager) -> Option<Seen>
     ensures { result ≡ call_of manager.now words.old }
 {
     let (Some(task), Some(symbol), None) = (words.next(), words.next(), words.next()) else {
@@ -36,7 +36,7 @@ fn call_of(words: &mut Words<'_>, manager: &Manager) -> Option<Seen>
 }
 
 /// The word behind `return`: a task.
-fn return_of(words: &mut Words<'_>) -> Option<Seen>
+fn return_of(words: &mut LineWords<'_>) -> Option<Seen>
     ensures { result ≡ return_of words.old }
 {
     let (Some(task), None) = (words.next(), words.next()) else {
@@ -51,7 +51,7 @@ fn item_of(line: &[u8], event: Option<Event>, manager: &Manager) -> Option<Seen>
     requires { event ≡ event_of manager.now line.now }
     ensures { result ≡ item_of manager.now line.now }
 {
-    let mut words = Words::new(line, Separators::Spaces);
+    let mut words = LineWords::new(line, Separators::Spaces);
     let first = words.next()?;
     if first == b"call".as_slice() {
         call_of(&mut words, manager)

@@ -1,6 +1,6 @@
 /// What the words of the program ask for.
 #[derive(Drop)]
-pub enum Words {
+pub enum Wanted {
     /// To serve standard input over the catalog in this file, or over the built-in one.
     Console(Option<String>),
     /// To run the steps of two task threads: the files of the catalog and of the steps.

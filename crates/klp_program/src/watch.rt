@@ -70,7 +70,7 @@ fn watch_items(mut manager: Manager, items: &[Seen]) -> Verdict
     verdict_of(ended, items)
 }
 
-fn watch_by(alloc: Global, manager: Manager, trace: &[u8]) -> Result<Verdict, Fault>
+fn watch_over_manager(alloc: Global, manager: Manager, trace: &[u8]) -> Result<Verdict, Fault>
     ensures { WatchesBy manager trace.now result }
 {
     match items_of(alloc, trace, &manager) {
@@ -84,7 +84,7 @@ fn watch_by(alloc: Global, manager: Manager, trace: &[u8]) -> Result<Verdict, Fa
 
 // Boots a manager over a plan, and watches it. The callbacks are made here, as where the console is served, but all of
 // one kind.
-fn watch_plan(alloc: Global, plan: Plan, trace: &[u8]) -> Result<Verdict, Fault>
+fn watch_over_plan(alloc: Global, plan: Plan, trace: &[u8]) -> Result<Verdict, Fault>
     requires { AreTargetsWithin (length plan.objects) plan.patches }
     ensures { WatchesPlan plan trace.now result }
 {
@@ -93,16 +93,16 @@ fn watch_plan(alloc: Global, plan: Plan, trace: &[u8]) -> Result<Verdict, Fault>
         callbacks.push(Boxed::new(callback))?;
     }
     let manager = boot(alloc, plan, callbacks)?;
-    watch_by(alloc, manager, trace)
+    watch_over_manager(alloc, manager, trace)
 }
 
 /// Boots a manager over the catalog's text, and holds the trace against the consistency model by it. The verdict is that
 /// of the whole trace, however long it is: no event is refused for want of room in the journal.
-pub fn watched(alloc: Global, catalog: &[u8], trace: &[u8]) -> Result<Verdict, Fault>
+pub fn watch_over_text(alloc: Global, catalog: &[u8], trace: &[u8]) -> Result<Verdict, Fault>
     ensures { Watches catalog.now trace.now result }
 {
     let plan = Catalog::read(alloc, catalog)?;
-    watch_plan(alloc, plan, trace)
+    watch_over_plan(alloc, plan, trace)
 }
 
 fn name_of(cause: Cause) -> &'static str
@@ -153,7 +153,7 @@ pub fn watch_trace<W: Write>(
 ) -> Result<Verdict, Fault>
     ensures { Prints catalog.now trace.now (W.contents out.old) (W.contents out.new) result }
 {
-    let verdict = match watched(alloc, catalog, trace) {
+    let verdict = match watch_over_text(alloc, catalog, trace) {
         Ok(verdict) => verdict,
         Err(fault) => return Err(fault),
     };

@@ -6,7 +6,7 @@ use Rattle.klp_types.specs.declared.version.Entry.{Entry}
 use Rattle.klp_types.specs.Entries.{is_empty}
 use Rattle.klp_text.specs.TextImage.{TextImage, site_count}
 use Rattle.klp_stack.specs.Stack.{entries_at, has_entry, place_of}
-use Rattle.klp_stack.specs.Undo.{may_stand, put_at, put_entry}
+use Rattle.klp_stack.specs.Undo.{may_be_at, put_at, put_entry}
 use Rattle.klp_stack.proofs.StackLemmas.{put_some}
 use Rattle.klp_sites.specs.Table.{is_stacked, is_hooked_at, IsInStep}
 
@@ -75,7 +75,7 @@ hooked_at patch (entry ∷ older) place there = refl
 -- an entry is put back, and it isn't the first
 put_to_some : (patch : ℕ) (place : Place) (entries : Entries) → is_empty entries ≡ false → is_empty (put_entry patch (Some place) entries) ≡ false
 put_to_some patch place entries some =
-    elim (may_stand patch place.index entries) as (λ b. is_empty (cond b (put_at place.index (record { patch = patch; func = place.func }) entries) entries) ≡ false) [
+    elim (may_be_at patch place.index entries) as (λ b. is_empty (cond b (put_at place.index (record { patch = patch; func = place.func }) entries) entries) ≡ false) [
       | true ↦ put_some (take (length entries - place.index) entries) (drop (length entries - place.index) entries) (record { patch = patch; func = place.func })
       | false ↦ some
     ]

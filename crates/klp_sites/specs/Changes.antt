@@ -41,13 +41,13 @@ rows_of_take table site patch =
 
 -- records with these behind them
 abbrev pub noting : RecordList → List Record → RecordList
-noting records rows = record records { noted = records.noted ++ rows }
+noting records rows = record records { logged = records.logged ++ rows }
 
 -- a change makes this table of the one before, and changes these rows
 pub record Changes (before after : SiteTable) (log_before log_after : RecordList) (to : SiteTable) (rows : List Record) : Type 0 where
   -- the table is the one that the change is to make
   pub table : after ≡ to
-  -- each row that changed is noted as it was, as the newest
+  -- each row that changed is logged as it was, as the newest
   pub records : log_after ≡ noting log_before rows
   -- these records, put back newest first, give the table before
   pub undo : undone after rows ≡ before

@@ -75,10 +75,10 @@ are_exact table (row ∷ newer) = is_exact (undone table newer) row (first_hook 
 
 -- whether records tell rows that changed alone: so does each of them, and the oldest is no hook's, which would have no entry's before it.
 -- Records of rows that aren't the table's may be among them
-unfoldable pub tells : SiteTable → Record → List Record → Bool
-tells table oldest newer = are_exact table (oldest ∷ newer) && is_none (hook_of oldest)
+unfoldable pub has_effect : SiteTable → Record → List Record → Bool
+has_effect table oldest newer = are_exact table (oldest ∷ newer) && is_none (hook_of oldest)
 
 -- the same of any list; none tell nothing wrong
-abbrev pub tell_changes : SiteTable → List Record → Bool
-tell_changes table [] = true
-tell_changes table (oldest ∷ newer) = tells table oldest newer
+abbrev pub have_effects : SiteTable → List Record → Bool
+have_effects table [] = true
+have_effects table (oldest ∷ newer) = has_effect table oldest newer

@@ -44,7 +44,7 @@ none_blocked site move (entry ∷ older) none =
 -- an entry that stands between
 module _ (entry : Entry) (older : List Entry) where
   -- what a stack says of it
-  pub record Stands (newer : List Entry) : Type 0 where
+  pub record IsWellFormed (newer : List Entry) : Type 0 where
     pub number : entry.patch < MAX_PATCHES
     pub none_newer : has_entry entry.patch newer ≡ false
     pub none_older : has_entry entry.patch older ≡ false
@@ -57,11 +57,11 @@ module _ (entry : Entry) (older : List Entry) where
       let others = none_among patch newer parts.1 in
       (others.0, or_from _ _ parts.0 others.1)
 
-  pub stands : (newer : List Entry) → IsStack (newer ++ entry ∷ older) → Stands newer
-  stands [] stack = record { number = stack.0; none_newer = refl; none_older = stack.1; rest = stack.2 }
-  stands (first ∷ newer) stack =
+  pub well_formed : (newer : List Entry) → IsStack (newer ++ entry ∷ older) → IsWellFormed newer
+  well_formed [] stack = record { number = stack.0; none_newer = refl; none_older = stack.1; rest = stack.2 }
+  well_formed (first ∷ newer) stack =
       let others = none_among first.patch newer stack.1 in
-      let there = stands newer stack.2 in
+      let there = well_formed newer stack.2 in
       record {
         number = there.number;
         none_newer = or_from _ _ (differ_back entry.patch first.patch others.0) there.none_newer;

@@ -15,14 +15,14 @@ not_equal : (a b : ℕ) → a ≢ b → eqb a b ≡ false
 not_equal a b apart = elim (eqb a b) as (λ e. eqb a b ≡ e → e ≡ false) [ true ↦ λ e. absurd (apart (eqb-true a b e)) | false ↦ λ e. refl ] refl
 
 -- one number is told another
-abbrev told : ℕ → ℕ → (ℕ → ℕ) → ℕ → ℕ
-told x v f m = cond (eqb m x) v (f m)
+abbrev updated : ℕ → ℕ → (ℕ → ℕ) → ℕ → ℕ
+updated x v f m = cond (eqb m x) v (f m)
 
-told_own : (x v : ℕ) (f : ℕ → ℕ) → told x v f x ≡ v
-told_own x v f = cond-true _ _ _ (eq-eqb x x refl)
+updated_own : (x v : ℕ) (f : ℕ → ℕ) → updated x v f x ≡ v
+updated_own x v f = cond-true _ _ _ (eq-eqb x x refl)
 
-told_other : (x v : ℕ) (f : ℕ → ℕ) (m : ℕ) → m ≢ x → told x v f m ≡ f m
-told_other x v f m apart = cond-false _ _ _ (not_equal m x apart)
+updated_other : (x v : ℕ) (f : ℕ → ℕ) (m : ℕ) → m ≢ x → updated x v f m ≡ f m
+updated_other x v f m apart = cond-false _ _ _ (not_equal m x apart)
 
 -- where an entry comes, those above it have one more older one, and where one goes, one less
 abbrev raised : Owners → ℕ → ℕ → ℕ → ℕ
@@ -87,13 +87,13 @@ module _ (owners : Owners) (slots : List Slot) (who n newest free : ℕ) (some :
   -- an entry comes, where so many are older
   module _ (spare : ℕ) (unused : IsOwned owners slots 0 (suc spare) free) (entry : Entry) (i : ℕ) where
     abbrev with_one : Owners
-    with_one = record { owner = told free who owners.owner; older = told free i (raised owners who i) }
+    with_one = record { owner = updated free who owners.owner; older = updated free i (raised owners who i) }
 
     not_free : (m : ℕ) → owners.owner m ≢ 0 → m ≢ free
     not_free m apart same = apart (ap owners.owner same ∙ unused.1)
 
     same_in : (now : List Slot) (m : ℕ) → slot_at now m ≡ slot_at slots m → m ≢ free → raised owners who i m ≡ owners.older m → IsSame owners with_one slots now m
-    same_in now m slot apart older = record { slot = slot; owner = told_other free who owners.owner m apart; older = told_other free i (raised owners who i) m apart ∙ older }
+    same_in now m slot apart older = record { slot = slot; owner = updated_other free who owners.owner m apart; older = updated_other free i (raised owners who i) m apart ∙ older }
 
     -- the rest of the free list
     rest_free : (now : List Slot) → length now ≡ length slots → ((m : ℕ) → m ≢ free → owners.owner m ≢ who → slot_at now m ≡ slot_at slots m)
@@ -120,7 +120,7 @@ module _ (owners : Owners) (slots : List Slot) (who n newest free : ℕ) (some :
         record {
           after = with_one;
           long = long;
-          own = (omega (arith, unused.0, long), told_own free who owners.owner, told_own free i (raised owners who i) ∙ top, subst (IsOwned with_one now who n) next below.owned);
+          own = (omega (arith, unused.0, long), updated_own free who owners.owner, updated_own free i (raised owners who i) ∙ top, subst (IsOwned with_one now who n) next below.owned);
           entries_are = ap (λ (s : Slot). s.entry ∷ entries_from now n s.older) here ∙ ap (λ es. entry ∷ es) below.entries;
           unused = rest_free now long (λ m apart other. filled_else slots free entry newest m apart);
           others = λ m apart used.
@@ -168,7 +168,7 @@ module _ (owners : Owners) (slots : List Slot) (who n newest free : ℕ) (some :
         pub has : entries_from now (suc (more steps (suc i))) number ≡ entries_from slots (suc steps) number ++ entry ∷ entries_from slots i next
 
       new_owned : IsOwned with_one now who (suc i) free
-      new_owned = (omega (arith, unused.0, long), told_own free who owners.owner, told_own free i (raised owners who i), subst (IsOwned with_one now who i) (sym (ap (λ (s : Slot). s.older) slot_new)) low.owned)
+      new_owned = (omega (arith, unused.0, long), updated_own free who owners.owner, updated_own free i (raised owners who i), subst (IsOwned with_one now who i) (sym (ap (λ (s : Slot). s.older) slot_new)) low.owned)
 
       new_entries : entries_from now (suc i) free ≡ entry ∷ entries_from slots i next
       new_entries = ap (λ (s : Slot). s.entry ∷ entries_from now i s.older) slot_new ∙ ap (λ es. entry ∷ es) low.entries
@@ -179,8 +179,8 @@ module _ (owners : Owners) (slots : List Slot) (who n newest free : ℕ) (some :
           subst P is (record {
             owned_by = (
               omega (arith, own_above.0, long),
-              told_other free who owners.owner above above_used ∙ own_above.1,
-              told_other free i (raised owners who i) above above_used ∙ raised_above owners who i above own_above.1 (omega (arith, own_above.2)) ∙ ap suc own_above.2,
+              updated_other free who owners.owner above above_used ∙ own_above.1,
+              updated_other free i (raised owners who i) above above_used ∙ raised_above owners who i above own_above.1 (omega (arith, own_above.2)) ∙ ap suc own_above.2,
               subst (IsOwned with_one now who (suc i)) (sym (ap (λ (s : Slot). s.older) slot_above)) new_owned,
             );
             has = ap (λ (s : Slot). s.entry ∷ entries_from now (suc i) s.older) slot_above ∙ ap (λ es. (slot_at slots above).entry ∷ es) new_entries;
@@ -194,8 +194,8 @@ module _ (owners : Owners) (slots : List Slot) (who n newest free : ℕ) (some :
           record {
             owned_by = (
               omega (arith, has.0, long),
-              told_other free who owners.owner number apart ∙ has.1,
-              told_other free i (raised owners who i) number apart ∙ raised_above owners who i number has.1 (omega arith) ∙ ap suc has.2,
+              updated_other free who owners.owner number apart ∙ has.1,
+              updated_other free i (raised owners who i) number apart ∙ raised_above owners who i number has.1 (omega arith) ∙ ap suc has.2,
               subst (IsOwned with_one now who (suc (more steps (suc i)))) (sym (ap (λ (s : Slot). s.older) slot)) rest.owned_by,
             );
             has = ap (λ (s : Slot). s.entry ∷ entries_from now (suc (more steps (suc i))) s.older) slot ∙ ap (λ es. (slot_at slots number).entry ∷ es) rest.has;
@@ -227,13 +227,13 @@ module _ (owners : Owners) (slots : List Slot) (who n newest free : ℕ) (some :
   -- an entry goes, with so many older ones
   module _ (spare : ℕ) (unused : IsOwned owners slots 0 spare free) (i taken : ℕ) (taken_owned : IsOwned owners slots who (suc i) taken) where
     abbrev without : Owners
-    without = record { owner = told taken 0 owners.owner; older = told taken spare (lowered owners who i) }
+    without = record { owner = updated taken 0 owners.owner; older = updated taken spare (lowered owners who i) }
 
     not_taken : (m : ℕ) → owners.owner m ≢ who → m ≢ taken
     not_taken m apart same = apart (ap owners.owner same ∙ taken_owned.1)
 
     stays_in : (now : List Slot) (m : ℕ) → slot_at now m ≡ slot_at slots m → m ≢ taken → lowered owners who i m ≡ owners.older m → IsSame owners without slots now m
-    stays_in now m slot apart older = record { slot = slot; owner = told_other taken 0 owners.owner m apart; older = told_other taken spare (lowered owners who i) m apart ∙ older }
+    stays_in now m slot apart older = record { slot = slot; owner = updated_other taken 0 owners.owner m apart; older = updated_other taken spare (lowered owners who i) m apart ∙ older }
 
     -- the free list with the slot as its first
     more_free : (now : List Slot) → length now ≡ length slots → (slot_at now taken).older ≡ free
@@ -245,7 +245,7 @@ module _ (owners : Owners) (slots : List Slot) (who n newest free : ℕ) (some :
         let apart = not_taken m other in
         stays_in now m (slot m apart other) apart (lowered_other owners who i m other))).owned
         in
-        (omega (arith, taken_owned.0, long), told_own taken 0 owners.owner, told_own taken spare (lowered owners who i), subst (IsOwned without now 0 spare) (sym linked) rest)
+        (omega (arith, taken_owned.0, long), updated_own taken 0 owners.owner, updated_own taken spare (lowered owners who i), subst (IsOwned without now 0 spare) (sym linked) rest)
 
     -- those below it
     rest_below : (now : List Slot) (long : length now ≡ length slots) → ((m : ℕ) → m ≢ taken → owners.owner m ≡ who → owners.older m < i → slot_at now m ≡ slot_at slots m)
@@ -334,8 +334,8 @@ module _ (owners : Owners) (slots : List Slot) (who n newest free : ℕ) (some :
           subst P is (record {
             owned_by = (
               omega (arith, above_owned.0, cut_long),
-              told_other taken 0 owners.owner above above_stays ∙ above_owned.1,
-              told_other taken spare (lowered owners who i) above above_stays ∙ lowered_above owners who i above above_owned.1 (omega (arith, above_owned.2)) ∙ omega (arith, above_owned.2),
+              updated_other taken 0 owners.owner above above_stays ∙ above_owned.1,
+              updated_other taken spare (lowered owners who i) above above_stays ∙ lowered_above owners who i above above_owned.1 (omega (arith, above_owned.2)) ∙ omega (arith, above_owned.2),
               subst (IsOwned without cut who i) (sym (ap (λ (s : Slot). s.older) cut_above)) low_kept.owned,
             );
             has = ap (λ (s : Slot). s.entry ∷ entries_from cut i s.older) cut_above ∙ ap (λ es. (slot_at slots above).entry ∷ es) low_kept.entries;
@@ -349,8 +349,8 @@ module _ (owners : Owners) (slots : List Slot) (who n newest free : ℕ) (some :
           record {
             owned_by = (
               omega (arith, has.0, cut_long),
-              told_other taken 0 owners.owner number apart ∙ has.1,
-              told_other taken spare (lowered owners who i) number apart ∙ lowered_above owners who i number has.1 (omega arith) ∙ omega (arith, has.2, more-suc steps (suc i)),
+              updated_other taken 0 owners.owner number apart ∙ has.1,
+              updated_other taken spare (lowered owners who i) number apart ∙ lowered_above owners who i number has.1 (omega arith) ∙ omega (arith, has.2, more-suc steps (suc i)),
               subst (IsOwned without cut who (more steps (suc i))) (sym (ap (λ (s : Slot). s.older) slot)) rest.owned_by,
             );
             has = ap (λ (s : Slot). s.entry ∷ entries_from cut (more steps (suc i)) s.older) slot ∙ ap (λ es. (slot_at slots number).entry ∷ es) rest.has;

@@ -15,8 +15,8 @@ use Rattle.klp_types.specs.Entries.{is_empty}
 use Rattle.klp_types.specs.Pick.{newest_version}
 use Rattle.klp_model.specs.Blocked.{held_version, blocked_among}
 use Rattle.klp_stack.specs.Stack.{has_entry, entries_of_others, place_of, IsStack}
-use Rattle.klp_stack.specs.Undo.{may_stand, put_at, put_entry}
-use Rattle.klp_stack.proofs.EntryLemmas.{stands, no_place, all_others, none_blocked, put_between, at_its_place, its_others, its_version}
+use Rattle.klp_stack.specs.Undo.{may_be_at, put_at, put_entry}
+use Rattle.klp_stack.proofs.EntryLemmas.{well_formed, no_place, all_others, none_blocked, put_between, at_its_place, its_others, its_version}
 
 abbrev is_own : ℕ → Entry → Bool
 is_own patch entry = entry.patch == patch
@@ -155,7 +155,7 @@ pub taken : (patch : ℕ) (entries rest : List Entry) (place : Place) → IsStac
     → rest ≡ remove entries (length entries - 1 - place.index) → Taken patch entries rest (Some place)
 taken patch entries rest place stack is left =
     let at = found patch entries place is in
-    let there = stands at.entry at.older at.newer (subst IsStack at.is stack) in
+    let there = well_formed at.entry at.older at.newer (subst IsStack at.is stack) in
     let same : at.entry.patch ≡ patch = eqb-true at.entry.patch patch at.own in
     let none_older = subst (λ p. has_entry p at.older ≡ false) same there.none_older in
     let others : entries_of_others patch entries ≡ at.newer ++ at.older = ap (entries_of_others patch) at.is ∙ its_others at.entry at.older patch at.own at.newer at.none_newer none_older in
@@ -195,7 +195,7 @@ pub record PutIn (now : List Entry) (i patch : ℕ) (func : Option ℕ) : Type 0
   pub is : put_at i (record { patch = patch; func = func }) now ≡ put_entry patch (Some (record { index = i; func = func })) now
   pub stack : IsStack (put_at i (record { patch = patch; func = func }) now)
 
-pub put_in : (now : List Entry) (i patch : ℕ) (func : Option ℕ) → IsStack now → may_stand patch i now ≡ true → PutIn now i patch func
+pub put_in : (now : List Entry) (i patch : ℕ) (func : Option ℕ) → IsStack now → may_be_at patch i now ≡ true → PutIn now i patch func
 put_in now i patch func stack may =
     let e : Entry = record { patch = patch; func = func } in
     let parts = may_parts (ltb patch MAX_PATCHES) (has_entry patch now) (leb i (length now)) may in
@@ -212,7 +212,7 @@ put_in now i patch func stack may =
     }
 
 -- one that may not changes nothing
-pub not_put : (now : List Entry) (patch : ℕ) (place : Place) → may_stand patch place.index now ≡ false → put_entry patch (Some place) now ≡ now
+pub not_put : (now : List Entry) (patch : ℕ) (place : Place) → may_be_at patch place.index now ≡ false → put_entry patch (Some place) now ≡ now
 not_put now patch place may = cond-false _ _ _ may
 
 pub index_within : (patch : ℕ) (entries : List Entry) (place : Place) → place_of patch entries ≡ Some place → place.index < length entries
@@ -239,12 +239,12 @@ first_put entries i entry = by (is_empty entries) (is_empty (put_at i entry entr
     by false now some = refl
 
 -- an entry may stand on top, or below another, where the patch has none
-pub may_on_top : (patch index n : ℕ) (entries : List Entry) → patch < MAX_PATCHES → index ≡ n → n ≡ length entries → has_entry patch entries ≡ false → true ≡ may_stand patch index entries
+pub may_on_top : (patch index n : ℕ) (entries : List Entry) → patch < MAX_PATCHES → index ≡ n → n ≡ length entries → has_entry patch entries ≡ false → true ≡ may_be_at patch index entries
 may_on_top patch index n entries number top count none =
     sym (and_from _ _ (and_from _ _ (lt-ltb patch MAX_PATCHES number) (not_from_false _ none)) (le-leb index (length entries) (omega (arith, top, count))))
 
 pub may_below : (patch index n : ℕ) (entries : List Entry) → patch < MAX_PATCHES → index ≢ n → n ≡ length entries
-    → (not (has_entry patch entries) && ltb index n) ≡ may_stand patch index entries
+    → (not (has_entry patch entries) && ltb index n) ≡ may_be_at patch index entries
 may_below patch index n entries number below count =
     ap (λ b. not (has_entry patch entries) && b) (lower (length entries) count)
     ∙ ap (λ b. b && not (has_entry patch entries) && leb index (length entries)) (sym (lt-ltb patch MAX_PATCHES number))

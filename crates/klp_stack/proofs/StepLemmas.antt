@@ -13,7 +13,7 @@ use Rattle.klp_stack.specs.declared.slot.Slot.{Slot}
 use Rattle.klp_stack.specs.declared.slot.TheConstants.{MAX_ENTRIES}
 use Rattle.klp_stack.specs.declared.chain.Chain.{Chain}
 use Rattle.klp_stack.specs.Stack.{IsStack, entries_at, has_entry, entries_of_others, place_of}
-use Rattle.klp_stack.specs.Undo.{may_stand, put_at, put_entry}
+use Rattle.klp_stack.specs.Undo.{may_be_at, put_at, put_entry}
 use Rattle.klp_stack.specs.Spare.{held, spare_in}
 use Rattle.klp_stack.specs.Pool.{slot_at, slot_below, entries_from, entries_of, chain_at, IsLinked, IsOwned, IsPool}
 use Rattle.klp_stack.specs.Linking.{linked_to, filled, IsTaken, IsPutIn}
@@ -300,13 +300,13 @@ module _ (slots : List Slot) (chains : List Chain) (free spare : ℕ) (pool : Is
       pub stacks : map (entries_of slots_now) (set chains at result) ≡ set now site (put_entry patch (Some place) (entries_at now site))
       pub first : (chain.len == 0) ≡ (is_empty (entries_at now site) && not (is_empty (entries_at (map (entries_of slots_now) (set chains at result)) site)))
 
-    pub put_again : 0 < spare_in now → (patch : ℕ) (place : Place) (slots_now : List Slot) (result : Chain) (free_now spare_now : ℕ) → true ≡ may_stand patch place.index (entries_of slots chain)
+    pub put_again : 0 < spare_in now → (patch : ℕ) (place : Place) (slots_now : List Slot) (result : Chain) (free_now spare_now : ℕ) → true ≡ may_be_at patch place.index (entries_of slots chain)
         → IsPutIn slots slots_now chain place.index (record { patch = patch; func = place.func }) free result.newest → result.len ≡ chain.len + 1
         → free_now ≡ (slot_at slots free).older → spare_now ≡ spare - 1 → PutBack patch place slots_now result free_now spare_now
     put_again room patch place slots_now result free_now spare_now may links long frees fewer =
         let es = entries_at now site in
         let entry : Entry = record { patch = patch; func = place.func } in
-        let put = put_in es place.index patch place.func found_there.is_stack (sym (may ∙ ap (may_stand patch place.index) found_there.entries_are)) in
+        let put = put_in es place.index patch place.func found_there.is_stack (sym (may ∙ ap (may_be_at patch place.index) found_there.entries_are)) in
         let done = put_done room place.index entry slots_now result free_now spare_now (omega (arith, put.within, found_there.count)) put.stack links long frees fewer in
         let seen : entries_at (map (entries_of slots_now) (set chains at result)) site ≡ put_at place.index entry es =
         ap (λ s. entries_at s site) done.stacks ∙ get_or-set_same now site (put_at place.index entry es) [] within

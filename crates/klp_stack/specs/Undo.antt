@@ -8,8 +8,8 @@ use Rattle.klp_types.specs.declared.version.Entry.{Entry}
 use Rattle.klp_stack.specs.Stack.{entries_at, has_entry, entries_of_others}
 
 -- whether an entry of the patch may get this place from the oldest
-abbrev pub may_stand : ℕ → ℕ → List Entry → Bool
-may_stand patch index entries = nat_lt patch MAX_PATCHES && not (has_entry patch entries) && nat_le index (length entries)
+abbrev pub may_be_at : ℕ → ℕ → List Entry → Bool
+may_be_at patch index entries = nat_lt patch MAX_PATCHES && not (has_entry patch entries) && nat_le index (length entries)
 
 -- an entry gets a place from the oldest
 abbrev pub put_at : ℕ → Entry → List Entry → List Entry
@@ -19,7 +19,7 @@ put_at index entry entries = insert entries (length entries - index) entry
 abbrev pub put_entry : ℕ → Option Place → List Entry → List Entry
 put_entry patch None entries = entries_of_others patch entries
 put_entry patch (Some place) entries =
-    if may_stand patch place.index entries then put_at place.index (record { patch = patch; func = place.func }) entries else entries
+    if may_be_at patch place.index entries then put_at place.index (record { patch = patch; func = place.func }) entries else entries
 
 -- the stacks with one entry as the record tells it; other records are of rows that aren't theirs
 abbrev pub put_back : List (List Entry) → Record → List (List Entry)

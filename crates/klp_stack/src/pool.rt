@@ -1,7 +1,7 @@
 //! The pool of all entries: the steps that give a stack a slot or take one from it.
 ghost use Rattle.std.specs.Prelude.{◌≡◌, ◌+◌, ◌-◌, ◌<◌, ◌≤◌, ◌&&◌, not, nat_lt, length, is_some, option_map, IfSome, IfNone};
 ghost use Rattle.klp_stack.specs.Stack.{has_entry, place_of};
-ghost use Rattle.klp_stack.specs.Undo.{may_stand};
+ghost use Rattle.klp_stack.specs.Undo.{may_be_at};
 ghost use Rattle.klp_stack.specs.Pool.{IsLinked, slot_at, entries_of, entries_below};
 ghost use Rattle.klp_stack.specs.Linking.{IsPutInto, IsTakenOut, filled, linked_to};
 
@@ -180,7 +180,7 @@ impl Pool {
         requires few { chain.len ≤ MAX_PATCHES }
         requires spare { 0 < self.old.spare }
         requires there { self.old.free < length self.old.slots.items }
-        ensures may { is_some result ≡ may_stand entry.patch index (entries_of self.old.slots.items chain) }
+        ensures may { is_some result ≡ may_be_at entry.patch index (entries_of self.old.slots.items chain) }
         ensures put { IfSome result (λ grown. IsPutInto self.old self.new chain index entry grown) }
         ensures unchanged { IfNone result (self.new ≡ self.old) }
     {

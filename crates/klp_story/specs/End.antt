@@ -16,7 +16,7 @@ use Rattle.klp_timeline.specs.declared.moment.Sentence.{Sentence}
 use Rattle.klp_timeline.specs.Course.{course_of}
 use Rattle.klp_timeline.specs.Facts.{is_outdated}
 use Rattle.klp_timeline.specs.Lagging.{lagging}
-use Rattle.klp_timeline.specs.Told.{is_lasting}
+use Rattle.klp_timeline.specs.Shown.{is_lasting}
 use Rattle.klp_catalog.specs.Catalog.{Catalog}
 use Rattle.klp_markup.specs.Names.{version_text}
 use Rattle.klp_markup.specs.Tasks.{plural, tasks_text}

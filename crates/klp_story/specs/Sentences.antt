@@ -8,7 +8,7 @@ use Rattle.klp_timeline.specs.declared.moment.Fact.TheVariants.{Forces, PreFaile
 use Rattle.klp_timeline.specs.declared.moment.Said.{Said}
 use Rattle.klp_timeline.specs.declared.moment.Said.TheVariants.{Did, Slept}
 use Rattle.klp_timeline.specs.declared.moment.Sentence.{Sentence}
-use Rattle.klp_timeline.specs.Told.{told, left_out}
+use Rattle.klp_timeline.specs.Shown.{shown, left_out}
 use Rattle.klp_catalog.specs.Catalog.{Catalog}
 use Rattle.klp_markup.specs.Escaped.{name_text}
 use Rattle.klp_markup.specs.Names.{object_name, version_text}
@@ -101,4 +101,4 @@ earlier_text count = if count == 0 then [] else codes "<li>And " ++ decimal coun
 
 -- the sentences that are told of, and how many aren't
 abbrev pub story_text : Catalog → List Sentence → List ℕ
-story_text catalog sentences = sentences_text catalog (told sentences) ++ earlier_text (left_out sentences)
+story_text catalog sentences = sentences_text catalog (shown sentences) ++ earlier_text (left_out sentences)

@@ -5,7 +5,7 @@ ghost use Rattle.klp_markup.specs.Adds.{Adds};
 ghost use Rattle.klp_timeline.specs.declared.moment.Said.TheVariants.{Slept};
 ghost use Rattle.klp_timeline.specs.Course.{course_of};
 ghost use Rattle.klp_timeline.specs.Facts.{is_outdated};
-ghost use Rattle.klp_timeline.specs.Told.{is_lasting};
+ghost use Rattle.klp_timeline.specs.Shown.{is_lasting};
 ghost use Rattle.klp_markup.specs.Tasks.{tasks_text};
 ghost use Rattle.klp_story.specs.Words.{link_text};
 ghost use Rattle.klp_story.specs.End.{reason_text, sleeper_text, sleepers_text, tasks_of, first_lasting, others_text, all_sleepers_text, refused_text, first_text, end_text};

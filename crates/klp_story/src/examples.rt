@@ -10,7 +10,7 @@ ghost use Rattle.klp_story.specs.Sentences.{fact_text, span_text};
 ghost use Rattle.klp_story.specs.End.{rest_text, held_text, lagging_text, refused_text};
 
 /// Of more than nine tasks eight are named.
-pub fn tasks_are_told_like_this()
+pub fn tasks_are_shown_like_this()
     ensures one { tasks_text (5 ∷ []) ≡ codes "task 5" }
     ensures two { tasks_text (1 ∷ 12 ∷ []) ≡ codes "tasks 1 and 12" }
     ensures nine { tasks_text (1 ∷ 2 ∷ 3 ∷ 4 ∷ 5 ∷ 6 ∷ 7 ∷ 8 ∷ 9 ∷ [])
@@ -20,7 +20,7 @@ pub fn tasks_are_told_like_this()
 {}
 
 /// A completion with sleepers in code that isn't called now says so.
-pub fn facts_are_told_like_this()
+pub fn facts_are_shown_like_this()
     ensures complete { (catalog : AnyCatalog) → fact_text catalog (Completes (record { patch = 0; target = true }) 0)
         ≡ quoted_text catalog 0 ++ codes ": patching complete" ++ codes ": each task calls its functions." }
     ensures forced { (catalog : AnyCatalog) → fact_text catalog (Completes (record { patch = 0; target = false }) 2)
@@ -31,7 +31,7 @@ pub fn facts_are_told_like_this()
 {}
 
 /// The lines of a stay, who holds a transition up, who lags, and that nothing was done.
-pub fn stays_are_told_like_this()
+pub fn stays_are_shown_like_this()
     ensures line { span_text 7 (Some 7) ≡ codes "<li><a href=\"#line-7\">Line 7</a>: " }
     ensures lines { span_text 7 (Some 12) ≡ codes "<li><a href=\"#line-7\">Lines 7</a> to 12: " }
     ensures still { span_text 7 None ≡ codes "<li class=holds>Since <a href=\"#line-7\">line 7</a>, and still: " }

@@ -2,7 +2,7 @@
 ghost use Rattle.std.specs.Prelude.{◌≡◌, ◌++◌, ◌∷◌, [], codes};
 ghost use Rattle.klp_markup.specs.Adds.{Adds};
 ghost use Rattle.klp_timeline.specs.declared.moment.Said.TheVariants.{Did};
-ghost use Rattle.klp_timeline.specs.Told.{told};
+ghost use Rattle.klp_timeline.specs.Shown.{shown};
 ghost use Rattle.klp_story.specs.Sentences.{said_text, sentence_text, sentences_text, earlier_text, story_text};
 
 use crate::facts::add_fact;
@@ -36,9 +36,9 @@ fn add_sentence(sheet: &mut Sheet, catalog: &Catalog, modules: &Modules, sentenc
 }
 
 /// Adds the sentences that are told of.
-fn add_told(sheet: &mut Sheet, catalog: &Catalog, modules: &Modules, sentences: &[Sentence])
+fn add_shown(sheet: &mut Sheet, catalog: &Catalog, modules: &Modules, sentences: &[Sentence])
     requires { catalog.now.names ≡ modules.now.names }
-    ensures { Adds sheet.old sheet.new (sentences_text catalog.now (told sentences.now)) }
+    ensures { Adds sheet.old sheet.new (sentences_text catalog.now (shown sentences.now)) }
 {
     klp_markup::laws::what_is_added_adds_up();
     let mut excess = excess(sentences);
@@ -68,6 +68,6 @@ pub fn add_story(sheet: &mut Sheet, catalog: &Catalog, modules: &Modules, senten
     ensures { Adds sheet.old sheet.new (story_text catalog.now sentences.now) }
 {
     klp_markup::laws::what_is_added_adds_up();
-    add_told(sheet, catalog, modules, sentences);
+    add_shown(sheet, catalog, modules, sentences);
     add_earlier(sheet, left_out(sentences));
 }

@@ -1,7 +1,7 @@
 pub mod MemberLemmas
 pub mod TaskLemmas
 pub mod ListedLemmas
-pub mod ToldLemmas
+pub mod EffectLemmas
 pub mod FrameLemmas
 pub mod NumberLemmas
 pub mod WalkLemmas

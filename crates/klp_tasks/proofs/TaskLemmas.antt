@@ -18,7 +18,7 @@ use Rattle.klp_model.specs.TaskStep.{change_task}
 use Rattle.klp_model.specs.Blocked.{is_version, is_held, switched}
 use Rattle.klp_tasks.specs.Members.{VersionFlags, has, IsSetOf}
 use Rattle.klp_tasks.proofs.MemberLemmas.{same_any}
-use Rattle.klp_tasks.specs.Changes.{Changes, record_of, put_back, undone, changed_row, changed, record_if_switched, records_switched, IsSwitchNoted}
+use Rattle.klp_tasks.specs.Changes.{Changes, record_of, put_back, undone, changed_row, changed, record_if_switched, records_switched, IsSwitchLogged}
 
 pub set_back : (tasks : Tasks) (number : ℕ) (row : Option Task) → set (set tasks number row) number (get_or tasks number None) ≡ tasks
 set_back [] number row = refl
@@ -124,14 +124,14 @@ rows_few f start (suc count) (task ∷ tasks) =
     let behind = rows_few f (suc start) count tasks in
     grind (arith, length-append, behind)
 
-few_told : (number : ℕ) (was now : Option Task) → length (option_to_list (record_if_switched number was now)) ≤ 1
-few_told number None now = omega arith
-few_told number (Some was) None = omega arith
-few_told number (Some was) (Some task) =
+few_effective : (number : ℕ) (was now : Option Task) → length (option_to_list (record_if_switched number was now)) ≤ 1
+few_effective number None now = omega arith
+few_effective number (Some was) None = omega arith
+few_effective number (Some was) (Some task) =
     elim (int_eq was.state task.state) as (λ (b : Bool). length (option_to_list (cond b None (Some (TaskRow number was)))) ≤ 1) [ true ↦ omega arith | false ↦ omega arith ]
 
--- nothing is noted of a task that stays as it was
-pub not_switched : (tasks : Tasks) (number : ℕ) (log : RecordList) → IsSwitchNoted tasks tasks number log log
+-- nothing is logged of a task that stays as it was
+pub not_switched : (tasks : Tasks) (number : ℕ) (log : RecordList) → IsSwitchLogged tasks tasks number log log
 not_switched tasks number log =
     let same = row_same number (task_at tasks number) in
     record { records = rw (same, append-nil) refl; undo = rw same refl }
@@ -141,20 +141,20 @@ own_row [] number task row there = let no : ⊥ = cc in absurd no
 own_row (first ∷ tasks) zero task row there = refl
 own_row (first ∷ tasks) (suc number) task row there = own_row tasks number task row there
 
--- the row of one that gets another state is noted
+-- the row of one that gets another state is logged
 pub is_switched : (before after : Tasks) (number : ℕ) (was : Task) (state : ℤ) (log_before log_after : RecordList) → task_at before number ≡ Some was → int_eq was.state state ≡ false
-    → after ≡ with_task before number (Some (record was { state = state })) → log_after ≡ record log_before { noted = log_before.noted ++ TaskRow number was ∷ [] }
-    → IsSwitchNoted before after number log_before log_after
-is_switched before after number was state log_before log_after there other is noted =
+    → after ≡ with_task before number (Some (record was { state = state })) → log_after ≡ record log_before { logged = log_before.logged ++ TaskRow number was ∷ [] }
+    → IsSwitchLogged before after number log_before log_after
+is_switched before after number was state log_before log_after there other is logged =
     let now : Option Task = Some (record was { state = state }) in
-    let told : record_if_switched number (task_at before number) (task_at after number) ≡ Some (TaskRow number was) =
+    let effective : record_if_switched number (task_at before number) (task_at after number) ≡ Some (TaskRow number was) =
     ap (λ t. record_if_switched number (task_at before number) (task_at t number)) is
     ∙ ap (record_if_switched number (task_at before number)) (own_row before number was now there)
     ∙ ap (λ row. record_if_switched number row now) there
     ∙ ap (λ b. cond b None (Some (TaskRow number was))) other in
     record {
-      records = noted ∙ ap (λ row. record log_before { noted = log_before.noted ++ option_to_list row }) (sym told);
-      undo = ap (λ row. undone after (option_to_list row)) told ∙ ap (λ t. put_back t (TaskRow number was)) is
+      records = logged ∙ ap (λ row. record log_before { logged = log_before.logged ++ option_to_list row }) (sym effective);
+      undo = ap (λ row. undone after (option_to_list row)) effective ∙ ap (λ t. put_back t (TaskRow number was)) is
           ∙ ap (λ row. put_back (with_task before number now) (record_of number row)) (sym there) ∙ row_back before number now;
     }
 
@@ -165,7 +165,7 @@ undone-append tasks (row ∷ older) newer = ap (λ t. put_back t row) (undone-ap
 -- the first tasks are changed, and the log has what they were
 pub record ChangedSoFar (f : Task → Task) (count : ℕ) (before after : Tasks) (log_before log_after : RecordList) : Type 0 where
   pub tasks : after ≡ partly f count before
-  pub records : log_after ≡ record log_before { noted = log_before.noted ++ records_switched 0 before after }
+  pub records : log_after ≡ record log_before { logged = log_before.logged ++ records_switched 0 before after }
   pub undo : undone after (records_switched 0 before after) ≡ before
 
 rows_next : (f : Task → Task) (count : ℕ) (before now after : Tasks) (row : Option Record) → now ≡ partly f count before → after ≡ partly f (suc count) before
@@ -177,14 +177,14 @@ rows_next f count before now after row is is_after is_row =
 pub one_changed : (f : Task → Task) (count : ℕ) (before now after : Tasks) (log_before log_now log_after : RecordList) (row : Option Record)
     → ChangedSoFar f count before now log_before log_now
     → after ≡ changed now count f → row ≡ record_if_switched count (task_at now count) (task_at after count) → undone after (option_to_list row) ≡ now
-    → log_after ≡ record log_now { noted = log_now.noted ++ option_to_list row }
+    → log_after ≡ record log_now { logged = log_now.logged ++ option_to_list row }
     → ChangedSoFar f (count + 1) before after log_before log_after
-one_changed f count before now after log_before log_now log_after row so_far is is_row back noted =
+one_changed f count before now after log_before log_now log_after row so_far is is_row back logged =
     let is_now : after ≡ partly f (suc count) before = is ∙ rw so_far.tasks (next_changed f count before) in
     let rows = rows_next f count before now after row so_far.tasks is_now is_row in
     record {
       tasks = rw add-one is_now;
-      records = noted ∙ rw (so_far.records, rows) (ap (λ (l : List Record). record log_before { noted = l }) (append_assoc log_before.noted (records_switched 0 before now) (option_to_list row)));
+      records = logged ∙ rw (so_far.records, rows) (ap (λ (l : List Record). record log_before { logged = l }) (append_assoc log_before.logged (records_switched 0 before now) (option_to_list row)));
       undo = rw (rows, undone-append after (records_switched 0 before now) (option_to_list row), back) so_far.undo;
     }
 
@@ -198,9 +198,9 @@ has_room f count before now after log_before log_now row so_far is is_row room =
     let rows : length (records_switched 0 before after) ≡ length (records_switched 0 before now) + 1 =
     ap length (rows_next f count before now after (Some row) so_far.tasks is_now is_row) ∙ length-append (records_switched 0 before now) (row ∷ []) in
     let few : length (records_switched 0 before after) ≤ length (records_switched 0 before (map (option_map f) before)) = rw is_now (rows_few f 0 (suc count) before) in
-    rw (so_far.records, length-append log_before.noted (records_switched 0 before now)) (omega arith)
+    rw (so_far.records, length-append log_before.logged (records_switched 0 before now)) (omega arith)
 
--- the same, where a row may be noted
+-- the same, where a row may be logged
 pub room_if : (f : Task → Task) (count : ℕ) (before now : Tasks) (log_before log_now : RecordList) (row : Option Record) → ChangedSoFar f count before now log_before log_now
     → row ≡ record_if_switched count (task_at now count) (task_at (changed now count f) count)
     → length (records_switched 0 before (map (option_map f) before)) ≤ spare_of log_before → is_some row ≡ true → 0 < spare_of log_now
@@ -212,7 +212,7 @@ few_so_far : (f : Task → Task) (count number : ℕ) (tasks : Tasks) → length
 few_so_far f zero number tasks = rw (rows_same number tasks) (omega arith)
 few_so_far f (suc count) number [] = omega arith
 few_so_far f (suc count) number (task ∷ tasks) =
-    let first = few_told number task (option_map f task) in
+    let first = few_effective number task (option_map f task) in
     let behind = few_so_far f count (suc number) tasks in
     grind (arith, length-append, first, behind)
 
@@ -221,7 +221,7 @@ pub room_left : (f : Task → Task) (count : ℕ) (before now : Tasks) (log_befo
     → count < length before → length before ≤ spare_of log_before → 0 < spare_of log_now
 room_left f count before now log_before log_now so_far more room =
     let few : length (records_switched 0 before now) ≤ count = rw so_far.tasks (few_so_far f count 0 before) in
-    rw (so_far.records, length-append log_before.noted (records_switched 0 before now)) (omega (arith, few, more, room))
+    rw (so_far.records, length-append log_before.logged (records_switched 0 before now)) (omega (arith, few, more, room))
 
 pub all_changed : (f : Task → Task) (count : ℕ) (before now : Tasks) (log_before log_now : RecordList) → ChangedSoFar f count before now log_before log_now
     → count ≡ length before → now ≡ map (option_map f) before
@@ -242,6 +242,6 @@ pub rows_are_few : (number : ℕ) (before after : Tasks) → length (records_swi
 rows_are_few number [] after = omega arith
 rows_are_few number (was ∷ before) [] = omega arith
 rows_are_few number (was ∷ before) (task ∷ after) =
-    let first = few_told number was task in
+    let first = few_effective number was task in
     let behind = rows_are_few (suc number) before after in
     grind (arith, length-append, first, behind)

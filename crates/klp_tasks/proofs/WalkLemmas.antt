@@ -101,14 +101,14 @@ walked_to f left number rest before now log_before log_now so_far is =
 pub walked_past : (f : Task → Task) (left number rest : ℕ) (before now after : Tasks) (log_before log_now log_after : RecordList) (row : Option Record)
     → WalkedSoFar f left before now log_before log_now → IsLowest number left rest
     → after ≡ changed now number f → row ≡ record_if_switched number (task_at now number) (task_at after number) → undone after (option_to_list row) ≡ now
-    → log_after ≡ record log_now { noted = log_now.noted ++ option_to_list row }
+    → log_after ≡ record log_now { logged = log_now.logged ++ option_to_list row }
     → WalkedSoFar f rest before after log_before log_after
-walked_past f left number rest before now after log_before log_now log_after row so_far is_lowest is is_row back noted =
+walked_past f left number rest before now after log_before log_now log_after row so_far is_lowest is is_row back logged =
     let reached = walked_to f left number rest before now log_before log_now so_far is_lowest in
     record {
       from = number + 1;
       are_left = next_left before left so_far.from number rest so_far.are_left is_lowest;
-      changed = one_changed f number before now after log_before log_now log_after row reached is is_row back noted;
+      changed = one_changed f number before now after log_before log_now log_after row reached is is_row back logged;
     }
 
 pub walked_all : (f : Task → Task) (left : ℕ) (before now : Tasks) (log_before log_now : RecordList) → WalkedSoFar f left before now log_before log_now

@@ -38,9 +38,9 @@ record_if_switched number (Some was) (Some task) = if int_eq was.state task.stat
 record_if_switched number was task = None
 
 -- the state of one task was set: the log has what the row was, where its state is another now, which gives the tasks before
-pub record IsSwitchNoted (before after : Tasks) (number : ℕ) (log_before log_after : RecordList) : Type 0 where
+pub record IsSwitchLogged (before after : Tasks) (number : ℕ) (log_before log_after : RecordList) : Type 0 where
   pub records : log_after
-      ≡ record log_before { noted = log_before.noted ++ option_to_list (record_if_switched number (task_at before number) (task_at after number)) }
+      ≡ record log_before { logged = log_before.logged ++ option_to_list (record_if_switched number (task_at before number) (task_at after number)) }
   pub undo : undone after (option_to_list (record_if_switched number (task_at before number) (task_at after number))) ≡ before
 
 -- the same of each row in order, where the first has this number
@@ -49,9 +49,9 @@ records_switched number (was ∷ before) (task ∷ after) = option_to_list (reco
 records_switched number before after = []
 
 -- each of these records tells a row that is another one now: put back in its turn, at the tasks that the newer ones give, it changes them
-abbrev pub TellChanges : Tasks → List Record → Type 0
-TellChanges tasks [] = Unit {0}
-TellChanges tasks (row ∷ newer) = (put_back (undone tasks newer) row ≢ undone tasks newer) × TellChanges tasks newer
+abbrev pub HaveEffects : Tasks → List Record → Type 0
+HaveEffects tasks [] = Unit {0}
+HaveEffects tasks (row ∷ newer) = (put_back (undone tasks newer) row ≢ undone tasks newer) × HaveEffects tasks newer
 
 -- a change of the row of one number makes these tasks of those before, and tells what the row was
 pub record Changes (before after : Tasks) (number : ℕ) (row : Record) (to : Tasks) : Type 0 where

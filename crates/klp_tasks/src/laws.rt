@@ -6,7 +6,7 @@ ghost use Rattle.klp_types.specs.declared.version.Version.{Version as AnyVersion
 ghost use Rattle.klp_model.specs.Task.{Tasks};
 ghost use Rattle.klp_model.specs.State.{State, with_tasks};
 ghost use Rattle.klp_model.specs.TaskStep.{change};
-ghost use Rattle.klp_tasks.specs.Changes.{changed, records_switched, TellChanges};
+ghost use Rattle.klp_tasks.specs.Changes.{changed, records_switched, HaveEffects};
 ghost use Rattle.klp_tasks.specs.Members.{VersionFlags, IsSetOf};
 
 /// A change of one task's row is that of the step of a task event: so the table and the definition of an
@@ -23,9 +23,9 @@ pub fn records_are_few()
 {}
 
 /// A switch logs no task that had the state: each record, put back in its turn, changes its task's row.
-#[tactic(auto, using(crate::proofs::ToldLemmas::switched_told))]
+#[tactic(auto, using(crate::proofs::EffectLemmas::switched_effective))]
 pub fn switches_tell_what_they_change()
-    ensures { (before : Tasks) (after : Tasks) → TellChanges after (records_switched 0 before after) }
+    ensures { (before : Tasks) (after : Tasks) → HaveEffects after (records_switched 0 before after) }
 {}
 
 /// Each set has exactly the versions of some list: so what is proved of sets over their lists holds of

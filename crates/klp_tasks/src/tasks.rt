@@ -12,7 +12,7 @@ ghost use Rattle.klp_model.specs.Blocked.{switched, lags};
 ghost use Rattle.klp_types.specs.Frames.{frames_of};
 ghost use Rattle.klp_tasks.specs.Members.{has, ArePassing, IsSetOf};
 ghost use Rattle.klp_tasks.specs.Sleepers.{sleeps_where};
-ghost use Rattle.klp_tasks.specs.Changes.{Changes, changed, record_of, record_if_switched, records_switched, IsSwitchNoted, put_back, undone};
+ghost use Rattle.klp_tasks.specs.Changes.{Changes, changed, record_of, record_if_switched, records_switched, IsSwitchLogged, put_back, undone};
 
 use crate::numbers::TaskNumbers;
 use crate::version_set::VersionSet;
@@ -173,7 +173,7 @@ impl Tasks {
     #[inline(always)]
     pub fn log_row(&self, task: TaskId, log: &mut Records)
         requires { 0 < spare_of log.old }
-        ensures { log.new ≡ record log.old { noted = log.old.noted ++ record_of task (task_at self.now task) ∷ [] } }
+        ensures { log.new ≡ record log.old { logged = log.old.logged ++ record_of task (task_at self.now task) ∷ [] } }
     {
         match self.get(task) {
             Some(was) => log.note_task(task, was, self.words(task)),
@@ -304,7 +304,7 @@ impl Tasks {
         requires { 0 < spare_of log.old }
         ensures tasks { (versions : List AnyVersion) → IsSetOf blocked.now versions
             → self.new ≡ changed self.old task (switched versions target) }
-        ensures noted { IsSwitchNoted self.old self.new task log.old log.new }
+        ensures logged { IsSwitchLogged self.old self.new task log.old log.new }
     {
         let state = target_state(target);
         let Some(row) = self.get(task) else {
@@ -327,7 +327,7 @@ impl Tasks {
         requires { length self.old ≤ spare_of log.old }
         ensures tasks { (versions : List AnyVersion) → IsSetOf blocked.now versions
             → self.new ≡ map (option_map (switched versions target)) self.old }
-        ensures records { log.new ≡ record log.old { noted = log.old.noted ++ records_switched 0 self.old self.new } }
+        ensures records { log.new ≡ record log.old { logged = log.old.logged ++ records_switched 0 self.old self.new } }
         ensures undo { undone self.new (records_switched 0 self.old self.new) ≡ self.old }
     {
         let mut left = self.numbers;
@@ -343,7 +343,7 @@ impl Tasks {
         requires { length (records_switched 0 self.old (all_in state self.old)) ≤ spare_of log.old }
         ensures tasks { self.new ≡ all_in state self.old }
         ensures records { log.new
-            ≡ record log.old { noted = log.old.noted ++ records_switched 0 self.old (all_in state self.old) } }
+            ≡ record log.old { logged = log.old.logged ++ records_switched 0 self.old (all_in state self.old) } }
         ensures undo { undone self.new (records_switched 0 self.old (all_in state self.old)) ≡ self.old }
     {
         let mut left = self.numbers;
@@ -400,7 +400,7 @@ impl Tasks {
     pub fn take_switched(&self, log: &mut Records) -> Option<SwitchedTask>
         ensures newest { IfSome result (λ was. (now : AnyTask) × ((task_at self.now was.task ≡ Some now)
             × (log.old ≡ record log.new {
-              noted = log.new.noted ++ TaskRow was.task (record now { state = was.state; mode = was.mode }) ∷ [];
+              logged = log.new.logged ++ TaskRow was.task (record now { state = was.state; mode = was.mode }) ∷ [];
             }))) }
         ensures unchanged { IfNone result (log.new ≡ log.old) }
     {
@@ -483,7 +483,7 @@ impl Tasks {
         requires { is_some (record_if_switched task (task_at self.old task)
             (task_at (changed self.old task (in_state state)) task)) ≡ true → 0 < spare_of log.old }
         ensures tasks { self.new ≡ changed self.old task (in_state state) }
-        ensures noted { IsSwitchNoted self.old self.new task log.old log.new }
+        ensures logged { IsSwitchLogged self.old self.new task log.old log.new }
     {
         let Some(was) = self.get(task) else {
             return;

@@ -67,14 +67,14 @@ fn long_line(alloc: Global) -> Result<(u8, Vec<u8>, Vec<u8>), AllocError> {
 #[test]
 fn lines_before_one_that_is_too_long_are_answered(rt: HostRuntime) -> Result<(), AllocError> {
     let (status, out, err) = long_line(rt.alloc())?;
-    let told = out.as_slice() == b"0\n".as_slice()
+    let reported = out.as_slice() == b"0\n".as_slice()
         && err.as_slice() == b"klpsim: LineTooLong\n".as_slice();
-    assert!(rt; status == 1 && told);
+    assert!(rt; status == 1 && reported);
     Ok(())
 }
 
 #[test]
-fn streams_that_fail_or_never_end_are_told(rt: HostRuntime) {
+fn streams_that_fail_or_never_end_are_reported(rt: HostRuntime) {
     let read = ends_with(rt.alloc(), failing(b""), failing(b""), b"klpsim: Read\n");
     let write = ends_with(
         rt.alloc(),

@@ -239,7 +239,7 @@ fn written(
 
 /// What is written to standard error for this catalog, where the status is the one that goes with it, and nothing
 /// is answered.
-fn told(alloc: Global, catalog: &[u8]) -> Result<Option<Vec<u8>>, AllocError> {
+fn reported(alloc: Global, catalog: &[u8]) -> Result<Option<Vec<u8>>, AllocError> {
     let mut out = Vec::new(alloc);
     let mut err = Vec::new(alloc);
     let mut input = b"".as_slice();
@@ -249,13 +249,13 @@ fn told(alloc: Global, catalog: &[u8]) -> Result<Option<Vec<u8>>, AllocError> {
 }
 
 /// Whether a text that is cut behind this front is told so.
-fn is_told(alloc: Global, text: &str, cut: usize) -> Result<bool, AllocError> {
+fn is_reported(alloc: Global, text: &str, cut: usize) -> Result<bool, AllocError> {
     let front = text.get(..cut).unwrap_or("");
     let (start, number) = line_at(front);
     let line = line_from(text, start);
     let begun = text.get(start..cut).unwrap_or("");
     let wanted = written(alloc, wanted_of(line, begun), number, !begun.is_empty())?;
-    Ok(match told(alloc, front.as_bytes())? {
+    Ok(match reported(alloc, front.as_bytes())? {
         Some(err) => err.as_slice() == wanted.as_bytes(),
         None => false,
     })
@@ -265,7 +265,7 @@ fn is_told(alloc: Global, text: &str, cut: usize) -> Result<bool, AllocError> {
 fn differing(alloc: Global, text: &str) -> Result<(usize, usize), AllocError> {
     let mut differing = (0usize, 0);
     for cut in 0..=text.len() {
-        if !is_told(alloc, text, cut)? {
+        if !is_reported(alloc, text, cut)? {
             differing = (differing.0.saturating_add(1), cut);
         }
     }
@@ -295,14 +295,14 @@ fn is_row(alloc: Global, end: &str, wanted: &[u8]) -> Result<bool, AllocError> {
     let text = str::from_utf8(CATALOG).unwrap_or("");
     let start = text.find(end).unwrap_or(0);
     let front = text.get(..start.saturating_add(end.len())).unwrap_or("");
-    Ok(match told(alloc, front.as_bytes())? {
+    Ok(match reported(alloc, front.as_bytes())? {
         Some(err) => err.as_slice() == wanted,
         None => false,
     })
 }
 
 #[test]
-fn some_cuts_are_told_as_reckoned_by_hand(rt: HostRuntime) {
+fn some_cuts_are_reported_as_reckoned_by_hand(rt: HostRuntime) {
     for (end, wanted) in ROWS {
         let right = is_row(rt.alloc(), end, wanted);
         assert!(rt; right == Ok(true), "{end}");

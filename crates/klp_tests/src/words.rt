@@ -1,5 +1,5 @@
 //! The program's words: of them no contract says more than which status refuses them.
-use klp_program::{Words, words};
+use klp_program::{Wanted, parse_arguments};
 use std::alloc::{AllocError, Global};
 
 /// Words, and what they ask for: the files that they name, if they do.
@@ -35,19 +35,19 @@ fn put_words(alloc: Global, given: &mut Vec<String>, words: &str) -> Result<(), 
 }
 
 /// What words ask for.
-fn asked(alloc: Global, words: &Words) -> Result<String, AllocError> {
+fn wanted_words(alloc: Global, words: &Wanted) -> Result<String, AllocError> {
     match words {
-        Words::Console(None) => String::from_str(alloc, "console"),
-        Words::Console(Some(catalog)) => format!(in alloc; "console {catalog}"),
-        Words::Live(catalog, steps) => format!(in alloc; "live {catalog} {steps}"),
+        Wanted::Console(None) => String::from_str(alloc, "console"),
+        Wanted::Console(Some(catalog)) => format!(in alloc; "console {catalog}"),
+        Wanted::Live(catalog, steps) => format!(in alloc; "live {catalog} {steps}"),
     }
 }
 
 /// Whether these words are answered so. Where they are refused, and only then, a line says so.
 fn is_answer(alloc: Global, given: &[String], wanted: &str) -> Result<bool, AllocError> {
     let mut err = Vec::new(alloc);
-    Ok(match words(alloc, given, &mut err) {
-        Ok(words) => asked(alloc, &words)?.as_str() == wanted && err.is_empty(),
+    Ok(match parse_arguments(alloc, given, &mut err) {
+        Ok(words) => wanted_words(alloc, &words)?.as_str() == wanted && err.is_empty(),
         Err(status) => {
             status == 2 && wanted == "usage" && err.as_slice() == b"klpsim: usage\n".as_slice()
         }
@@ -64,7 +64,7 @@ fn is_case(alloc: Global, case: &str) -> Result<bool, AllocError> {
 #[test]
 fn words_name_files_or_none_or_are_refused(rt: HostRuntime) {
     for case in CASES.lines() {
-        let told = is_case(rt.alloc(), case);
-        assert!(rt; told == Ok(true), "{case}");
+        let holds = is_case(rt.alloc(), case);
+        assert!(rt; holds == Ok(true), "{case}");
     }
 }

@@ -4,4 +4,4 @@ pub mod CourseLemmas
 pub mod LaggingLemmas
 pub mod StayLemmas
 pub mod TellingLemmas
-pub mod ToldLemmas
+pub mod ShownLemmas

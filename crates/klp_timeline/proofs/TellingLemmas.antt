@@ -15,7 +15,7 @@ use Rattle.klp_timeline.specs.declared.moment.Sentence.{Sentence}
 use Rattle.klp_timeline.specs.Stays.{is_seen, stay_at, until, sleep_of, sleeps_begun}
 use Rattle.klp_timeline.specs.Facts.{facts}
 use Rattle.klp_timeline.specs.Sentences.{did, tasks_alike, slept, slept_of, said_of, sentences_from, sentences_of}
-use Rattle.klp_timeline.specs.Telling.{seen_after, facts_at, Spans, IsTold, IsQuiet, IsAllTold, IsEachFactTold, AreSeen, IsTrueOf, IsAllTrue}
+use Rattle.klp_timeline.specs.Telling.{seen_after, facts_at, Spans, IsShown, IsQuiet, IsAllShown, IsEachFactShown, AreSeen, IsTrueOf, IsAllTrue}
 use Rattle.klp_timeline.proofs.AmongLemmas.{none_among, first_among, first_or_later, image_among, image_of}
 use Rattle.klp_timeline.proofs.StayLemmas.{seen_is, is_seen_of, Lasts, until_lasts, until_true}
 use Rattle.klp_timeline.proofs.AlikeLemmas.{IsSlept, all_slept, task_alike, slept_of_one}
@@ -65,15 +65,15 @@ begins_here first (suc task) at before (own ∷ stays) line rest stay same e new
     next : at ≡ suc first + task
     next = omega arith
 
-begins_told : (before : View) (line : ℕ) (moment : Moment) (rest : List Moment) (index task : ℕ) (stay : Stay) → stay_at moment.view.stays task ≡ Some stay
-    → is_seen stay (stay_at before.stays task) ≡ false → Lasts task stay rest index → IsTold (sentences_from before line (moment ∷ rest)) task stay (line + index)
-begins_told before line moment rest index task stay e new lasts = by (all_slept line (begun_with before line moment rest) (sleep_from task stay line rest) (begins_here 0 task task before.stays moment.view.stays line rest stay own e new))
+begins_shown : (before : View) (line : ℕ) (moment : Moment) (rest : List Moment) (index task : ℕ) (stay : Stay) → stay_at moment.view.stays task ≡ Some stay
+    → is_seen stay (stay_at before.stays task) ≡ false → Lasts task stay rest index → IsShown (sentences_from before line (moment ∷ rest)) task stay (line + index)
+begins_shown before line moment rest index task stay e new lasts = by (all_slept line (begun_with before line moment rest) (sleep_from task stay line rest) (begins_here 0 task task before.stays moment.view.stays line rest stay own e new))
   where
     own : task ≡ 0 + task
     own = omega arith
 
     by : IsSlept line (begun_with before line moment rest) (slept_of line (begun_with before line moment rest)) (sleep_from task stay line rest)
-        → IsTold (sentences_from before line (moment ∷ rest)) task stay (line + index)
+        → IsShown (sentences_from before line (moment ∷ rest)) task stay (line + index)
     by found = record {
       from = line;
       sleepers = record { stay = found.own.stay; tasks = tasks_alike found.own (begun_with before line moment rest); to = found.own.to };
@@ -86,58 +86,58 @@ begins_told before line moment rest index task stay e new lasts = by (all_slept 
       };
     }
 
-later_told : (before : View) (line : ℕ) (moment : Moment) (rest : List Moment) (index task : ℕ) (stay : Stay)
-    → IsTold (sentences_from moment.view (suc line) rest) task stay (suc line + index) → IsTold (sentences_from before line (moment ∷ rest)) task stay (line + suc index)
-later_told before line moment rest index task stay told = record {
-  from = told.from;
-  sleepers = told.sleepers;
-  among = of_later before line moment rest (record { line = told.from; said = Slept told.sleepers }) told.among;
-  names = told.names;
-  stay_is = told.stay_is;
-  spans = subst (Spans told.from told.sleepers) same told.spans;
+later_shown : (before : View) (line : ℕ) (moment : Moment) (rest : List Moment) (index task : ℕ) (stay : Stay)
+    → IsShown (sentences_from moment.view (suc line) rest) task stay (suc line + index) → IsShown (sentences_from before line (moment ∷ rest)) task stay (line + suc index)
+later_shown before line moment rest index task stay shown = record {
+  from = shown.from;
+  sleepers = shown.sleepers;
+  among = of_later before line moment rest (record { line = shown.from; said = Slept shown.sleepers }) shown.among;
+  names = shown.names;
+  stay_is = shown.stay_is;
+  spans = subst (Spans shown.from shown.sleepers) same shown.spans;
 }
   where
     same : suc line + index ≡ line + suc index
     same = omega arith
 
 -- a task's stay is told, or it is an earlier one
-abbrev IsToldOr : View → ℕ → List Moment → ℕ → ℕ → Stay → Type 0
-IsToldOr before line run index task stay =
-    IsTold (sentences_from before line run) task stay (line + index) ⊎ ((is_seen stay (stay_at before.stays task) ≡ true) × Lasts task stay run (suc index))
+abbrev IsShownOr : View → ℕ → List Moment → ℕ → ℕ → Stay → Type 0
+IsShownOr before line run index task stay =
+    IsShown (sentences_from before line run) task stay (line + index) ⊎ ((is_seen stay (stay_at before.stays task) ≡ true) × Lasts task stay run (suc index))
 
-all_told : (before : View) (line : ℕ) (run : List Moment) (index task : ℕ) (stay : Stay) → seen_after run index task ≡ Some stay
-    → IsToldOr before line run index task stay
-all_told before line [] index task stay e = absurd (none-some stay e)
-all_told before line (moment ∷ rest) zero task stay e = by (is_seen stay (stay_at before.stays task)) refl
+all_shown : (before : View) (line : ℕ) (run : List Moment) (index task : ℕ) (stay : Stay) → seen_after run index task ≡ Some stay
+    → IsShownOr before line run index task stay
+all_shown before line [] index task stay e = absurd (none-some stay e)
+all_shown before line (moment ∷ rest) zero task stay e = by (is_seen stay (stay_at before.stays task)) refl
   where
-    by : (b : Bool) → is_seen stay (stay_at before.stays task) ≡ b → IsToldOr before line (moment ∷ rest) zero task stay
+    by : (b : Bool) → is_seen stay (stay_at before.stays task) ≡ b → IsShownOr before line (moment ∷ rest) zero task stay
     by true is = inr (is, (is_seen_of stay (stay_at moment.view.stays task) e, tt))
-    by false is = inl (begins_told before line moment rest zero task stay e is tt)
-all_told before line (moment ∷ rest) (suc index) task stay e = by (all_told moment.view (suc line) rest index task stay e)
+    by false is = inl (begins_shown before line moment rest zero task stay e is tt)
+all_shown before line (moment ∷ rest) (suc index) task stay e = by (all_shown moment.view (suc line) rest index task stay e)
   where
     held : (b : Bool) → is_seen stay (stay_at before.stays task) ≡ b → is_seen stay (stay_at moment.view.stays task) ≡ true → Lasts task stay rest (suc index)
-        → IsToldOr before line (moment ∷ rest) (suc index) task stay
+        → IsShownOr before line (moment ∷ rest) (suc index) task stay
     held true is seen lasts = inr (is, (seen, lasts))
-    held false is seen lasts = inl (begins_told before line moment rest (suc index) task stay (seen_is stay (stay_at moment.view.stays task) seen) is lasts)
+    held false is seen lasts = inl (begins_shown before line moment rest (suc index) task stay (seen_is stay (stay_at moment.view.stays task) seen) is lasts)
 
-    by : IsToldOr moment.view (suc line) rest index task stay → IsToldOr before line (moment ∷ rest) (suc index) task stay
-    by (inl told) = inl (later_told before line moment rest index task stay told)
+    by : IsShownOr moment.view (suc line) rest index task stay → IsShownOr before line (moment ∷ rest) (suc index) task stay
+    by (inl shown) = inl (later_shown before line moment rest index task stay shown)
     by (inr seen) = held (is_seen stay (stay_at before.stays task)) refl seen.0 seen.1
 
-pub no_sleeper_left_out : (opening : View) (run : List Moment) → IsQuiet opening → IsAllTold opening run
-no_sleeper_left_out opening run quiet index task stay e = by (all_told opening 1 run index task stay e)
+pub no_sleeper_left_out : (opening : View) (run : List Moment) → IsQuiet opening → IsAllShown opening run
+no_sleeper_left_out opening run quiet index task stay e = by (all_shown opening 1 run index task stay e)
   where
     same : 1 + index ≡ suc index
     same = omega arith
 
-    by : IsToldOr opening 1 run index task stay → IsTold (sentences_of opening run) task stay (suc index)
-    by (inl told) = subst (IsTold (sentences_of opening run) task stay) same told
+    by : IsShownOr opening 1 run index task stay → IsShown (sentences_of opening run) task stay (suc index)
+    by (inl shown) = subst (IsShown (sentences_of opening run) task stay) same shown
     by (inr seen) = absurd (not_both (subst (λ o. is_seen stay o ≡ true) (quiet task) seen.0))
 
-fact_told : (before : View) (line : ℕ) (run : List Moment) (index : ℕ) (fact : Fact) → Contains (facts_at before run index) fact
+fact_shown : (before : View) (line : ℕ) (run : List Moment) (index : ℕ) (fact : Fact) → Contains (facts_at before run index) fact
     → Contains (sentences_from before line run) (did (line + index) fact)
-fact_told before line [] index fact among = absurd (none_among fact among)
-fact_told before line (moment ∷ rest) zero fact among =
+fact_shown before line [] index fact among = absurd (none_among fact among)
+fact_shown before line (moment ∷ rest) zero fact among =
     subst (λ n. Contains (sentences_from before line (moment ∷ rest)) (did n fact)) same
     (Contains-append_left (said_of before line moment rest) (sentences_from moment.view (suc line) rest) (did line fact)
     (Contains-append_left (map (did line) (facts before moment)) (slept_of line (begun_with before line moment rest)) (did line fact)
@@ -145,15 +145,15 @@ fact_told before line (moment ∷ rest) zero fact among =
   where
     same : line ≡ line + zero
     same = omega arith
-fact_told before line (moment ∷ rest) (suc index) fact among =
+fact_shown before line (moment ∷ rest) (suc index) fact among =
     subst (λ n. Contains (sentences_from before line (moment ∷ rest)) (did n fact)) same
-    (of_later before line moment rest (did (suc line + index) fact) (fact_told moment.view (suc line) rest index fact among))
+    (of_later before line moment rest (did (suc line + index) fact) (fact_shown moment.view (suc line) rest index fact among))
   where
     same : suc line + index ≡ line + suc index
     same = omega arith
 
-pub no_fact_left_out : (opening : View) (run : List Moment) → IsEachFactTold opening run
-no_fact_left_out opening run index fact among = subst (λ n. Contains (sentences_of opening run) (did n fact)) same (fact_told opening 1 run index fact among)
+pub no_fact_left_out : (opening : View) (run : List Moment) → IsEachFactShown opening run
+no_fact_left_out opening run index fact among = subst (λ n. Contains (sentences_of opening run) (did n fact)) same (fact_shown opening 1 run index fact among)
   where
     same : 1 + index ≡ suc index
     same = omega arith

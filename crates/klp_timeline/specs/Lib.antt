@@ -5,4 +5,4 @@ pub mod Sentences
 pub mod Stays
 pub mod Still
 pub mod Telling
-pub mod Told
+pub mod Shown

@@ -34,7 +34,7 @@ pub record Spans (from : ℕ) (sleepers : Sleepers) (line : ℕ) : Type 0 where
   pub lasts : IfSome sleepers.to (λ to. line ≤ to)
 
 -- one of the sentences spans the line, and names the task and its stay
-pub record IsTold (sentences : List Sentence) (task : ℕ) (stay : Stay) (line : ℕ) : Type 0 where
+pub record IsShown (sentences : List Sentence) (task : ℕ) (stay : Stay) (line : ℕ) : Type 0 where
   pub from : ℕ
   pub sleepers : Sleepers
   pub among : Contains sentences (record { line = from; said = Slept sleepers })
@@ -47,12 +47,12 @@ abbrev pub IsQuiet : View → Type 0
 IsQuiet opening = (task : ℕ) → stay_at opening.stays task ≡ None
 
 -- each stay of each task after each line is told
-abbrev pub IsAllTold : View → List Moment → Type 0
-IsAllTold opening run = (index task : ℕ) (stay : Stay) → seen_after run index task ≡ Some stay → IsTold (sentences_of opening run) task stay (suc index)
+abbrev pub IsAllShown : View → List Moment → Type 0
+IsAllShown opening run = (index task : ℕ) (stay : Stay) → seen_after run index task ≡ Some stay → IsShown (sentences_of opening run) task stay (suc index)
 
 -- and so is each fact of each line
-abbrev pub IsEachFactTold : View → List Moment → Type 0
-IsEachFactTold opening run = (index : ℕ) (fact : Fact) → Contains (facts_at opening run index) fact
+abbrev pub IsEachFactShown : View → List Moment → Type 0
+IsEachFactShown opening run = (index : ℕ) (fact : Fact) → Contains (facts_at opening run index) fact
     → Contains (sentences_of opening run) (record { line = suc index; said = Did fact })
 
 -- what a line is said to have done it did

@@ -3,21 +3,21 @@ ghost use Rattle.klp_timeline.specs.declared.moment.Moment.{Moment as AnyMoment}
 ghost use Rattle.klp_timeline.specs.declared.moment.View.{View as AnyView};
 ghost use Rattle.klp_timeline.specs.declared.moment.Sentence.{Sentence as AnySentence};
 ghost use Rattle.std.specs.Prelude.{◌≡◌, ◌+◌, ◌≤◌, ◌⊎◌, List, length, count_by, true, Option, All, Contains};
-ghost use Rattle.klp_timeline.specs.declared.told.TheConstants.{MAX_SENTENCES};
+ghost use Rattle.klp_timeline.specs.declared.shown.TheConstants.{MAX_SENTENCES};
 ghost use Rattle.klp_types.specs.declared.task.Mode.{Mode as AnyMode};
 ghost use Rattle.klp_timeline.specs.Lagging.{is_in, lagging, IsEachLaggardThere, IsNoLaggardMadeUp};
-ghost use Rattle.klp_timeline.specs.Telling.{IsQuiet, IsAllTold, IsEachFactTold, IsAllTrue, IsGoingSince};
-ghost use Rattle.klp_timeline.specs.Told.{is_lasting, told, left_out};
+ghost use Rattle.klp_timeline.specs.Telling.{IsQuiet, IsAllShown, IsEachFactShown, IsAllTrue, IsGoingSince};
+ghost use Rattle.klp_timeline.specs.Shown.{is_lasting, shown, left_out};
 
 /// Whoever holds a transition up, or sleeps inside of code that isn't called now, after any line of a run is named by a
 /// sentence that spans the line.
 pub fn no_sleeper_is_left_out()
-    ensures { (opening : AnyView) → (run : List AnyMoment) → IsQuiet opening → IsAllTold opening run }
+    ensures { (opening : AnyView) → (run : List AnyMoment) → IsQuiet opening → IsAllShown opening run }
 {}
 
 /// Whatever a line did is told.
 pub fn no_fact_is_left_out()
-    ensures { (opening : AnyView) → (run : List AnyMoment) → IsEachFactTold opening run }
+    ensures { (opening : AnyView) → (run : List AnyMoment) → IsEachFactShown opening run }
 {}
 
 /// Each sentence is true: of what a line did, or of each task that it names after each line that it spans.
@@ -31,12 +31,12 @@ pub fn what_moves_has_moved_since()
 {}
 
 /// Of many sentences some are left out and counted, but none that is still so at the end.
-pub fn what_lasts_is_told()
+pub fn what_lasts_is_shown()
     ensures lasting { (all : List AnySentence) → (one : AnySentence) → Contains all one → is_lasting one ≡ true
-        → Contains (told all) one }
-    ensures count { (all : List AnySentence) → length (told all) + left_out all ≡ length all }
+        → Contains (shown all) one }
+    ensures count { (all : List AnySentence) → length (shown all) + left_out all ≡ length all }
     ensures short { (all : List AnySentence)
-        → (length (told all) ≤ MAX_SENTENCES) ⊎ All (λ one. is_lasting one ≡ true) (told all) }
+        → (length (shown all) ≤ MAX_SENTENCES) ⊎ All (λ one. is_lasting one ≡ true) (shown all) }
 {}
 
 /// Whoever merely lags is among those that lag where the task is, nobody else is, and there are as many as are counted.

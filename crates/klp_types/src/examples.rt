@@ -291,5 +291,5 @@ pub fn states_are_numbered_as_the_kernel_does() -> (PatchState, PatchState, Patc
 
 /// Records of the event that is under way take room, and those of earlier events none.
 pub fn records_of_one_event_take_room()
-    ensures { spare_of (record { noted = NothingMoving ∷ NothingMoving ∷ []; room = 5; older = NothingMoving ∷ [] }) ≡ 3 }
+    ensures { spare_of (record { logged = NothingMoving ∷ NothingMoving ∷ []; room = 5; older = NothingMoving ∷ [] }) ≡ 3 }
 {}

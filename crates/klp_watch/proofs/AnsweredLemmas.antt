@@ -15,7 +15,7 @@ use Rattle.klp_model.specs.Legal.{state_after_history}
 use Rattle.klp_model.specs.State.{State}
 use Rattle.klp_model.specs.Observed.{Frame, Stacks, IsHonestEvent}
 use Rattle.klp_manager_state.specs.Managed.{Managed, setting_of}
-use Rattle.klp_core.specs.Journaled.{Journaled, Stands, history_in}
+use Rattle.klp_core.specs.Journaled.{Journaled, IsWellFormed, history_in}
 use Rattle.klp_core.specs.Rewinding.{IsRewound}
 use Rattle.klp_core.specs.Taking.{IsTaken, answer_in}
 use Rattle.klp_watch.specs.declared.cause.Cause.{Cause}
@@ -25,7 +25,7 @@ use Rattle.klp_watch.specs.declared.difference.Difference.{Difference}
 use Rattle.klp_watch.specs.declared.difference.Difference.TheVariants.{Premise, Answer}
 use Rattle.klp_watch.specs.Inside.{AreInside}
 use Rattle.klp_watch.specs.Watching.{IsAgainst, IsDone, once_taken_back}
-use Rattle.klp_watch.specs.Compared.{IsDoneSo, IsFound, IsToldFor}
+use Rattle.klp_watch.specs.Compared.{IsDoneSo, IsFound, IsReportedFor}
 use Rattle.klp_watch.proofs.DoneLemmas.{refused_done, accepted_done}
 
 -- what is honest breaks no premise
@@ -39,10 +39,10 @@ breaks_none setting stacks event cause honest is = absurd is
 
 module _ (before after : Journaled) (stacks : Stacks) (event : Event) (answer : Result Reply Refusal) where
   -- a refused event, where the kernel answered otherwise
-  pub told_refused : (result : Result Reply Refusal) → IsTaken before after event result → is_err result ≡ true → (result ≡ answer → ⊥)
-      → IsToldFor before after stacks (Answered event answer) Answer
-  told_refused (Ok reply) taken is other = let no : ⊥ = cc in absurd no
-  told_refused (Err refusal) taken is other = record {
+  pub reported_refused : (result : Result Reply Refusal) → IsTaken before after event result → is_err result ≡ true → (result ≡ answer → ⊥)
+      → IsReportedFor before after stacks (Answered event answer) Answer
+  reported_refused (Ok reply) taken is other = let no : ⊥ = cc in absurd no
+  reported_refused (Err refusal) taken is other = record {
     why = (
       (λ so. other (taken.answered ∙ so)),
       (λ cause breaks. let both : false ≡ true = ap (λ (r : Result Reply Refusal). is_ok r) taken.answered ∙ breaks.0 in let no : ⊥ = cc in no),
@@ -55,7 +55,7 @@ module _ (before after : Journaled) (stacks : Stacks) (event : Event) (answer : 
   so_refused table result taken is same are = (refused_done before after stacks event table result taken is are, sym taken.answered ∙ same)
 
 -- an accepted event is taken back
-module _ (before between after : Journaled) (event : Event) (stands : Stands before) (same : setting_of between.managed ≡ setting_of before.managed) where
+module _ (before between after : Journaled) (event : Event) (well_formed : IsWellFormed before) (same : setting_of between.managed ≡ setting_of before.managed) where
   pub given_back : (reply : Reply) → IsTaken before between event (Ok reply) → IsRewound between after (length before.groups) → after ≡ once_taken_back before (Happens event)
   given_back reply taken rewound =
       let appends = taken.accepted in
@@ -66,7 +66,7 @@ module _ (before between after : Journaled) (event : Event) (stands : Stands bef
       ∙ ap (λ (s : Setting). state_after_history s between.base (history_in (take (length before.groups) between.groups))) same
       ∙ ap (λ (b : State). state_after_history (setting_of before.managed) b (history_in (take (length before.groups) between.groups))) appends.base
       ∙ ap (λ gs. state_after_history (setting_of before.managed) before.base (history_in gs)) groups
-      ∙ sym stands.state in
+      ∙ sym well_formed.state in
       let image = rewound.image ∙ ap (λ (m : Managed). m.image) appends.left in
       let catalog = rewound.catalog ∙ ap (λ (m : Managed). m.catalog) appends.left in
       let base = rewound.base ∙ appends.base in
@@ -79,23 +79,23 @@ module _ (before between after : Journaled) (event : Event) (stands : Stands bef
       given_back reply taken rewound ∙ ap (λ (r : Result Reply Refusal). if is_ok r then once_taken_back before (Happens event) else before) taken.answered
 
   -- and told for the premise that it breaks, or for its answer
-  pub told_given_back : (stacks : Stacks) (answer result : Result Reply Refusal) (is_so : Bool) (difference : Difference)
+  pub reported_given_back : (stacks : Stacks) (answer result : Result Reply Refusal) (is_so : Bool) (difference : Difference)
       → IsTaken before between event result → is_err result ≡ false → IsRewound between after (length before.groups)
       → (is_so ≡ false → result ≡ answer → ⊥) → IsFound (setting_of between.managed) stacks event is_so difference
-      → IsToldFor before after stacks (Answered event answer) difference
-  told_given_back stacks answer (Err refusal) is_so difference taken is rewound other found = let no : ⊥ = cc in absurd no
-  told_given_back stacks answer (Ok reply) is_so (Premise cause) taken is rewound other found = record {
+      → IsReportedFor before after stacks (Answered event answer) difference
+  reported_given_back stacks answer (Err refusal) is_so difference taken is rewound other found = let no : ⊥ = cc in absurd no
+  reported_given_back stacks answer (Ok reply) is_so (Premise cause) taken is rewound other found = record {
     why = (ap (λ (r : Result Reply Refusal). is_ok r) (sym taken.answered), subst (λ (s : Setting). IsAgainst s stacks event cause) same found);
     left = left_as_was reply taken rewound;
   }
-  told_given_back stacks answer (Ok reply) is_so Answer taken is rewound other found = record {
+  reported_given_back stacks answer (Ok reply) is_so Answer taken is rewound other found = record {
     why = (
       (λ so. other found.0 (taken.answered ∙ so)),
       (λ cause breaks. breaks_none (setting_of before.managed) stacks event cause (subst (λ (s : Setting). IsHonestEvent s stacks event) same found.1) breaks.1),
     );
     left = left_as_was reply taken rewound;
   }
-  told_given_back stacks answer (Ok reply) is_so difference taken is rewound other found = absurd found
+  reported_given_back stacks answer (Ok reply) is_so difference taken is rewound other found = absurd found
 
 -- a mark that there is leads back
 pub is_back : {A E : Type 0} (before after : Journaled) (result : Result A E) (mark : ℕ) (back : IfOk result (λ _. (mark ≤ length before.groups) × IsRewound before after mark))

@@ -7,15 +7,15 @@ use Rattle.klp_model.specs.declared.seen.Seen.TheVariants.{Event as Happens}
 use Rattle.klp_model.specs.Observed.{Stacks, HasNoTask, seen_from}
 use Rattle.klp_journal.specs.Journal.{Group}
 use Rattle.klp_manager_state.specs.Managed.{setting_of}
-use Rattle.klp_core.specs.Journaled.{Journaled, Stands}
+use Rattle.klp_core.specs.Journaled.{Journaled, IsWellFormed}
 use Rattle.klp_watch.specs.declared.cause.Cause.{Cause}
 use Rattle.klp_watch.specs.declared.difference.Difference.TheVariants.{Premise}
 use Rattle.klp_watch.specs.declared.observed.Observed.{Observed}
 use Rattle.klp_watch.specs.declared.observed.Observed.TheVariants.{Seen as Item, Answered, Saw}
 use Rattle.klp_watch.specs.declared.difference.Difference.{Difference}
 use Rattle.klp_watch.specs.Inside.{AreInside}
-use Rattle.klp_watch.specs.Watching.{AreWatched, IsDone, IsTold, groups_in, standing}
-use Rattle.klp_watch.specs.Compared.{taken_of, taken_from, IsSoAt, IsSoBehind, AreCompared, inside_behind, IsDoneSo, IsToldFor, IsDifference}
+use Rattle.klp_watch.specs.Watching.{AreWatched, IsDone, IsReported, groups_in, accepted_in}
+use Rattle.klp_watch.specs.Compared.{taken_of, taken_from, IsSoAt, IsSoBehind, AreCompared, inside_behind, IsDoneSo, IsReportedFor, IsDifference}
 use Rattle.klp_watch.proofs.RunLemmas.{GoOn, OfEvents}
 use Rattle.klp_watch.proofs.WatchedLemmas.{StaysAllowed, SoFar, none_so_far, one_more, parted_at}
 
@@ -48,9 +48,9 @@ taken_more [] item = append-nil (taken_of item)
 taken_more (first ∷ items) item =
     ap (λ xs. taken_of first ++ xs) (taken_more items item) ∙ sym (append_assoc (taken_of first) (taken_from items) (taken_of item))
 
-pub none_compared : StaysAllowed → (first : Journaled) (table : List (List Version)) → Stands first → AreInside table (λ n. []) → ComparedSo first first table []
-none_compared stays first table stands none nobody =
-    let watched = none_so_far stays first table stands none nobody in
+pub none_compared : StaysAllowed → (first : Journaled) (table : List (List Version)) → IsWellFormed first → AreInside table (λ n. []) → ComparedSo first first table []
+none_compared stays first table well_formed none nobody =
+    let watched = none_so_far stays first table well_formed none nobody in
     (record { watched = watched.0; so = λ earlier later item parted. absurd (no_item earlier later item parted) }, watched.1)
 
 -- an item that is done so is so
@@ -60,9 +60,9 @@ is_so now after stacks (Answered event answer) new done = done.1
 is_so now after stacks (Saw sight) new done = done.2
 
 -- an item that breaks a premise is told for it
-pub premise_told : (before after : Journaled) (stacks : Stacks) (item : Seen) (cause : Cause) → IsTold before after stacks item cause
-    → IsToldFor before after stacks (Item item) (Premise cause)
-premise_told before after stacks item cause told = record { why = told.why; left = told.left }
+pub premise_reported : (before after : Journaled) (stacks : Stacks) (item : Seen) (cause : Cause) → IsReported before after stacks item cause
+    → IsReportedFor before after stacks (Item item) (Premise cause)
+premise_reported before after stacks item cause reported = record { why = reported.why; left = reported.left }
 
 module _ (first now after : Journaled) (table new : List (List Version)) (same : setting_of now.managed ≡ setting_of first.managed) where
   -- what was watched
@@ -77,10 +77,10 @@ module _ (first now after : Journaled) (table new : List (List Version)) (same :
       one_more first now after table same go of (taken_from items) (Happens event) new so (λ stacks are. (does stacks are).0)
   watched_next go of items (Saw sight) so does = λ nobody.
       let before = so nobody in
-      let done = does (seen_from (setting_of first.managed) first.managed.state (standing (taken_from items) before.0.outcomes)).stacks before.1 in
-      subst (λ xs. (watched : AreWatched first after xs) × AreInside new (seen_from (setting_of first.managed) first.managed.state (standing xs watched.outcomes)).stacks)
+      let done = does (seen_from (setting_of first.managed) first.managed.state (accepted_in (taken_from items) before.0.outcomes)).stacks before.1 in
+      subst (λ xs. (watched : AreWatched first after xs) × AreInside new (seen_from (setting_of first.managed) first.managed.state (accepted_in xs watched.outcomes)).stacks)
       (sym (append-nil (taken_from items)))
-      (subst (λ (m : Journaled). (watched : AreWatched first m (taken_from items)) × AreInside new (seen_from (setting_of first.managed) first.managed.state (standing (taken_from items) watched.outcomes)).stacks)
+      (subst (λ (m : Journaled). (watched : AreWatched first m (taken_from items)) × AreInside new (seen_from (setting_of first.managed) first.managed.state (accepted_in (taken_from items) watched.outcomes)).stacks)
       (sym done.0) (before.0, done.1))
 
   -- what is in the journal stays there
@@ -120,7 +120,7 @@ module _ (first now after : Journaled) (table new : List (List Version)) (same :
       )
 
   pub differs_next : (items : List Observed) (count : ℕ) (item : Observed) (difference : Difference) → count < length items → item ≡ get_or items count item
-      → ComparedSo first now table (take count items) → ((stacks : Stacks) → AreInside table stacks → IsToldFor now after stacks item difference)
+      → ComparedSo first now table (take count items) → ((stacks : Stacks) → AreInside table stacks → IsReportedFor now after stacks item difference)
       → HasNoTask first.managed.state → IsDifference first after items (count + 1) difference
   differs_next items count item difference below is so tells nobody =
       let before = so nobody in
@@ -132,5 +132,5 @@ module _ (first now after : Journaled) (table new : List (List Version)) (same :
         count_is = length-take-le count items (omega arith);
         done = now;
         compared = before.0;
-        told = tells (inside_behind first now (take count items) before.0.watched) before.1;
+        reported = tells (inside_behind first now (take count items) before.0.watched) before.1;
       })

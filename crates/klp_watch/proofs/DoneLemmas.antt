@@ -25,7 +25,7 @@ use Rattle.klp_manager_state.specs.Managed.{Managed, setting_of}
 use Rattle.klp_manager_state.specs.Events.{after_event}
 use Rattle.klp_core.specs.Events.{after_events}
 use Rattle.klp_core.specs.Journaled.{Journaled}
-use Rattle.klp_core.specs.Taking.{unless_full, IsNotedAs, IsTaken}
+use Rattle.klp_core.specs.Taking.{unless_full, IsLoggedAs, IsTaken}
 use Rattle.klp_watch.specs.Inside.{AreInside}
 use Rattle.klp_watch.specs.Watching.{moment_of, may_call, may_return, IsDone}
 
@@ -72,7 +72,7 @@ module _ (before after : Journaled) (stacks : Stacks) (event : Event) (table : L
       let accepts_it = accepted_by (has_room before.groups) (refusal setting state event) (accepted setting state event) reply (sym taken.answered) in
       record {
         outcome = Some (Ok appends.group);
-        taken = (sym taken.answered ∙ ap Ok (sym appends.noted.reply_is), subst (IsNotedAs setting state appends.group event) (sym appends.noted.reply_is) appends.noted);
+        taken = (sym taken.answered ∙ ap Ok (sym appends.logged.reply_is), subst (IsLoggedAs setting state appends.group event) (sym appends.logged.reply_is) appends.logged);
         honest = ((λ _. subst (λ (s : Setting). IsHonestEvent s stacks event) same honest), tt);
         groups = appends.groups;
         left = appends.left ∙ one_event before.managed event;

@@ -15,21 +15,21 @@ use Rattle.klp_core.specs.Events.{after_events}
 use Rattle.klp_core.specs.Journaled.{Journaled}
 use Rattle.klp_watch.specs.Inside.{AreInside}
 use Rattle.klp_journal.specs.Journal.{Group}
-use Rattle.klp_watch.specs.Watching.{Became, standing, groups_in, IsTakenAs, state_by, AreTakenAs, AreWatched, moment_of, IsDone}
+use Rattle.klp_watch.specs.Watching.{Became, accepted_in, groups_in, IsTakenAs, state_by, AreTakenAs, AreWatched, moment_of, IsDone}
 
 -- what stands of two lists
-pub standing_more : (setting : Setting) (state : State) (groups : List Group) (items : List Seen) (outcomes : List Became) (item : Seen) (outcome : Became)
+pub accepted_more : (setting : Setting) (state : State) (groups : List Group) (items : List Seen) (outcomes : List Became) (item : Seen) (outcome : Became)
     → AreTakenAs setting state groups items outcomes
-    → standing (items ++ item ∷ []) (outcomes ++ outcome ∷ []) ≡ standing items outcomes ++ standing (item ∷ []) (outcome ∷ [])
-standing_more setting state groups [] [] item outcome are = refl
-standing_more setting state groups [] (other ∷ outcomes) item outcome are = absurd are
-standing_more setting state groups (first ∷ items) [] item outcome are = absurd are
-standing_more setting state groups (first ∷ items) (None ∷ outcomes) item outcome are =
-    ap (λ xs. first ∷ xs) (standing_more setting (state_by setting state None) (groups ++ groups_in (None ∷ [])) items outcomes item outcome are.1)
-standing_more setting state groups (first ∷ items) (Some (Ok group) ∷ outcomes) item outcome are =
-    ap (λ xs. first ∷ xs) (standing_more setting (state_by setting state (Some (Ok group))) (groups ++ group ∷ []) items outcomes item outcome are.1)
-standing_more setting state groups (first ∷ items) (Some (Err refusal) ∷ outcomes) item outcome are =
-    standing_more setting (state_by setting state (Some (Err refusal))) (groups ++ []) items outcomes item outcome are.1
+    → accepted_in (items ++ item ∷ []) (outcomes ++ outcome ∷ []) ≡ accepted_in items outcomes ++ accepted_in (item ∷ []) (outcome ∷ [])
+accepted_more setting state groups [] [] item outcome are = refl
+accepted_more setting state groups [] (other ∷ outcomes) item outcome are = absurd are
+accepted_more setting state groups (first ∷ items) [] item outcome are = absurd are
+accepted_more setting state groups (first ∷ items) (None ∷ outcomes) item outcome are =
+    ap (λ xs. first ∷ xs) (accepted_more setting (state_by setting state None) (groups ++ groups_in (None ∷ [])) items outcomes item outcome are.1)
+accepted_more setting state groups (first ∷ items) (Some (Ok group) ∷ outcomes) item outcome are =
+    ap (λ xs. first ∷ xs) (accepted_more setting (state_by setting state (Some (Ok group))) (groups ++ group ∷ []) items outcomes item outcome are.1)
+accepted_more setting state groups (first ∷ items) (Some (Err refusal) ∷ outcomes) item outcome are =
+    accepted_more setting (state_by setting state (Some (Err refusal))) (groups ++ []) items outcomes item outcome are.1
 
 pub groups_more : (outcomes more : List Became) → groups_in (outcomes ++ more) ≡ groups_in outcomes ++ groups_in more
 groups_more [] more = refl
@@ -53,13 +53,13 @@ honest_more setting w (item ∷ items) more are then = (are.0, honest_more setti
 
 -- the events of what stands are those of the groups
 pub events_stand : (setting : Setting) (state : State) (groups : List Group) (items : List Seen) (outcomes : List Became)
-    → AreTakenAs setting state groups items outcomes → events_of (standing items outcomes) ≡ map (λ (g : Group). g.event) (groups_in outcomes)
+    → AreTakenAs setting state groups items outcomes → events_of (accepted_in items outcomes) ≡ map (λ (g : Group). g.event) (groups_in outcomes)
 events_stand setting state groups [] [] are = refl
 events_stand setting state groups [] (outcome ∷ outcomes) are = absurd are
 events_stand setting state groups (item ∷ items) [] are = absurd are
 events_stand setting state groups (Happens event ∷ items) (None ∷ outcomes) are = absurd are.0
 events_stand setting state groups (Happens event ∷ items) (Some (Ok group) ∷ outcomes) are =
-    ap (λ e. e ∷ events_of (standing items outcomes)) (sym are.0.1.event_is)
+    ap (λ e. e ∷ events_of (accepted_in items outcomes)) (sym are.0.1.event_is)
     ∙ ap (λ es. group.event ∷ es) (events_stand setting (state_by setting state (Some (Ok group))) (groups ++ group ∷ []) items outcomes are.1)
 events_stand setting state groups (Happens event ∷ items) (Some (Err refusal) ∷ outcomes) are =
     events_stand setting (state_by setting state (Some (Err refusal))) (groups ++ []) items outcomes are.1
@@ -92,7 +92,7 @@ AtMostOne [] = Unit {0}
 AtMostOne (event ∷ []) = Unit {0}
 AtMostOne (event ∷ other ∷ events) = ⊥
 
-one_item : (item : Seen) (outcome : Became) → AtMostOne (events_of (standing (item ∷ []) (outcome ∷ [])))
+one_item : (item : Seen) (outcome : Became) → AtMostOne (events_of (accepted_in (item ∷ []) (outcome ∷ [])))
 one_item item (Some (Err refusal)) = tt
 one_item (Happens event) None = tt
 one_item (Calls task site) None = tt
@@ -117,7 +117,7 @@ OfEvents = (setting : Setting) (w : Watched) (items : List Seen) → (seen_run s
 -- What was done so far, and one more item.
 module _ (go : GoOn) (of : OfEvents) (first now after : Journaled) (items : List Seen) (item : Seen) (table : List (List Version))
     (watched : AreWatched first now items) (same : setting_of now.managed ≡ setting_of first.managed)
-    (done : IsDone now after (seen_from (setting_of first.managed) first.managed.state (standing items watched.outcomes)).stacks item table) where
+    (done : IsDone now after (seen_from (setting_of first.managed) first.managed.state (accepted_in items watched.outcomes)).stacks item table) where
   abbrev setting : Setting
   setting = setting_of first.managed
 
@@ -125,10 +125,10 @@ module _ (go : GoOn) (of : OfEvents) (first now after : Journaled) (items : List
   start = first.managed.state
 
   abbrev so_far : List Seen
-  so_far = standing items watched.outcomes
+  so_far = accepted_in items watched.outcomes
 
   abbrev one : List Seen
-  one = standing (item ∷ []) (done.outcome ∷ [])
+  one = accepted_in (item ∷ []) (done.outcome ∷ [])
 
   abbrev moment : Watched
   moment = seen_from setting start so_far
@@ -142,8 +142,8 @@ module _ (go : GoOn) (of : OfEvents) (first now after : Journaled) (items : List
   moment_now : moment_of now moment.stacks ≡ moment
   moment_now = ap (λ s. record { state = s; stacks = moment.stacks }) (state_now ∙ sym (of setting (opening start) so_far))
 
-  stand : standing (items ++ item ∷ []) outcomes ≡ so_far ++ one
-  stand = standing_more setting start first.groups items watched.outcomes item done.outcome watched.each
+  stand : accepted_in (items ++ item ∷ []) outcomes ≡ so_far ++ one
+  stand = accepted_more setting start first.groups items watched.outcomes item done.outcome watched.each
 
   taken : IsTakenAs setting (run setting start (map (λ (g : Group). g.event) (groups_in watched.outcomes))) (first.groups ++ groups_in watched.outcomes) item done.outcome
   taken =
@@ -171,13 +171,13 @@ module _ (go : GoOn) (of : OfEvents) (first now after : Journaled) (items : List
     base = done.base ∙ watched.base;
   }
 
-  inside_more : AreInside table (seen_from setting start (standing (items ++ item ∷ []) outcomes)).stacks
+  inside_more : AreInside table (seen_from setting start (accepted_in (items ++ item ∷ []) outcomes)).stacks
   inside_more =
       subst (λ xs. AreInside table (seen_from setting start xs).stacks) (sym stand)
       (subst (λ (w : Watched). AreInside table w.stacks) (sym (seen_more setting (opening start) so_far one))
       (subst (λ w. AreInside table (seen_run setting w one).stacks) moment_now
       (subst (λ k. AreInside table (seen_run k (moment_of now moment.stacks) one).stacks) same done.inside)))
 
-  pub more : (all : AreWatched first after (items ++ item ∷ [])) × AreInside table (seen_from setting start (standing (items ++ item ∷ []) all.outcomes)).stacks
+  pub more : (all : AreWatched first after (items ++ item ∷ [])) × AreInside table (seen_from setting start (accepted_in (items ++ item ∷ []) all.outcomes)).stacks
   unfolding watched_more
   more = (watched_more, inside_more)

@@ -12,34 +12,34 @@ use Rattle.klp_model.specs.State.{State}
 use Rattle.klp_model.specs.Run.{run}
 use Rattle.klp_model.specs.Observed.{Stacks, HasNoTask, seen_from}
 use Rattle.klp_manager_state.specs.Managed.{setting_of}
-use Rattle.klp_core.specs.Journaled.{Journaled, Stands, history_in}
+use Rattle.klp_core.specs.Journaled.{Journaled, IsWellFormed, history_in}
 use Rattle.klp_watch.specs.declared.cause.Cause.{Cause}
 use Rattle.klp_watch.specs.Inside.{AreInside}
-use Rattle.klp_watch.specs.Watching.{standing, AreWatched, IsDone, IsTold, IsFault}
+use Rattle.klp_watch.specs.Watching.{accepted_in, AreWatched, IsDone, IsReported, IsFault}
 use Rattle.klp_watch.proofs.RunLemmas.{GoOn, OfEvents, more}
 
 abbrev pub StaysAllowed : Type 0
 StaysAllowed = (setting : Setting) (state : State) (events : List Event) → Allowed setting state → Allowed setting (run setting state events)
 
 -- the state of a manager is one that events lead to
-pub allowed_now : StaysAllowed → (manager : Journaled) → Stands manager → Allowed (setting_of manager.managed) manager.managed.state
-allowed_now stays manager stands =
-    subst (Allowed (setting_of manager.managed)) (sym stands.state)
-    (stays (setting_of manager.managed) manager.base (map (λ (p : Event × Reply). p.0) (history_in manager.groups)) stands.allowed)
+pub allowed_now : StaysAllowed → (manager : Journaled) → IsWellFormed manager → Allowed (setting_of manager.managed) manager.managed.state
+allowed_now stays manager well_formed =
+    subst (Allowed (setting_of manager.managed)) (sym well_formed.state)
+    (stays (setting_of manager.managed) manager.base (map (λ (p : Event × Reply). p.0) (history_in manager.groups)) well_formed.allowed)
 
 -- these were done, and tasks are inside of what the table has, if no task was there at first
 abbrev pub SoFar : Journaled → Journaled → List (List Version) → List Seen → Type 0
 SoFar first now table items =
     HasNoTask first.managed.state
     → (watched : AreWatched first now items)
-    × AreInside table (seen_from (setting_of first.managed) first.managed.state (standing items watched.outcomes)).stacks
+    × AreInside table (seen_from (setting_of first.managed) first.managed.state (accepted_in items watched.outcomes)).stacks
 
-pub none_so_far : StaysAllowed → (first : Journaled) (table : List (List Version)) → Stands first → AreInside table (λ n. []) → SoFar first first table []
-none_so_far stays first table stands none nobody = (
+pub none_so_far : StaysAllowed → (first : Journaled) (table : List (List Version)) → IsWellFormed first → AreInside table (λ n. []) → SoFar first first table []
+none_so_far stays first table well_formed none nobody = (
   record {
     outcomes = [];
     each = tt;
-    honest = record { allowed = allowed_now stays first stands; no_task = nobody; honest = tt };
+    honest = record { allowed = allowed_now stays first well_formed; no_task = nobody; honest = tt };
     groups = sym (append-nil first.groups);
     left = refl;
     base = refl;
@@ -61,13 +61,13 @@ module _ (first now after : Journaled) (table : List (List Version)) (same : set
       → ((stacks : Stacks) → AreInside table stacks → IsDone now after stacks item new) → SoFar first after new (items ++ item ∷ [])
   one_more go of items item new so_far does nobody =
       let before = so_far nobody in
-      let done = does (seen_from (setting_of first.managed) first.managed.state (standing items before.0.outcomes)).stacks before.1 in
+      let done = does (seen_from (setting_of first.managed) first.managed.state (accepted_in items before.0.outcomes)).stacks before.1 in
       more go of first now after items item new before.0 same done
 
-  pub told_next : (items : List Seen) (count : ℕ) (item : Seen) (cause : Cause) → count < length items → item ≡ get_or items count item
-      → SoFar first now table (take count items) → ((stacks : Stacks) → AreInside table stacks → IsTold now after stacks item cause)
+  pub reported_next : (items : List Seen) (count : ℕ) (item : Seen) (cause : Cause) → count < length items → item ≡ get_or items count item
+      → SoFar first now table (take count items) → ((stacks : Stacks) → AreInside table stacks → IsReported now after stacks item cause)
       → HasNoTask first.managed.state → IsFault first after items (count + 1) cause
-  told_next items count item cause below is so_far tells nobody =
+  reported_next items count item cause below is so_far tells nobody =
       let before = so_far nobody in
       rw add-one (record {
         earlier = take count items;
@@ -77,7 +77,7 @@ module _ (first now after : Journaled) (table : List (List Version)) (same : set
         count_is = length-take-le count items (omega arith);
         done = now;
         watched = before.0;
-        told = tells (seen_from (setting_of first.managed) first.managed.state (standing (take count items) before.0.outcomes)).stacks before.1;
+        reported = tells (seen_from (setting_of first.managed) first.managed.state (accepted_in (take count items) before.0.outcomes)).stacks before.1;
       })
 
 -- under a premise that holds

@@ -21,13 +21,13 @@ use Rattle.klp_journal.specs.Journal.{Group, has_room}
 use Rattle.klp_catalog.specs.Runs.{after_runs}
 use Rattle.klp_manager_state.specs.Managed.{Managed, setting_of}
 use Rattle.klp_core.specs.Events.{after_events}
-use Rattle.klp_core.specs.Journaled.{Journaled, Stands}
+use Rattle.klp_core.specs.Journaled.{Journaled, IsWellFormed}
 use Rattle.klp_core.specs.Taking.{unless_full, answer_in}
 use Rattle.klp_watch.specs.declared.cause.Cause.{Cause}
 use Rattle.klp_watch.specs.declared.cause.Cause.TheVariants.{NotOpening, Frames, FramesLeft, ModuleInUse, Forced, NoCall, NoReturn, Deep}
 use Rattle.klp_watch.specs.Inside.{AreInside}
-use Rattle.klp_watch.specs.Watching.{Became, standing, moment_of, IsTakenAs, IsCause, IsDone, IsTold, once_taken_back}
-use Rattle.klp_watch.specs.Whole.{LeadHonestly, once_told, BreakOff}
+use Rattle.klp_watch.specs.Watching.{Became, accepted_in, moment_of, IsTakenAs, IsCause, IsDone, IsReported, once_taken_back}
+use Rattle.klp_watch.specs.Whole.{LeadHonestly, once_reported, BreakOff}
 use Rattle.klp_watch.proofs.RunLemmas.{GoOn, OfEvents, AtMostOne, events_more, seen_more, honest_more, left_more}
 use Rattle.klp_watch.proofs.WatchedLemmas.{StaysAllowed, allowed_now, parted_at}
 
@@ -72,9 +72,9 @@ module _ (before after : Journaled) (stacks : Stacks) (table : List (List Versio
   }
 
   next_by : (item : Seen) (outcome : Became) → IsTakenAs own before.managed.state before.groups item outcome
-      → AreHonest own (moment_of before stacks) (standing (item ∷ []) (outcome ∷ []))
-      → after.managed ≡ after_events before.managed (events_of (standing (item ∷ []) (outcome ∷ [])))
-      → AreInside table (seen_run own (moment_of before stacks) (standing (item ∷ []) (outcome ∷ []))).stacks
+      → AreHonest own (moment_of before stacks) (accepted_in (item ∷ []) (outcome ∷ []))
+      → after.managed ≡ after_events before.managed (events_of (accepted_in (item ∷ []) (outcome ∷ [])))
+      → AreInside table (seen_run own (moment_of before stacks) (accepted_in (item ∷ []) (outcome ∷ []))).stacks
       → IsNext before.managed after.managed stacks item table
   next_by (Happens event) None taken honest left are = absurd taken
   next_by (Happens event) (Some (Ok group)) taken honest left are = record { honest = honest.0; left = left; inside = are }
@@ -101,10 +101,10 @@ cause_by_rules setting w groups (Calls task site) cause room is = absurd is
 cause_by_rules setting w groups (Returns task) NoReturn room is = is
 cause_by_rules setting w groups (Returns task) cause room is = absurd is
 
-told_left : (before after : Journaled) (item : Seen) → after ≡ once_taken_back before item → after.managed ≡ once_told before.managed item
-told_left before after (Happens event) is = ap (λ (m : Journaled). m.managed) is
-told_left before after (Calls task site) is = ap (λ (m : Journaled). m.managed) is
-told_left before after (Returns task) is = ap (λ (m : Journaled). m.managed) is
+reported_left : (before after : Journaled) (item : Seen) → after ≡ once_taken_back before item → after.managed ≡ once_reported before.managed item
+reported_left before after (Happens event) is = ap (λ (m : Journaled). m.managed) is
+reported_left before after (Calls task site) is = ap (λ (m : Journaled). m.managed) is
+reported_left before after (Returns task) is = ap (λ (m : Journaled). m.managed) is
 
 -- a single item is at most one event
 one_item : (item : Seen) → AtMostOne (events_of (item ∷ []))
@@ -116,9 +116,9 @@ one_item (Returns task) = tt
 abbrev pub SeenTo : Managed → Managed → List (List Version) → List Seen → Type 0
 SeenTo first now table items = HasNoTask first.state → LeadHonestly first now items × AreInside table (seen_from (setting_of first) first.state items).stacks
 
-pub nothing_seen : StaysAllowed → (first : Journaled) (table : List (List Version)) → Stands first → AreInside table (λ n. []) → SeenTo first.managed first.managed table []
-nothing_seen stays first table stands none nobody =
-    (record { honest = record { allowed = allowed_now stays first stands; no_task = nobody; honest = tt }; left = refl }, none)
+pub nothing_seen : StaysAllowed → (first : Journaled) (table : List (List Version)) → IsWellFormed first → AreInside table (λ n. []) → SeenTo first.managed first.managed table []
+nothing_seen stays first table well_formed none nobody =
+    (record { honest = record { allowed = allowed_now stays first well_formed; no_task = nobody; honest = tt }; left = refl }, none)
 
 module _ (of : OfEvents) (first now : Managed) (items : List Seen) (lead : LeadHonestly first now items) (same : setting_of now ≡ setting_of first) where
   abbrev moment : Watched
@@ -168,13 +168,13 @@ module _ (first now ready after : Journaled) (table : List (List Version)) (same
       (next_seen ready after stacks new room item (does stacks before.1))
 
   pub breaks_off : OfEvents → (items : List Seen) (count : ℕ) (item : Seen) (cause : Cause) → count < length items → item ≡ get_or items count item
-      → SeenTo first.managed now.managed table (take count items) → ((stacks : Stacks) → AreInside table stacks → IsTold ready after stacks item cause)
+      → SeenTo first.managed now.managed table (take count items) → ((stacks : Stacks) → AreInside table stacks → IsReported ready after stacks item cause)
       → HasNoTask first.managed.state → BreakOff first.managed after.managed items count cause
   breaks_off of items count item cause below is so_far tells nobody =
       let earlier = take count items in
       let before = ready_seen earlier so_far nobody in
       let moment = seen_from (setting_of first.managed) first.managed.state earlier in
-      let told = tells moment.stacks before.1 in
+      let reported = tells moment.stacks before.1 in
       record {
         earlier = earlier;
         item = item;
@@ -186,6 +186,6 @@ module _ (first now ready after : Journaled) (table : List (List Version)) (same
         why = subst (λ (w : Watched). IsCause (setting_of first.managed) w [] item cause)
             (moment_now of first.managed ready.managed earlier before.0 ready_same)
             (subst (λ (k : Setting). IsCause k (moment_of ready moment.stacks) [] item cause) ready_same
-            (cause_by_rules (setting_of ready.managed) (moment_of ready moment.stacks) ready.groups item cause room told.why));
-        left = told_left ready after item told.left;
+            (cause_by_rules (setting_of ready.managed) (moment_of ready moment.stacks) ready.groups item cause room reported.why));
+        left = reported_left ready after item reported.left;
       }

@@ -28,7 +28,7 @@ use Rattle.klp_watch.specs.declared.observed.PatchFiles.{PatchFiles}
 use Rattle.klp_watch.specs.declared.difference.Difference.{Difference}
 use Rattle.klp_watch.specs.declared.difference.Difference.TheVariants.{Premise, Answer, State as OtherState, Files as OtherFiles, Version as OtherVersion, Text as OtherText}
 use Rattle.klp_watch.specs.Inside.{AreInside}
-use Rattle.klp_watch.specs.Watching.{AreWatched, IsAgainst, IsCause, IsDone, moment_of, once_taken_back, standing}
+use Rattle.klp_watch.specs.Watching.{AreWatched, IsAgainst, IsCause, IsDone, moment_of, once_taken_back, accepted_in}
 
 -- what the files of a patch read; they are there while it is installed
 abbrev pub files_of : State → ℕ → Option PatchFiles
@@ -87,7 +87,7 @@ pub record AreCompared (before after : Journaled) (items : List Observed) : Type
 -- what tasks are inside of, once these items are done
 abbrev pub inside_behind : (before after : Journaled) (items : List Observed) → AreWatched before after (taken_from items) → Stacks
 inside_behind before after items watched =
-    (seen_from (setting_of before.managed) before.managed.state (standing (taken_from items) watched.outcomes)).stacks
+    (seen_from (setting_of before.managed) before.managed.state (accepted_in (taken_from items) watched.outcomes)).stacks
 
 -- one item is so, and was done where tasks were inside of this, and now they are inside of what the table has
 abbrev pub IsDoneSo : Journaled → Journaled → Stacks → Observed → List (List Version) → Type 0
@@ -119,7 +119,7 @@ once_differing before (Answered event answer) =
 once_differing before (Saw sight) = before
 
 -- an item was told for this, where tasks are inside of this, and left nothing
-pub record IsToldFor (before after : Journaled) (stacks : Stacks) (item : Observed) (difference : Difference) : Type 0 where
+pub record IsReportedFor (before after : Journaled) (stacks : Stacks) (item : Observed) (difference : Difference) : Type 0 where
   pub why : DiffersIn (setting_of before.managed) (moment_of before stacks) before.groups item difference
   pub left : after ≡ once_differing before item
 
@@ -132,7 +132,7 @@ pub record DiffersBehind (before after : Journaled) (items : List Observed) (cou
   pub count_is : length earlier ≡ count
   pub done : Journaled
   pub compared : AreCompared before done earlier
-  pub told : IsToldFor done after (inside_behind before done earlier compared.watched) item difference
+  pub reported : IsReportedFor done after (inside_behind before done earlier compared.watched) item difference
 
 -- the item that differs, counted from 1; with 0 nothing was done, since a task was there at the start
 abbrev pub IsDifference : Journaled → Journaled → List Observed → ℕ → Difference → Type 0

@@ -32,12 +32,12 @@ abbrev pub Became : Type 0
 Became = Option Outcome
 
 -- the items without the events that were refused
-abbrev pub standing : List Seen → List Became → List Seen
-standing [] outcomes = []
-standing (item ∷ items) [] = []
-standing (item ∷ items) (None ∷ outcomes) = item ∷ standing items outcomes
-standing (item ∷ items) (Some (Ok group) ∷ outcomes) = item ∷ standing items outcomes
-standing (item ∷ items) (Some (Err refusal) ∷ outcomes) = standing items outcomes
+abbrev pub accepted_in : List Seen → List Became → List Seen
+accepted_in [] outcomes = []
+accepted_in (item ∷ items) [] = []
+accepted_in (item ∷ items) (None ∷ outcomes) = item ∷ accepted_in items outcomes
+accepted_in (item ∷ items) (Some (Ok group) ∷ outcomes) = item ∷ accepted_in items outcomes
+accepted_in (item ∷ items) (Some (Err refusal) ∷ outcomes) = accepted_in items outcomes
 
 -- the groups of the events that were accepted
 abbrev pub groups_in : List Became → List Group
@@ -79,9 +79,9 @@ pub record IsConsistent (setting : Setting) (start : State) (items : List Seen) 
 pub record AreWatched (before after : Journaled) (items : List Seen) : Type 0 where
   pub outcomes : List Became
   pub each : AreTakenAs (setting_of before.managed) before.managed.state before.groups items outcomes
-  pub honest : IsHonestRun (setting_of before.managed) before.managed.state (standing items outcomes)
+  pub honest : IsHonestRun (setting_of before.managed) before.managed.state (accepted_in items outcomes)
   pub groups : after.groups ≡ before.groups ++ groups_in outcomes
-  pub left : after.managed ≡ after_events before.managed (events_of (standing items outcomes))
+  pub left : after.managed ≡ after_events before.managed (events_of (accepted_in items outcomes))
   pub base : after.base ≡ before.base
 
 -- what is against the premises in an event that is accepted where tasks are inside of this
@@ -121,19 +121,19 @@ moment_of manager stacks = record { state = manager.managed.state; stacks = stac
 pub record IsDone (before after : Journaled) (stacks : Stacks) (item : Seen) (table : List (List Version)) : Type 0 where
   pub outcome : Became
   pub taken : IsTakenAs (setting_of before.managed) before.managed.state before.groups item outcome
-  pub honest : AreHonest (setting_of before.managed) (moment_of before stacks) (standing (item ∷ []) (outcome ∷ []))
+  pub honest : AreHonest (setting_of before.managed) (moment_of before stacks) (accepted_in (item ∷ []) (outcome ∷ []))
   pub groups : after.groups ≡ before.groups ++ groups_in (outcome ∷ [])
-  pub left : after.managed ≡ after_events before.managed (events_of (standing (item ∷ []) (outcome ∷ [])))
+  pub left : after.managed ≡ after_events before.managed (events_of (accepted_in (item ∷ []) (outcome ∷ [])))
   pub base : after.base ≡ before.base
-  pub inside : AreInside table (seen_run (setting_of before.managed) (moment_of before stacks) (standing (item ∷ []) (outcome ∷ []))).stacks
+  pub inside : AreInside table (seen_run (setting_of before.managed) (moment_of before stacks) (accepted_in (item ∷ []) (outcome ∷ []))).stacks
 
 -- an item was told for this cause, where tasks are inside of this, and left nothing
-pub record IsTold (before after : Journaled) (stacks : Stacks) (item : Seen) (cause : Cause) : Type 0 where
+pub record IsReported (before after : Journaled) (stacks : Stacks) (item : Seen) (cause : Cause) : Type 0 where
   pub why : IsCause (setting_of before.managed) (moment_of before stacks) before.groups item cause
   pub left : after ≡ once_taken_back before item
 
 -- so many items were done, and the next one was told
-pub record IsToldBehind (before after : Journaled) (items : List Seen) (count : ℕ) (cause : Cause) : Type 0 where
+pub record IsReportedBehind (before after : Journaled) (items : List Seen) (count : ℕ) (cause : Cause) : Type 0 where
   pub earlier : List Seen
   pub item : Seen
   pub later : List Seen
@@ -141,9 +141,9 @@ pub record IsToldBehind (before after : Journaled) (items : List Seen) (count : 
   pub count_is : length earlier ≡ count
   pub done : Journaled
   pub watched : AreWatched before done earlier
-  pub told : IsTold done after (seen_from (setting_of before.managed) before.managed.state (standing earlier watched.outcomes)).stacks item cause
+  pub reported : IsReported done after (seen_from (setting_of before.managed) before.managed.state (accepted_in earlier watched.outcomes)).stacks item cause
 
 -- the item told, counted from 1; with 0 nothing was done, since a task was there at the start
 abbrev pub IsFault : Journaled → Journaled → List Seen → ℕ → Cause → Type 0
 IsFault before after items zero cause = (cause ≡ NotOpening) × (after ≡ before) × ((task : ℕ) × (is_there before.managed.state task ≡ true))
-IsFault before after items (suc count) cause = IsToldBehind before after items count cause
+IsFault before after items (suc count) cause = IsReportedBehind before after items count cause

@@ -18,9 +18,9 @@ pub record LeadHonestly (before after : Managed) (items : List Seen) : Type 0 wh
   pub left : after ≡ after_events before (events_of items)
 
 -- an item that was told changes nothing, but that the callbacks of an event have run
-abbrev pub once_told : Managed → Seen → Managed
-once_told before (Happens event) = record before { catalog = (after_event before event).catalog }
-once_told before item = before
+abbrev pub once_reported : Managed → Seen → Managed
+once_reported before (Happens event) = record before { catalog = (after_event before event).catalog }
+once_reported before item = before
 
 -- so many items are an honest run, and the next one can't be done for this cause. No journal has a say in it: it might as well be empty
 pub record BreakOff (before after : Managed) (items : List Seen) (count : ℕ) (cause : Cause) : Type 0 where
@@ -32,7 +32,7 @@ pub record BreakOff (before after : Managed) (items : List Seen) (count : ℕ) (
   pub done : Managed
   pub lead : LeadHonestly before done earlier
   pub why : IsCause (setting_of before) (seen_from (setting_of before) before.state earlier) [] item cause
-  pub left : after ≡ once_told done item
+  pub left : after ≡ once_reported done item
 
 -- the item told, counted from 1 over the whole trace; with 0 nothing was done, since a task was there at the start
 abbrev pub IsFaultOfWhole : Managed → Managed → List Seen → ℕ → Cause → Type 0

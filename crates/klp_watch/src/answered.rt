@@ -3,10 +3,10 @@ ghost use Rattle.std.specs.Prelude.{◌≡◌, ◌↔◌, IsTrue, IfOk, IfErr, I
 ghost use Rattle.klp_model.specs.declared.seen.Seen.TheVariants.{Event as Happens};
 ghost use Rattle.klp_model.specs.Observed.{Stacks, IsHonestEvent};
 ghost use Rattle.klp_manager_state.specs.Managed.{setting_of};
-ghost use Rattle.klp_core.specs.Journaled.{Stands};
+ghost use Rattle.klp_core.specs.Journaled.{IsWellFormed};
 ghost use Rattle.klp_watch.specs.declared.observed.Observed.TheVariants.{Answered};
 ghost use Rattle.klp_watch.specs.Inside.{AreInside};
-ghost use Rattle.klp_watch.specs.Compared.{IsDoneSo, IsFound, IsToldFor};
+ghost use Rattle.klp_watch.specs.Compared.{IsDoneSo, IsFound, IsReportedFor};
 
 use crate::difference::Difference;
 use crate::event::{against, begin};
@@ -23,13 +23,13 @@ pub(crate) fn take_answered(
     event: &Event,
     answer: &Result<Reply, Refusal>,
 ) -> Result<(), Difference>
-    requires { Stands manager.old }
+    requires { IsWellFormed manager.old }
     ensures done { IfOk result (λ _. (stacks : Stacks) → AreInside inside.old.rows stacks
         → IsDoneSo manager.old manager.new stacks (Answered event.now answer.now) inside.new.rows) }
-    ensures told { IfErr result (λ difference. (stacks : Stacks) → AreInside inside.old.rows stacks
-        → IsToldFor manager.old manager.new stacks (Answered event.now answer.now) difference) }
+    ensures reported { IfErr result (λ difference. (stacks : Stacks) → AreInside inside.old.rows stacks
+        → IsReportedFor manager.old manager.new stacks (Answered event.now answer.now) difference) }
     ensures setting { setting_of manager.new.managed ≡ setting_of manager.old.managed }
-    ensures stands { Stands manager.new }
+    ensures well_formed { IsWellFormed manager.new }
 {
     let mark = manager.mark();
     let own = manager.apply_lent(event);

@@ -3,10 +3,10 @@ ghost use Rattle.std.specs.Prelude.{◌≡◌, List, IfOk, IfErr};
 ghost use Rattle.klp_model.specs.declared.seen.Seen.{Seen as AnyItem};
 ghost use Rattle.klp_model.specs.Observed.{Stacks, HasNoTask, IsHonestRun};
 ghost use Rattle.klp_manager_state.specs.Managed.{setting_of};
-ghost use Rattle.klp_core.specs.Journaled.{Stands};
+ghost use Rattle.klp_core.specs.Journaled.{IsWellFormed};
 ghost use Rattle.klp_watch.specs.Inside.{AreInside};
 ghost use Rattle.klp_watch.specs.Watching.{IsConsistent};
-ghost use Rattle.klp_watch.specs.Compared.{AreCompared, IsDifference, IsDoneSo, IsToldFor};
+ghost use Rattle.klp_watch.specs.Compared.{AreCompared, IsDifference, IsDoneSo, IsReportedFor};
 
 use crate::answered::take_answered;
 use crate::cause::Cause;
@@ -14,7 +14,7 @@ use crate::difference::{Difference, Differs};
 use crate::inside::Inside;
 use crate::observed::Observed;
 use crate::shown::{is_shown, other_than};
-use crate::watching::{functions_stand, has_task, watch_item};
+use crate::watching::{functions_are_in_objects, has_task, watch_item};
 use klp_core::Manager;
 
 /// Does as [`watch`](crate::watch) with the items that happen, over a manager without tasks, and compares what the
@@ -31,13 +31,13 @@ pub fn compare(manager: &mut Manager, items: &[Observed]) -> Result<(), Differs>
         → IsConsistent (setting_of manager.old.managed) manager.old.managed.state run }
     ensures differs { IfErr result (λ differs. IsDifference manager.old manager.new items.now differs.item differs.cause) }
     ensures setting { setting_of manager.new.managed ≡ setting_of manager.old.managed }
-    ensures stands { Stands manager.new }
+    ensures well_formed { IsWellFormed manager.new }
 {
     klp_model::consistency::frames_are_current();
     klp_model::consistency::none_has_left();
     klp_model::consistency::none_is_mixed();
-    functions_stand(manager);
-    let _standing = manager.mark();
+    functions_are_in_objects(manager);
+    let _for_its_clause = manager.mark();
     if has_task(manager) {
         return Err(Differs {
             item: 0,
@@ -54,12 +54,12 @@ fn compare_all(manager: &mut Manager, items: &[Observed]) -> Result<(), Differs>
     ensures differs { IfErr result (λ differs. HasNoTask manager.old.managed.state
         → IsDifference manager.old manager.new items.now differs.item differs.cause) }
     ensures setting { setting_of manager.new.managed ≡ setting_of manager.old.managed }
-    ensures stands { Stands manager.new }
+    ensures well_formed { IsWellFormed manager.new }
 {
     klp_model::laws::states_stay_allowed();
     klp_model::consistency::state_is_that_of_the_events();
     klp_core::laws::events_go_on_where_they_end();
-    let _standing = manager.mark();
+    let _for_its_clause = manager.mark();
     let mut inside = Inside::new();
     for (done, item) in items.iter().enumerate() {
         if let Err(cause) = compare_item(manager, &mut inside, item) {
@@ -80,12 +80,12 @@ fn compare_item(
 ) -> Result<(), Difference>
     ensures done { IfOk result (λ _. (stacks : Stacks) → AreInside inside.old.rows stacks
         → IsDoneSo manager.old manager.new stacks item.now inside.new.rows) }
-    ensures told { IfErr result (λ difference. (stacks : Stacks) → AreInside inside.old.rows stacks
-        → IsToldFor manager.old manager.new stacks item.now difference) }
+    ensures reported { IfErr result (λ difference. (stacks : Stacks) → AreInside inside.old.rows stacks
+        → IsReportedFor manager.old manager.new stacks item.now difference) }
     ensures setting { setting_of manager.new.managed ≡ setting_of manager.old.managed }
-    ensures stands { Stands manager.new }
+    ensures well_formed { IsWellFormed manager.new }
 {
-    let _standing = manager.mark();
+    let _for_its_clause = manager.mark();
     match item {
         Observed::Seen(item) => {
             if let Err(cause) = watch_item(manager, inside, item) {

@@ -3,9 +3,9 @@ ghost use Rattle.std.specs.Prelude.{◌≡◌, IfOk, IfErr, IfSome, IfNone};
 ghost use Rattle.klp_model.specs.declared.seen.Seen.TheVariants.{Event as Happens};
 ghost use Rattle.klp_model.specs.Observed.{Stacks, begun, IsHonestEvent};
 ghost use Rattle.klp_manager_state.specs.Managed.{setting_of};
-ghost use Rattle.klp_core.specs.Journaled.{Stands};
+ghost use Rattle.klp_core.specs.Journaled.{IsWellFormed};
 ghost use Rattle.klp_watch.specs.Inside.{AreInside};
-ghost use Rattle.klp_watch.specs.Watching.{IsAgainst, IsDone, IsTold};
+ghost use Rattle.klp_watch.specs.Watching.{IsAgainst, IsDone, IsReported};
 
 use crate::cause::Cause;
 use crate::inside::Inside;
@@ -45,13 +45,13 @@ pub(crate) fn begin(inside: &mut Inside, event: &Event)
 /// An event is taken, or refused, which is no fault. One that breaks a premise is taken back by its own
 /// records, so no later item sees it. What these lead back to is known of a manager that stands.
 pub(crate) fn happen(manager: &mut Manager, inside: &mut Inside, event: &Event) -> Result<(), Cause>
-    requires { Stands manager.old }
+    requires { IsWellFormed manager.old }
     ensures done { IfOk result (λ _. (stacks : Stacks) → AreInside inside.old.rows stacks
         → IsDone manager.old manager.new stacks (Happens event.now) inside.new.rows) }
-    ensures told { IfErr result (λ cause. (stacks : Stacks) → AreInside inside.old.rows stacks
-        → IsTold manager.old manager.new stacks (Happens event.now) cause) }
+    ensures reported { IfErr result (λ cause. (stacks : Stacks) → AreInside inside.old.rows stacks
+        → IsReported manager.old manager.new stacks (Happens event.now) cause) }
     ensures setting { setting_of manager.new.managed ≡ setting_of manager.old.managed }
-    ensures stands { Stands manager.new }
+    ensures well_formed { IsWellFormed manager.new }
 {
     let mark = manager.mark();
     if manager.apply_unasked(event).is_err() {

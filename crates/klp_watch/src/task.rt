@@ -36,7 +36,7 @@ pub(crate) fn call(
         → (may_call (setting_of manager.now.managed) (moment_of manager.now stacks) task site ≡ true)
         × AreInside inside.new.rows
         (seen_next (setting_of manager.now.managed) (moment_of manager.now stacks) (Calls task site)).stacks) }
-    ensures told { IfErr result (λ cause. (stacks : Stacks) → AreInside inside.old.rows stacks
+    ensures reported { IfErr result (λ cause. (stacks : Stacks) → AreInside inside.old.rows stacks
         → IsCause (setting_of manager.now.managed) (moment_of manager.now stacks) manager.now.groups
         (Calls task site) cause) }
 {
@@ -60,7 +60,7 @@ pub(crate) fn come_back(manager: &Manager, inside: &mut Inside, task: TaskId) ->
         → (may_return (moment_of manager.now stacks) task ≡ true)
         × AreInside inside.new.rows
         (seen_next (setting_of manager.now.managed) (moment_of manager.now stacks) (Returns task)).stacks) }
-    ensures told { IfErr result (λ cause. (stacks : Stacks) → AreInside inside.old.rows stacks
+    ensures reported { IfErr result (λ cause. (stacks : Stacks) → AreInside inside.old.rows stacks
         → IsCause (setting_of manager.now.managed) (moment_of manager.now stacks) manager.now.groups
         (Returns task) cause) }
 {

@@ -4,9 +4,9 @@ ghost use Rattle.klp_model.specs.InPlace.{IsInPlace};
 ghost use Rattle.klp_model.specs.Observed.{Stacks, HasNoTask, IsHonestRun};
 ghost use Rattle.klp_model.specs.Refusals.{is_there};
 ghost use Rattle.klp_manager_state.specs.Managed.{setting_of};
-ghost use Rattle.klp_core.specs.Journaled.{Stands};
+ghost use Rattle.klp_core.specs.Journaled.{IsWellFormed};
 ghost use Rattle.klp_watch.specs.Inside.{AreInside};
-ghost use Rattle.klp_watch.specs.Watching.{AreWatched, IsConsistent, IsDone, IsFault, IsTold};
+ghost use Rattle.klp_watch.specs.Watching.{AreWatched, IsConsistent, IsDone, IsFault, IsReported};
 
 use crate::cause::{Cause, NotHonest};
 use crate::event::happen;
@@ -16,12 +16,13 @@ use klp_core::Manager;
 use klp_model::Seen;
 use klp_types::{MAX_TASKS, TaskId};
 
-/// Does the items in order over a manager without tasks, and tells the first that isn't honest. A refused
-/// event is an item done. It takes no memory, and an item costs what its event or its look-up costs; a
-/// module that goes costs a look at all that tasks are inside of.
+/// Takes the items of a trace in order, over a manager without tasks, and returns the first that isn't honest: it
+/// breaks a premise of the consistency model, or finds no room. Where several [`Cause`]s hold, it has the first. A
+/// refused event counts as done. It takes no memory, and an item costs what its event or its look-up costs; a module
+/// that goes costs a look at all that tasks are inside of.
 ///
-/// The item told leaves nothing: an event is taken back by its own records, only its callbacks have run. All
-/// items before it are done. An item that breaks several premises is told by the first of [`Cause`].
+/// All items before that one are done, and it leaves nothing: an event's records are put back, though its callbacks
+/// have run.
 pub fn watch(manager: &mut Manager, items: &[Seen]) -> Result<(), NotHonest>
     ensures watched { IfOk result (λ _. AreWatched manager.old manager.new items.now) }
     // what is watched is consistent at every moment
@@ -30,13 +31,13 @@ pub fn watch(manager: &mut Manager, items: &[Seen]) -> Result<(), NotHonest>
         → IsConsistent (setting_of manager.old.managed) manager.old.managed.state run }
     ensures fault { IfErr result (λ fault. IsFault manager.old manager.new items.now fault.item fault.cause) }
     ensures setting { setting_of manager.new.managed ≡ setting_of manager.old.managed }
-    ensures stands { Stands manager.new }
+    ensures well_formed { IsWellFormed manager.new }
 {
     klp_model::consistency::frames_are_current();
     klp_model::consistency::none_has_left();
     klp_model::consistency::none_is_mixed();
-    functions_stand(manager);
-    let _standing = manager.mark();
+    functions_are_in_objects(manager);
+    let _for_its_clause = manager.mark();
     if has_task(manager) {
         return Err(NotHonest {
             item: 0,
@@ -47,10 +48,10 @@ pub fn watch(manager: &mut Manager, items: &[Seen]) -> Result<(), NotHonest>
 }
 
 /// Each function of the catalog is in the object whose function it replaces.
-pub(crate) fn functions_stand(manager: &Manager)
+pub(crate) fn functions_are_in_objects(manager: &Manager)
     ensures { IsInPlace (setting_of manager.now.managed) }
 {
-    klp_core::laws::functions_stand_with_their_objects();
+    klp_core::laws::functions_are_in_their_objects();
     let _named = manager.catalog();
 }
 
@@ -61,12 +62,12 @@ fn watch_all(manager: &mut Manager, items: &[Seen]) -> Result<(), NotHonest>
     ensures fault { IfErr result (λ fault. HasNoTask manager.old.managed.state
         → IsFault manager.old manager.new items.now fault.item fault.cause) }
     ensures setting { setting_of manager.new.managed ≡ setting_of manager.old.managed }
-    ensures stands { Stands manager.new }
+    ensures well_formed { IsWellFormed manager.new }
 {
     klp_model::laws::states_stay_allowed();
     klp_model::consistency::state_is_that_of_the_events();
     klp_core::laws::events_go_on_where_they_end();
-    let _standing = manager.mark();
+    let _for_its_clause = manager.mark();
     let mut inside = Inside::new();
     for (done, item) in items.iter().enumerate() {
         if let Err(cause) = watch_item(manager, &mut inside, item) {
@@ -100,12 +101,12 @@ pub(crate) fn watch_item(
 ) -> Result<(), Cause>
     ensures done { IfOk result (λ _. (stacks : Stacks) → AreInside inside.old.rows stacks
         → IsDone manager.old manager.new stacks item.now inside.new.rows) }
-    ensures told { IfErr result (λ cause. (stacks : Stacks) → AreInside inside.old.rows stacks
-        → IsTold manager.old manager.new stacks item.now cause) }
+    ensures reported { IfErr result (λ cause. (stacks : Stacks) → AreInside inside.old.rows stacks
+        → IsReported manager.old manager.new stacks item.now cause) }
     ensures setting { setting_of manager.new.managed ≡ setting_of manager.old.managed }
-    ensures stands { Stands manager.new }
+    ensures well_formed { IsWellFormed manager.new }
 {
-    let _standing = manager.mark();
+    let _for_its_clause = manager.mark();
     match item {
         Seen::Event(event) => happen(manager, inside, event),
         Seen::Call(task, site) => call(manager, inside, *task, *site),

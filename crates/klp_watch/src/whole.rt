@@ -3,13 +3,13 @@ ghost use Rattle.std.specs.Prelude.{◌≡◌, true, IfOk, IfErr};
 ghost use Rattle.klp_journal.specs.Journal.{has_room};
 ghost use Rattle.klp_model.specs.Observed.{HasNoTask};
 ghost use Rattle.klp_manager_state.specs.Managed.{setting_of};
-ghost use Rattle.klp_core.specs.Journaled.{Stands};
+ghost use Rattle.klp_core.specs.Journaled.{IsWellFormed};
 ghost use Rattle.klp_watch.specs.Watching.{IsConsistent};
 ghost use Rattle.klp_watch.specs.Whole.{LeadHonestly, IsFaultOfWhole};
 
 use crate::cause::{Cause, NotHonest};
 use crate::inside::Inside;
-use crate::watching::{functions_stand, has_task, watch_item};
+use crate::watching::{functions_are_in_objects, has_task, watch_item};
 use klp_core::Manager;
 use klp_model::Seen;
 use klp_types::{MAX_GROUPS, MAX_RECORDS};
@@ -25,13 +25,13 @@ pub fn watch_whole(manager: &mut Manager, items: &[Seen]) -> Result<(), NotHones
     ensures fault { IfErr result (λ fault.
         IsFaultOfWhole manager.old.managed manager.new.managed items.now fault.item fault.cause) }
     ensures setting { setting_of manager.new.managed ≡ setting_of manager.old.managed }
-    ensures stands { Stands manager.new }
+    ensures well_formed { IsWellFormed manager.new }
 {
     klp_model::consistency::frames_are_current();
     klp_model::consistency::none_has_left();
     klp_model::consistency::none_is_mixed();
-    functions_stand(manager);
-    let _standing = manager.mark();
+    functions_are_in_objects(manager);
+    let _for_its_clause = manager.mark();
     if has_task(manager) {
         return Err(NotHonest {
             item: 0,
@@ -48,12 +48,12 @@ fn watch_each(manager: &mut Manager, items: &[Seen]) -> Result<(), NotHonest>
     ensures fault { IfErr result (λ fault. HasNoTask manager.old.managed.state
         → IsFaultOfWhole manager.old.managed manager.new.managed items.now fault.item fault.cause) }
     ensures setting { setting_of manager.new.managed ≡ setting_of manager.old.managed }
-    ensures stands { Stands manager.new }
+    ensures well_formed { IsWellFormed manager.new }
 {
     klp_model::laws::states_stay_allowed();
     klp_model::consistency::state_is_that_of_the_events();
     klp_core::laws::events_go_on_where_they_end();
-    let _standing = manager.mark();
+    let _for_its_clause = manager.mark();
     let mut inside = Inside::new();
     for (done, item) in items.iter().enumerate() {
         make_room(manager);
@@ -69,10 +69,10 @@ fn watch_each(manager: &mut Manager, items: &[Seen]) -> Result<(), NotHonest>
 
 /// Seals the journal where one more event might find no room in it.
 fn make_room(manager: &mut Manager)
-    requires { Stands manager.old }
+    requires { IsWellFormed manager.old }
     ensures same { manager.new.managed ≡ manager.old.managed }
     ensures room { has_room manager.new.groups ≡ true }
-    ensures stands { Stands manager.new }
+    ensures well_formed { IsWellFormed manager.new }
 {
     if manager.mark() >= MAX_GROUPS as u32 || manager.records_free() < MAX_RECORDS as u32 {
         manager.seal();

@@ -1,6 +1,6 @@
 //! The words of a line, of a catalog's text and of the console alike.
 //!
-//! [`Words`] cuts a line into words, separated by spaces, or by spaces and tabs (`specs/Split`), and [`cut`]
+//! [`LineWords`] cuts a line into words, separated by spaces, or by spaces and tabs (`specs/Split`), and [`cut`]
 //! tells what is before the first byte of a kind, and what is behind it. [`number64`] and its like read
 //! numbers, [`shadow_value`] the value of a shadow variable, and [`spelling_of`] what the name of a symbol
 //! spells (`specs/Words`). [`is_ascii`] tells whether a line is ASCII. None of these takes memory, and what is
@@ -20,5 +20,5 @@ pub use lanes::is_ascii;
 pub use names::Names;
 pub use number::{hexadecimal, number32, number64, signed};
 pub use spelling::{Spelling, is_name, is_symbol_name, spelling_of, text};
-pub use split::{Separators, Words, cut, position_of};
+pub use split::{LineWords, Separators, cut, position_of};
 pub use value::shadow_value;

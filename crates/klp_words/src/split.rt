@@ -29,12 +29,12 @@ impl Separators {
 /// The words of a line that are still to be read, and what separates them. They are cut off one by one, so
 /// no list of them is kept.
 #[derive(Drop)]
-pub struct Words<'a> {
+pub struct LineWords<'a> {
     rest: &'a [u8],
     separators: Separators,
 }
 
-impl<'a> Model for Words<'a> {
+impl<'a> Model for LineWords<'a> {
     ghost use Rattle.std.specs.Prelude.{ℕ, List};
     ghost use Rattle.klp_words.specs.Split.{separates, words_between};
 
@@ -43,22 +43,22 @@ impl<'a> Model for Words<'a> {
     ghost view = { λ w. words_between (separates w.separators) w.rest.now };
 }
 
-impl<'a> Words<'a> {
+impl<'a> LineWords<'a> {
     /// All words of the line, which may have any bytes, since nobody has looked at them yet.
-    pub fn new(line: &'a [u8], separators: Separators) -> Words<'a>
+    pub fn new(line: &'a [u8], separators: Separators) -> LineWords<'a>
         ensures { result ≡ words_between (separates separators) line.now }
     {
-        Words {
+        LineWords {
             rest: line,
             separators,
         }
     }
 
     /// The same words, to be gone over twice.
-    pub fn again(&self) -> Words<'a>
+    pub fn again(&self) -> LineWords<'a>
         ensures { result ≡ self.now }
     {
-        Words {
+        LineWords {
             rest: self.rest,
             separators: self.separators,
         }

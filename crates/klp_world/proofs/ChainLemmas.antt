@@ -172,53 +172,53 @@ newest_beside heads bucket None to b apart = get_or-set_other heads bucket b to 
 newest_beside heads bucket (Some above) to b apart = refl
 
 -- the links of a bucket are those of a test, but for one slot's
-pub record IsTold (heads : List (Option ℕ)) (links : List Link) (bucket : ℕ) (t : ℕ → Bool) (slot : ℕ) : Type 0 where
+pub record IsListed (heads : List (Option ℕ)) (links : List Link) (bucket : ℕ) (t : ℕ → Bool) (slot : ℕ) : Type 0 where
   pub newest : get_or heads bucket None ≡ last_below t (length links)
   pub older : (i : ℕ) → i < length links → i ≢ slot → t i ≡ true → (link_at links i).older ≡ last_below t i
 
 -- A slot comes to the bucket or leaves it: the link above is changed.
 module _ (heads : List (Option ℕ)) (links : List Link) (bucket : ℕ) (inside : bucket < length heads) (t u : ℕ → Bool) (slot : ℕ) (same : (i : ℕ) → i ≢ slot → u i ≡ t i) (there : slot < length links) where
-  newest_told : (above to : Option ℕ) → IsAbove t slot (length links) above → to ≡ last_below u (reach (length links) above) → IsTold heads links bucket t slot
+  newest_effective : (above to : Option ℕ) → IsAbove t slot (length links) above → to ≡ last_below u (reach (length links) above) → IsListed heads links bucket t slot
       → get_or (with_newest heads bucket above to) bucket None ≡ last_below u (length links)
-  newest_told None to is next told = get_or-set_same heads bucket to None inside ∙ next
-  newest_told (Some above) to is next told =
-      told.newest ∙ sym (elsewhere t u slot (length links) same there (Some above) is (length links) (omega arith) (λ e. let no : ⊥ = omega (arith, is.1) in no) (λ lt. absurd (omega arith)))
+  newest_effective None to is next effective = get_or-set_same heads bucket to None inside ∙ next
+  newest_effective (Some above) to is next effective =
+      effective.newest ∙ sym (elsewhere t u slot (length links) same there (Some above) is (length links) (omega arith) (λ e. let no : ⊥ = omega (arith, is.1) in no) (λ lt. absurd (omega arith)))
 
-  pub pointed_told : (above to : Option ℕ) → IsAbove t slot (length links) above → to ≡ last_below u (reach (length links) above) → IsTold heads links bucket t slot
-      → IsTold (with_newest heads bucket above to) (with_links links above to) bucket u slot
-  pointed_told above to is next told =
+  pub pointed_effective : (above to : Option ℕ) → IsAbove t slot (length links) above → to ≡ last_below u (reach (length links) above) → IsListed heads links bucket t slot
+      → IsListed (with_newest heads bucket above to) (with_links links above to) bucket u slot
+  pointed_effective above to is next effective =
       let long = length_with links above to in
       record {
-        newest = newest_told above to is next told ∙ ap (last_below u) (sym long);
+        newest = newest_effective above to is next effective ∙ ap (last_below u) (sym long);
         older = λ i lt apart passes.
             let within : i < length links = omega arith in
             let passed : t i ≡ true = sym (same i apart) ∙ passes in
             elim (cases_eq i (reach (length links) above)) as (λ _. (link_at (with_links links above to) i).older ≡ last_below u i) [
               | inl here ↦ older_there links above to i within here ∙ next ∙ ap (last_below u) (sym here)
-              | inr away ↦ older_beside links above to i within away ∙ told.older i within apart passed
+              | inr away ↦ older_beside links above to i within away ∙ effective.older i within apart passed
                   ∙ sym (elsewhere t u slot (length links) same there above is i (omega arith) away (λ _. passed))
             ];
       }
 
 -- another bucket's link is changed
-pub other_told : (heads : List (Option ℕ)) (links : List Link) (bucket : ℕ) (above to : Option ℕ) (b : ℕ) (t : ℕ → Bool) (slot : ℕ) → b ≢ bucket
-    → ((i : ℕ) → i < length links → t i ≡ true → i ≢ reach (length links) above) → IsTold heads links b t slot → IsTold (with_newest heads bucket above to) (with_links links above to) b t slot
-other_told heads links bucket above to b t slot apart away told =
+pub other_effective : (heads : List (Option ℕ)) (links : List Link) (bucket : ℕ) (above to : Option ℕ) (b : ℕ) (t : ℕ → Bool) (slot : ℕ) → b ≢ bucket
+    → ((i : ℕ) → i < length links → t i ≡ true → i ≢ reach (length links) above) → IsListed heads links b t slot → IsListed (with_newest heads bucket above to) (with_links links above to) b t slot
+other_effective heads links bucket above to b t slot apart away effective =
     let long = length_with links above to in
     record {
-      newest = newest_beside heads bucket above to b apart ∙ told.newest ∙ ap (last_below t) (sym long);
-      older = λ i lt other passes. let within : i < length links = omega arith in older_beside links above to i within (away i within passes) ∙ told.older i within other passes;
+      newest = newest_beside heads bucket above to b apart ∙ effective.newest ∙ ap (last_below t) (sym long);
+      older = λ i lt other passes. let within : i < length links = omega arith in older_beside links above to i within (away i within passes) ∙ effective.older i within other passes;
     }
 
 -- tests that agree tell the same links
-pub agreed_told : (heads : List (Option ℕ)) (links : List Link) (b : ℕ) (t u : ℕ → Bool) (slot : ℕ) → ((i : ℕ) → u i ≡ t i) → IsTold heads links b t slot → IsTold heads links b u slot
-agreed_told heads links b t u slot same told = record {
-  newest = told.newest ∙ sym (same_below t u (length links) (λ i lt. same i));
-  older = λ i lt apart passes. told.older i lt apart (sym (same i) ∙ passes) ∙ sym (same_below t u i (λ j lt. same j));
+pub agreed_effective : (heads : List (Option ℕ)) (links : List Link) (b : ℕ) (t u : ℕ → Bool) (slot : ℕ) → ((i : ℕ) → u i ≡ t i) → IsListed heads links b t slot → IsListed heads links b u slot
+agreed_effective heads links b t u slot same effective = record {
+  newest = effective.newest ∙ sym (same_below t u (length links) (λ i lt. same i));
+  older = λ i lt apart passes. effective.older i lt apart (sym (same i) ∙ passes) ∙ sym (same_below t u i (λ j lt. same j));
 }
 
-pub linked_told : (heads : List (Option ℕ)) (links : List Link) → IsLinked heads links → (b slot : ℕ) → b < BUCKETS → IsTold heads links b (is_in links b) slot
-linked_told heads links linked b slot lt = record {
+pub linked_effective : (heads : List (Option ℕ)) (links : List Link) → IsLinked heads links → (b slot : ℕ) → b < BUCKETS → IsListed heads links b (is_in links b) slot
+linked_effective heads links linked b slot lt = record {
   newest = linked.newest b lt;
   older = λ i within apart passes. linked.older i within ∙ ap (λ c. last_below (is_in links c) i) (eqb-true (link_at links i).bucket b passes);
 }
@@ -292,12 +292,12 @@ module _ (heads : List (Option ℕ)) (links : List Link) (linked : IsLinked head
   not_above b c above is away i lt passes e =
       away (sym (eqb-true (link_at links i).bucket b passes) ∙ eqb-true (link_at links i).bucket c (above_passes (is_in links c) slot (length links) above is i lt e))
 
-  left_told : IsTold heads_left links_left from (is_in links_after from) slot
-  left_told =
-      pointed_told heads links from (omega (arith, linked.buckets, from_below)) (is_in links from) (is_in links_after from) slot (same_is from) there left older is_left
+  left_effective : IsListed heads_left links_left from (is_in links_after from) slot
+  left_effective =
+      pointed_effective heads links from (omega (arith, linked.buckets, from_below)) (is_in links from) (is_in links_after from) slot (same_is from) there left older is_left
       (was ∙ linked.older slot there ∙ ap (λ c. last_below (is_in links c) slot) own
       ∙ sym (gone (is_in links from) (is_in links_after from) slot (length links) (same_is from) there left is_left (moved_is from ∙ not_equal to from (λ e. apart (sym e)))))
-      (linked_told heads links linked from slot from_below)
+      (linked_effective heads links linked from slot from_below)
 
   entered_not_left : (i : ℕ) → i < length links_left → is_in links_after from i ≡ true → i ≢ reach (length links_left) entered
   entered_not_left i lt passes e =
@@ -306,40 +306,40 @@ module _ (heads : List (Option ℕ)) (links : List Link) (linked : IsLinked head
         | inr away ↦ not_above from to entered is_entered apart i (omega (arith, long_left)) (sym (same_is from i away) ∙ passes) (e ∙ ap (λ n. reach n entered) long_left)
       ]
 
-  from_told : IsTold heads_after links_entered from (is_in links_after from) slot
-  from_told = other_told heads_left links_left to entered (Some slot) from (is_in links_after from) slot apart entered_not_left left_told
+  from_effective : IsListed heads_after links_entered from (is_in links_after from) slot
+  from_effective = other_effective heads_left links_left to entered (Some slot) from (is_in links_after from) slot apart entered_not_left left_effective
 
-  to_before : IsTold heads_left links_left to (is_in links to) slot
+  to_before : IsListed heads_left links_left to (is_in links to) slot
   to_before =
-      other_told heads links from left older to (is_in links to) slot (λ e. apart (sym e)) (not_above to from left is_left (λ e. apart (sym e)))
-      (linked_told heads links linked to slot below)
+      other_effective heads links from left older to (is_in links to) slot (λ e. apart (sym e)) (not_above to from left is_left (λ e. apart (sym e)))
+      (linked_effective heads links linked to slot below)
 
   entered_left : IsAbove (is_in links to) slot (length links_left) entered
   entered_left = subst (λ n. IsAbove (is_in links to) slot n entered) (sym long_left) is_entered
 
-  to_told : IsTold heads_after links_entered to (is_in links_after to) slot
-  to_told =
-      pointed_told heads_left links_left to (omega (arith, length_newest heads from left older, linked.buckets)) (is_in links to) (is_in links_after to) slot (same_is to) (omega (arith, long_left, there)) entered (Some slot) entered_left
+  to_effective : IsListed heads_after links_entered to (is_in links_after to) slot
+  to_effective =
+      pointed_effective heads_left links_left to (omega (arith, length_newest heads from left older, linked.buckets)) (is_in links to) (is_in links_after to) slot (same_is to) (omega (arith, long_left, there)) entered (Some slot) entered_left
       (sym (come (is_in links to) (is_in links_after to) slot (length links_left) (same_is to) (omega (arith, long_left, there)) entered entered_left (moved_is to ∙ eq-eqb to to refl)))
       to_before
 
-  other_bucket : (b : ℕ) → b < BUCKETS → b ≢ from → b ≢ to → IsTold heads_after links_entered b (is_in links_after b) slot
+  other_bucket : (b : ℕ) → b < BUCKETS → b ≢ from → b ≢ to → IsListed heads_after links_entered b (is_in links_after b) slot
   other_bucket b lt not_from not_to =
-      agreed_told heads_after links_entered b (is_in links b) (is_in links_after b) slot
+      agreed_effective heads_after links_entered b (is_in links b) (is_in links_after b) slot
       (λ i. elim (cases_eq i slot) as (λ _. is_in links_after b i ≡ is_in links b i) [
         | inl here ↦ ap (is_in links_after b) here ∙ moved_is b ∙ not_equal to b (λ e. not_to (sym e)) ∙ sym (ap (is_in links b) here ∙ own_is b ∙ not_equal from b (λ e. not_from (sym e)))
         | inr away ↦ same_is b i away
       ])
-      (other_told heads_left links_left to entered (Some slot) b (is_in links b) slot not_to
+      (other_effective heads_left links_left to entered (Some slot) b (is_in links b) slot not_to
       (λ i lt passes e. not_above b to entered is_entered not_to i (omega (arith, long_left)) passes (e ∙ ap (λ n. reach n entered) long_left))
-      (other_told heads links from left older b (is_in links b) slot not_from (not_above b from left is_left not_from) (linked_told heads links linked b slot lt)))
+      (other_effective heads links from left older b (is_in links b) slot not_from (not_above b from left is_left not_from) (linked_effective heads links linked b slot lt)))
 
-  all_told : (b : ℕ) → b < BUCKETS → IsTold heads_after links_entered b (is_in links_after b) slot
-  all_told b lt =
-      elim (cases_eq b from) as (λ _. IsTold heads_after links_entered b (is_in links_after b) slot) [
-        | inl here ↦ subst (λ c. IsTold heads_after links_entered c (is_in links_after c) slot) (sym here) from_told
-        | inr not_from ↦ elim (cases_eq b to) as (λ _. IsTold heads_after links_entered b (is_in links_after b) slot) [
-          | inl here ↦ subst (λ c. IsTold heads_after links_entered c (is_in links_after c) slot) (sym here) to_told
+  all_effective : (b : ℕ) → b < BUCKETS → IsListed heads_after links_entered b (is_in links_after b) slot
+  all_effective b lt =
+      elim (cases_eq b from) as (λ _. IsListed heads_after links_entered b (is_in links_after b) slot) [
+        | inl here ↦ subst (λ c. IsListed heads_after links_entered c (is_in links_after c) slot) (sym here) from_effective
+        | inr not_from ↦ elim (cases_eq b to) as (λ _. IsListed heads_after links_entered b (is_in links_after b) slot) [
+          | inl here ↦ subst (λ c. IsListed heads_after links_entered c (is_in links_after c) slot) (sym here) to_effective
           | inr not_to ↦ other_bucket b lt not_from not_to
         ]
       ]
@@ -361,13 +361,13 @@ module _ (heads : List (Option ℕ)) (links : List Link) (linked : IsLinked head
             ∙ ap (λ c. last_below (is_in links_after c) slot) (sym moved_after))
         | inr away ↦
             ap (λ (l : Link). l.older) (get_or-set_other links_entered slot i (record { older = next; bucket = to }) no_link away)
-            ∙ (all_told (link_at links_after i).bucket (within_after i lt)).older i (omega (arith, long_entered, long_after)) away (eq-eqb (link_at links_after i).bucket (link_at links_after i).bucket refl)
+            ∙ (all_effective (link_at links_after i).bucket (within_after i lt)).older i (omega (arith, long_entered, long_after)) away (eq-eqb (link_at links_after i).bucket (link_at links_after i).bucket refl)
       ]
 
   pub linked_after : IsLinked heads_after links_after
   linked_after = record {
     buckets = length_newest heads_left to entered (Some slot) ∙ length_newest heads from left older ∙ linked.buckets;
-    newest = λ b lt. (all_told b lt).newest ∙ ap (last_below (is_in links_after b)) (long_entered ∙ sym long_after);
+    newest = λ b lt. (all_effective b lt).newest ∙ ap (last_below (is_in links_after b)) (long_entered ∙ sym long_after);
     older = older_after;
     within = within_after;
   }

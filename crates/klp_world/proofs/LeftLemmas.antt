@@ -56,9 +56,9 @@ left_having q (id ∷ ids) values =
     let one = one_fewer q id (left_of ids values) in
     step (id == q) (having q values) (among q ids) (having q (left_of ids values)) (having q (state_taken id (left_of ids values))) rest one
   where
-    step : (b : Bool) (whole told left now : ℕ) → whole ≤ told + left → left ≤ cond b (suc now) now → whole ≤ cond b (suc told) told + now
-    step true whole told left now rest one = omega arith
-    step false whole told left now rest one = omega arith
+    step : (b : Bool) (whole effective left now : ℕ) → whole ≤ effective + left → left ≤ cond b (suc now) now → whole ≤ cond b (suc effective) effective + now
+    step true whole effective left now rest one = omega arith
+    step false whole effective left now rest one = omega arith
 
 -- the ids of states that there are: each as often as states have it
 abbrev pub AreThere : List ℕ → List (ℕ × ℕ) → Type 0

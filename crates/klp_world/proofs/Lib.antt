@@ -6,11 +6,11 @@ pub mod PatchLemmas
 pub mod LeftLemmas
 pub mod AddedLemmas
 pub mod UndoLemmas
-pub mod NotedLemmas
+pub mod LoggedLemmas
 pub mod ChainLemmas
 pub mod TableLemmas
 pub mod GatherLemmas
 pub mod FreedLemmas
 pub mod ScriptLemmas
 pub mod KindLemmas
-pub mod ToldLemmas
+pub mod EffectLemmas

@@ -8,7 +8,7 @@ use Rattle.klp_types.specs.World.{Installed}
 use Rattle.klp_types.specs.World.{World, Shadow, states_of, state_value, value_among, change_states, taken_out}
 use Rattle.klp_types.specs.declared.record.Record.TheVariants.{InstalledPatch}
 use Rattle.klp_types.specs.Entries.{is_empty}
-use Rattle.klp_world.specs.Noted.{place_of, state_row, rows_if_dropped, rows_of_drop}
+use Rattle.klp_world.specs.StoredEvent.{place_of, state_row, rows_if_dropped, rows_of_drop}
 use Rattle.klp_world.specs.Undo.{put_patch}
 use Rattle.klp_world.proofs.First.{FirstAt, Nowhere, first_place}
 

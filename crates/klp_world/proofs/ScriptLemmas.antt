@@ -10,7 +10,7 @@ use Rattle.klp_types.specs.World.{World, Shadow, variable, state_value, previous
 use Rattle.klp_types.specs.Script.{Script, is_success, alloc_count, allocated, value_taken, edited, edited_by, edits_made, effect}
 use Rattle.klp_types.specs.declared.limits.TheConstants.{MAX_VARIABLES}
 use Rattle.klp_world.specs.Undo.{undone}
-use Rattle.klp_world.specs.Noted.{rows_of_edit, rows_of_edits, rows_of_take, row_if_set, row_if_added, row_if_removed, rows_of_script}
+use Rattle.klp_world.specs.StoredEvent.{rows_of_edit, rows_of_edits, rows_of_take, row_if_set, row_if_added, row_if_removed, rows_of_script}
 use Rattle.klp_types.proofs.KeyLemmas.{key_total}
 use Rattle.klp_types.proofs.ScriptLemmas.{taken_leaves, edit_room, made_allocs}
 use Rattle.klp_world.proofs.ShadowLemmas.{some_there}

@@ -19,7 +19,7 @@ use Rattle.klp_types.specs.Script.{allocated}
 use Rattle.klp_types.specs.declared.limits.TheConstants.{MAX_VARIABLES, MAX_PATCHES, MAX_STATES}
 use Rattle.klp_types.specs.Entries.{is_empty}
 use Rattle.klp_world.specs.Undo.{put_back, put_patch, put_state, put_variable, undone}
-use Rattle.klp_world.specs.Noted.{row_if_added, rows_of_alloc, row_if_removed, rows_of_free, variable_row, variable_rows, rows_of_free_all, row_if_set, rows_of_set, rows_of_add, state_row, rows_if_dropped, rows_of_drop}
+use Rattle.klp_world.specs.StoredEvent.{row_if_added, rows_of_alloc, row_if_removed, rows_of_free, variable_row, variable_rows, rows_of_free_all, row_if_set, rows_of_set, rows_of_add, state_row, rows_if_dropped, rows_of_drop}
 use Rattle.klp_world.proofs.First.{FirstAt}
 use Rattle.klp_world.proofs.LeftLemmas.{left_of, new_states, none_left}
 use Rattle.klp_world.proofs.PatchLemmas.{is_patch, place_at}

@@ -5,19 +5,19 @@ use Rattle.klp_types.specs.declared.record.Record.{Record}
 use Rattle.klp_types.specs.declared.limits.TheConstants.{MAX_VARIABLES}
 use Rattle.klp_types.specs.Records.{RecordList, spare_of}
 use Rattle.klp_types.specs.World.{World}
-use Rattle.klp_world.specs.Noted.{noting}
-use Rattle.klp_world.specs.Undo.{undone, TellChanges}
+use Rattle.klp_world.specs.StoredEvent.{noting}
+use Rattle.klp_world.specs.Undo.{undone, HaveEffects}
 
 -- a change makes this world of the one before, and changes these rows
 pub record Changes (before after : World) (log_before log_after : RecordList) (to : World) (rows : List Record) : Type 0 where
   -- the world is the one that the change is to make
   pub world : after ≡ to
-  -- each row that changed is noted as it was, as the newest
+  -- each row that changed is logged as it was, as the newest
   pub records : log_after ≡ noting log_before rows
   -- these records, put back newest first, give the world before
   pub undo : undone after rows ≡ before
   -- each of them, in its turn, changes the world: none is without effect
-  pub told : TellChanges after rows
+  pub effective : HaveEffects after rows
 
 -- there is room for a change that adds no more shadow variables than these, and changes these rows
 pub record HasRoom (world : World) (log : RecordList) (allocs : ℕ) (rows : List Record) : Type 0 where

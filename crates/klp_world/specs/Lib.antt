@@ -1,6 +1,6 @@
 pub mod Coded
 pub mod Undo
-pub mod Noted
+pub mod StoredEvent
 pub mod Sorted
 pub mod Slots
 pub mod Buckets

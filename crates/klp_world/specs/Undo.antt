@@ -55,6 +55,6 @@ undone world [] = world
 undone world (row ∷ newer) = put_back (undone world newer) row
 
 -- each of these records tells a row that is another one now: put back in its turn, at the world that the newer ones give, it changes the world
-abbrev pub TellChanges : World → List Record → Type 0
-TellChanges world [] = Unit {0}
-TellChanges world (row ∷ newer) = (put_back (undone world newer) row ≢ undone world newer) × TellChanges world newer
+abbrev pub HaveEffects : World → List Record → Type 0
+HaveEffects world [] = Unit {0}
+HaveEffects world (row ∷ newer) = (put_back (undone world newer) row ≢ undone world newer) × HaveEffects world newer

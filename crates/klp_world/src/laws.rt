@@ -6,8 +6,8 @@ ghost use Rattle.klp_types.specs.declared.shadow.ShadowKey.{ShadowKey};
 ghost use Rattle.std.specs.FinMap as finite;
 ghost use Rattle.klp_types.specs.World.{World, without_id};
 ghost use Rattle.klp_types.specs.Script.{Script, alloc_count, effect};
-ghost use Rattle.klp_world.specs.Noted.{rows_of_alloc, rows_of_free, rows_of_free_all, rows_of_add, rows_of_drop, rows_of_script};
-ghost use Rattle.klp_world.specs.Undo.{undone, is_of_world, TellChanges};
+ghost use Rattle.klp_world.specs.StoredEvent.{rows_of_alloc, rows_of_free, rows_of_free_all, rows_of_add, rows_of_drop, rows_of_script};
+ghost use Rattle.klp_world.specs.Undo.{undone, is_of_world, HaveEffects};
 
 use klp_types::MAX_VARIABLES;
 
@@ -40,17 +40,17 @@ pub fn scripts_are_undone()
 
 /// Each record of a script tells a row that is another one afterwards, in its turn, where the world before it
 /// has that room: an edit that leaves a row as it was logs nothing.
-#[tactic(auto, using(crate::proofs::ToldLemmas::told_script))]
+#[tactic(auto, using(crate::proofs::EffectLemmas::effective_script))]
 pub fn scripts_tell_what_they_change()
     ensures { (patch : ℕ) (world : World) (script : Script)
         → finite.len world.shadow + alloc_count script.edits ≤ MAX_VARIABLES
-        → TellChanges (effect patch world script) (rows_of_script patch world script) }
+        → HaveEffects (effect patch world script) (rows_of_script patch world script) }
 {}
 
 /// What changes of the world log is rows of the world and of nothing else, so the other parts of a manager
 /// needn't look at these records.
 #[tactic(auto, using(crate::proofs::KindLemmas::of_free_all, crate::proofs::KindLemmas::of_add, crate::proofs::KindLemmas::of_drop, crate::proofs::KindLemmas::of_script))]
-pub fn what_is_noted_is_of_the_world()
+pub fn what_is_logged_is_of_the_world()
     ensures alloc { (world : World) (key : ShadowKey) → All (λ row. is_of_world row ≡ true) (rows_of_alloc world key) }
     ensures free { (world : World) (key : ShadowKey) → All (λ row. is_of_world row ≡ true) (rows_of_free world key) }
     ensures free_all { (world : World) (id : ℕ) → All (λ row. is_of_world row ≡ true) (rows_of_free_all world id) }

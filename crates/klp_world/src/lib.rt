@@ -4,7 +4,7 @@
 //! The model is the world of the definitions (`klp_types/specs/World`). Each change makes one edit, or
 //! installs one patch or takes it out, and logs the rows that it changes; a row that it leaves as it was
 //! isn't logged. Put back newest first, these records give the equal world, and each of them changes it
-//! (`specs/Changes`, `Undo`, `Noted`). No call but [`World::new`] takes memory. `laws` has the same of the
+//! (`specs/Changes`, `Undo`, `StoredEvent`). No call but [`World::new`] takes memory. `laws` has the same of the
 //! records of scripts, and how few there are.
 //!
 //! Installed patches are one list, oldest first, with their numbers in another beside it. Shadow variables

@@ -8,7 +8,7 @@ ghost use Rattle.klp_types.specs.Script.{allocated};
 ghost use Rattle.klp_world.specs.Added.{against};
 ghost use Rattle.klp_world.specs.Changes.{Changes};
 ghost use Rattle.klp_world.specs.Undo.{put_variable, put_state, put_patch, put_back};
-ghost use Rattle.klp_world.specs.Noted.{noting, rows_of_alloc, rows_of_free, rows_of_free_all, variable_rows, state_row, rows_of_set, rows_of_add, rows_of_drop};
+ghost use Rattle.klp_world.specs.StoredEvent.{noting, rows_of_alloc, rows_of_free, rows_of_free_all, variable_rows, state_row, rows_of_set, rows_of_add, rows_of_drop};
 
 use crate::patch::{InstalledPatch, SystemState, place_of_patch};
 use crate::shadow::ShadowMap;
@@ -196,7 +196,7 @@ impl World {
         requires { 0 < log.old.room }
         ensures against { result ≡ against self.old.shadow key }
         ensures kept { IfSome result (λ _. (self.new ≡ self.old) × (log.new ≡ log.old)) }
-        ensures changes { IfNone result (Changes self.old self.new (record log.old { noted = [] }) log.new
+        ensures changes { IfNone result (Changes self.old self.new (record log.old { logged = [] }) log.new
             (with_variable self.old key value.now) (rows_of_alloc self.old key)) }
     {
         if let Some(against) = self.shadow.add(key, value) {

@@ -5,10 +5,12 @@
 ghost use Rattle.std.specs.Prelude.{◌≡◌, ◌⊎◌, ℕ, List, Option, None, IfErr};
 ghost use Rattle.klp_program.specs.declared.sample.TheConstants.{CATALOG};
 ghost use Rattle.klp_program.specs.Runs.{IsServed};
-ghost use Rattle.klp_live_program.specs.Living.{Exits};
+ghost use Rattle.klp_live_run.specs.Living.{Exits};
 
-use klp_live_program::live;
-use klp_program::{Words, bytes_in_both, catalog_in, console, given, told, words};
+use klp_live_run::live;
+use klp_program::{
+    Wanted, bytes_in_both, catalog_in, console, parse_arguments, program_arguments, report_fault,
+};
 use std::io;
 use std::io::{Input, Write};
 use std::process::ExitCode;
@@ -26,7 +28,7 @@ fn serve(rt: &HostRuntime, path: Option<String>) -> u8
     let (mut input, mut out, mut err) = (rt.reader(), io::writer(rt), rt.stderr());
     match catalog_in(rt, path) {
         Ok(catalog) => console(rt.alloc(), &catalog, &mut input, &mut out, &mut err),
-        Err(fault) => told(fault, &mut err),
+        Err(fault) => report_fault(fault, &mut err),
     }
 }
 
@@ -44,23 +46,23 @@ fn race<R: Threads + Wait + Sync + Files + Print + AllocGlobal, E: Write>(
 {
     match bytes_in_both(rt, catalog, steps) {
         Ok((catalog, steps)) => live(rt, rt.alloc(), &catalog, &steps, &mut io::writer(rt), err),
-        Err(fault) => told(fault, err),
+        Err(fault) => report_fault(fault, err),
     }
 }
 
 // What the words ask for, or the exit status. Words that aren't text are refused.
-fn asked(rt: &HostRuntime) -> Result<Words, u8>
+fn wanted(rt: &HostRuntime) -> Result<Wanted, u8>
     ensures { IfErr result (λ status. (status ≡ 1) ⊎ (status ≡ 2)) }
 {
     let mut err = rt.stderr();
-    let given = given(rt, NAME, &mut err)?;
-    words(rt.alloc(), &given, &mut err)
+    let given = program_arguments(rt, NAME, &mut err)?;
+    parse_arguments(rt.alloc(), &given, &mut err)
 }
 
 fn main(rt: HostRuntime) -> ExitCode {
-    let status = match asked(&rt) {
-        Ok(Words::Console(path)) => serve(&rt, path),
-        Ok(Words::Live(catalog, steps)) => {
+    let status = match wanted(&rt) {
+        Ok(Wanted::Console(path)) => serve(&rt, path),
+        Ok(Wanted::Live(catalog, steps)) => {
             race(&rt, catalog.as_str(), steps.as_str(), &mut rt.stderr())
         }
         Err(status) => status,

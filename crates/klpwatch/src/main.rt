@@ -3,7 +3,7 @@
 #![tactic(auto)]
 
 use klp_diagnostics::{FileText, Inputs, Kind, file_in};
-use klp_program::{given, status_of, trace_words, watch_trace};
+use klp_program::{program_arguments, status_of, trace_words, watch_trace};
 use std::alloc::Global;
 use std::io;
 use std::io::{Input, Write};
@@ -16,17 +16,17 @@ fn watch<W: Write, E: Write>(alloc: Global, inputs: &Inputs<'_>, out: &mut W, er
     inputs.hint(err);
     match watch_trace(alloc, inputs.catalog.bytes, inputs.second.bytes, out) {
         Ok(verdict) => {
-            inputs.tell_verdict(alloc, verdict, err);
+            inputs.print_verdict(alloc, verdict, err);
             status_of(verdict)
         }
-        Err(fault) => inputs.tell_fault(alloc, fault, err),
+        Err(fault) => inputs.print_fault(alloc, fault, err),
     }
 }
 
 // The exit status. Words that aren't text are refused.
 fn run(rt: &HostRuntime) -> Result<u8, u8> {
     let mut err = rt.stderr();
-    let given = given(rt, NAME, &mut err)?;
+    let given = program_arguments(rt, NAME, &mut err)?;
     let (catalog, trace) = trace_words(&given, &mut err)?;
     let first = file_in(rt, NAME, catalog, &mut err)?;
     let second = file_in(rt, NAME, trace, &mut err)?;

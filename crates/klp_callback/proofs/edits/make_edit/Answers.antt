@@ -1,7 +1,7 @@
 use Rattle.std.proofs.Common.{rules, sym, subst}
 use Rattle.klp_types.specs.declared.edit.Edit.{Edit}
 use Rattle.klp_types.specs.Script.{edited}
-use Rattle.klp_world.specs.Noted.{rows_of_edit}
+use Rattle.klp_world.specs.StoredEvent.{rows_of_edit}
 use Rattle.klp_world.specs.Changes.{Changes}
 use Rattle.klp_callback.proofs.edits.make_edit.Goals as goal
 

@@ -14,8 +14,8 @@ returns-in_default-clause-said g c =
 pub returns-in_default-clause-outcome : goal.returns-in_default-clause-outcome
 returns-in_default-clause-outcome g c =
     let request = asked_with c.args.asked.now c.args.event.now in
-    let told = c.other_outcome.ensures c.args.event.now in
-    let refused : is_refusal c.other_outcome.result ≡ c.done.result = ap is_refusal told ∙ other_refused request c.done.result in
+    let sent = c.other_outcome.ensures c.args.event.now in
+    let refused : is_refusal c.other_outcome.result ≡ c.done.result = ap is_refusal sent ∙ other_refused request c.done.result in
     none_outcome c.args.manager.now c.done.new.manager request c.other_outcome.result
     (asks_none c.args.asked.now c.args.event.now (search rules))
-    (told ∙ ap (other_outcome request) (sym refused))
+    (sent ∙ ap (other_outcome request) (sym refused))

@@ -4,5 +4,5 @@ use Rattle.klp_console.proofs.answer.done.Goals as goal
 pub returns-in-None : goal.returns-in-None
 returns-in-None g c = search rules
 
-pub returns-in-Some-Ok-See : goal.returns-in-Some-Ok-See
-returns-in-Some-Ok-See g c = search rules
+pub returns-in-Some-Ok-Ask : goal.returns-in-Some-Ok-Ask
+returns-in-Some-Ok-Ask g c = search rules

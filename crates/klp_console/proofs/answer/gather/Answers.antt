@@ -32,7 +32,7 @@ returns-then-has_failed-clause-comes g c =
     λ before lines line asked short ahead. (
       λ still. absurd (both_ways _ still failed),
       λ same. next_cut before b n c.take_back.new.manager lines line ahead
-          (does_line b n line (asked_with c.args.asked.now c.args.event.now) c.done-is_refused.result asked says c.mark-events.ensures.stands short c.count.ensures.lines c.count.ensures.refused c.requires.back) failed back,
+          (does_line b n line (asked_with c.args.asked.now c.args.event.now) c.done-is_refused.result asked says c.mark-events.ensures.well_formed short c.count.ensures.lines c.count.ensures.refused c.requires.back) failed back,
     )
 
 pub returns-else-has_failed-clause-comes : goal.returns-else-has_failed-clause-comes
@@ -46,7 +46,7 @@ returns-else-has_failed-clause-comes g c =
     let still = sym c.has_failed.ensures ∙ c.if-has_failed.false in
     λ before lines line asked short ahead. (
       λ same. next_ahead before b n lines line ahead
-          (does_line b n line (asked_with c.args.asked.now c.args.event.now) c.done-is_refused.result asked says c.mark-events.ensures.stands short c.count.ensures.lines c.count.ensures.refused c.requires.back) still
+          (does_line b n line (asked_with c.args.asked.now c.args.event.now) c.done-is_refused.result asked says c.mark-events.ensures.well_formed short c.count.ensures.lines c.count.ensures.refused c.requires.back) still
           (record { end = length said.0.bytes; events = c.mark-events.result }) refl c.mark-events.ensures.mark c.mark_line.ensures,
       λ failed. absurd (both_ways _ still failed),
     )

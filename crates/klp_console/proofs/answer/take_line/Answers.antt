@@ -13,7 +13,7 @@ returns-clause-said g c =
     let answered : IsAnswered c.args.manager.now c.do_request-outcome.new.manager c.args.line.now answer =
     record {
       done = subst (λ request. IsDoneIf c.args.manager.now c.do_request-outcome.new.manager request answer) is_asked said.1;
-      stands = c.mark-standing.ensures.stands;
+      well_formed = c.mark-for_its_clause.ensures.well_formed;
     } in
     (said.0, answered, said.2)
 

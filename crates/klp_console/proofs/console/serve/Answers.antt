@@ -39,7 +39,7 @@ returns-in-Err g c =
       few = omega (arith, failed.reads, inv.reads, c.loop-read-test.true);
       whole_room = omega (arith, failed.reads, inv.reads, failed.asked, inv.asked, c.read.auto.buf, inv.long);
     } in
-    read_failed source now next c.args.manager.now _ _ _ (leaves_none c.what_is_withdrawn_leaves_no_trace.ensures _ c.mark-standing.ensures.stands) inv.so_far inv.written failed.left failed.has_ended asks
+    read_failed source now next c.args.manager.now _ _ _ (leaves_none c.what_is_withdrawn_leaves_no_trace.ensures _ c.mark-for_its_clause.ensures.well_formed) inv.so_far inv.written failed.left failed.has_ended asks
     (inl (failed.failures ∙ ap (λ n. n + 1) inv.so_far.no_failure))
 
 pub returns-in-Ok-end : goal.returns-in-Ok-end
@@ -56,7 +56,7 @@ returns-in-Ok-end g c =
       few = omega (arith, given.reads room, inv.reads, c.loop-read-test.true);
       whole_room = omega (arith, given.reads room, inv.reads, given.asked, inv.asked, c.read.auto.buf, inv.long);
     } in
-    served_all source now next c.args.manager.now _ _ _ _ (leaves_none c.what_is_withdrawn_leaves_no_trace.ensures _ c.mark-standing.ensures.stands) inv.so_far inv.written none given.failures
+    served_all source now next c.args.manager.now _ _ _ _ (leaves_none c.what_is_withdrawn_leaves_no_trace.ensures _ c.mark-for_its_clause.ensures.well_formed) inv.so_far inv.written none given.failures
     (omega (arith, given.reads room, inv.reads)) asks at_end.0 at_end.1 c.in-Ok-end.ensures.serves c.in-Ok-end.ensures.written
 
 pub returns-in-Err-end : goal.returns-in-Err-end
@@ -72,7 +72,7 @@ returns-in-Err-end g c =
       few = omega (arith, given.reads room, inv.reads, c.loop-read-test.true);
       whole_room = omega (arith, given.reads room, inv.reads, given.asked, inv.asked, c.read.auto.buf, inv.long);
     } in
-    end_failed source now next c.args.manager.now _ _ _ _ (leaves_none c.what_is_withdrawn_leaves_no_trace.ensures _ c.mark-standing.ensures.stands) inv.so_far inv.written none given.failures
+    end_failed source now next c.args.manager.now _ _ _ _ (leaves_none c.what_is_withdrawn_leaves_no_trace.ensures _ c.mark-for_its_clause.ensures.well_formed) inv.so_far inv.written none given.failures
     asks (given.ends c.if-count-eq0.true room).0 c.in-Err-end.ensures.cut.0 c.in-Err-end.ensures.cut.1 c.in-Err-end.fault c.in-Err-end.ensures.write
 
 pub returns-in-Err-hear : goal.returns-in-Err-hear
@@ -87,7 +87,7 @@ returns-in-Err-hear g c =
       few = omega (arith, given.reads room, inv.reads, c.loop-read-test.true);
       whole_room = omega (arith, given.reads room, inv.reads, given.asked, inv.asked, c.read.auto.buf, inv.long);
     } in
-    hear_failed c.lines_add_up.ensures.next source now next c.args.manager.now _ _ _ _ c.hear.new.line (take c.in-Ok.count c.read.new.buf) (leaves_none c.what_is_withdrawn_leaves_no_trace.ensures _ c.mark-standing.ensures.stands) inv.so_far inv.written
+    hear_failed c.lines_add_up.ensures.next source now next c.args.manager.now _ _ _ _ c.hear.new.line (take c.in-Ok.count c.read.new.buf) (leaves_none c.what_is_withdrawn_leaves_no_trace.ensures _ c.mark-for_its_clause.ensures.well_formed) inv.so_far inv.written
     given.left given.failures asks c.in-Err-hear.fault c.in-Err-hear.ensures.hears c.in-Err-hear.ensures.written
 
 pub loop-read-preserved : goal.loop-read-preserved
@@ -118,4 +118,4 @@ returns g c =
     let source = g.R.Source.supply c.args.reader.now in
     let now = g.R.Source.supply c.loop-read.reader in
     let asks : Asks source now = record { few = omega (arith, inv.reads); whole_room = omega (arith, inv.reads, inv.asked) } in
-    read_failed source now now c.args.manager.now _ _ _ (leaves_none c.what_is_withdrawn_leaves_no_trace.ensures _ c.mark-standing.ensures.stands) inv.so_far inv.written (Keeps-refl now.left) refl asks (inr (inv.so_far.no_failure, inv.reads ∙ ap (λ n. (g.R.Source.supply c.args.reader.now).reads + n) (omega arith)))
+    read_failed source now now c.args.manager.now _ _ _ (leaves_none c.what_is_withdrawn_leaves_no_trace.ensures _ c.mark-for_its_clause.ensures.well_formed) inv.so_far inv.written (Keeps-refl now.left) refl asks (inr (inv.so_far.no_failure, inv.reads ∙ ap (λ n. (g.R.Source.supply c.args.reader.now).reads + n) (omega arith)))

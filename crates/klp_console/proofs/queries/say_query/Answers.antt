@@ -3,17 +3,17 @@ use Rattle.std.specs.Prelude.{Result, Ok, Err}
 use Rattle.std.specs.Result.{result_and, result_unwrap_or}
 use Rattle.klp_model.specs.declared.event.Refusal.{Refusal}
 use Rattle.klp_console.specs.Refusals.{refusal_text}
-use Rattle.klp_console.specs.Queries.{look_text, seen_text}
+use Rattle.klp_console.specs.Queries.{query_text, shown_text}
 use Rattle.klp_console.proofs.queries.say_query.Goals as goal
 
 -- a refusal is said alone
-seen_text-refused : (look : Result (List ℕ) Refusal) (refusal : Refusal) → ◌≡◌ {A = Result (Unit {0}) Refusal} (Err refusal) (result_and look (Ok (tt {0}))) → result_unwrap_or look [] ++ refusal_text refusal ≡ seen_text look
-seen_text-refused (Ok text) refusal is = cc
-seen_text-refused (Err own) refusal is =
+shown_text-refused : (query : Result (List ℕ) Refusal) (refusal : Refusal) → ◌≡◌ {A = Result (Unit {0}) Refusal} (Err refusal) (result_and query (Ok (tt {0}))) → result_unwrap_or query [] ++ refusal_text refusal ≡ shown_text query
+shown_text-refused (Ok text) refusal is = cc
+shown_text-refused (Err own) refusal is =
     let same : refusal ≡ own = cc in
     ap refusal_text same
 
 pub returns-in-Err-clause-says : goal.returns-in-Err-clause-says
 returns-in-Err-clause-says g c =
-    rw (← seen_text-refused (look_text c.args.manager.now c.args.look.now) c.in-Err.refusal c.in-Err.ensures.result)
+    rw (← shown_text-refused (query_text c.args.manager.now c.args.query.now) c.in-Err.refusal c.in-Err.ensures.result)
     (c.what_is_said_adds_up.ensures.adds_up _ _ _ _ _ c.in-Err.ensures.says c.say_refusal.ensures)

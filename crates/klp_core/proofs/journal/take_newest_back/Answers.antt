@@ -15,7 +15,7 @@ pub undo-requires-clause-due : goal.undo-requires-clause-due
 undo-requires-clause-due g c =
     let groups = groups_in c.args.state.now c.args.journal.now in
     let parted = some_newest groups c.requires.some in
-    sound_due c.args.state.now c.args.catalog.now groups parted.0 parted.1 c.reopen.new.log.noted
+    sound_due c.args.state.now c.args.catalog.now groups parted.0 parted.1 c.reopen.new.log.logged
     (over c.args.state.now c.args.catalog.now c.args.journal.now c.requires.kept) parted.2 (c.reopen.ensures.groups parted.0 parted.1 parted.2).1
 
 pub returns-clause-kept : goal.returns-clause-kept

@@ -1,9 +1,9 @@
 use Rattle.klp_model.proofs.InconsistentExamples.{ends_inside, not_loaded, called_outside, no_frame, returned_outside, task_at_the_start}
-use Rattle.klp_model.proofs.ObservedExamples.{no_frames_told, still_inside, gone_from_under, called_by_nobody}
+use Rattle.klp_model.proofs.ObservedExamples.{no_frames_known, still_inside, gone_from_under, called_by_nobody}
 use Rattle.klp_model.proofs.consistency.these_are_dishonest.Goals as goal
 
 pub returns-clause-sleep : goal.returns-clause-sleep
-returns-clause-sleep c = no_frames_told
+returns-clause-sleep c = no_frames_known
 
 pub returns-clause-exit : goal.returns-clause-exit
 returns-clause-exit c = still_inside

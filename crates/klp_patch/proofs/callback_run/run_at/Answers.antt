@@ -15,4 +15,4 @@ pub returns-clause-ran : goal.returns-clause-ran
 returns-clause-ran g c =
     one_ran c.variables_are_few.ensures c.records_are_few.ensures c.installed_patches_stay.ensures c.args.catalog.now c.run.new.self c.args.patch c.args.place c.args.which
     c.args.world.now c.run.new.world c.args.log.now c.run.new.log (script_at c.args.catalog.now c.args.patch c.args.place c.args.which)
-    c.run.ensures.catalog c.run.ensures.changes.world c.run.ensures.changes.records c.run.ensures.changes.undo c.run.ensures.changes.told
+    c.run.ensures.catalog c.run.ensures.changes.world c.run.ensures.changes.records c.run.ensures.changes.undo c.run.ensures.changes.effective

@@ -2,6 +2,6 @@ use Rattle.klp_patch.specs.ModuleShares.{parts_in}
 use Rattle.klp_patch.proofs.ModuleSharesLemmas.{room_to_go}
 use Rattle.klp_patch.proofs.module_callbacks.run_going.Goals as goal
 
-pub let_go_each-requires : goal.let_go_each-requires
-let_go_each-requires g c =
+pub each_going-requires : goal.each_going-requires
+each_going-requires g c =
     room_to_go c.args.moving (parts_in c.args.catalog.now c.args.object c.args.installed.now) c.args.world.now c.args.log.now c.requires.room

@@ -1,7 +1,7 @@
 use Rattle.std.proofs.Common.{ap, arith}
 use Rattle.klp_types.specs.Records.{spare_of}
 use Rattle.klp_sites.specs.Changes.{rows_of_push}
-use Rattle.klp_sites.proofs.ExactLemmas.{push_told}
+use Rattle.klp_sites.proofs.ExactLemmas.{push_effective}
 use Rattle.klp_patch.specs.Changes.{hooked_count}
 use Rattle.klp_patch.proofs.SiteLemmas.{push_fits, push_few, push_of_sites}
 use Rattle.klp_patch.proofs.site.put.Goals as goal
@@ -16,9 +16,9 @@ returns-clause-notes c =
     let few = push_few before c.args.site c.args.entry c.requires.there in
     record {
       rows = rows_of_push before c.args.site c.args.entry;
-      noted = change.records;
+      logged = change.records;
       of_sites = push_of_sites before c.args.site c.args.entry;
       undo = change.undo;
-      told = push_told before c.push.new.self c.args.log.now c.push.new.log c.args.site c.args.entry c.requires.there c.requires.fresh change;
+      effective = push_effective before c.push.new.self c.args.log.now c.push.new.log c.args.site c.args.entry c.requires.there c.requires.fresh change;
       few = omega (arith, few, ap hooked_count change.table);
     }

@@ -11,7 +11,7 @@ use Rattle.klp_patch_events.proofs.callbacks.may_run_enabling.Goals as goal
 
 pub returns : goal.returns
 returns g c =
-    let parts = c.args.manager.now in
+    let parts = c.args.state.now in
     let catalog = c.args.catalog.now in
     let objects = loaded_objects (setting_in parts catalog) (state_in parts catalog) c.args.patch in
     let same = same_objects parts catalog c.args.patch c.requires in

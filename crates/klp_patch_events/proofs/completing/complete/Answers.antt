@@ -25,9 +25,9 @@ use Rattle.klp_patch_events.proofs.completing.complete.Goals as goal
 
 pub run_callbacks-requires : goal.run_callbacks-requires
 run_callbacks-requires g c =
-    let before = c.args.manager.now in
+    let before = c.args.state.now in
     let catalog = c.args.catalog.now in
-    let mid = c.settle_sites.new.manager in
+    let mid = c.settle_sites.new.state in
     let move = c.args.moving.now in
     let end = end_calls (setting_in before catalog) (state_in before catalog) (Some move) in
     let calls : calls_of move.patch c.end_of.result (loaded_in catalog mid.modules move.patch) ≡ end =
@@ -37,28 +37,28 @@ run_callbacks-requires g c =
     let world : mid.world ≡ before.world = ap (λ (p : ManagerState). p.world) c.settle_sites.ensures.parts in
     let count = ap (λ (w : World). finite.len w.shadow) world in
     let few = c.requires.kept.allowed.room in
-    let noted = c.settle_sites.ensures.records in
+    let logged = c.settle_sites.ensures.records in
     let short = c.requires.calls in
     let room = c.settle_sites.ensures.log in
     record {
       room = subst (λ cs. HasRoomFor mid.world mid.log cs) (sym calls) (record {
         variables = subst (λ (w : World). finite.len w.shadow + allocs_of end ≤ MAX_VARIABLES) (sym world) c.requires.variables;
-        records = omega (arith, count, few, noted, short, room);
+        records = omega (arith, count, few, logged, short, room);
       });
     }
 
 pub rest-requires-clause-moves : goal.rest-requires-clause-moves
 rest-requires-clause-moves g c = λ none.
-    let still : c.settle_list.new.manager.moving ≡ Some c.args.moving.now =
+    let still : c.settle_list.new.state.moving ≡ Some c.args.moving.now =
     ap (λ (p : ManagerState). p.moving) c.settle_list.ensures.parts ∙ ap (λ (p : ManagerState). p.moving) c.settle_sites.ensures.parts ∙ c.requires.moving in
     let no : ⊥ = cc (sym none ∙ still) in
     no
 
 pub settle_list-requires-clause-records : goal.settle_list-requires-clause-records
 settle_list-requires-clause-records g c =
-    let before = c.args.manager.now in
+    let before = c.args.state.now in
     let catalog = c.args.catalog.now in
-    let mid = c.settle_sites.new.manager in
+    let mid = c.settle_sites.new.state in
     let move = c.args.moving.now in
     let end = end_calls (setting_in before catalog) (state_in before catalog) (Some move) in
     let calls : calls_of move.patch c.end_of.result (loaded_in catalog mid.modules move.patch) ≡ end =
@@ -67,22 +67,22 @@ settle_list-requires-clause-records g c =
     ∙ ap (calls_of move.patch (end_of move.target)) (same_objects before catalog move.patch c.requires.kept) in
     let count = ap (λ (p : ManagerState). finite.len p.world.shadow) c.settle_sites.ensures.parts in
     let few = c.requires.kept.allowed.room in
-    let noted = c.settle_sites.ensures.records in
+    let logged = c.settle_sites.ensures.records in
     let short = c.requires.calls in
     let more = ap records_of calls in
     let ran = c.run_callbacks.ensures.records in
-    omega (arith, count, few, noted, short, more, ran)
+    omega (arith, count, few, logged, short, more, ran)
 
 pub returns-clause-completed : goal.returns-clause-completed
 returns-clause-completed g c =
-    let before = c.args.manager.now in
+    let before = c.args.state.now in
     let catalog = c.args.catalog.now in
     let now = c.run_callbacks.new.catalog in
-    let mid = c.settle_sites.new.manager in
+    let mid = c.settle_sites.new.state in
     let move = c.args.moving.now in
     let setting = setting_in before catalog in
     let state = state_in before catalog in
-    let after = c.rest.new.manager in
+    let after = c.rest.new.state in
     let calls : calls_of move.patch c.end_of.result (loaded_in catalog mid.modules move.patch) ≡ end_calls setting state (Some move) =
     ap (λ which. calls_of move.patch which (loaded_in catalog mid.modules move.patch)) c.end_of.ensures
     ∙ ap (λ (p : ManagerState). calls_of move.patch (end_of move.target) (loaded_in catalog p.modules move.patch)) c.settle_sites.ensures.parts
@@ -113,9 +113,9 @@ returns-clause-completed g c =
       room = c.rest.ensures.log;
     }
 
-pub returns-clause-noted : goal.returns-clause-noted
-returns-clause-noted g c =
-    c.rest.ensures.noted ∙ c.settle_list.ensures.noted
-    ∙ callbacks_back c.args.catalog.now c.run_callbacks.new.catalog c.settle_sites.new.manager.world c.run_callbacks.new.world c.settle_sites.new.manager.log c.run_callbacks.new.log _
-    c.run_callbacks.ensures (rows_in c.settle_sites.new.manager)
-    ∙ c.settle_sites.ensures.noted
+pub returns-clause-logged : goal.returns-clause-logged
+returns-clause-logged g c =
+    c.rest.ensures.logged ∙ c.settle_list.ensures.logged
+    ∙ callbacks_back c.args.catalog.now c.run_callbacks.new.catalog c.settle_sites.new.state.world c.run_callbacks.new.world c.settle_sites.new.state.log c.run_callbacks.new.log _
+    c.run_callbacks.ensures (rows_in c.settle_sites.new.state)
+    ∙ c.settle_sites.ensures.logged

@@ -23,9 +23,9 @@ use Rattle.klp_patch_events.proofs.EntryLemmas.{loaded_in_scope}
 use Rattle.klp_patch_events.proofs.CompleteSiteLemmas.{nowhere_else, both_out, count_before}
 use Rattle.klp_patch_events.proofs.completing.replace_sites.Goals as goal
 
-few_older : (test : ℕ → Bool) (patch noted hooked sites : ℕ) (installed older : List ℕ) → older ≡ installed_before patch installed → length installed ≤ 16 → count_by test installed ≤ 2
-    → noted ≤ 64 → hooked ≤ sites → sites ≤ 256 → noted + hooked + 64 * length older + 256 * count_by test older ≤ 1856
-few_older test patch noted hooked sites installed older are few two short hooks within =
+few_older : (test : ℕ → Bool) (patch logged hooked sites : ℕ) (installed older : List ℕ) → older ≡ installed_before patch installed → length installed ≤ 16 → count_by test installed ≤ 2
+    → logged ≤ 64 → hooked ≤ sites → sites ≤ 256 → logged + hooked + 64 * length older + 256 * count_by test older ≤ 1856
+few_older test patch logged hooked sites installed older are few two short hooks within =
     let fewer = before_fewer patch installed in
     let count = count_before test patch installed in
     let lengths = ap (λ ps. length ps) are in
@@ -33,36 +33,36 @@ few_older test patch noted hooked sites installed older are few two short hooks 
     omega (arith, fewer, count, lengths, counts, few, two, short, hooks, within)
 
 pub unpatch_each-requires-clause-own : goal.unpatch_each-requires-clause-own
-unpatch_each-requires-clause-own g c = own_in c.entries_are_of_their_patches.ensures.own c.args.manager.now c.args.catalog.now c.requires.kept.entries
+unpatch_each-requires-clause-own g c = own_in c.entries_are_of_their_patches.ensures.own c.args.state.now c.args.catalog.now c.requires.kept.entries
 
 pub unpatch_each-requires-clause-records : goal.unpatch_each-requires-clause-records
 unpatch_each-requires-clause-records g c =
-    let parts = c.args.manager.now in
+    let parts = c.args.state.now in
     let catalog = c.args.catalog.now in
     let two = c.at_most_two_patches_replace.ensures (setting_in parts catalog) (state_in parts catalog) c.requires.kept.allowed in
     let count = subst (λ ps. count_by (is_cumulative catalog) ps ≤ 2) (sym c.installed.ensures.value) two in
-    let all = few_older (is_cumulative catalog) c.args.moving.now.patch (length parts.log.noted) (hooked_count parts.sites) (length parts.sites.stacks) c.installed.result.now
+    let all = few_older (is_cumulative catalog) c.args.moving.now.patch (length parts.log.logged) (hooked_count parts.sites) (length parts.sites.stacks) c.installed.result.now
     c.older_than-older.result.now c.older_than-older.ensures c.installed.ensures.limit count c.requires.records (count_by-le-length is_stacked parts.sites.stacks)
     (subst (λ n. n ≤ 256) c.sites.ensures.value c.if-prove.false) in
     omega (arith, all)
 
 pub drop_nops-requires-clause-records : goal.drop_nops-requires-clause-records
 drop_nops-requires-clause-records g c =
-    let noted = c.unpatch_each.ensures.records in
-    let parts = c.args.manager.now in
+    let logged = c.unpatch_each.ensures.records in
+    let parts = c.args.state.now in
     let catalog = c.args.catalog.now in
     let two = c.at_most_two_patches_replace.ensures (setting_in parts catalog) (state_in parts catalog) c.requires.kept.allowed in
     let count = subst (λ ps. count_by (is_cumulative catalog) ps ≤ 2) (sym c.installed.ensures.value) two in
-    let all = few_older (is_cumulative catalog) c.args.moving.now.patch (length parts.log.noted) (hooked_count parts.sites) (length parts.sites.stacks) c.installed.result.now
+    let all = few_older (is_cumulative catalog) c.args.moving.now.patch (length parts.log.logged) (hooked_count parts.sites) (length parts.sites.stacks) c.installed.result.now
     c.older_than-older.result.now c.older_than-older.ensures c.installed.ensures.limit count c.requires.records (count_by-le-length is_stacked parts.sites.stacks)
     (subst (λ n. n ≤ 256) c.sites.ensures.value c.if-prove.false) in
     let sites = subst (λ n. n ≤ 256) c.sites-2.ensures.value c.if-prove-2.false in
     let room = c.unpatch_each.ensures.log in
-    omega (arith, noted, all, sites, room)
+    omega (arith, logged, all, sites, room)
 
 pub returns-clause-entries : goal.returns-clause-entries
 returns-clause-entries g c = λ site.
-    let parts = c.args.manager.now in
+    let parts = c.args.state.now in
     let setting = setting_in parts c.args.catalog.now in
     let state = state_in parts c.args.catalog.now in
     let move = c.args.moving.now in
@@ -79,21 +79,21 @@ returns-clause-entries g c = λ site.
 
 pub returns-clause-records : goal.returns-clause-records
 returns-clause-records g c =
-    let noted = c.unpatch_each.ensures.records in
-    let parts = c.args.manager.now in
+    let logged = c.unpatch_each.ensures.records in
+    let parts = c.args.state.now in
     let catalog = c.args.catalog.now in
     let two = c.at_most_two_patches_replace.ensures (setting_in parts catalog) (state_in parts catalog) c.requires.kept.allowed in
     let count = subst (λ ps. count_by (is_cumulative catalog) ps ≤ 2) (sym c.installed.ensures.value) two in
-    let all = few_older (is_cumulative catalog) c.args.moving.now.patch (length parts.log.noted) (hooked_count parts.sites) (length parts.sites.stacks) c.installed.result.now
+    let all = few_older (is_cumulative catalog) c.args.moving.now.patch (length parts.log.logged) (hooked_count parts.sites) (length parts.sites.stacks) c.installed.result.now
     c.older_than-older.result.now c.older_than-older.ensures c.installed.ensures.limit count c.requires.records (count_by-le-length is_stacked parts.sites.stacks)
     (subst (λ n. n ≤ 256) c.sites.ensures.value c.if-prove.false) in
     let sites = subst (λ n. n ≤ 256) c.sites-2.ensures.value c.if-prove-2.false in
-    let rows = ap (λ (l : RecordList). length l.noted) c.drop_nops.ensures.notes.noted in
-    let both = length-append c.unpatch_each.new.log.noted c.drop_nops.ensures.notes.rows in
+    let rows = ap (λ (l : RecordList). length l.logged) c.drop_nops.ensures.notes.logged in
+    let both = length-append c.unpatch_each.new.log.logged c.drop_nops.ensures.notes.rows in
     let few = c.drop_nops.ensures.notes.few in
-    omega (arith, noted, all, sites, rows, both, few)
+    omega (arith, logged, all, sites, rows, both, few)
 
-pub returns-clause-noted : goal.returns-clause-noted
-returns-clause-noted g c =
-    let rows = rows_in c.args.manager.now in
-    patch_back c.unpatch_each.new.sites c.drop_nops.new.sites c.unpatch_each.new.log c.drop_nops.new.log _ _ _ c.drop_nops.ensures.notes rows ∙ c.unpatch_each.ensures.noted rows
+pub returns-clause-logged : goal.returns-clause-logged
+returns-clause-logged g c =
+    let rows = rows_in c.args.state.now in
+    patch_back c.unpatch_each.new.sites c.drop_nops.new.sites c.unpatch_each.new.log c.drop_nops.new.log _ _ _ c.drop_nops.ensures.notes rows ∙ c.unpatch_each.ensures.logged rows

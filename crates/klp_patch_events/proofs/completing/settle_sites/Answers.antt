@@ -20,11 +20,11 @@ use Rattle.klp_patch_events.proofs.completing.settle_sites.Goals as goal
 
 pub unpatch_sites-requires-clause-own : goal.unpatch_sites-requires-clause-own
 unpatch_sites-requires-clause-own g c = λ site covered has.
-    own_in c.entries_are_of_their_patches.ensures.own c.args.manager.now c.args.catalog.now c.requires.kept.entries c.args.moving.now.patch site has
+    own_in c.entries_are_of_their_patches.ensures.own c.args.state.now c.args.catalog.now c.requires.kept.entries c.args.moving.now.patch site has
 
 pub returns-then-not-moving-clause-entries : goal.returns-then-not-moving-clause-entries
 returns-then-not-moving-clause-entries g c = λ site.
-    let parts = c.args.manager.now in
+    let parts = c.args.state.now in
     let setting = setting_in parts c.args.catalog.now in
     let state = state_in parts c.args.catalog.now in
     let move = c.args.moving.now in
@@ -37,6 +37,6 @@ returns-then-not-moving-clause-entries g c = λ site.
     ∙ sym (c.a_patch_leaves_the_entries_of_the_others.ensures setting state move.patch site c.requires.kept.allowed moves_it)
     ∙ ap (λ b. entries_of setting (with_world state (if b then without_older (replaces setting move.patch) parts.world move.patch else without_patch parts.world move.patch)) site) (sym out)
 
-pub returns-then-not-moving-clause-noted : goal.returns-then-not-moving-clause-noted
-returns-then-not-moving-clause-noted g c =
-    patch_back c.args.manager.now.sites c.unpatch_sites.new.sites c.args.manager.now.log c.unpatch_sites.new.log _ _ _ c.unpatch_sites.ensures.notes (rows_in c.args.manager.now)
+pub returns-then-not-moving-clause-logged : goal.returns-then-not-moving-clause-logged
+returns-then-not-moving-clause-logged g c =
+    patch_back c.args.state.now.sites c.unpatch_sites.new.sites c.args.state.now.log c.unpatch_sites.new.log _ _ _ c.unpatch_sites.ensures.notes (rows_in c.args.state.now)

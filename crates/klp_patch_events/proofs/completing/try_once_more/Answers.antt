@@ -9,15 +9,15 @@ use Rattle.klp_patch_events.proofs.completing.try_once_more.Goals as goal
 
 pub returns-clause-accepted : goal.returns-clause-accepted
 returns-clause-accepted g c =
-    let before = c.args.manager.now in
+    let before = c.args.state.now in
     let catalog = c.args.catalog.now in
     let now = c.complete.new.catalog in
     let move = c.in-Some.moving in
     let few = c.if-left-gt0.false in
     let left = c.try_tasks-left.ensures.left in
     let none : pending (setting_in before catalog) (state_in before catalog) move ≡ 0 = omega (arith, few, left) in
-    step_accepted c.steps_keep.ensures before c.complete.new.manager catalog now Poll (Completed move.target) c.requires.kept c.requires.free
-    (is_completed before c.try_tasks-left.new.manager c.complete.new.manager catalog now move c.requires.kept c.in-Some.is c.try_tasks-left.ensures.parts none c.complete.ensures.completed)
+    step_accepted c.steps_keep.ensures before c.complete.new.state catalog now Poll (Completed move.target) c.requires.kept c.requires.free
+    (is_completed before c.try_tasks-left.new.state c.complete.new.state catalog now move c.requires.kept c.in-Some.is c.try_tasks-left.ensures.parts none c.complete.ensures.completed)
 
-pub returns-clause-noted : goal.returns-clause-noted
-returns-clause-noted g c = c.complete.ensures.noted ∙ c.try_tasks-left.ensures.noted
+pub returns-clause-logged : goal.returns-clause-logged
+returns-clause-logged g c = c.complete.ensures.logged ∙ c.try_tasks-left.ensures.logged

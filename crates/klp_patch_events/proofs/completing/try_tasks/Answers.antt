@@ -7,7 +7,7 @@ use Rattle.klp_patch_events.proofs.completing.try_tasks.Goals as goal
 
 pub returns-then-lagging-eq0-clause-parts : goal.returns-then-lagging-eq0-clause-parts
 returns-then-lagging-eq0-clause-parts g c =
-    let before = c.args.manager.now in
+    let before = c.args.state.now in
     let move = c.args.moving.now in
     let versions = blocked (setting_in before c.args.catalog.now) (state_in before c.args.catalog.now) move in
     let same = c.where_none_lags_none_is_switched.ensures versions move.target before.tasks (sym c.lagging.ensures ∙ c.if-lagging-eq0.true) in
@@ -15,7 +15,7 @@ returns-then-lagging-eq0-clause-parts g c =
 
 pub returns-then-lagging-eq0-clause-left : goal.returns-then-lagging-eq0-clause-left
 returns-then-lagging-eq0-clause-left g c =
-    let before = c.args.manager.now in
+    let before = c.args.state.now in
     let move = c.args.moving.now in
     let versions = blocked (setting_in before c.args.catalog.now) (state_in before c.args.catalog.now) move in
     let same = c.where_none_lags_none_is_switched.ensures versions move.target before.tasks (sym c.lagging.ensures ∙ c.if-lagging-eq0.true) in
@@ -23,4 +23,4 @@ returns-then-lagging-eq0-clause-left g c =
 
 pub returns-clause-kept : goal.returns-clause-kept
 returns-clause-kept g c =
-    kept_tried c.args.manager.now c.switch_sleepers.new.manager c.args.catalog.now c.args.moving.now c.requires.kept c.requires.moving c.switch_sleepers.ensures.parts c.switch_sleepers.ensures.log
+    kept_tried c.args.state.now c.switch_sleepers.new.state c.args.catalog.now c.args.moving.now c.requires.kept c.requires.moving c.switch_sleepers.ensures.parts c.switch_sleepers.ensures.log

@@ -12,7 +12,7 @@ use Rattle.klp_catalog.specs.Runs.{after_runs}
 use Rattle.klp_types.specs.Records.{RecordList}
 use Rattle.klp_types.specs.World.{Installed}
 use Rattle.klp_manager_state.specs.declared.state.ManagerState.{ManagerState}
-use Rattle.klp_manager_state.specs.Rows.{rows_in, before_noted}
+use Rattle.klp_manager_state.specs.Rows.{rows_in, before_logged}
 use Rattle.klp_manager_state.proofs.RowLemmas.{switched_back}
 use Rattle.klp_patch_events.proofs.BackLemmas.{callbacks_back}
 use Rattle.klp_manager_state.specs.Managed.{setting_in, state_in}
@@ -26,14 +26,14 @@ use Rattle.klp_patch_events.proofs.disabling.disable.Goals as goal
 
 pub set_all-requires : goal.set_all-requires
 set_all-requires g c =
-    let before = c.args.manager.now in
+    let before = c.args.state.now in
     let catalog = c.args.catalog.now in
     let state = state_in before catalog in
     let calls = calls_of c.args.patch PreUn (loaded_in catalog before.modules c.args.patch) in
     let same = ap (calls_of c.args.patch PreUn) (same_objects before catalog c.args.patch c.requires.kept) in
     let run = ap (λ b. records_of (if b then [] else calls_of c.args.patch PreUn (loaded_objects (setting_in before catalog) state c.args.patch))) (sym c.requires.rests) in
     let few : records_of calls ≤ MAX_KIND_RECORDS = omega (arith, ap records_of same, run, c.requires.records) in
-    let empty = ap (λ (l : RecordList). length l.noted) c.clear.ensures in
+    let empty = ap (λ (l : RecordList). length l.logged) c.clear.ensures in
     let room = c.run_callbacks.ensures.room ∙ ap (λ (l : RecordList). l.room) c.clear.ensures ∙ c.requires.kept.room in
     let rows = c.records_are_few.ensures 0 before.tasks (all_in (to_z w8 (of_z w8 c.target_state.result)) before.tasks) in
     omega (arith, rows, few, empty, room, c.run_callbacks.ensures.records, c.requires.kept.allowed.room, c.requires.kept.allowed.rows)
@@ -46,7 +46,7 @@ set_moving-requires-clause-other g c = λ same.
 
 pub returns-clause-accepted : goal.returns-clause-accepted
 returns-clause-accepted g c =
-    let before = c.args.manager.now in
+    let before = c.args.state.now in
     let catalog = c.args.catalog.now in
     let now = c.run_callbacks.new.catalog in
     let setting = setting_in before catalog in
@@ -69,11 +69,11 @@ returns-clause-accepted g c =
       room = ap (λ (p : ManagerState). p.log.room) moved ∙ rw c.set_all.ensures.records (c.run_callbacks.ensures.room ∙ rw c.clear.ensures c.requires.kept.room);
     })
 
-pub returns-clause-noted : goal.returns-clause-noted
-returns-clause-noted g c =
-    let rows = rows_in c.args.manager.now in
-    c.set_moving.ensures.noted
-    ∙ switched_back c.args.manager.now.tasks c.set_all.new.self _ c.run_callbacks.new.log c.set_all.new.log c.set_all.ensures.tasks c.set_all.ensures.records c.set_all.ensures.undo
+pub returns-clause-logged : goal.returns-clause-logged
+returns-clause-logged g c =
+    let rows = rows_in c.args.state.now in
+    c.set_moving.ensures.logged
+    ∙ switched_back c.args.state.now.tasks c.set_all.new.self _ c.run_callbacks.new.log c.set_all.new.log c.set_all.ensures.tasks c.set_all.ensures.records c.set_all.ensures.undo
     (record rows { world = c.run_callbacks.new.world })
-    ∙ callbacks_back c.args.catalog.now c.run_callbacks.new.catalog c.args.manager.now.world c.run_callbacks.new.world c.clear.new.self c.run_callbacks.new.log _ c.run_callbacks.ensures rows
-    ∙ ap (λ (l : RecordList). before_noted rows l) c.clear.ensures
+    ∙ callbacks_back c.args.catalog.now c.run_callbacks.new.catalog c.args.state.now.world c.run_callbacks.new.world c.clear.new.self c.run_callbacks.new.log _ c.run_callbacks.ensures rows
+    ∙ ap (λ (l : RecordList). before_logged rows l) c.clear.ensures

@@ -11,7 +11,7 @@ use Rattle.klp_catalog.specs.Runs.{after_runs}
 use Rattle.klp_types.specs.Records.{RecordList}
 use Rattle.klp_types.specs.World.{Installed}
 use Rattle.klp_manager_state.specs.declared.state.ManagerState.{ManagerState}
-use Rattle.klp_manager_state.specs.Rows.{rows_in, before_noted}
+use Rattle.klp_manager_state.specs.Rows.{rows_in, before_logged}
 use Rattle.klp_manager_state.specs.Managed.{setting_in, state_in}
 use Rattle.klp_manager_state.proofs.StepLemmas.{accepted_at_sites}
 use Rattle.klp_types.specs.Pick.{moves}
@@ -40,15 +40,15 @@ same_value patch false = rw (eq-eqb patch patch refl) refl
 
 pub set_moving-requires-clause-other : goal.set_moving-requires-clause-other
 set_moving-requires-clause-other g c = λ same.
-    let setting = setting_in c.args.manager.now c.args.catalog.now in
-    let state = state_in c.args.manager.now c.args.catalog.now in
+    let setting = setting_in c.args.state.now c.args.catalog.now in
+    let state = state_in c.args.state.now c.args.catalog.now in
     let another = other_value setting state c.args.patch c.args.value c.requires.free in
     let no : ⊥ = cc (sym (same_value c.args.patch c.args.value) ∙ ap (λ moving. same_bool c.args.value (not (moves_out moving c.args.patch))) (sym same) ∙ another) in
     no
 
 pub returns-then-is_in_transition-clause-accepted : goal.returns-then-is_in_transition-clause-accepted
 returns-then-is_in_transition-clause-accepted g c =
-    let before = c.args.manager.now in
+    let before = c.args.state.now in
     let catalog = c.args.catalog.now in
     let setting = setting_in before catalog in
     let state = state_in before catalog in
@@ -67,5 +67,5 @@ returns-then-is_in_transition-clause-accepted g c =
       room = ap (λ (p : ManagerState). p.log.room) moved ∙ ap (λ (l : RecordList). l.room) c.clear.ensures ∙ c.requires.kept.room;
     })
 
-pub returns-then-is_in_transition-clause-noted : goal.returns-then-is_in_transition-clause-noted
-returns-then-is_in_transition-clause-noted g c = c.set_moving.ensures.noted ∙ ap (λ (l : RecordList). before_noted (rows_in c.args.manager.now) l) c.clear.ensures
+pub returns-then-is_in_transition-clause-logged : goal.returns-then-is_in_transition-clause-logged
+returns-then-is_in_transition-clause-logged g c = c.set_moving.ensures.logged ∙ ap (λ (l : RecordList). before_logged (rows_in c.args.state.now) l) c.clear.ensures

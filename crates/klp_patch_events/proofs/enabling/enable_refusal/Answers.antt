@@ -19,7 +19,7 @@ use Rattle.klp_patch_events.proofs.enabling.enable_refusal.Goals as goal
 
 pub is_compatible-requires-clause-installed : goal.is_compatible-requires-clause-installed
 is_compatible-requires-clause-installed g c = λ k d below.
-    let parts = c.args.manager.now in
+    let parts = c.args.state.now in
     let catalog = c.args.catalog.now in
     let many = length-map catalog.patches (setting_patch catalog.names) in
     subst (λ (ps : List ℕ). k < length ps → slice_index_or ps k d < length catalog.patches) (sym c.installed.ensures.value)
@@ -43,20 +43,20 @@ lacks manager catalog patch found result is holds there =
 pub returns-then-lacks_symbol-clause-refusal : goal.returns-then-lacks_symbol-clause-refusal
 returns-then-lacks_symbol-clause-refusal g c =
     let there = c.in-Some.ensures.found.there in
-    let compatible = lives c.args.manager.now c.args.catalog.now c.args.patch c.is_compatible.result c.installed.result.now c.is_compatible.ensures c.installed.ensures.value in
-    let symbol = lacks c.args.manager.now c.args.catalog.now c.args.patch c.in-Some.found.now c.lacks_symbol.result c.lacks_symbol.ensures c.requires c.in-Some.ensures.found in
+    let compatible = lives c.args.state.now c.args.catalog.now c.args.patch c.is_compatible.result c.installed.result.now c.is_compatible.ensures c.installed.ensures.value in
+    let symbol = lacks c.args.state.now c.args.catalog.now c.args.patch c.in-Some.found.now c.lacks_symbol.result c.lacks_symbol.ensures c.requires c.in-Some.ensures.found in
     grind (arith, common_steps)
 
 pub returns-then-lacks_room-clause-refusal : goal.returns-then-lacks_room-clause-refusal
 returns-then-lacks_room-clause-refusal g c =
     let there = c.in-Some.ensures.found.there in
-    let compatible = lives c.args.manager.now c.args.catalog.now c.args.patch c.is_compatible.result c.installed.result.now c.is_compatible.ensures c.installed.ensures.value in
-    let symbol = lacks c.args.manager.now c.args.catalog.now c.args.patch c.in-Some.found.now c.lacks_symbol.result c.lacks_symbol.ensures c.requires c.in-Some.ensures.found in
+    let compatible = lives c.args.state.now c.args.catalog.now c.args.patch c.is_compatible.result c.installed.result.now c.is_compatible.ensures c.installed.ensures.value in
+    let symbol = lacks c.args.state.now c.args.catalog.now c.args.patch c.in-Some.found.now c.lacks_symbol.result c.lacks_symbol.ensures c.requires c.in-Some.ensures.found in
     grind (arith, common_steps)
 
 pub returns-else-lacks_room-clause-refusal : goal.returns-else-lacks_room-clause-refusal
 returns-else-lacks_room-clause-refusal g c =
     let there = c.in-Some.ensures.found.there in
-    let compatible = lives c.args.manager.now c.args.catalog.now c.args.patch c.is_compatible.result c.installed.result.now c.is_compatible.ensures c.installed.ensures.value in
-    let symbol = lacks c.args.manager.now c.args.catalog.now c.args.patch c.in-Some.found.now c.lacks_symbol.result c.lacks_symbol.ensures c.requires c.in-Some.ensures.found in
+    let compatible = lives c.args.state.now c.args.catalog.now c.args.patch c.is_compatible.result c.installed.result.now c.is_compatible.ensures c.installed.ensures.value in
+    let symbol = lacks c.args.state.now c.args.catalog.now c.args.patch c.in-Some.found.now c.lacks_symbol.result c.lacks_symbol.ensures c.requires c.in-Some.ensures.found in
     grind (arith, common_steps)

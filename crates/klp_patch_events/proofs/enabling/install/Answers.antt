@@ -37,11 +37,11 @@ use Rattle.klp_patch_events.proofs.enabling.install.Goals as goal
 
 pub put_last-requires-clause-fresh : goal.put_last-requires-clause-fresh
 put_last-requires-clause-fresh g c =
-    (enablable (setting_in c.args.manager.now c.args.catalog.now) (state_in c.args.manager.now c.args.catalog.now) c.args.patch c.events_are_accepted_where_no_case_holds.ensures.none c.requires.free).apart
+    (enablable (setting_in c.args.state.now c.args.catalog.now) (state_in c.args.state.now c.args.catalog.now) c.args.patch c.events_are_accepted_where_no_case_holds.ensures.none c.requires.free).apart
 
 pub put_last-requires-clause-room : goal.put_last-requires-clause-room
 put_last-requires-clause-room g c =
-    let parts = c.args.manager.now in
+    let parts = c.args.state.now in
     let catalog = c.args.catalog.now in
     let setting = setting_in parts catalog in
     let facts = enablable setting (state_in parts catalog) c.args.patch c.events_are_accepted_where_no_case_holds.ensures.none c.requires.free in
@@ -54,20 +54,20 @@ put_last-requires-clause-room g c =
 
 pub run_pre_patch-requires : goal.run_pre_patch-requires
 run_pre_patch-requires g c =
-    let parts = c.args.manager.now in
+    let parts = c.args.state.now in
     let catalog = c.args.catalog.now in
     let facts = enablable (setting_in parts catalog) (state_in parts catalog) c.args.patch c.events_are_accepted_where_no_case_holds.ensures.none c.requires.free in
     let may = λ (os : List (ℕ × PatchObject)). calls_of c.args.patch Pre os ++ calls_of c.args.patch PostUn os in
     let same = same_objects parts catalog c.args.patch c.requires.kept in
     let shadow = ap (λ (p : ManagerState). finite.len p.world.shadow) c.put_last.ensures.parts in
-    subst (λ (p : ManagerState). HasRoomFor c.put_last.new.manager.world c.put_last.new.manager.log (may (loaded_in catalog p.modules c.args.patch))) (sym c.put_last.ensures.parts)
-    (subst (λ os. HasRoomFor c.put_last.new.manager.world c.put_last.new.manager.log (may os)) (sym same)
-    (room_with c.put_last.new.manager.world c.put_last.new.manager.log (may (loaded_objects (setting_in parts catalog) (state_in parts catalog) c.args.patch))
+    subst (λ (p : ManagerState). HasRoomFor c.put_last.new.state.world c.put_last.new.state.log (may (loaded_in catalog p.modules c.args.patch))) (sym c.put_last.ensures.parts)
+    (subst (λ os. HasRoomFor c.put_last.new.state.world c.put_last.new.state.log (may os)) (sym same)
+    (room_with c.put_last.new.state.world c.put_last.new.state.log (may (loaded_objects (setting_in parts catalog) (state_in parts catalog) c.args.patch))
     (finite.len parts.world.shadow) shadow facts.room c.requires.records c.put_last.ensures.records c.put_last.ensures.log))
 
 pub start-requires-clause-fresh : goal.start-requires-clause-fresh
 start-requires-clause-fresh g c = λ site.
-    let parts = c.args.manager.now in
+    let parts = c.args.state.now in
     let catalog = c.args.catalog.now in
     let facts = enablable (setting_in parts catalog) (state_in parts catalog) c.args.patch c.events_are_accepted_where_no_case_holds.ensures.none c.requires.free in
     ap (λ (p : ManagerState). has_entry c.args.patch (entries_at p.sites.stacks site)) c.put_last.ensures.parts
@@ -77,13 +77,13 @@ start-requires-clause-fresh g c = λ site.
 
 pub start-requires-clause-rests : goal.start-requires-clause-rests
 start-requires-clause-rests g c =
-    let parts = c.args.manager.now in
+    let parts = c.args.state.now in
     let facts = enablable (setting_in parts c.args.catalog.now) (state_in parts c.args.catalog.now) c.args.patch c.events_are_accepted_where_no_case_holds.ensures.none c.requires.free in
     ap (λ (p : ManagerState). p.moving) c.put_last.ensures.parts ∙ nothing_moves parts.moving facts.still
 
 pub start-requires-clause-fit : goal.start-requires-clause-fit
 start-requires-clause-fit g c =
-    let parts = c.args.manager.now in
+    let parts = c.args.state.now in
     let catalog = c.args.catalog.now in
     let setting = setting_in parts catalog in
     let facts = enablable setting (state_in parts catalog) c.args.patch c.events_are_accepted_where_no_case_holds.ensures.none c.requires.free in
@@ -100,7 +100,7 @@ start-requires-clause-fit g c =
 
 pub start-requires-clause-records : goal.start-requires-clause-records
 start-requires-clause-records g c =
-    let parts = c.args.manager.now in
+    let parts = c.args.state.now in
     let catalog = c.args.catalog.now in
     let modules = ap (λ (p : ManagerState). records_of (enable_calls c.args.patch (loaded_in catalog p.modules c.args.patch))) c.put_last.ensures.parts in
     let same = ap (λ os. records_of (enable_calls c.args.patch os)) (same_objects parts catalog c.args.patch c.requires.kept) in
@@ -110,7 +110,7 @@ start-requires-clause-records g c =
 
 pub take_out-requires : goal.take_out-requires
 take_out-requires g c =
-    let parts = c.args.manager.now in
+    let parts = c.args.state.now in
     let catalog = c.args.catalog.now in
     let modules = ap (λ (p : ManagerState). records_of (enable_calls c.args.patch (loaded_in catalog p.modules c.args.patch))) c.put_last.ensures.parts in
     let same = ap (λ os. records_of (enable_calls c.args.patch os)) (same_objects parts catalog c.args.patch c.requires.kept) in
@@ -138,8 +138,8 @@ same_objects_then parts put catalog patch world log holds is =
 
 pub returns-in-None-clause-accepted : goal.returns-in-None-clause-accepted
 returns-in-None-clause-accepted g c =
-    let parts = c.args.manager.now in
-    let put = c.put_last.new.manager in
+    let parts = c.args.state.now in
+    let put = c.put_last.new.state in
     let catalog = c.args.catalog.now in
     let patch = c.args.patch in
     let ran = c.run_pre_patch.ensures.ran in
@@ -150,29 +150,29 @@ returns-in-None-clause-accepted g c =
     ran.world ∙ ap (λ w. after_calls w (enable_calls patch (loaded_in catalog put.modules patch))) put_world
     ∙ ap (λ os. after_calls (with_patch parts.world patch (state_ids catalog patch)) (enable_calls patch os)) objects
     in
-    let is : c.start.new.manager ≡ record parts {
-      sites = c.start.new.manager.sites;
+    let is : c.start.new.state ≡ record parts {
+      sites = c.start.new.state.sites;
       world = world;
       tasks = all_in (at_target false) parts.tasks;
       moving = move_to patch true;
-      log = c.start.new.manager.log;
+      log = c.start.new.state.log;
     } =
     c.start.ensures.parts
-    ∙ ap (λ (p : ManagerState). record p { sites = c.start.new.manager.sites; world = world; tasks = all_in (at_target false) p.tasks; moving = move_to patch true; log = c.start.new.manager.log })
+    ∙ ap (λ (p : ManagerState). record p { sites = c.start.new.state.sites; world = world; tasks = all_in (at_target false) p.tasks; moving = move_to patch true; log = c.start.new.state.log })
     c.put_last.ensures.parts
     in
-    let entries = subst (λ (p : ManagerState). AreMade p.sites c.start.new.manager.sites (is_covered p.sites None) (with_entry catalog patch)) c.put_last.ensures.parts
-    (subst (λ (k : Catalog). AreMade put.sites c.start.new.manager.sites (is_covered put.sites None) (with_entry k patch)) ran.catalog c.start.ensures.entries)
+    let entries = subst (λ (p : ManagerState). AreMade p.sites c.start.new.state.sites (is_covered p.sites None) (with_entry catalog patch)) c.put_last.ensures.parts
+    (subst (λ (k : Catalog). AreMade put.sites c.start.new.state.sites (is_covered put.sites None) (with_entry k patch)) ran.catalog c.start.ensures.entries)
     in
-    started c.steps_keep.ensures c.the_newest_entry_is_on_top.ensures parts c.start.new.manager catalog c.run_pre_patch.new.catalog patch c.requires.kept c.requires.free
+    started c.steps_keep.ensures c.the_newest_entry_is_on_top.ensures parts c.start.new.state catalog c.run_pre_patch.new.catalog patch c.requires.kept c.requires.free
     (none_refused (loaded_in catalog put.modules patch) _ c.in-None.ensures.refused objects)
     (ran.catalog ∙ ap (λ os. after_runs catalog (enable_calls patch os)) objects)
     world made (ran.installed ∙ ap numbers_of put_world ∙ numbers-with parts.world patch (state_ids catalog patch)) is entries c.start.ensures.log
 
 pub returns-in-Some-clause-accepted : goal.returns-in-Some-clause-accepted
 returns-in-Some-clause-accepted g c =
-    let parts = c.args.manager.now in
-    let put = c.put_last.new.manager in
+    let parts = c.args.state.now in
+    let put = c.put_last.new.state in
     let catalog = c.args.catalog.now in
     let patch = c.args.patch in
     let ran = c.run_pre_patch.ensures.ran in
@@ -185,26 +185,26 @@ returns-in-Some-clause-accepted g c =
     in
     let facts = enablable (setting_in parts catalog) (state_in parts catalog) patch c.events_are_accepted_where_no_case_holds.ensures.none c.requires.free in
     let refused = one_refused (loaded_in catalog put.modules patch) _ c.in-Some.refused.0 c.in-Some.refused.1 c.in-Some.ensures.refused objects in
-    let is : c.take_out.new.manager ≡ record parts { world = without_patch world patch; log = c.take_out.new.manager.log } =
-    c.take_out.ensures.parts ∙ ap (λ (p : ManagerState). record p { world = without_patch world patch; log = c.take_out.new.manager.log }) c.put_last.ensures.parts
+    let is : c.take_out.new.state ≡ record parts { world = without_patch world patch; log = c.take_out.new.state.log } =
+    c.take_out.ensures.parts ∙ ap (λ (p : ManagerState). record p { world = without_patch world patch; log = c.take_out.new.state.log }) c.put_last.ensures.parts
     in
-    subst (λ r. AcceptsEvent parts c.take_out.new.manager catalog c.run_pre_patch.new.catalog (Enable patch) r)
+    subst (λ r. AcceptsEvent parts c.take_out.new.state catalog c.run_pre_patch.new.catalog (Enable patch) r)
     (same_reply patch _ _ _ _ refused.named refused.says ∙ sym c.pre_failed.ensures)
-    (failed c.steps_keep.ensures parts c.take_out.new.manager catalog c.run_pre_patch.new.catalog patch refused.refusing c.requires.kept c.requires.free refused.found
+    (failed c.steps_keep.ensures parts c.take_out.new.state catalog c.run_pre_patch.new.catalog patch refused.refusing c.requires.kept c.requires.free refused.found
     (ran.catalog ∙ ap (λ os. after_runs catalog (enable_calls patch os)) objects)
     world made (ran.installed ∙ ap numbers_of put_world ∙ numbers-with parts.world patch (state_ids catalog patch))
     (any-numbers patch parts.world.installed ∙ facts.apart) is (c.take_out.ensures.log ∙ ran.room ∙ c.put_last.ensures.log))
 
-pub returns-in-None-clause-noted : goal.returns-in-None-clause-noted
-returns-in-None-clause-noted g c =
-    c.start.ensures.noted
-    ∙ callbacks_back c.args.catalog.now c.run_pre_patch.new.catalog c.put_last.new.manager.world c.run_pre_patch.new.world c.put_last.new.manager.log c.run_pre_patch.new.log _ c.run_pre_patch.ensures.ran
-    (rows_in c.put_last.new.manager)
-    ∙ c.put_last.ensures.noted
+pub returns-in-None-clause-logged : goal.returns-in-None-clause-logged
+returns-in-None-clause-logged g c =
+    c.start.ensures.logged
+    ∙ callbacks_back c.args.catalog.now c.run_pre_patch.new.catalog c.put_last.new.state.world c.run_pre_patch.new.world c.put_last.new.state.log c.run_pre_patch.new.log _ c.run_pre_patch.ensures.ran
+    (rows_in c.put_last.new.state)
+    ∙ c.put_last.ensures.logged
 
-pub returns-in-Some-clause-noted : goal.returns-in-Some-clause-noted
-returns-in-Some-clause-noted g c =
-    c.take_out.ensures.noted
-    ∙ callbacks_back c.args.catalog.now c.run_pre_patch.new.catalog c.put_last.new.manager.world c.run_pre_patch.new.world c.put_last.new.manager.log c.run_pre_patch.new.log _ c.run_pre_patch.ensures.ran
-    (rows_in c.put_last.new.manager)
-    ∙ c.put_last.ensures.noted
+pub returns-in-Some-clause-logged : goal.returns-in-Some-clause-logged
+returns-in-Some-clause-logged g c =
+    c.take_out.ensures.logged
+    ∙ callbacks_back c.args.catalog.now c.run_pre_patch.new.catalog c.put_last.new.state.world c.run_pre_patch.new.world c.put_last.new.state.log c.run_pre_patch.new.log _ c.run_pre_patch.ensures.ran
+    (rows_in c.put_last.new.state)
+    ∙ c.put_last.ensures.logged

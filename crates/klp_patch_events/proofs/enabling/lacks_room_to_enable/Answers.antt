@@ -12,7 +12,7 @@ use Rattle.klp_patch_events.proofs.enabling.lacks_room_to_enable.Goals as goal
 
 pub returns-clause-room : goal.returns-clause-room
 returns-clause-room g c =
-    let parts = c.args.manager.now in
+    let parts = c.args.state.now in
     let catalog = c.args.catalog.now in
     let objects = loaded_objects (setting_in parts catalog) (state_in parts catalog) c.args.patch in
     let same = same_objects parts catalog c.args.patch c.requires in
@@ -27,7 +27,7 @@ returns-clause-room g c =
 
 pub returns-clause-records : goal.returns-clause-records
 returns-clause-records g c =
-    let parts = c.args.manager.now in
+    let parts = c.args.state.now in
     let catalog = c.args.catalog.now in
     let objects = loaded_objects (setting_in parts catalog) (state_in parts catalog) c.args.patch in
     let same = same_objects parts catalog c.args.patch c.requires in

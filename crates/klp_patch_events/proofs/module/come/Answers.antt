@@ -25,23 +25,23 @@ use Rattle.klp_stack.specs.Stack.{entries_at}
 use Rattle.klp_sites.specs.Table.{SiteTable}
 use Rattle.klp_patch.specs.Covered.{is_covered}
 use Rattle.klp_manager_state.specs.declared.state.ManagerState.{ManagerState}
-use Rattle.klp_manager_state.specs.Rows.{Rows, rows_in, before_noted}
+use Rattle.klp_manager_state.specs.Rows.{Rows, rows_in, before_logged}
 use Rattle.klp_types.specs.declared.record.Record.{Record}
 use Rattle.klp_sites.specs.Changes.{noting}
 use Rattle.klp_sites.specs.Undo as of_sites
-use Rattle.klp_sites.proofs.ExactLemmas.{loaded_told}
+use Rattle.klp_sites.proofs.ExactLemmas.{loaded_effective}
 use Rattle.klp_manager_state.proofs.RowLemmas.{loaded_back}
 use Rattle.klp_patch_events.proofs.BackLemmas.{callbacks_back}
 use Rattle.klp_manager_state.specs.Managed.{setting_in, state_in}
 use Rattle.klp_manager_state.proofs.StepLemmas.{step_accepted, accepted_at_sites}
 use Rattle.klp_patch_events.proofs.ModuleLemmas.{setting_with}
-use Rattle.klp_patch_events.proofs.ModuleSteps.{may_come, none_found, refused_by, told_as, coming_few, came}
+use Rattle.klp_patch_events.proofs.ModuleSteps.{may_come, none_found, refused_by, effective_as, coming_few, came}
 use Rattle.klp_patch_events.proofs.FitLemmas.{come_fits}
 use Rattle.klp_patch_events.proofs.module.come.Goals as goal
 
 pub note-requires : goal.note-requires
 note-requires g c =
-    let before = c.args.manager.now in
+    let before = c.args.state.now in
     let catalog = c.args.catalog.now in
     let setting = setting_in before catalog in
     let state = state_in before catalog in
@@ -51,13 +51,13 @@ note-requires g c =
     let few = coming_few state.moving (parts setting state c.args.object) none in
     let ran = ap (λ ps. records_of (coming_calls state.moving ps)) own in
     let variables = ltb-false MAX_VARIABLES (finite.len state.world.shadow + allocs_of (may_run setting state (Coming c.args.object))) (may_come setting state c.args.object c.requires.free).room in
-    let empty = ap (λ (l : RecordList). length l.noted) c.clear.ensures in
+    let empty = ap (λ (l : RecordList). length l.logged) c.clear.ensures in
     let room = c.in-None.ensures.ran.room ∙ ap (λ (l : RecordList). l.room) c.clear.ensures ∙ c.requires.kept.room in
     omega (arith, few, ran, variables, empty, room, c.in-None.ensures.ran.records, c.requires.records)
 
 pub patch_object-requires-clause-records : goal.patch_object-requires-clause-records
 patch_object-requires-clause-records g c =
-    let before = c.args.manager.now in
+    let before = c.args.state.now in
     let catalog = c.args.catalog.now in
     let setting = setting_in before catalog in
     let state = state_in before catalog in
@@ -67,20 +67,20 @@ patch_object-requires-clause-records g c =
     let few = coming_few state.moving (parts setting state c.args.object) none in
     let ran = ap (λ ps. records_of (coming_calls state.moving ps)) own in
     let variables = ltb-false MAX_VARIABLES (finite.len state.world.shadow + allocs_of (may_run setting state (Coming c.args.object))) (may_come setting state c.args.object c.requires.free).room in
-    let empty = ap (λ (l : RecordList). length l.noted) c.clear.ensures in
-    let one = ap (λ (l : RecordList). length l.noted) c.note.ensures ∙ length-append c.run_coming.new.log.noted _ in
+    let empty = ap (λ (l : RecordList). length l.logged) c.clear.ensures in
+    let one = ap (λ (l : RecordList). length l.logged) c.note.ensures ∙ length-append c.run_coming.new.log.logged _ in
     omega (arith, few, ran, variables, empty, one, c.in-None.ensures.ran.records, c.requires.records)
 
 pub patch_object-requires-clause-fit : goal.patch_object-requires-clause-fit
 patch_object-requires-clause-fit g c =
-    let before = c.args.manager.now in
+    let before = c.args.state.now in
     let catalog = c.args.catalog.now in
     come_fits before catalog c.requires.kept c.args.object _ c.installed_patches-installed.ensures.fit c.load.new.self c.load.ensures.table c.run_coming.new.catalog (ap patches_of c.in-None.ensures.ran.catalog)
     c.deref-in-None.result.now (c.deref-in-None.ensures.0 ∙ c.installed_patches-installed.ensures.value)
 
 pub returns-in-Some-clause-accepted : goal.returns-in-Some-clause-accepted
 returns-in-Some-clause-accepted g c =
-    let before = c.args.manager.now in
+    let before = c.args.state.now in
     let catalog = c.args.catalog.now in
     let now = c.run_coming.new.catalog in
     let state = state_in before catalog in
@@ -92,9 +92,9 @@ returns-in-Some-clause-accepted g c =
     let left = with_world state (after_calls state.world (coming_calls state.moving (parts (setting_in before catalog) state c.args.object))) in
     let refused = refused_by left c.args.object (c.in-Some.patch, c.in-Some.status) (find part_refuses (parts (setting_in before catalog) state c.args.object))
     (c.in-Some.ensures'.refused ∙ ap (λ ps. option_map (λ (p : Part). (p.0, status_of (script_for Pre p.1.1.callbacks))) (find part_refuses ps)) own) in
-    let told = told_as c.args.object c.in-Some.patch c.in-Some.status _ (c.in-Some.ensures.refused ∙ sym c.in-Some.ensures'.refused) stored in
+    let effective = effective_as c.args.object c.in-Some.patch c.in-Some.status _ (c.in-Some.ensures.refused ∙ sym c.in-Some.ensures'.refused) stored in
     accepted_at_sites c.steps_keep.ensures before after catalog now (Coming c.args.object) _ c.requires.kept c.requires.free (record {
-      says = told ∙ sym (ap (λ (r : Reply × State). r.0) refused);
+      says = effective ∙ sym (ap (λ (r : Reply × State). r.0) refused);
       state = ap (with_world state) (c.run_coming.ensures.ran.world ∙ ap (after_calls state.world) ran) ∙ sym (ap (λ (r : Reply × State). r.1) refused);
       runs = c.run_coming.ensures.ran.catalog ∙ ap (after_runs catalog) ran;
       sites = refl;
@@ -105,7 +105,7 @@ returns-in-Some-clause-accepted g c =
 
 pub returns-in-None-clause-accepted : goal.returns-in-None-clause-accepted
 returns-in-None-clause-accepted g c =
-    let before = c.args.manager.now in
+    let before = c.args.state.now in
     let catalog = c.args.catalog.now in
     let now = c.run_coming.new.catalog in
     let setting = setting_in before catalog in
@@ -141,22 +141,22 @@ returns-in-None-clause-accepted g c =
       room = c.patch_object.ensures.room;
     })
 
-pub returns-in-Some-clause-noted : goal.returns-in-Some-clause-noted
-returns-in-Some-clause-noted g c =
-    let rows = rows_in c.args.manager.now in
-    callbacks_back c.args.catalog.now c.run_coming.new.catalog c.args.manager.now.world c.run_coming.new.world c.clear.new.self c.run_coming.new.log _ c.run_coming.ensures.ran rows
-    ∙ ap (λ (l : RecordList). before_noted rows l) c.clear.ensures
+pub returns-in-Some-clause-logged : goal.returns-in-Some-clause-logged
+returns-in-Some-clause-logged g c =
+    let rows = rows_in c.args.state.now in
+    callbacks_back c.args.catalog.now c.run_coming.new.catalog c.args.state.now.world c.run_coming.new.world c.clear.new.self c.run_coming.new.log _ c.run_coming.ensures.ran rows
+    ∙ ap (λ (l : RecordList). before_logged rows l) c.clear.ensures
 
-pub returns-in-None-clause-noted : goal.returns-in-None-clause-noted
-returns-in-None-clause-noted g c =
-    let rows = rows_in c.args.manager.now in
-    let may = may_come (setting_in c.args.manager.now c.args.catalog.now) (state_in c.args.manager.now c.args.catalog.now) c.args.object c.requires.free in
-    let within : c.args.object < length c.args.manager.now.sites.loaded = let fact = may.within in omega (arith, fact, c.requires.kept.allowed.objects) in
+pub returns-in-None-clause-logged : goal.returns-in-None-clause-logged
+returns-in-None-clause-logged g c =
+    let rows = rows_in c.args.state.now in
+    let may = may_come (setting_in c.args.state.now c.args.catalog.now) (state_in c.args.state.now c.args.catalog.now) c.args.object c.requires.free in
+    let within : c.args.object < length c.args.state.now.sites.loaded = let fact = may.within in omega (arith, fact, c.requires.kept.allowed.objects) in
     let ran : Rows = record rows { world = c.run_coming.new.world } in
-    c.patch_object.ensures.noted ran
-    ∙ loaded_back c.args.manager.now.sites c.load.new.self c.args.object _ c.run_coming.new.log c.note.new.self
+    c.patch_object.ensures.logged ran
+    ∙ loaded_back c.args.state.now.sites c.load.new.self c.args.object _ c.run_coming.new.log c.note.new.self
     (c.note.ensures ∙ ap (λ (row : Record). noting c.run_coming.new.log (row ∷ [])) c.load.ensures.row)
     (ap (of_sites.put_back c.load.new.self) (sym c.load.ensures.row) ∙ c.load.ensures.undo) refl
-    (loaded_told c.args.manager.now.sites c.load.new.self c.args.object true _ within c.load.ensures.table may.absent) ran
-    ∙ callbacks_back c.args.catalog.now c.run_coming.new.catalog c.args.manager.now.world c.run_coming.new.world c.clear.new.self c.run_coming.new.log _ c.run_coming.ensures.ran rows
-    ∙ ap (λ (l : RecordList). before_noted rows l) c.clear.ensures
+    (loaded_effective c.args.state.now.sites c.load.new.self c.args.object true _ within c.load.ensures.table may.absent) ran
+    ∙ callbacks_back c.args.catalog.now c.run_coming.new.catalog c.args.state.now.world c.run_coming.new.world c.clear.new.self c.run_coming.new.log _ c.run_coming.ensures.ran rows
+    ∙ ap (λ (l : RecordList). before_logged rows l) c.clear.ensures

@@ -17,11 +17,11 @@ use Rattle.klp_patch.specs.ModuleShares.{parts_in}
 use Rattle.klp_stack.specs.Stack.{entries_at}
 use Rattle.klp_sites.specs.Table.{SiteTable}
 use Rattle.klp_manager_state.specs.declared.state.ManagerState.{ManagerState}
-use Rattle.klp_manager_state.specs.Rows.{Rows, rows_in, before_noted}
+use Rattle.klp_manager_state.specs.Rows.{Rows, rows_in, before_logged}
 use Rattle.klp_types.specs.declared.record.Record.{Record}
 use Rattle.klp_sites.specs.Changes.{noting}
 use Rattle.klp_sites.specs.Undo as of_sites
-use Rattle.klp_sites.proofs.ExactLemmas.{loaded_told}
+use Rattle.klp_sites.proofs.ExactLemmas.{loaded_effective}
 use Rattle.klp_manager_state.proofs.RowLemmas.{loaded_back}
 use Rattle.klp_patch_events.proofs.BackLemmas.{callbacks_back}
 use Rattle.klp_manager_state.specs.Managed.{setting_in, state_in}
@@ -31,7 +31,7 @@ use Rattle.klp_patch_events.proofs.module.go.Goals as goal
 
 pub unpatch_object-requires-clause-records : goal.unpatch_object-requires-clause-records
 unpatch_object-requires-clause-records g c =
-    let before = c.args.manager.now in
+    let before = c.args.state.now in
     let catalog = c.args.catalog.now in
     let setting = setting_in before catalog in
     let state = state_in before catalog in
@@ -40,12 +40,12 @@ unpatch_object-requires-clause-records g c =
     let few = going_few state.moving (parts setting state c.args.object) in
     let ran = ap (λ ps. records_of (going_calls state.moving ps)) own in
     let variables = ltb-false MAX_VARIABLES (finite.len state.world.shadow + allocs_of (may_run setting state (Going c.args.object))) (may_go setting state c.args.object c.requires.free).room in
-    let empty = ap (λ (l : RecordList). length l.noted) c.clear.ensures in
+    let empty = ap (λ (l : RecordList). length l.logged) c.clear.ensures in
     omega (arith, few, ran, variables, empty, c.run_going.ensures.records, c.requires.records)
 
 pub returns-clause-accepted : goal.returns-clause-accepted
 returns-clause-accepted g c =
-    let before = c.args.manager.now in
+    let before = c.args.state.now in
     let catalog = c.args.catalog.now in
     let now = c.run_going.new.catalog in
     let setting = setting_in before catalog in
@@ -73,10 +73,10 @@ returns-clause-accepted g c =
       room = ap (λ (l : RecordList). l.room) c.note.ensures ∙ c.unpatch_object.ensures.room;
     })
 
-pub returns-clause-noted : goal.returns-clause-noted
-returns-clause-noted g c =
-    let rows = rows_in c.args.manager.now in
-    let may = may_go (setting_in c.args.manager.now c.args.catalog.now) (state_in c.args.manager.now c.args.catalog.now) c.args.object c.requires.free in
+pub returns-clause-logged : goal.returns-clause-logged
+returns-clause-logged g c =
+    let rows = rows_in c.args.state.now in
+    let may = may_go (setting_in c.args.state.now c.args.catalog.now) (state_in c.args.state.now c.args.catalog.now) c.args.object c.requires.free in
     let within : c.args.object < length c.unpatch_object.new.sites.loaded =
     let fact = may.within in let same = ap length c.unpatch_object.ensures.loaded in omega (arith, fact, same, c.requires.kept.allowed.objects)
     in
@@ -84,7 +84,7 @@ returns-clause-noted g c =
     loaded_back c.unpatch_object.new.sites c.unload.new.self c.args.object _ c.unpatch_object.new.log c.note.new.self
     (c.note.ensures ∙ ap (λ (row : Record). noting c.unpatch_object.new.log (row ∷ [])) c.unload.ensures.row)
     (ap (of_sites.put_back c.unload.new.self) (sym c.unload.ensures.row) ∙ c.unload.ensures.undo) refl
-    (loaded_told c.unpatch_object.new.sites c.unload.new.self c.args.object false _ within c.unload.ensures.table (ap (λ l. slice_index_or l c.args.object false) c.unpatch_object.ensures.loaded ∙ may.there)) ran
-    ∙ c.unpatch_object.ensures.noted ran
-    ∙ callbacks_back c.args.catalog.now c.run_going.new.catalog c.args.manager.now.world c.run_going.new.world c.clear.new.self c.run_going.new.log _ c.run_going.ensures rows
-    ∙ ap (λ (l : RecordList). before_noted rows l) c.clear.ensures
+    (loaded_effective c.unpatch_object.new.sites c.unload.new.self c.args.object false _ within c.unload.ensures.table (ap (λ l. slice_index_or l c.args.object false) c.unpatch_object.ensures.loaded ∙ may.there)) ran
+    ∙ c.unpatch_object.ensures.logged ran
+    ∙ callbacks_back c.args.catalog.now c.run_going.new.catalog c.args.state.now.world c.run_going.new.world c.clear.new.self c.run_going.new.log _ c.run_going.ensures rows
+    ∙ ap (λ (l : RecordList). before_logged rows l) c.clear.ensures

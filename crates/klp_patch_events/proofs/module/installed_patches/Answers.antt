@@ -12,14 +12,14 @@ use Rattle.klp_patch_events.proofs.module.installed_patches.Goals as goal
 pub returns-clause-numbers : goal.returns-clause-numbers
 returns-clause-numbers g c =
     subst (All (λ p. p < MAX_PATCHES)) (sym c.installed_list.ensures.value)
-    (known_few c.args.manager.now.sites.image c.args.catalog.now (installed_patches (state_in c.args.manager.now c.args.catalog.now)) (omega arith) c.requires.allowed.known)
+    (known_few c.args.state.now.sites.image c.args.catalog.now (installed_patches (state_in c.args.state.now c.args.catalog.now)) (omega arith) c.requires.allowed.known)
 
 pub returns-clause-replace : goal.returns-clause-replace
 returns-clause-replace g c =
     subst (λ (ps : List ℕ). count_by (is_cumulative c.args.catalog.now) ps ≤ 2) (sym c.installed_list.ensures.value)
-    (c.at_most_two_patches_replace.ensures (setting_in c.args.manager.now c.args.catalog.now) (state_in c.args.manager.now c.args.catalog.now) c.requires.allowed)
+    (c.at_most_two_patches_replace.ensures (setting_in c.args.state.now c.args.catalog.now) (state_in c.args.state.now c.args.catalog.now) c.requires.allowed)
 
 pub returns-clause-fit : goal.returns-clause-fit
 returns-clause-fit g c =
-    state_fits c.args.manager.now c.args.catalog.now c.requires c.patches-patches.ensures.limits (omega (arith, c.sites-sites.ensures.value, c.sites-sites.ensures.image, c.requires.limits.few_sites))
+    state_fits c.args.state.now c.args.catalog.now c.requires c.patches-patches.ensures.limits (omega (arith, c.sites-sites.ensures.value, c.sites-sites.ensures.image, c.requires.limits.few_sites))
     (subst (λ (ps : List ℕ). length ps ≤ MAX_PATCHES) c.installed_list.ensures.value (search rules))

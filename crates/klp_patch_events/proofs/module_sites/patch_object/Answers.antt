@@ -9,7 +9,7 @@ use Rattle.klp_patch_events.proofs.module_sites.patch_object.Goals as goal
 pub loop-patch-init : goal.loop-patch-init
 loop-patch-init g c = record {
   come = none_came c.args.catalog.now c.args.object c.args.sites.now c.requires.bare;
-  noted = omega arith;
+  logged = omega arith;
   back = λ rows. refl;
   room = c.requires.room;
 }
@@ -22,19 +22,19 @@ patch_sites-requires-clause-fresh g c =
 pub loop-patch-preserved : goal.loop-patch-preserved
 loop-patch-preserved g c =
     let notes = c.patch_sites.ensures.notes in
-    let grown = ap (λ (l : RecordList). length l.noted) notes.noted ∙ length-append c.loop-patch.log.noted notes.rows in
+    let grown = ap (λ (l : RecordList). length l.logged) notes.logged ∙ length-append c.loop-patch.log.logged notes.rows in
     let counted = count_more (is_cumulative c.args.catalog.now) c.args.patches.now c.loop-patch.patch-index c.patch-item.result c.loop-patch-test.true c.patch-item.is in
     record {
       come = one_came c.the_newest_entry_is_on_top.ensures c.args.catalog.now c.args.patches.now c.loop-patch.patch-index c.patch-item.result c.args.object c.args.sites.now c.loop-patch.sites c.patch_sites.new.sites
           c.loop-patch-test.true c.patch-item.is c.loop-patch.invariant.come c.patch_sites.ensures.entries;
-      noted = omega (arith, grown, counted, notes.few, c.entries_are_few.ensures, c.loop-patch.invariant.noted);
+      logged = omega (arith, grown, counted, notes.few, c.entries_are_few.ensures, c.loop-patch.invariant.logged);
       back = λ rows.
           patch_back c.loop-patch.sites c.patch_sites.new.sites c.loop-patch.log c.patch_sites.new.log _ _ _ notes rows ∙ c.loop-patch.invariant.back rows;
-      room = ap (λ (l : RecordList). l.room) notes.noted ∙ c.loop-patch.invariant.room;
+      room = ap (λ (l : RecordList). l.room) notes.logged ∙ c.loop-patch.invariant.room;
     }
 
-pub returns-clause-noted : goal.returns-clause-noted
-returns-clause-noted g c = c.loop-patch.invariant.back
+pub returns-clause-logged : goal.returns-clause-logged
+returns-clause-logged g c = c.loop-patch.invariant.back
 
 pub patch_sites-requires-clause-room : goal.patch_sites-requires-clause-room
 patch_sites-requires-clause-room g c =

@@ -10,7 +10,7 @@ use Rattle.klp_patch_events.proofs.module_sites.unpatch_object.Given as goal
 abbrev pub invariant-loop-patch : goal.invariant-loop-patch
 invariant-loop-patch g l = record {
   left : HaveLeft (take l.patch-index l.patches) l.object l.initial.sites l.sites;
-  noted : length l.log.noted + hooked_count l.sites
+  logged : length l.log.logged + hooked_count l.sites
       ≤ 2048 + hooked_count l.initial.sites + MAX_FUNCTIONS * l.patch-index + MAX_SITES * count_by (is_cumulative l.catalog) (take l.patch-index l.patches);
   back : SitesGoBack l.initial.sites l.sites l.initial.log l.log;
   room : l.log.room ≡ MAX_RECORDS;

@@ -11,7 +11,7 @@ invariant-loop-dropped l = record {
   shadow : l.world.shadow ≡ l.fn.world.shadow;
   fewer : length l.world.installed + l._dropped ≡ length l.fn.world.installed;
   few : length l.fn.world.installed ≤ 16;
-  records : length l.log.noted ≤ 3500 + 17 * l._dropped;
+  records : length l.log.logged ≤ 3500 + 17 * l._dropped;
   back : WorldGoesBack l.fn.world l.world l.fn.log l.log;
   room : l.log.room ≡ MAX_RECORDS;
 }

@@ -35,5 +35,5 @@ returns-clause-entries g c = λ site.
     ∙ ap (λ left. where_covered covered left (entries_at c.loop-patch.sites.stacks site)) (sym (none_behind c.args.patches.now c.loop-patch.patch-index c.loop-patch-test.false))
     ∙ c.loop-patch.invariant.entries site
 
-pub returns-clause-noted : goal.returns-clause-noted
-returns-clause-noted g c = c.loop-patch.invariant.back
+pub returns-clause-logged : goal.returns-clause-logged
+returns-clause-logged g c = c.loop-patch.invariant.back

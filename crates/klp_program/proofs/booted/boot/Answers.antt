@@ -4,7 +4,7 @@ use Rattle.klp_text.specs.TextImage.{TextImage}
 use Rattle.klp_modules.specs.Names.{ModuleTable, names_of_object, opening}
 use Rattle.klp_catalog_text.specs.Plan.{Plan}
 use Rattle.klp_catalog_text.specs.Within.{AreTargetsWithin}
-use Rattle.klp_program.proofs.BootedLemmas.{booted_over, assemble_faulty, boot_faulty, told_of_fault}
+use Rattle.klp_program.proofs.BootedLemmas.{booted_over, assemble_faulty, boot_faulty, reported_fault}
 use Rattle.klp_program.specs.declared.fault.Fault.TheVariants.{Assemble, Boot}
 use Rattle.klp_program.proofs.booted.boot.Goals as goal
 
@@ -28,13 +28,13 @@ returns-clause-booted g c =
 
 pub returns-in_err-catalog-clause-fault : goal.returns-in_err-catalog-clause-fault
 returns-in_err-catalog-clause-fault g c =
-    let told = assemble_faulty c.args.plan c.opened.new.plan c.args.callbacks.items c.in_ok-image.modules c.in_err-catalog.field-0.0
+    let why = assemble_faulty c.args.plan c.opened.new.plan c.args.callbacks.items c.in_ok-image.modules c.in_err-catalog.field-0.0
     c.opened.ensures.rest c.requires.callbacks c.in_ok-image.ensures.sound c.in_ok-image.ensures.opened.1 c.in_err-catalog.ensures.fault in
-    told_of_fault c.args.plan c.from_residual-in_err-catalog.result (Assemble c.in_err-catalog.field-0.0) c.from_residual-in_err-catalog.ensures.1 told
+    reported_fault c.args.plan c.from_residual-in_err-catalog.result (Assemble c.in_err-catalog.field-0.0) c.from_residual-in_err-catalog.ensures.1 why
 
 pub returns-in_err-boot-clause-fault : goal.returns-in_err-boot-clause-fault
 returns-in_err-boot-clause-fault g c =
     let numbered : c.in_ok-image.modules ≡ opening c.in_ok-image.image.image.objects =
     c.in_ok-image.ensures.opened.1 ∙ sym (ap (λ (t : TextImage). opening t.image.objects) c.in_ok-image.ensures.opened.0) in
-    let told = boot_faulty c.in_ok-image.image c.in_ok-image.modules c.in_ok-catalog.catalog c.in_err-boot.field-0.0 numbered c.in_ok-catalog.ensures.names c.in_err-boot.ensures.fault in
-    told_of_fault c.args.plan c.from_residual-in_err-boot.result (Boot c.in_err-boot.field-0.0) c.from_residual-in_err-boot.ensures.1 told
+    let why = boot_faulty c.in_ok-image.image c.in_ok-image.modules c.in_ok-catalog.catalog c.in_err-boot.field-0.0 numbered c.in_ok-catalog.ensures.names c.in_err-boot.ensures.fault in
+    reported_fault c.args.plan c.from_residual-in_err-boot.result (Boot c.in_err-boot.field-0.0) c.from_residual-in_err-boot.ensures.1 why

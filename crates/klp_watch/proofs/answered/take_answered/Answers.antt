@@ -1,7 +1,7 @@
 use Rattle.std.proofs.Common.{◌≤◌, ℕ, length, sym, subst, ◌∙◌}
 use Rattle.klp_core.specs.Rewinding.{IsRewound}
 use Rattle.klp_watch.proofs.DoneLemmas.{accepted_done}
-use Rattle.klp_watch.proofs.AnsweredLemmas.{so_refused, told_given_back, is_back, reaches}
+use Rattle.klp_watch.proofs.AnsweredLemmas.{so_refused, reported_given_back, is_back, reaches}
 use Rattle.klp_watch.proofs.answered.take_answered.Goals as goal
 
 pub returns-then-is_so-clause-done : goal.returns-then-is_so-clause-done
@@ -9,8 +9,8 @@ returns-then-is_so-clause-done g c = λ stacks are.
     so_refused c.args.manager.now c.apply_lent-own.new.self stacks c.args.event.now c.args.answer.now c.args.inside.now.rows c.apply_lent-own.result
     c.apply_lent-own.ensures.taken (sym c.if-is_err.ensures.value) (c.is_same-is_so.ensures.0 c.if-is_so.true) are
 
-pub returns-in-Some-clause-told : goal.returns-in-Some-clause-told
-returns-in-Some-clause-told g c = λ stacks are.
+pub returns-in-Some-clause-reported : goal.returns-in-Some-clause-reported
+returns-in-Some-clause-reported g c = λ stacks are.
     let before = c.args.manager.now in
     let between = c.apply_lent-own.new.self in
     let after = c.rewind.new.self in
@@ -19,7 +19,7 @@ returns-in-Some-clause-told g c = λ stacks are.
     let mark = c.mark-mark.ensures.mark in
     let enough = subst (λ (n : ℕ). n ≤ length between.groups) (sym mark) (reaches before between c.args.event.now c.apply_lent-own.result taken accepted) in
     let back = is_back between after c.rewind.result c.mark-mark.result c.rewind.ensures.rewound c.rewind.ensures.bad_mark enough in
-    told_given_back before between after c.args.event.now c.requires c.apply_lent-own.ensures.setting stacks c.args.answer.now c.apply_lent-own.result
+    reported_given_back before between after c.args.event.now c.requires c.apply_lent-own.ensures.setting stacks c.args.answer.now c.apply_lent-own.result
     c.is_same-is_so.result c.in-Some.difference taken accepted (subst (IsRewound between after) mark back)
     (λ no same. let yes = c.is_same-is_so.ensures.1 same in let wrong : ⊥ = cc in wrong) (c.in-Some.ensures.found stacks are)
 

@@ -11,17 +11,17 @@ use Rattle.klp_watch.proofs.comparing.compare_all.Goals as goal
 
 pub loop-done-init : goal.loop-done-init
 loop-done-init g c = record {
-  run = none_compared c.states_stay_allowed.ensures.run c.args.manager.now c.new-inside.result.rows c.mark-standing.ensures.stands
+  run = none_compared c.states_stay_allowed.ensures.run c.args.manager.now c.new-inside.result.rows c.mark-for_its_clause.ensures.well_formed
       (subst (λ (t : List (List Version)). AreInside t (λ n. [])) (sym c.new-inside.ensures) (none_inside MAX_TASKS));
   setting = refl;
-  stands = c.mark-standing.ensures.stands;
+  well_formed = c.mark-for_its_clause.ensures.well_formed;
 }
 
 pub returns-in-Err-clause-differs : goal.returns-in-Err-clause-differs
 returns-in-Err-clause-differs g c =
     differs_next c.args.manager.now c.loop-done.manager c.compare_item.new.manager c.loop-done.inside.rows c.compare_item.new.inside.rows c.loop-done.invariant.setting
     c.args.items.now c.loop-done.done c.index-items-done.result c.in-Err.cause c.loop-done-test.true c.index-items-done.is
-    c.loop-done.invariant.run c.in-Err.ensures.told
+    c.loop-done.invariant.run c.in-Err.ensures.reported
 
 pub loop-done-preserved : goal.loop-done-preserved
 loop-done-preserved g c =
@@ -34,7 +34,7 @@ loop-done-preserved g c =
           c.events_go_on_where_they_end.ensures c.state_is_that_of_the_events.ensures (take c.loop-done.done items) item
           c.loop-done.invariant.run c.in_default.ensures.done);
       setting = c.compare_item.ensures.setting ∙ c.loop-done.invariant.setting;
-      stands = c.compare_item.ensures.stands;
+      well_formed = c.compare_item.ensures.well_formed;
     }
 
 pub returns-clause-compared : goal.returns-clause-compared

@@ -6,7 +6,7 @@ use Rattle.klp_watch.proofs.watching.watch.Goals as goal
 pub returns-clause-consistent : goal.returns-clause-consistent
 returns-clause-consistent g c = λ run honest.
     let own = c.args.manager.now.managed in
-    let in_place = c.functions_stand.ensures in
+    let in_place = c.functions_are_in_objects.ensures in
     record {
       current = λ first second parted. c.frames_are_current.ensures (setting_of own) own.state first second in_place (subst (IsHonestRun (setting_of own) own.state) parted honest);
       stay = λ first second parted. c.none_has_left.ensures (setting_of own) own.state first second in_place (subst (IsHonestRun (setting_of own) own.state) parted honest);

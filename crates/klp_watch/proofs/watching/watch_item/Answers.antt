@@ -1,8 +1,8 @@
 use Rattle.klp_watch.proofs.DoneLemmas.{if_called, if_returned}
 use Rattle.klp_watch.proofs.watching.watch_item.Goals as goal
 
-pub returns-in-Event-clause-told : goal.returns-in-Event-clause-told
-returns-in-Event-clause-told g c = rw c.in-Event.is c.happen.ensures.told
+pub returns-in-Event-clause-reported : goal.returns-in-Event-clause-reported
+returns-in-Event-clause-reported g c = rw c.in-Event.is c.happen.ensures.reported
 
 pub returns-in-Call-clause-done : goal.returns-in-Call-clause-done
 returns-in-Call-clause-done g c =

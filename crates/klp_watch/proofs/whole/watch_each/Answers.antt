@@ -12,10 +12,10 @@ use Rattle.klp_watch.proofs.whole.watch_each.Goals as goal
 
 pub loop-done-init : goal.loop-done-init
 loop-done-init g c = record {
-  run = nothing_seen c.states_stay_allowed.ensures.run c.args.manager.now c.new-inside.result.rows c.mark-standing.ensures.stands
+  run = nothing_seen c.states_stay_allowed.ensures.run c.args.manager.now c.new-inside.result.rows c.mark-for_its_clause.ensures.well_formed
       (subst (λ (t : List (List Version)). AreInside t (λ n. [])) (sym c.new-inside.ensures) (none_inside MAX_TASKS));
   setting = refl;
-  stands = c.mark-standing.ensures.stands;
+  well_formed = c.mark-for_its_clause.ensures.well_formed;
 }
 
 pub returns-in-Err-clause-fault : goal.returns-in-Err-clause-fault
@@ -23,7 +23,7 @@ returns-in-Err-clause-fault g c = λ nobody.
     rw add-one (breaks_off c.args.manager.now c.loop-done.manager c.make_room.new.manager c.watch_item.new.manager c.loop-done.inside.rows c.loop-done.invariant.setting
     c.make_room.ensures.same c.make_room.ensures.room c.state_is_that_of_the_events.ensures
     c.args.items.now c.loop-done.done c.index-items-done.result c.in-Err.cause c.loop-done-test.true c.index-items-done.is
-    c.loop-done.invariant.run c.in-Err.ensures.told nobody)
+    c.loop-done.invariant.run c.in-Err.ensures.reported nobody)
 
 pub loop-done-preserved : goal.loop-done-preserved
 loop-done-preserved g c =
@@ -38,7 +38,7 @@ loop-done-preserved g c =
           c.events_go_on_where_they_end.ensures c.state_is_that_of_the_events.ensures done item c.watch_item.new.inside.rows
           c.loop-done.invariant.run c.in_default.ensures.done);
       setting = c.watch_item.ensures.setting ∙ ap setting_of c.make_room.ensures.same ∙ c.loop-done.invariant.setting;
-      stands = c.watch_item.ensures.stands;
+      well_formed = c.watch_item.ensures.well_formed;
     }
 
 pub returns-clause-watched : goal.returns-clause-watched

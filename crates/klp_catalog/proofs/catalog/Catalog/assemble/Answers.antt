@@ -2,7 +2,7 @@ use Rattle.std.proofs.Common.{List, length, sym, ap, subst, ◌∙◌, arith}
 use Rattle.klp_modules.specs.Names.{ModuleTable, ObjectNames}
 use Rattle.klp_catalog_text.specs.Scripts.{scripts_of}
 use Rattle.klp_catalog.specs.Catalog.{some_same_site}
-use Rattle.klp_catalog.specs.Assembled.{scripts_told, counts_told}
+use Rattle.klp_catalog.specs.Assembled.{lent_scripts, lent_counts}
 use Rattle.klp_catalog.specs.Stored.{IsStored, stored_patches}
 use Rattle.klp_catalog.proofs.AssembleLemmas.{stored_for, stored_again}
 use Rattle.klp_catalog.proofs.catalog.Catalog.assemble.Goals as goal
@@ -12,7 +12,7 @@ invariant_of-result g c =
     let names = c.args.modules.now.names in
     let stored = c.in_ok-patches.patches.items in
     let given = c.into_patches-given.ensures.patches in
-    subst (λ (n : List ObjectNames). IsStored n c.in_ok-symbols.symbols.items c.into_patches-given.result.1 stored (scripts_told c.args.callbacks.items) (counts_told c.args.callbacks.items))
+    subst (λ (n : List ObjectNames). IsStored n c.in_ok-symbols.symbols.items c.into_patches-given.result.1 stored (lent_scripts c.args.callbacks.items) (lent_counts c.args.callbacks.items))
     (sym (ap (λ (t : ModuleTable). t.names) c.of-over.ensures))
     (stored_for names c.in_ok-symbols.symbols.items c.into_patches-given.result.1 stored c.args.callbacks.items c.args.plan.patches
     c.in_ok-symbols.ensures c.into_patches-given.ensures.names

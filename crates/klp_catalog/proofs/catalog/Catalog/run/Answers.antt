@@ -6,7 +6,7 @@ use mir.Val.{SFits}
 use Rattle.std.proofs.lemmas.Int.{to_z-of_z}
 use Rattle.klp_types.specs.Script.{Script, alloc_count}
 use Rattle.klp_world.specs.Changes.{HasRoom}
-use Rattle.klp_world.specs.Noted.{rows_of_script}
+use Rattle.klp_world.specs.StoredEvent.{rows_of_script}
 use Rattle.klp_catalog.specs.Stored.{number_of}
 use Rattle.klp_catalog.proofs.RunLemmas.{within, the_script, no_script, idle, has_run, kept_so, idle_changes, run_changes}
 use Rattle.klp_catalog.proofs.catalog.Catalog.run.Goals as goal
@@ -48,7 +48,7 @@ pub invariant_of-self : goal.invariant_of-self
 invariant_of-self g c =
     kept_so c.self.inside.patches.items c.self.inside.callbacks.items c.args.self.now c.self.view_is c.self.invariant c.args.patch c.args.place c.args.which c.in_ok-number.number
     (c.in_ok-number.ensures ∙ (λ i. number_of (c.deref.ensures.value i) c.args.patch (c.from.ensures i) c.args.which))
-    c.index_mut.result.now c.index_mut.ensures.value c.run.new.self c.run.ensures.told
+    c.index_mut.result.now c.index_mut.ensures.value c.run.new.self c.run.ensures.lent
 
 pub returns-clause-status : goal.returns-clause-status
 returns-clause-status g c =
@@ -61,7 +61,7 @@ pub returns-clause-catalog : goal.returns-clause-catalog
 returns-clause-catalog g c =
     has_run c.self.inside.patches.items c.self.inside.callbacks.items c.args.self.now c.self.view_is c.self.invariant c.args.patch c.args.place c.args.which c.in_ok-number.number
     (c.in_ok-number.ensures ∙ (λ i. number_of (c.deref.ensures.value i) c.args.patch (c.from.ensures i) c.args.which))
-    c.index_mut.result.now c.index_mut.ensures.value c.run.new.self c.run.ensures.told
+    c.index_mut.result.now c.index_mut.ensures.value c.run.new.self c.run.ensures.lent
 
 pub returns-clause-changes : goal.returns-clause-changes
 returns-clause-changes g c =

@@ -22,5 +22,5 @@ pub returns-clause-setting : goal.returns-clause-setting
 returns-clause-setting g c =
     same_setting_taken c.args.self.now (journaled_of c.take_and_append.new.state c.take_and_append.new.catalog (groups_in c.take_and_append.new.state c.take_and_append.new.journal)) c.args.event.now c.take_and_append.result (returns-clause-taken g c)
 
-pub returns-clause-stands : goal.returns-clause-stands
-returns-clause-stands g c = sound_stands c.take_and_append.new.state c.take_and_append.new.catalog (groups_in c.take_and_append.new.state c.take_and_append.new.journal) (over c.take_and_append.new.state c.take_and_append.new.catalog c.take_and_append.new.journal c.take_and_append.ensures.kept)
+pub returns-clause-well_formed : goal.returns-clause-well_formed
+returns-clause-well_formed g c = sound_stands c.take_and_append.new.state c.take_and_append.new.catalog (groups_in c.take_and_append.new.state c.take_and_append.new.journal) (over c.take_and_append.new.state c.take_and_append.new.catalog c.take_and_append.new.journal c.take_and_append.ensures.kept)

@@ -22,5 +22,5 @@ pub returns-clause-setting : goal.returns-clause-setting
 returns-clause-setting g c =
     same_setting_taken c.args.self.now (journaled_of c.take_unasked.new.state c.take_unasked.new.catalog (groups_in c.take_unasked.new.state c.take_unasked.new.journal)) c.args.event.now c.take_unasked.result (returns-clause-taken g c)
 
-pub returns-clause-stands : goal.returns-clause-stands
-returns-clause-stands g c = sound_stands c.take_unasked.new.state c.take_unasked.new.catalog (groups_in c.take_unasked.new.state c.take_unasked.new.journal) (over c.take_unasked.new.state c.take_unasked.new.catalog c.take_unasked.new.journal c.take_unasked.ensures.kept)
+pub returns-clause-well_formed : goal.returns-clause-well_formed
+returns-clause-well_formed g c = sound_stands c.take_unasked.new.state c.take_unasked.new.catalog (groups_in c.take_unasked.new.state c.take_unasked.new.journal) (over c.take_unasked.new.state c.take_unasked.new.catalog c.take_unasked.new.journal c.take_unasked.ensures.kept)

@@ -26,7 +26,7 @@ loop-event-preserved g c =
         accepted = omega (arith, w.accepted-is, so_far.accepted);
         refused = omega (arith, w.refused-is, so_far.refused);
         setting = setting;
-        stands = c.apply_unasked.ensures.stands;
+        well_formed = c.apply_unasked.ensures.well_formed;
       }
       | in-Err w ↦ record {
         taken = recounted first new (take (c.loop-event.event-index + 1) events) accepted _ (refused + 1) _ w.accepted-is w.refused-is
@@ -35,12 +35,12 @@ loop-event-preserved g c =
         accepted = omega (arith, w.accepted-is, so_far.accepted);
         refused = omega (arith, w.refused-is, so_far.refused);
         setting = setting;
-        stands = c.apply_unasked.ensures.stands;
+        well_formed = c.apply_unasked.ensures.well_formed;
       }
     ]
 
 pub returns-clause-withdrawn : goal.returns-clause-withdrawn
 returns-clause-withdrawn g c =
     let so_far = c.loop-event.invariant in
-    c.what_is_withdrawn_leaves_no_trace.ensures c.args.self.now c.loop-event.self c.mark-standing.ensures.stands so_far.stands
+    c.what_is_withdrawn_leaves_no_trace.ensures c.args.self.now c.loop-event.self c.mark-for_its_clause.ensures.well_formed so_far.well_formed
     (goes_on c.args.self.now c.loop-event.self (take c.loop-event.event-index c.args.events.now) (c.loop-event.accepted, c.loop-event.refused) so_far.taken) so_far.setting

@@ -1,6 +1,6 @@
 use Rattle.std.proofs.Common.{◌≡◌, ◌≤◌, take}
 use Rattle.klp_manager_state.specs.Managed.{setting_of}
-use Rattle.klp_core.specs.Journaled.{Stands}
+use Rattle.klp_core.specs.Journaled.{IsWellFormed}
 use Rattle.klp_core.specs.Taking.{AreTaken}
 use Rattle.klp_core.proofs.manager.Manager.run.Given as goal
 
@@ -11,5 +11,5 @@ invariant-loop-event g l = record {
   accepted : l.accepted ≤ l.event-index;
   refused : l.refused ≤ l.event-index;
   setting : setting_of l.self.managed ≡ setting_of l.initial.self.managed;
-  stands : Stands l.self;
+  well_formed : IsWellFormed l.self;
 }

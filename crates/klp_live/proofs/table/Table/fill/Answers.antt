@@ -6,7 +6,7 @@ use Rattle.klp_live.proofs.table.Table.fill.Goals as goal
 pub returns : goal.returns
 returns g c =
     let m = (g.M.Machine.journaled c.args.machine.now) in
-    let tasks = tasks_stand m c.mark-standing.ensures.stands (c.states_stay_allowed.ensures.run (setting_of m.managed)) in
+    let tasks = tasks_stand m c.mark-for_its_clause.ensures.well_formed (c.states_stay_allowed.ensures.run (setting_of m.managed)) in
     record {
       height = c.fill_rows.ensures.count;
       width = c.fill_states.ensures.count;

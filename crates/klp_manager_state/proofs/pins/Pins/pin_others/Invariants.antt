@@ -9,6 +9,6 @@ abbrev pub invariant-loop-other : goal.invariant-loop-other
 invariant-loop-other l = record {
   pinned : pin_all (filter (λ p. not (p == l.patch)) (drop l.other-index l.patches)) l.self ≡ pin_all (filter (λ p. not (p == l.patch)) l.patches) l.initial.self;
   back : PinsGoBack l.initial.self l.self l.initial.log l.log;
-  few : length l.log.noted ≤ length l.initial.log.noted + l.other-index;
+  few : length l.log.logged ≤ length l.initial.log.logged + l.other-index;
   room : l.log.room ≡ l.initial.log.room;
 }

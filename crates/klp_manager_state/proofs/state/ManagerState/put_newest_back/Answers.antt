@@ -12,8 +12,8 @@ use Rattle.klp_manager_state.proofs.state.ManagerState.put_newest_back.Goals as 
 
 pub put_small_back-requires-clause-due : goal.put_small_back-requires-clause-due
 put_small_back-requires-clause-due c =
-    newest_is_due (rows_in c.args.self.now) c.args.self.now.log.noted c.take_small.new.self.noted (row_of c.in-Some.newest)
-    (ap (λ (l : RecordList). l.noted) c.in-Some.ensures.newest) c.requires.due
+    newest_is_due (rows_in c.args.self.now) c.args.self.now.log.logged c.take_small.new.self.logged (row_of c.in-Some.newest)
+    (ap (λ (l : RecordList). l.logged) c.in-Some.ensures.newest) c.requires.due
 
 pub returns-in-Some-clause-one : goal.returns-in-Some-clause-one
 returns-in-Some-clause-one c = λ _.
@@ -34,12 +34,12 @@ returns-in-Some-take_switched-clause-one c = λ _.
 pub put_other_back-requires-clause-some : goal.put_other_back-requires-clause-some
 put_other_back-requires-clause-some c =
     let same = c.in_default-take_switched.ensures.unchanged ∙ c.in_default.ensures.unchanged in
-    omega (arith, ap (λ (l : RecordList). length l.noted) same, c.noted.ensures.value)
+    omega (arith, ap (λ (l : RecordList). length l.logged) same, c.logged.ensures.value)
 
 pub put_other_back-requires-clause-due : goal.put_other_back-requires-clause-due
 put_other_back-requires-clause-due c =
     let same = c.in_default-take_switched.ensures.unchanged ∙ c.in_default.ensures.unchanged in
-    subst (λ (l : RecordList). are_due (rows_in c.args.self.now) l.noted ≡ true) (sym same) c.requires.due
+    subst (λ (l : RecordList). are_due (rows_in c.args.self.now) l.logged ≡ true) (sym same) c.requires.due
 
 pub returns-clause-one : goal.returns-clause-one
 returns-clause-one c = λ _.

@@ -6,8 +6,8 @@ use Rattle.klp_manager_state.proofs.state.ManagerState.put_other_back.Goals as g
 
 pub put_back-requires-clause-due : goal.put_back-requires-clause-due
 put_back-requires-clause-due c =
-    newest_is_due (rows_in c.args.self.now) c.args.self.now.log.noted c.take_newest.new.self.noted c.in-Some.newest
-    (ap (λ (l : RecordList). l.noted) c.in-Some.ensures.newest) c.requires.due
+    newest_is_due (rows_in c.args.self.now) c.args.self.now.log.logged c.take_newest.new.self.logged c.in-Some.newest
+    (ap (λ (l : RecordList). l.logged) c.in-Some.ensures.newest) c.requires.due
 
 pub returns-clause-one : goal.returns-clause-one
 returns-clause-one c =

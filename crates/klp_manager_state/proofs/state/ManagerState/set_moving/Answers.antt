@@ -6,8 +6,8 @@ use Rattle.klp_manager_state.proofs.RowLemmas.{moving_back}
 use Rattle.klp_manager_state.proofs.state.ManagerState.set_moving.Goals as goal
 use Rattle.klp_manager_state.proofs.state.ManagerState.set_moving.Goals.{in-Some, in-None}
 
-pub returns-clause-noted : goal.returns-clause-noted
-returns-clause-noted c =
+pub returns-clause-logged : goal.returns-clause-logged
+returns-clause-logged c =
     let row : c.match-self.row ≡ row_of_moving c.args.self.now.moving =
     elim c.match-self.branch [
       | in-Some w ↦ w.row-is ∙ ap row_of_moving (sym w.in-Some.is)

@@ -23,7 +23,7 @@ pub loop-number-preserved : goal.loop-number-preserved
 loop-number-preserved c =
     walked_past (in_state c.args.state) c.loop-number.left.bits c.in-Some.number _ c.args.self.now c.loop-number.self c.set_state.new.self c.args.log.now c.loop-number.log c.set_state.new.log
     (record_if_switched c.in-Some.number (task_at c.loop-number.self c.in-Some.number) (task_at c.set_state.new.self c.in-Some.number))
-    c.loop-number.invariant c.in-Some.ensures.some c.set_state.ensures.tasks refl c.set_state.ensures.noted.undo c.set_state.ensures.noted.records
+    c.loop-number.invariant c.in-Some.ensures.some c.set_state.ensures.tasks refl c.set_state.ensures.logged.undo c.set_state.ensures.logged.records
 
 pub returns-clause-tasks : goal.returns-clause-tasks
 returns-clause-tasks c =

@@ -26,7 +26,7 @@ loop-number-preserved c =
     let list = listed c.args.blocked.now in
     walked_past (switched list.0 c.args.target) c.loop-number.left.bits c.in-Some.number _ c.args.self.now c.loop-number.self c.switch_if_clear.new.self c.args.log.now c.loop-number.log c.switch_if_clear.new.log
     (record_if_switched c.in-Some.number (task_at c.loop-number.self c.in-Some.number) (task_at c.switch_if_clear.new.self c.in-Some.number))
-    c.loop-number.invariant c.in-Some.ensures.some (c.switch_if_clear.ensures.tasks list.0 list.1) refl c.switch_if_clear.ensures.noted.undo c.switch_if_clear.ensures.noted.records
+    c.loop-number.invariant c.in-Some.ensures.some (c.switch_if_clear.ensures.tasks list.0 list.1) refl c.switch_if_clear.ensures.logged.undo c.switch_if_clear.ensures.logged.records
 
 pub returns-clause-tasks : goal.returns-clause-tasks
 returns-clause-tasks c = λ versions same.

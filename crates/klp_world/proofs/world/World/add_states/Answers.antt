@@ -3,10 +3,10 @@ use Rattle.std.proofs.lemmas.List.{take_all}
 use Rattle.klp_types.specs.World.{Installed}
 use Rattle.klp_types.specs.World.{World, with_patch}
 use Rattle.std.proofs.lemmas.Grind.{common_steps}
-use Rattle.klp_world.specs.Undo.{undone, TellChanges}
-use Rattle.klp_world.specs.Noted.{rows_of_add}
+use Rattle.klp_world.specs.Undo.{undone, HaveEffects}
+use Rattle.klp_world.specs.StoredEvent.{rows_of_add}
 use Rattle.klp_world.proofs.UndoLemmas.{undone_add}
-use Rattle.klp_world.proofs.ToldLemmas.{told_add}
+use Rattle.klp_world.proofs.EffectLemmas.{effective_add}
 use Rattle.klp_world.proofs.world.World.add_states.Goals as goal
 
 pub returns : goal.returns
@@ -20,6 +20,6 @@ returns c =
         world = made;
         records = grind (arith, common_steps);
         undo = ap (λ (w : World). undone w (rows_of_add c.args.patch c.args.ids.now)) made ∙ undone_add now c.args.patch c.args.ids.now c.requires.fresh;
-        told = subst (λ (w : World). TellChanges w (rows_of_add c.args.patch c.args.ids.now)) (sym made) (told_add now c.args.patch c.args.ids.now c.requires.fresh);
+        effective = subst (λ (w : World). HaveEffects w (rows_of_add c.args.patch c.args.ids.now)) (sym made) (effective_add now c.args.patch c.args.ids.now c.requires.fresh);
       };
     }

@@ -1,10 +1,10 @@
 use Rattle.std.proofs.Common.{ap, sym, None, ◌≡◌, ◌∙◌}
 use Rattle.klp_types.specs.Script.{allocated}
 use Rattle.klp_types.specs.World.{World, Shadow, with_variable, variable}
-use Rattle.klp_world.specs.Noted.{noting, row_if_added}
+use Rattle.klp_world.specs.StoredEvent.{noting, row_if_added}
 use Rattle.klp_world.proofs.AddedLemmas.{not_there, none_against}
 use Rattle.klp_world.proofs.UndoLemmas.{alloc_undone}
-use Rattle.klp_world.proofs.ToldLemmas.{alloc_told}
+use Rattle.klp_world.proofs.EffectLemmas.{alloc_effective}
 use Rattle.klp_world.proofs.world.World.alloc.Goals as goal
 
 pub returns-clause-changes : goal.returns-clause-changes
@@ -16,5 +16,5 @@ returns-clause-changes c =
       world = made ∙ sym (ap (allocated c.args.self.now c.args.key c.args.value) none);
       records = c.note.ensures ∙ sym (ap (λ found. noting c.args.log.now (row_if_added c.args.key found)) none);
       undo = alloc_undone c.args.self.now c.args.key c.args.value _ made none;
-      told = alloc_told c.args.self.now c.args.key c.args.value _ made none;
+      effective = alloc_effective c.args.self.now c.args.key c.args.value _ made none;
     }

@@ -1,5 +1,5 @@
 use Rattle.std.proofs.Common.{ap, length, arith}
-use Rattle.klp_world.proofs.NotedLemmas.{length-dropped}
+use Rattle.klp_world.proofs.LoggedLemmas.{length-dropped}
 use Rattle.klp_world.proofs.PatchLemmas.{nothing_dropped, rows_seen}
 use Rattle.klp_world.proofs.world.World.drop_records.Goals as goal
 

@@ -4,12 +4,12 @@ use Rattle.klp_types.specs.declared.record.Record.{Record}
 use Rattle.klp_types.specs.declared.record.Record.TheVariants.{InstalledPatch}
 use Rattle.klp_types.specs.Records.{RecordList}
 use Rattle.klp_types.specs.declared.limits.TheConstants.{MAX_PATCHES, MAX_STATES}
-use Rattle.klp_world.proofs.NotedLemmas.{length-states, length-dropped}
-use Rattle.klp_world.specs.Undo.{undone, TellChanges}
-use Rattle.klp_world.specs.Noted.{noting, state_row, rows_of_drop}
+use Rattle.klp_world.proofs.LoggedLemmas.{length-states, length-dropped}
+use Rattle.klp_world.specs.Undo.{undone, HaveEffects}
+use Rattle.klp_world.specs.StoredEvent.{noting, state_row, rows_of_drop}
 use Rattle.klp_world.proofs.PatchLemmas.{not_in, nothing_dropped, rows_dropped, taken_from, first_in, states_in}
 use Rattle.klp_world.proofs.UndoLemmas.{undone_drop}
-use Rattle.klp_world.proofs.ToldLemmas.{told_drop}
+use Rattle.klp_world.proofs.EffectLemmas.{effective_drop}
 use Rattle.klp_world.proofs.world.World.drop_states.Goals as goal
 
 pub returns-in_default : goal.returns-in_default
@@ -18,9 +18,9 @@ returns-in_default c =
     record {
       changes = record {
         world = not_in c.args.patch c.deref.result.now c.self.inside.patches.items c.self.inside.shadow c.args.self.now c.deref.ensures.value c.self.view_is c.in_default.ensures;
-        records = ap (λ noted. record c.args.log.now { noted = noted }) (sym (append-nil c.args.log.now.noted)) ∙ ap (noting c.args.log.now) (sym nothing);
+        records = ap (λ logged. record c.args.log.now { logged = logged }) (sym (append-nil c.args.log.now.logged)) ∙ ap (noting c.args.log.now) (sym nothing);
         undo = ap (undone c.args.self.now) nothing;
-        told = subst (TellChanges c.args.self.now) (sym nothing) tt;
+        effective = subst (HaveEffects c.args.self.now) (sym nothing) tt;
       };
     }
 
@@ -35,7 +35,7 @@ note-requires c =
     let rows = ap length (rows_dropped c.args.patch c.deref.result.now c.self.inside.patches.items c.self.inside.shadow c.args.self.now c.deref.ensures.value c.self.view_is c.in-Some.place c.in-Some.ensures c.take_out-installed.result c.take_out-installed.ensures.patch) ∙ length-dropped c.args.patch c.take_out-installed.result.values c.in-Some.place in
     let seen = ap length c.states.ensures.value in
     let room = ap (λ (l : RecordList). l.room) c.note_states.ensures in
-    let noted = ap (λ (l : RecordList). length l.noted) c.note_states.ensures ∙ length-append c.args.log.now.noted _ in
+    let logged = ap (λ (l : RecordList). length l.logged) c.note_states.ensures ∙ length-append c.args.log.now.logged _ in
     let states = length-states c.args.patch c.states.result.now in
     omega (arith, c.requires)
 
@@ -53,12 +53,12 @@ returns c =
     record {
       changes = record {
         world = taken;
-        records = c.note.ensures ∙ ap (λ (l : RecordList). record l { noted = l.noted ++ last }) c.note_states.ensures
-            ∙ ap (λ (noted : List Record). record c.args.log.now { noted = noted })
-            (append_assoc c.args.log.now.noted _ last ∙ ap (c.args.log.now.noted ++◌) (ap (λ states. map (state_row c.args.patch) (reverse states) ++ last) c.states.ensures.value ∙ sym rows));
+        records = c.note.ensures ∙ ap (λ (l : RecordList). record l { logged = l.logged ++ last }) c.note_states.ensures
+            ∙ ap (λ (logged : List Record). record c.args.log.now { logged = logged })
+            (append_assoc c.args.log.now.logged _ last ∙ ap (c.args.log.now.logged ++◌) (ap (λ states. map (state_row c.args.patch) (reverse states) ++ last) c.states.ensures.value ∙ sym rows));
         undo = ap (λ (w : World). undone w (rows_of_drop c.args.self.now c.args.patch)) taken
             ∙ undone_drop c.args.self.now c.args.patch c.in-Some.place first few_patches few_states;
-        told = subst (λ (w : World). TellChanges w (rows_of_drop c.args.self.now c.args.patch)) (sym taken)
-            (told_drop c.args.self.now c.args.patch c.in-Some.place first few_patches few_states);
+        effective = subst (λ (w : World). HaveEffects w (rows_of_drop c.args.self.now c.args.patch)) (sym taken)
+            (effective_drop c.args.self.now c.args.patch c.in-Some.place first few_patches few_states);
       };
     }

@@ -1,11 +1,11 @@
 use Rattle.std.proofs.Common.{ap, sym, subst, ◌∙◌, ◌≤◌, length, arith, rules}
 use Rattle.std.specs.FinMap as finite
 use Rattle.klp_types.specs.World.{World, Shadow, without_id}
-use Rattle.klp_world.specs.Undo.{undone, TellChanges}
-use Rattle.klp_world.specs.Noted.{rows_of_free_all}
+use Rattle.klp_world.specs.Undo.{undone, HaveEffects}
+use Rattle.klp_world.specs.StoredEvent.{rows_of_free_all}
 use Rattle.klp_types.specs.declared.limits.TheConstants.{MAX_VARIABLES}
 use Rattle.klp_world.proofs.UndoLemmas.{count_parted, undone_free_all}
-use Rattle.klp_world.proofs.ToldLemmas.{told_free_all}
+use Rattle.klp_world.proofs.EffectLemmas.{effective_free_all}
 use Rattle.klp_world.proofs.world.World.free_all.Goals as goal
 
 pub overflow_sub-result : goal.overflow_sub-result
@@ -36,5 +36,5 @@ returns-clause-changes c =
       world = search rules;
       records = search rules;
       undo = ap (λ (w : World). undone w (rows_of_free_all c.args.self.now c.args.id)) made ∙ undone_free_all c.args.self.now c.args.id few;
-      told = subst (λ (w : World). TellChanges w (rows_of_free_all c.args.self.now c.args.id)) (sym made) (told_free_all c.args.self.now c.args.id few);
+      effective = subst (λ (w : World). HaveEffects w (rows_of_free_all c.args.self.now c.args.id)) (sym made) (effective_free_all c.args.self.now c.args.id few);
     }

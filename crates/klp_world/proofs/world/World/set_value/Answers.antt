@@ -1,10 +1,10 @@
 use Rattle.std.proofs.Common.{ap, sym, subst, ◌∙◌, arith}
 use Rattle.std.proofs.lemmas.Grind.{common_steps}
-use Rattle.klp_world.specs.Undo.{undone, TellChanges}
-use Rattle.klp_world.specs.Noted.{rows_of_set}
+use Rattle.klp_world.specs.Undo.{undone, HaveEffects}
+use Rattle.klp_world.specs.StoredEvent.{rows_of_set}
 use Rattle.klp_types.specs.World.{World}
 use Rattle.klp_world.proofs.UndoLemmas.{undone_set}
-use Rattle.klp_world.proofs.ToldLemmas.{told_set}
+use Rattle.klp_world.proofs.EffectLemmas.{effective_set}
 use Rattle.klp_world.proofs.world.World.set_value.Goals as goal
 
 pub returns-then-was-value : goal.returns-then-was-value
@@ -14,8 +14,8 @@ returns-then-was-value c = record {
     records = grind (arith, common_steps);
     undo = ap (λ (w : World). undone w (rows_of_set c.args.self.now c.args.patch c.args.id c.args.value)) c.replace_value.ensures.world
         ∙ undone_set c.args.self.now c.args.patch c.args.id c.args.value;
-    told = subst (λ (w : World). TellChanges w (rows_of_set c.args.self.now c.args.patch c.args.id c.args.value)) (sym c.replace_value.ensures.world)
-        (told_set c.args.self.now c.args.patch c.args.id c.args.value);
+    effective = subst (λ (w : World). HaveEffects w (rows_of_set c.args.self.now c.args.patch c.args.id c.args.value)) (sym c.replace_value.ensures.world)
+        (effective_set c.args.self.now c.args.patch c.args.id c.args.value);
   };
 }
 
@@ -26,8 +26,8 @@ returns-else-was-value c = record {
     records = grind (arith, common_steps);
     undo = ap (λ (w : World). undone w (rows_of_set c.args.self.now c.args.patch c.args.id c.args.value)) c.replace_value.ensures.world
         ∙ undone_set c.args.self.now c.args.patch c.args.id c.args.value;
-    told = subst (λ (w : World). TellChanges w (rows_of_set c.args.self.now c.args.patch c.args.id c.args.value)) (sym c.replace_value.ensures.world)
-        (told_set c.args.self.now c.args.patch c.args.id c.args.value);
+    effective = subst (λ (w : World). HaveEffects w (rows_of_set c.args.self.now c.args.patch c.args.id c.args.value)) (sym c.replace_value.ensures.world)
+        (effective_set c.args.self.now c.args.patch c.args.id c.args.value);
   };
 }
 
@@ -38,7 +38,7 @@ returns-in_default c = record {
     records = grind (arith, common_steps);
     undo = ap (λ (w : World). undone w (rows_of_set c.args.self.now c.args.patch c.args.id c.args.value)) c.replace_value.ensures.world
         ∙ undone_set c.args.self.now c.args.patch c.args.id c.args.value;
-    told = subst (λ (w : World). TellChanges w (rows_of_set c.args.self.now c.args.patch c.args.id c.args.value)) (sym c.replace_value.ensures.world)
-        (told_set c.args.self.now c.args.patch c.args.id c.args.value);
+    effective = subst (λ (w : World). HaveEffects w (rows_of_set c.args.self.now c.args.patch c.args.id c.args.value)) (sym c.replace_value.ensures.world)
+        (effective_set c.args.self.now c.args.patch c.args.id c.args.value);
   };
 }

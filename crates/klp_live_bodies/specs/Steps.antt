@@ -1,0 +1,90 @@
+-- What one step of a body comes to.
+use Rattle.std.specs.Prelude.{◌≡◌, ◌≢◌, ℕ, ◌-◌, ◌<◌, Bool, true, false, List, [], ◌∷◌, ◌++◌, length, take, Ok, Err}
+use Rattle.klp_types.specs.declared.version.Version.{Version}
+use Rattle.klp_types.specs.declared.version.Target.{Target}
+use Rattle.klp_types.specs.declared.limits.TheConstants.{MAX_FRAMES}
+use Rattle.klp_types.specs.Setting.{Setting}
+use Rattle.klp_model.specs.State.{State}
+use Rattle.klp_model.specs.declared.event.Event.{Event}
+use Rattle.klp_model.specs.declared.event.Event.TheVariants.{Sleep}
+use Rattle.klp_model.specs.declared.event.Refusal.{Refusal}
+use Rattle.klp_model.specs.declared.event.Refusal.TheVariants.{JournalFull}
+use Rattle.klp_model.specs.Legal.{History, state_after_history}
+use Rattle.klp_model.specs.Run.{answer}
+use Rattle.klp_live.specs.declared.target.EnterFault.{EnterFault}
+use Rattle.klp_live.specs.declared.target.EnterFault.TheVariants.{NoTable}
+use Rattle.klp_live.specs.Found.{entered}
+use Rattle.klp_live.specs.Admitting.{FindsNoRoom}
+use Rattle.klp_live.specs.Seats.{IsLast}
+use Rattle.klp_live_bodies.specs.declared.step.Accepted.{Accepted}
+use Rattle.klp_live_bodies.specs.declared.step.Step.{Step}
+use Rattle.klp_live_bodies.specs.declared.step.Step.TheVariants.{Submit, Call, Return, Nap}
+use Rattle.klp_live_bodies.specs.declared.step.What.{What}
+use Rattle.klp_live_bodies.specs.declared.step.What.TheVariants.{Receipt, Refused, Entered, NoEntry, Returned, Deep}
+
+-- the versions that a task is inside of, innermost last: those that it entered and hasn't returned from
+abbrev pub frames_after : List Version → What → List Version
+frames_after frames (Entered target) = frames ++ target.version ∷ []
+frames_after frames Returned = take (length frames - 1) frames
+frames_after frames other = frames
+
+-- one where an event was accepted
+abbrev pub taken_by : What → ℕ
+taken_by (Receipt accepted) = 1
+taken_by other = 0
+
+-- whether the step submits an event
+abbrev pub submits : Step → Bool
+submits (Submit event) = true
+submits Nap = true
+submits other = false
+
+-- the event was accepted: it stands last in what is known then, with its reply and its number, behind all that was known before
+pub record IsReceipt (before : ℕ) (seen : History) (event : Event) (accepted : Accepted) : Type 0 where
+  pub event_is : accepted.event ≡ event
+  pub number : accepted.number ≡ length seen
+  pub later : before < accepted.number
+  pub well_formed : IsLast seen event accepted.reply
+
+-- what the machine answers in the state that the list leads to; or the machine would accept it, and a journal of the list has no room
+pub record IsRefusal (setting : Setting) (base : State) (seen : History) (event : Event) (refusal : Refusal) : Type 0 where
+  pub answers : refusal ≢ JournalFull → answer setting (state_after_history setting base seen) event ≡ Err refusal
+  pub full : refusal ≡ JournalFull → FindsNoRoom setting base seen event
+
+abbrev pub IsSubmission : Setting → State → ℕ → History → Event → What → Type 0
+IsSubmission setting base before seen event (Receipt accepted) = IsReceipt before seen event accepted
+IsSubmission setting base before seen event (Refused refusal) = IsRefusal setting base seen event refusal
+IsSubmission setting base before seen event other = ⊥
+
+-- a version was entered: there was room for it, and it is what the machine picks in the state that the list leads to
+pub record IsEntry (setting : Setting) (base : State) (task : ℕ) (frames : List Version) (seen : History) (site : ℕ) (target : Target) : Type 0 where
+  pub room : length frames < MAX_FRAMES
+  pub answers : entered setting (state_after_history setting base seen) task site ≡ Ok target
+
+-- nothing was entered, as the machine says too; or there was no table, and nothing new is known
+pub record IsNoEntry (setting : Setting) (base : State) (task : ℕ) (before : ℕ) (frames : List Version) (seen : History) (site : ℕ) (fault : EnterFault) : Type 0 where
+  pub room : length frames < MAX_FRAMES
+  pub answers : fault ≢ NoTable → entered setting (state_after_history setting base seen) task site ≡ Err fault
+  pub unread : fault ≡ NoTable → length seen ≡ before
+
+-- the task is inside of as many versions as are kept of one, so nothing was entered
+pub record IsDeep (before : ℕ) (frames : List Version) (seen : History) : Type 0 where
+  pub full : length frames ≡ MAX_FRAMES
+  pub same : length seen ≡ before
+
+abbrev pub IsCall : Setting → State → ℕ → ℕ → List Version → History → ℕ → What → Type 0
+IsCall setting base task before frames seen site (Entered target) = IsEntry setting base task frames seen site target
+IsCall setting base task before frames seen site (NoEntry fault) = IsNoEntry setting base task before frames seen site fault
+IsCall setting base task before frames seen site Deep = IsDeep before frames seen
+IsCall setting base task before frames seen site other = ⊥
+
+abbrev pub IsReturn : ℕ → History → What → Type 0
+IsReturn before seen Returned = length seen ≡ before
+IsReturn before seen other = ⊥
+
+-- what a step of a task came to, where so many events were known before it, and these are known after it
+abbrev pub CameTo : Setting → State → ℕ → ℕ → List Version → History → Step → What → Type 0
+CameTo setting base task before frames seen (Submit event) what = IsSubmission setting base before seen event what
+CameTo setting base task before frames seen Nap what = IsSubmission setting base before seen (Sleep task frames) what
+CameTo setting base task before frames seen (Call site) what = IsCall setting base task before frames seen site what
+CameTo setting base task before frames seen Return what = IsReturn before seen what

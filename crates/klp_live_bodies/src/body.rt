@@ -1,0 +1,64 @@
+//! A body: what one task does, step by step.
+ghost use Rattle.std.specs.Prelude.{◌≡◌};
+
+use crate::fault::BodyFault;
+use crate::gate::Gate;
+use crate::run::run_steps;
+use crate::step::{Outcome, Step};
+use crossbeam_utils::rule::Protocol;
+use klp_core::Machine;
+use klp_live::{Live, Published, Start, TaskPass, View};
+use std::alloc::Global;
+use std::sync::Wait;
+
+/// A task's pass, with the gate that is asked before each of its steps.
+#[derive(Drop)]
+pub struct TaskBody<S: Start + Protocol<Published, View>, G: Gate + Drop> {
+    pub pass: TaskPass<S>,
+    pub gate: G,
+}
+
+impl<S: Start + Protocol<Published, View>, G: Gate + Drop> TaskBody<S, G> {
+    ghost use Rattle.std.specs.Prelude.{◌<◌, ◌^◌, ◌++◌, List, length};
+    ghost use Rattle.klp_live_bodies.specs.declared.step.Outcome.{Outcome as AnyOutcome};
+    ghost use Rattle.klp_live_bodies.specs.Running.{Ends};
+
+    /// The body of the task that has this pass.
+    pub fn new(pass: TaskPass<S>, gate: G) -> TaskBody<S, G>
+        ensures pass { result.pass ≡ pass }
+        ensures gate { result.gate ≡ gate }
+    {
+        TaskBody { pass, gate }
+    }
+
+    /// The pass of a body that doesn't run.
+    pub(crate) fn into_pass(self) -> TaskPass<S>
+        ensures { result ≡ self.pass }
+    {
+        let TaskBody { pass, gate: _gate } = self;
+        pass
+    }
+
+    /// Does the steps, one after the other, each once the gate lets the task in, and puts what each comes to behind what
+    /// is on `out`. It may wait wherever it submits an event. Where it stops before the last step, the outcomes of the
+    /// steps that are done are on `out`.
+    pub fn run<M: Machine + Drop, R: Wait + Drop, W: Wait>(
+        self,
+        rt: &W,
+        alloc: Global,
+        live: &Live<S, M, R>,
+        steps: &[Step],
+        out: &mut Vec<Outcome>,
+    ) -> Result<TaskPass<S>, BodyFault<S>>
+        requires { length steps.now < 2 ^ 32 }
+        ensures { (outcomes : List AnyOutcome) × (out.new.items ≡ out.old.items ++ outcomes)
+            × Ends S.setting S.base (G.answers self.gate) self.pass steps.now outcomes result }
+    {
+        let TaskBody { pass, gate } = self;
+        let mut pass = pass;
+        match run_steps(rt, alloc, live, &gate, &mut pass, steps, out) {
+            Ok(()) => Ok(pass),
+            Err(cause) => Err(BodyFault { pass, cause }),
+        }
+    }
+}

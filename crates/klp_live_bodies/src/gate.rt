@@ -1,0 +1,14 @@
+//! What holds a task up before a step.
+use klp_types::TaskId;
+
+/// Asked before each step of a task, until it lets the task in. Steps count from 0.
+pub trait Gate {
+    ghost use Rattle.std.specs.Prelude.{ℕ, Bool};
+
+    /// Which answers it may give a task before a step. A gate that says nothing of it may give any.
+    ghost answers: { Self → ℕ → ℕ → Bool → Type 0 } = { λ _ _ _ _. Unit {0} };
+
+    /// Whether the task may take this step now.
+    fn before(&self, task: TaskId, step: u32) -> bool
+        ensures { answers self.now task step result };
+}

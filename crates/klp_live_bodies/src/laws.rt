@@ -1,0 +1,37 @@
+//! What the outcomes of a body say of the list that its task knows in the end. Each law is the contract of a function
+//! that does nothing.
+ghost use Rattle.std.specs.Prelude.{◌≡◌, ℕ, ◌<◌, ◌≤◌, List, length, take, slice_get, Some};
+ghost use Rattle.klp_types.specs.declared.version.Version.{Version};
+ghost use Rattle.klp_types.specs.Setting.{Setting};
+ghost use Rattle.klp_model.specs.State.{State};
+ghost use Rattle.klp_model.specs.Legal.{History};
+ghost use Rattle.klp_live.specs.Seats.{IsLast};
+ghost use Rattle.klp_live_bodies.specs.declared.step.Accepted.{Accepted};
+ghost use Rattle.klp_live_bodies.specs.declared.step.Outcome.{Outcome};
+ghost use Rattle.klp_live_bodies.specs.declared.step.Step.{Step};
+ghost use Rattle.klp_live_bodies.specs.declared.step.What.TheVariants.{Receipt};
+ghost use Rattle.klp_live_bodies.specs.Running.{AreDone};
+
+/// What is known never falls, and is never less than at the start or more than in the end. The number of a receipt is
+/// above all that was known before, and its event stands there with its reply.
+pub fn outcomes_are_reported_in_order()
+    ensures within { (setting : Setting) (base : State) (task : ℕ) (list : History) (before : ℕ) (frames : List Version)
+        (steps : List Step) (outcomes : List Outcome) (place : ℕ) (outcome : Outcome)
+        → AreDone setting base task list before frames steps outcomes → slice_get outcomes place ≡ Some outcome
+        → (before ≤ outcome.known) × (outcome.known ≤ length list) }
+    ensures order { (setting : Setting) (base : State) (task : ℕ) (list : History) (before : ℕ) (frames : List Version)
+        (steps : List Step) (outcomes : List Outcome) (place behind : ℕ) (earlier later : Outcome)
+        → AreDone setting base task list before frames steps outcomes → slice_get outcomes place ≡ Some earlier
+        → slice_get outcomes behind ≡ Some later → place < behind → earlier.known ≤ later.known }
+    ensures receipts { (setting : Setting) (base : State) (task : ℕ) (list : History) (before : ℕ) (frames : List Version)
+        (steps : List Step) (outcomes : List Outcome) (place : ℕ) (outcome : Outcome) (accepted : Accepted)
+        → AreDone setting base task list before frames steps outcomes → slice_get outcomes place ≡ Some outcome
+        → outcome.what ≡ Receipt accepted
+        → (accepted.number ≡ outcome.known) × (before < accepted.number)
+        × IsLast (take accepted.number list) accepted.event accepted.reply }
+    ensures rising { (setting : Setting) (base : State) (task : ℕ) (list : History) (before : ℕ) (frames : List Version)
+        (steps : List Step) (outcomes : List Outcome) (place behind : ℕ) (earlier later : Outcome) (accepted : Accepted)
+        → AreDone setting base task list before frames steps outcomes → slice_get outcomes place ≡ Some earlier
+        → slice_get outcomes behind ≡ Some later → place < behind → later.what ≡ Receipt accepted
+        → earlier.known < accepted.number }
+{}

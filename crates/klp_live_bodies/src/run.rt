@@ -1,0 +1,171 @@
+//! How the steps of a body are done.
+ghost use Rattle.std.specs.Prelude.{◌≡◌, ◌+◌, ◌<◌, ◌≤◌, ◌^◌, ◌++◌, ◌∷◌, [], true, false, List, length, IfSome, IfNone, MatchBool, MatchResult, slice_get, Some, Ok, Err, vec_len, vec_capacity};
+ghost use mathlib.Core.List.{IsPrefix};
+ghost use Rattle.klp_types.specs.declared.limits.TheConstants.{MAX_FRAMES};
+ghost use Rattle.klp_model.specs.Legal.{IsLegal};
+ghost use Rattle.klp_live_bodies.specs.declared.step.Outcome.{Outcome as AnyOutcome};
+ghost use Rattle.klp_live_bodies.specs.Steps.{CameTo, IsSubmission, IsCall, frames_after, taken_by, submits};
+ghost use Rattle.klp_live_bodies.specs.Running.{Learns, IsStepped, IsFinished, IsCutShort};
+
+use crate::fault::BodyCause;
+use crate::gate::Gate;
+use crate::step::{Accepted, Outcome, Step, What};
+use crossbeam_utils::rule::Protocol;
+use klp_core::Machine;
+use klp_live::{Live, LiveRefusal, Published, Start, TaskPass, View};
+use klp_model::Event;
+use klp_types::{Frames, MAX_FRAMES, Site, TaskId};
+use std::alloc::Global;
+use std::sync::Wait;
+
+/// How often a gate is asked before one step.
+const TRIES: u32 = 1_000_000;
+
+/// Asks the gate until it lets the task in, so many times at most.
+fn is_let_in<G: Gate>(gate: &G, task: TaskId, step: u32) -> bool
+    ensures { G.answers gate.now task step result }
+{
+    for _try in 1..TRIES {
+        if gate.before(task, step) {
+            return true;
+        }
+    }
+    gate.before(task, step)
+}
+
+/// Submits an event of a step, unless memory is refused.
+fn submitted<S: Start + Protocol<Published, View>, M: Machine + Drop, R: Wait + Drop, W: Wait>(
+    rt: &W,
+    alloc: Global,
+    live: &Live<S, M, R>,
+    pass: &mut TaskPass<S>,
+    event: Event,
+) -> Option<What>
+    ensures learns { IfSome result (λ what. Learns pass.old pass.new what) }
+    ensures came { IfSome result (λ what. IsSubmission S.setting S.base (length pass.old.knows.list) pass.new.knows.list event what) }
+    ensures none { IfNone result (pass.new ≡ pass.old) }
+{
+    match pass.submit(rt, alloc, live, event) {
+        Ok(receipt) => Some(What::Receipt(Accepted {
+            number: receipt.number(),
+            event: receipt.event(),
+            reply: receipt.reply(),
+        })),
+        Err(LiveRefusal::Refused(refusal)) => Some(What::Refused(refusal)),
+        Err(LiveRefusal::NoMemory) => None,
+    }
+}
+
+/// Whether the task is inside of as many versions as are kept.
+fn is_full(frames: &Frames) -> bool
+    ensures { MatchBool result (length frames.now ≡ MAX_FRAMES) (length frames.now < MAX_FRAMES) }
+{
+    frames.count() >= MAX_FRAMES
+}
+
+/// Enters a function, unless as many versions are entered as are kept.
+fn called<S: Start + Protocol<Published, View>>(
+    pass: &mut TaskPass<S>,
+    frames: &mut Frames,
+    site: Site,
+) -> What
+    ensures learns { Learns pass.old pass.new result }
+    ensures frames { frames.new ≡ frames_after frames.old result }
+    ensures came { IsCall S.setting S.base pass.old.task (length pass.old.knows.list) frames.old pass.new.knows.list site result }
+{
+    if is_full(frames) {
+        return What::Deep;
+    }
+    match pass.enter(site) {
+        Ok(target) => {
+            frames.push(target.version);
+            What::Entered(target)
+        }
+        Err(fault) => What::NoEntry(fault),
+    }
+}
+
+/// What a step comes to, unless memory is refused.
+fn came_to<S: Start + Protocol<Published, View>, M: Machine + Drop, R: Wait + Drop, W: Wait>(
+    rt: &W,
+    alloc: Global,
+    live: &Live<S, M, R>,
+    pass: &mut TaskPass<S>,
+    frames: &mut Frames,
+    step: &Step,
+) -> Option<What>
+    ensures learns { IfSome result (λ what. Learns pass.old pass.new what) }
+    ensures frames { IfSome result (λ what. frames.new ≡ frames_after frames.old what) }
+    ensures came { IfSome result (λ what. CameTo S.setting S.base pass.old.task (length pass.old.knows.list) frames.old pass.new.knows.list step.now what) }
+    ensures none { IfNone result (pass.new ≡ pass.old) }
+    ensures why { IfNone result (submits step.now ≡ true) }
+{
+    match step {
+        Step::Submit(event) => submitted(rt, alloc, live, pass, *event),
+        Step::Nap => submitted(rt, alloc, live, pass, Event::Sleep(pass.task(), *frames)),
+        Step::Call(site) => Some(called(pass, frames, *site)),
+        Step::Return => {
+            frames.pop();
+            Some(What::Returned)
+        }
+    }
+}
+
+/// One step, unless memory is refused.
+fn done<S: Start + Protocol<Published, View>, M: Machine + Drop, R: Wait + Drop, W: Wait>(
+    rt: &W,
+    alloc: Global,
+    live: &Live<S, M, R>,
+    pass: &mut TaskPass<S>,
+    frames: &mut Frames,
+    step: &Step,
+) -> Option<Outcome>
+    ensures done { IfSome result (λ outcome. IsStepped S.setting S.base pass.old pass.new frames.old frames.new step.now outcome) }
+    ensures none { IfNone result (pass.new ≡ pass.old) }
+    ensures why { IfNone result (submits step.now ≡ true) }
+{
+    let what = came_to(rt, alloc, live, pass, frames, step)?;
+    Some(Outcome {
+        known: pass.rows(),
+        what,
+    })
+}
+
+/// Does all steps, for whose outcomes there is room.
+pub(crate) fn run_steps<
+    S: Start + Protocol<Published, View>,
+    G: Gate,
+    M: Machine + Drop,
+    R: Wait + Drop,
+    W: Wait,
+>(
+    rt: &W,
+    alloc: Global,
+    live: &Live<S, M, R>,
+    gate: &G,
+    pass: &mut TaskPass<S>,
+    steps: &[Step],
+    out: &mut Vec<Outcome>,
+) -> Result<(), BodyCause>
+    requires few { length steps.now < 2 ^ 32 }
+    ensures { (outcomes : List AnyOutcome) × (out.new.items ≡ out.old.items ++ outcomes) × MatchResult result
+        (λ _. IsFinished S.setting S.base (G.answers gate.now) pass.old pass.new steps.now outcomes)
+        (λ cause. IsCutShort S.setting S.base (G.answers gate.now) pass.old pass.new cause steps.now outcomes) }
+{
+    let task = pass.task();
+    let _legal = pass.rows();
+    if out.reserve(steps.len()).is_err() {
+        return Err(BodyCause::NoMemory);
+    }
+    let mut frames = Frames::new();
+    for (number, step) in steps.iter().enumerate() {
+        if !is_let_in(gate, task, number as u32) {
+            return Err(BodyCause::Held);
+        }
+        let Some(outcome) = done(rt, alloc, live, pass, &mut frames, step) else {
+            return Err(BodyCause::NoMemory);
+        };
+        out.push_reserved(outcome);
+    }
+    Ok(())
+}

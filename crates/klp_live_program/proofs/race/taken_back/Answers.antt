@@ -1,5 +1,0 @@
-use Rattle.std.proofs.Common.{rules}
-use Rattle.klp_live_program.proofs.race.taken_back.Goals as goal
-
-pub returns-clause-rewound : goal.returns-clause-rewound
-returns-clause-rewound g c = search rules

@@ -1,5 +1,0 @@
-use Rattle.std.proofs.Common.{rules}
-use Rattle.klp_live_program.proofs.running.ManagerRuns.prepare.Goals as goal
-
-pub returns : goal.returns
-returns g c = search rules

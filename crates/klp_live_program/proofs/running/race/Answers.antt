@@ -1,4 +1,0 @@
-use Rattle.klp_live_program.proofs.running.race.Goals as goal
-
-pub returns-in-Err-clause-fault : goal.returns-in-Err-clause-fault
-returns-in-Err-clause-fault g c = c.in-Err.ensures.fault

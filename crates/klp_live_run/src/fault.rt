@@ -1,0 +1,111 @@
+//! Why the steps of two tasks aren't run.
+
+ghost use Rattle.std.specs.Prelude.{◌≡◌};
+ghost use Rattle.klp_live_run.specs.declared.fault.ReadFault.TheVariants.{NoMemory};
+ghost use Rattle.klp_live_run.specs.declared.fault.LiveFault.TheVariants.{Program, NoMemory as OutOfMemory};
+ghost use Rattle.klp_live_run.specs.Living.{IsRunFault, start_fault, read_fault};
+
+use klp_live::StartCause;
+use klp_program::Fault;
+use std::alloc::{AllocError, AllocFailed};
+use thiserror::Error;
+
+/// What is wrong with a line of the steps.
+#[derive(Clone, Copy, Debug, Error)]
+pub enum StepsFaultKind {
+    /// It is no step of task 1 or 2, or has a name that isn't known.
+    #[error("BadStep")]
+    BadStep,
+    /// Its task has as many steps as it may have before it.
+    #[error("TooMany")]
+    TooMany,
+}
+
+/// The first line of the steps that is at fault.
+#[derive(Clone, Copy, Debug, Error)]
+#[error("line {line}: {kind}")]
+pub struct StepsFault {
+    /// Counted from 1, lines without words too.
+    pub line: u64,
+    pub kind: StepsFaultKind,
+}
+
+/// Why steps aren't read.
+#[derive(Clone, Copy, Debug, Error)]
+pub enum ReadFault {
+    #[error("NoMemory")]
+    NoMemory,
+    #[error(transparent)]
+    Steps(StepsFault),
+}
+
+impl<T: Drop> From<AllocFailed<T>> for ReadFault {
+    ghost from_gives = { λ _ fault. fault ≡ NoMemory };
+
+    fn from(_error: AllocFailed<T>) -> ReadFault {
+        ReadFault::NoMemory
+    }
+}
+
+/// Why two tasks don't come to their end.
+#[derive(Clone, Copy, Debug, Error)]
+pub enum LiveFault {
+    /// No manager is booted over the catalog's text, or the output fails.
+    #[error(transparent)]
+    Program(Fault),
+    /// The text of the steps has a line that is at fault.
+    #[error(transparent)]
+    Steps(StepsFault),
+    #[error("NoMemory")]
+    NoMemory,
+    /// There was no place for a task at the table.
+    #[error("NoPlace")]
+    NoPlace,
+}
+
+impl LiveFault {
+    /// Why nothing was started.
+    pub(crate) fn of_start(cause: StartCause) -> LiveFault
+        ensures value { result ≡ start_fault cause }
+        ensures fault { IsRunFault result }
+    {
+        match cause {
+            StartCause::NoMemory => LiveFault::NoMemory,
+            StartCause::NoPlace => LiveFault::NoPlace,
+        }
+    }
+
+    /// Why the steps weren't read.
+    pub(crate) fn of_reading(fault: ReadFault) -> LiveFault
+        ensures { result ≡ read_fault fault }
+    {
+        match fault {
+            ReadFault::NoMemory => LiveFault::NoMemory,
+            ReadFault::Steps(fault) => LiveFault::Steps(fault),
+        }
+    }
+}
+
+impl From<Fault> for LiveFault {
+    ghost from_gives = { λ fault own. own ≡ Program fault };
+
+    fn from(fault: Fault) -> LiveFault {
+        LiveFault::Program(fault)
+    }
+}
+
+impl From<AllocError> for LiveFault {
+    ghost from_gives = { λ _ fault. fault ≡ OutOfMemory };
+
+    fn from(_error: AllocError) -> LiveFault {
+        LiveFault::NoMemory
+    }
+}
+
+impl<T: Drop> From<AllocFailed<T>> for LiveFault {
+    ghost from_gives = { λ _ fault. fault ≡ OutOfMemory };
+
+    fn from(_error: AllocFailed<T>) -> LiveFault {
+        LiveFault::NoMemory
+    }
+}

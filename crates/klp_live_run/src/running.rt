@@ -1,0 +1,258 @@
+//! A manager is booted over a catalog's text, and two task threads run the steps of another text over it.
+ghost use Rattle.std.specs.Prelude.{◌≡◌, ◌≤◌, ◌++◌, [], false, length, vec_len, slice_get, slice_index_or, IfOk, IfErr, OnOk, MatchResult};
+ghost use Rattle.std.specs.Str.Lines.{lines};
+ghost use Rattle.klp_types.specs.declared.limits.TheConstants.{MAX_GROUPS};
+ghost use Rattle.klp_catalog_text.specs.Within.{AreTargetsWithin};
+ghost use Rattle.klp_core.specs.Journaled.{Journaled};
+ghost use Rattle.klp_live_run.specs.declared.step_lines.TheConstants.{MAX_STEPS};
+ghost use Rattle.klp_live_run.specs.Racing.{IsPrepared, HaveRunBoth};
+ghost use Rattle.klp_live_run.specs.Shown.{asks_for_texts, asks_if, counts_text, IsAnsweredBehind, IsShown, IsShownOn};
+ghost use Rattle.klp_live_run.specs.Steps.{AreSteps, IsReadFault};
+ghost use Rattle.klp_live_run.specs.Living.{IsRunFault, LivesBy, LivesPlan, Lives, Exits};
+
+use crate::fault::{LiveFault, ReadFault};
+use crate::race::{Done, FIRST, SECOND, run_and_rewind};
+use crate::step_lines::{Steps, steps_of};
+use klp_callback::{Boxed, Scripted};
+use klp_catalog::Catalog;
+use klp_catalog_text::Plan;
+use klp_console::{ServeFault, serve};
+use klp_console_io::{Feed, OverWrite};
+use klp_core::{Machine, Manager};
+use klp_model::Event;
+use klp_modules::Modules;
+use klp_program::{Fault, boot};
+use klp_types::{MAX_OBJECTS, ObjId, READ_ROOM};
+use std::alloc::{AllocError, Global};
+use std::io;
+use std::io::Write;
+use std::marker::Brand;
+use std::sync::Wait;
+use std::sync::ledger::{Blank, Ledger};
+use std::thread::Threads;
+
+/// Adds the line of the console that asks for the text of an object, if it is loaded.
+fn add_ask(
+    alloc: Global,
+    modules: &Modules,
+    object: ObjId,
+    lines: &mut Vec<u8>,
+) -> Result<(), AllocError>
+    ensures { OnOk result (lines.new.items ≡ lines.old.items ++ asks_if (slice_get modules.now.names object)
+        (slice_index_or modules.now.loaded object false)) }
+{
+    let Some(name) = modules.object_name(object) else {
+        return Ok(());
+    };
+    if !modules.is_loaded(object) {
+        return Ok(());
+    }
+    let line = format!(in alloc; "text {name}\n")?;
+    lines.extend_from_slice(line.as_bytes())?;
+    Ok(())
+}
+
+/// A line for each object that is loaded.
+fn texts(alloc: Global, manager: &Manager) -> Result<Vec<u8>, AllocError>
+    ensures { IfOk result (λ lines. lines.items ≡ asks_for_texts manager.now) }
+{
+    let modules = manager.modules();
+    let mut lines = Vec::new(alloc);
+    for number in 0..MAX_OBJECTS as u8 {
+        add_ask(alloc, modules, ObjId(number), &mut lines)?;
+    }
+    Ok(lines)
+}
+
+/// How many steps of each task are done.
+fn counts(alloc: Global, done: &Done) -> io::Result<Vec<u8>>
+    ensures { IfOk result (λ text. text.items ≡ counts_text (length done.now.first.items) (length done.now.second.items)) }
+{
+    let mut text = Vec::new(alloc);
+    let (first, second) = (done.first.len(), done.second.len());
+    writeln!(text, "task 1 {first}\ntask 2 {second}")?;
+    Ok(text)
+}
+
+/// The console's answers to these lines, behind a front.
+fn answered<L: Ledger, M: Ledger>(
+    manager: &mut Manager,
+    lines: &[u8],
+    front: Vec<u8>,
+    reads: Blank,
+    writes: Blank,
+) -> Result<Vec<u8>, ServeFault>
+    requires reads { (reads.name ≡ L.name) × (reads.parts ≡ L.parts) × (3 ≤ reads.parts) }
+    requires writes { (writes.name ≡ M.name) × (writes.parts ≡ M.parts) × (2 ≤ writes.parts) }
+    ensures { IfOk result (λ text. IsAnsweredBehind manager.old lines.now front.items text.items) }
+{
+    let mut source = Feed::<'_, L>::new(lines, READ_ROOM, None, reads);
+    let mut sink = OverWrite::<Vec<u8>, M>::new(front, writes);
+    let ended = serve(&mut source, &mut sink, manager);
+    let text = sink.into_inner();
+    match ended {
+        Ok(_) => Ok(text),
+        Err(fault) => Err(fault),
+    }
+}
+
+/// How many steps of each task are done, and the text of each object that is loaded. Only memory can be missing: each
+/// line is whole, and no longer than a line may be.
+fn shown(alloc: Global, manager: &mut Manager, done: &Done) -> Result<Vec<u8>, AllocError>
+    ensures { IfOk result (λ text. IsShown manager.old done.now text.items) }
+{
+    let lines = texts(alloc, manager)?;
+    let front = counts(alloc, done).map_err(|_| AllocError)?;
+    answered::<Brand, Brand>(manager, &lines, front, Blank::new(3), Blank::new(2)).map_err(
+        |_| AllocError,
+    )
+}
+
+/// What is done with a manager before and after its tasks run. It is a trait since one that has tasks run names no
+/// manager: a library can't hand one on to what asks a trait of it (docs/DECISIONS.md, "A manager that runs tasks").
+trait Runs: Machine {
+    /// The steps of a text, by the names that it has.
+    fn steps(&self, alloc: Global, text: &[u8]) -> Result<Steps, ReadFault>
+        ensures steps { MatchResult result
+            (λ steps. AreSteps (Self.journaled self.now) (lines text.now) steps.first.items steps.second.items)
+            (λ fault. IsReadFault (Self.journaled self.now) (lines text.now) fault) };
+
+    /// Has both tasks come, and nothing to be taken back any more.
+    fn prepare(&mut self)
+        requires room { length (Self.journaled self.old).groups ≤ MAX_GROUPS }
+        ensures prepared { IsPrepared (Self.journaled self.old) (Self.journaled self.new) };
+
+    /// Writes how many steps of each task are done, and the text of each object that is loaded.
+    fn show<W: Write>(&mut self, alloc: Global, done: &Done, out: &mut W) -> Result<(), LiveFault>
+        requires room { length (Self.journaled self.old).groups ≤ MAX_GROUPS }
+        ensures shown { OnOk result (IsShownOn (Self.journaled self.old) done.now (W.contents out.old) (W.contents out.new)) }
+        ensures fault { IfErr result IsRunFault };
+}
+
+impl Runs for Manager {
+    fn steps(&self, alloc: Global, text: &[u8]) -> Result<Steps, ReadFault> {
+        steps_of(alloc, text, self)
+    }
+
+    fn prepare(&mut self) {
+        let _ = self.run(&[Event::NewTask(FIRST), Event::NewTask(SECOND)]);
+        self.seal();
+    }
+
+    fn show<W: Write>(&mut self, alloc: Global, done: &Done, out: &mut W) -> Result<(), LiveFault> {
+        let Ok(text) = shown(alloc, self, done) else {
+            return Err(LiveFault::NoMemory);
+        };
+        match out.write_all(&text) {
+            Ok(()) => Ok(()),
+            Err(_) => Err(LiveFault::Program(Fault::Serve(ServeFault::Write))),
+        }
+    }
+}
+
+/// Has both tasks run, and shows what came of it. The machine goes then.
+fn race<M: Runs + Drop + Send, W: Write, R: Threads + Wait + Sync>(
+    rt: &R,
+    alloc: Global,
+    machine: M,
+    steps: Steps,
+    out: &mut W,
+) -> Result<Done, LiveFault>
+    requires empty { (M.journaled machine).groups ≡ [] }
+    requires first { vec_len steps.first ≤ MAX_STEPS }
+    requires second { vec_len steps.second ≤ MAX_STEPS }
+    ensures done { IfOk result (λ done. (left : Journaled)
+        × HaveRunBoth (M.journaled machine) left steps.first.items steps.second.items done
+        × IsShownOn left done (W.contents out.old) (W.contents out.new)) }
+    ensures fault { IfErr result IsRunFault }
+{
+    match run_and_rewind::<M, R>(rt, alloc, machine, steps) {
+        Ok((machine, done)) => {
+            let mut machine = machine;
+            let _for_its_clause = machine.mark();
+            machine.show(alloc, &done, out)?;
+            Ok(done)
+        }
+        Err(fault) => Err(fault),
+    }
+}
+
+/// Reads the steps, and has both tasks run.
+fn live_over_manager<M: Runs + Drop + Send, W: Write, R: Threads + Wait + Sync>(
+    rt: &R,
+    alloc: Global,
+    machine: M,
+    text: &[u8],
+    out: &mut W,
+) -> Result<Done, LiveFault>
+    ensures { LivesBy (M.journaled machine) text.now (W.contents out.old) (W.contents out.new) result }
+{
+    let mut machine = machine;
+    match machine.steps(alloc, text) {
+        Ok(steps) => {
+            let _for_its_clause = machine.mark();
+            machine.prepare();
+            race(rt, alloc, machine, steps, out)
+        }
+        Err(fault) => Err(LiveFault::of_reading(fault)),
+    }
+}
+
+// Boots a manager over a plan, and has both tasks run. The callbacks are made here, as where the console is served, but
+// all of one kind.
+fn live_over_plan<W: Write, R: Threads + Wait + Sync>(
+    rt: &R,
+    alloc: Global,
+    plan: Plan,
+    text: &[u8],
+    out: &mut W,
+) -> Result<Done, LiveFault>
+    requires { AreTargetsWithin (length plan.objects) plan.patches }
+    ensures { LivesPlan plan text.now (W.contents out.old) (W.contents out.new) result }
+{
+    let mut callbacks = Vec::new(alloc);
+    while let Some(script) = plan.script(callbacks.len()) {
+        let callback = Box::new(alloc, Scripted::new(script.copy()))?;
+        callbacks.push(Boxed::new(callback))?;
+    }
+    let manager = boot(alloc, plan, callbacks)?;
+    live_over_manager::<Manager, W, R>(rt, alloc, manager, text, out)
+}
+
+/// Boots a manager over the catalog's text, has tasks 1 and 2 run the steps of the other text in threads of their own, at
+/// once where a second thread can be made, takes back all that was accepted, and writes how many steps of each are done
+/// and the text of each object that is loaded. Nothing is written before all of that is done.
+pub(crate) fn live_over_text<W: Write, R: Threads + Wait + Sync>(
+    rt: &R,
+    alloc: Global,
+    catalog: &[u8],
+    text: &[u8],
+    out: &mut W,
+) -> Result<Done, LiveFault>
+    ensures { Lives catalog.now text.now (W.contents out.old) (W.contents out.new) result }
+{
+    match Catalog::read(alloc, catalog) {
+        Ok(plan) => live_over_plan(rt, alloc, plan, text, out),
+        Err(fault) => Err(LiveFault::Program(Fault::Text(fault))),
+    }
+}
+
+/// The same, with the exit status: 0, or 1 where a line on `err` tells the fault.
+pub fn live<W: Write, E: Write, R: Threads + Wait + Sync>(
+    rt: &R,
+    alloc: Global,
+    catalog: &[u8],
+    text: &[u8],
+    out: &mut W,
+    err: &mut E,
+) -> u8
+    ensures { Exits catalog.now text.now (W.contents out.old) (W.contents out.new) result }
+{
+    match live_over_text(rt, alloc, catalog, text, out) {
+        Ok(_) => 0,
+        Err(fault) => {
+            let _ = writeln!(err, "klpsim: {fault}");
+            1
+        }
+    }
+}

@@ -1,0 +1,257 @@
+//! What each line of a run changed.
+
+use crate::callbacks::Callbacks;
+use crate::cards::{add_act, add_patches, are_patches_changed};
+use crate::reach::{Reach, reach_of};
+use crate::shot::{
+    TaskShot, did_something, has_other_state, is_holding, stands_as_before, task_shot,
+};
+use crate::sites::add_site_card;
+use crate::tasks::{Actor, add_ended_card, add_task_card, add_uncarded};
+use arrayvec::ArrayVec;
+use klp_catalog_text::Plan;
+use klp_console::Outcome;
+use klp_core::Manager;
+use klp_markup::Sheet;
+use klp_timeline::{Moment, View};
+use klp_types::{Entry, MAX_PATCHES, MAX_TASKS, Site, TaskId};
+use std::alloc::{AllocError, Global};
+
+/// How many tasks have a card at a line.
+const MAX_CARDS: u64 = 12;
+
+/// What a line changed, and the cards that show it.
+#[derive(Drop)]
+pub struct RowParts {
+    /// Whether a patch was installed or left, or the transition is another one.
+    pub patches: bool,
+    /// Whether a task is another than before.
+    pub tasks: bool,
+    /// Whether the function stack of a site changed.
+    pub sites: bool,
+    /// Whether others hold the transition up.
+    pub holders: bool,
+    /// Whether a callback ran.
+    pub callbacks: bool,
+    /// One beside the other. There are none where nothing changed.
+    pub cards: Sheet,
+}
+
+/// What a line changed, as in [`RowParts`].
+#[derive(Clone, Copy)]
+struct Changes {
+    patches: bool,
+    tasks: bool,
+    sites: bool,
+    holders: bool,
+    callbacks: bool,
+}
+
+/// What was seen after the last line.
+#[derive(Drop)]
+pub struct Chronicle {
+    tasks: Vec<Option<TaskShot>>,
+    stacks: Vec<ArrayVec<Entry, MAX_PATCHES>>,
+    callbacks: Callbacks,
+}
+
+/// What is gathered of tasks at a line.
+#[derive(Clone, Copy)]
+struct Crowd {
+    is_changed: bool,
+    holders: bool,
+    cards: u64,
+    uncarded: u64,
+}
+
+impl Chronicle {
+    /// Nothing is seen yet, and no room is taken.
+    pub fn new(alloc: Global) -> Chronicle {
+        Chronicle {
+            tasks: Vec::new(alloc),
+            stacks: Vec::new(alloc),
+            callbacks: Callbacks::new(alloc),
+        }
+    }
+
+    /// Takes up the shadow variables that the scripts of a plan name, of which the manager is going to be booted.
+    pub fn watch(&mut self, plan: &Plan) -> Result<(), AllocError> {
+        self.callbacks.watch(plan)
+    }
+
+    /// Takes the room for each task, each site and each callback of a manager that was just booted.
+    pub fn open(&mut self, manager: &Manager) -> Result<(), AllocError> {
+        self.tasks.resize(MAX_TASKS, None)?;
+        for _site in 0..manager.sites() {
+            self.stacks.push(ArrayVec::new())?;
+        }
+        self.callbacks.open(manager)
+    }
+
+    /// Tells what a line changed that came to this. It is wanted of each line whose event was taken or undone.
+    pub fn describe(
+        &mut self,
+        alloc: Global,
+        manager: &Manager,
+        outcome: &Outcome,
+        before: &View,
+        moment: &Moment,
+    ) -> Result<RowParts, AllocError> {
+        let mut cards = Sheet::new(alloc);
+        let changes = self.describe_to(&mut cards, manager, outcome, before, moment)?;
+        Ok(RowParts {
+            patches: changes.patches,
+            tasks: changes.tasks,
+            sites: changes.sites,
+            holders: changes.holders,
+            callbacks: changes.callbacks,
+            cards,
+        })
+    }
+
+    /// Adds the cards of a line to a sheet, and answers what it changed.
+    fn describe_to(
+        &mut self,
+        sheet: &mut Sheet,
+        manager: &Manager,
+        outcome: &Outcome,
+        before: &View,
+        moment: &Moment,
+    ) -> Result<Changes, AllocError> {
+        let view = &moment.view;
+        add_act(sheet, manager, &moment.act);
+        let patches = are_patches_changed(before, view);
+        if patches {
+            add_patches(sheet, manager, before, view);
+        }
+        let callbacks = self.describe_callbacks(sheet, manager, outcome, before)?;
+        let crowd = self.describe_tasks(sheet, manager, outcome, view);
+        let sites = self.describe_sites(sheet, manager, outcome);
+        Ok(Changes {
+            patches,
+            tasks: crowd.is_changed,
+            sites,
+            holders: crowd.holders,
+            callbacks,
+        })
+    }
+
+    /// The callbacks that ran. Answers whether one did.
+    fn describe_callbacks(
+        &mut self,
+        sheet: &mut Sheet,
+        manager: &Manager,
+        outcome: &Outcome,
+        before: &View,
+    ) -> Result<bool, AllocError> {
+        if matches!(reach_of(outcome), Reach::All) {
+            let installed = before.installed.as_slice();
+            return self.callbacks.describe(sheet, manager, installed);
+        }
+        self.callbacks.hear(manager, outcome)?;
+        Ok(false)
+    }
+
+    /// The tasks that did something.
+    fn describe_tasks(
+        &mut self,
+        sheet: &mut Sheet,
+        manager: &Manager,
+        outcome: &Outcome,
+        view: &View,
+    ) -> Crowd {
+        let mut crowd = Crowd {
+            is_changed: false,
+            holders: false,
+            cards: 0,
+            uncarded: 0,
+        };
+        match reach_of(outcome) {
+            Reach::Nothing => {}
+            Reach::Task(task) => self.describe_task(sheet, manager, view, task, &mut crowd),
+            Reach::Tasks => {
+                for number in 0..MAX_TASKS {
+                    let task = TaskId(number as u8);
+                    if !self.is_as_seen(manager, view, task) {
+                        self.describe_task(sheet, manager, view, task, &mut crowd);
+                    }
+                }
+            }
+            Reach::All => {
+                for number in 0..MAX_TASKS {
+                    let task = TaskId(number as u8);
+                    self.describe_task(sheet, manager, view, task, &mut crowd);
+                }
+            }
+        }
+        add_uncarded(sheet, crowd.uncarded);
+        crowd
+    }
+
+    /// Whether a task stands as it was seen last, what it sleeps inside of aside.
+    fn is_as_seen(&self, manager: &Manager, view: &View, task: TaskId) -> bool {
+        let number = usize::from(task.0);
+        if number >= self.tasks.len() || number >= MAX_TASKS {
+            return true;
+        }
+        stands_as_before(manager, task, &view.stays[number], &self.tasks[number])
+    }
+
+    fn describe_task(
+        &mut self,
+        sheet: &mut Sheet,
+        manager: &Manager,
+        view: &View,
+        task: TaskId,
+        crowd: &mut Crowd,
+    ) {
+        let number = usize::from(task.0);
+        if number >= self.tasks.len() || number >= MAX_TASKS {
+            return;
+        }
+        let stay = &view.stays[number];
+        let after = task_shot(manager, task, stay);
+        let before = self.tasks[number];
+        self.tasks[number] = after;
+        crowd.is_changed |= has_other_state(&before, &after);
+        if !did_something(&before, &after) {
+            return;
+        }
+        crowd.is_changed = true;
+        crowd.holders |= is_holding(&before) != is_holding(&after);
+        if crowd.cards >= MAX_CARDS {
+            crowd.uncarded = crowd.uncarded.saturating_add(1);
+            return;
+        }
+        crowd.cards = crowd.cards.saturating_add(1);
+        let Some(shot) = &after else {
+            add_ended_card(sheet, task);
+            return;
+        };
+        let actor = Actor {
+            task,
+            shot,
+            stay,
+            moving: &view.moving,
+        };
+        add_task_card(sheet, manager, &actor);
+    }
+
+    /// The sites whose function stack changed. Answers whether there is one.
+    fn describe_sites(&mut self, sheet: &mut Sheet, manager: &Manager, outcome: &Outcome) -> bool {
+        if !matches!(reach_of(outcome), Reach::All) {
+            return false;
+        }
+        let mut is_changed = false;
+        for (number, stack) in self.stacks.iter_mut().enumerate() {
+            let site = Site(number.min(65_535) as u16);
+            let entries = manager.stack(site);
+            if entries.as_slice() != stack.as_slice() {
+                add_site_card(sheet, manager, site, entries.as_slice());
+                *stack = entries;
+                is_changed = true;
+            }
+        }
+        is_changed
+    }
+}

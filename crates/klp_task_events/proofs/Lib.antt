@@ -1,4 +1,0 @@
-pub mod TakenLemmas
-pub mod TaskLemmas
-pub mod ShadowLemmas
-pub mod NotedLemmas

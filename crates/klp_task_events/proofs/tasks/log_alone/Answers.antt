@@ -1,5 +1,0 @@
-use Rattle.std.proofs.Common.{rules}
-use Rattle.klp_task_events.proofs.tasks.log_alone.Goals as goal
-
-pub returns : goal.returns
-returns c = search rules

@@ -1,0 +1,4 @@
+pub mod TakenLemmas
+pub mod TaskLemmas
+pub mod ShadowLemmas
+pub mod LoggedLemmas

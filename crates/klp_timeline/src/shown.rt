@@ -1,0 +1,47 @@
+//! Which sentences are told of, where there are too many.
+ghost use Rattle.std.specs.Prelude.{◌≡◌};
+ghost use Rattle.klp_timeline.specs.Shown.{is_lasting, is_left_out, excess, left_out};
+
+use crate::moment::{Said, Sentence};
+
+/// How many sentences are told of at most, unless more of them last.
+pub const MAX_SENTENCES: usize = 100;
+
+/// Whether it is still so at the end of the run.
+pub fn is_lasting(sentence: &Sentence) -> bool
+    ensures { result ≡ is_lasting sentence.now }
+{
+    match &sentence.said {
+        Said::Did(_) => false,
+        Said::Slept(sleepers) => sleepers.to.is_none(),
+    }
+}
+
+/// How many sentences there are too many.
+pub fn excess(sentences: &[Sentence]) -> usize
+    ensures { result ≡ excess sentences.now }
+{
+    sentences.len().saturating_sub(MAX_SENTENCES)
+}
+
+/// Whether the first of some sentences is left out, where there are so many too many.
+pub fn is_left_out(excess: usize, sentence: &Sentence) -> bool
+    ensures { result ≡ is_left_out excess sentence.now }
+{
+    excess > 0 && !is_lasting(sentence)
+}
+
+/// How many sentences are left out.
+pub fn left_out(sentences: &[Sentence]) -> usize
+    ensures { result ≡ left_out sentences.now }
+{
+    let mut excess = excess(sentences);
+    let mut count = 0;
+    for sentence in sentences {
+        if is_left_out(excess, sentence) {
+            excess -= 1;
+            count += 1;
+        }
+    }
+    count
+}
