@@ -2,7 +2,7 @@
 import os
 import subprocess
 
-TOP = os.path.dirname(os.path.dirname(os.path.abspath(__file__)))
+TOP = os.path.dirname(os.path.dirname(os.path.dirname(os.path.abspath(__file__))))
 EXAMPLES = f"{TOP}/examples"
 PROGRAMS = ("klpsim", "klpwatch", "klppage")
 # What ./klpsim says on standard error, of a program that isn't proved and of words that are refused, beside what the program
