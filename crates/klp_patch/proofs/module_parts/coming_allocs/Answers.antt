@@ -7,8 +7,8 @@ use Rattle.klp_patch.specs.Calls.{records_of}
 use Rattle.klp_patch.specs.Places.{call_at, still_at}
 use Rattle.klp_patch.proofs.CallLemmas.{allocs-append}
 use Rattle.klp_patch.proofs.RanLemmas.{records-append}
-use Rattle.klp_patch.proofs.ModuleShareLemmas.{no_part, one_part, may_come}
-use Rattle.klp_patch.proofs.module_share.coming_allocs.Goals as goal
+use Rattle.klp_patch.proofs.ModulePartLemmas.{no_part, one_part, may_come}
+use Rattle.klp_patch.proofs.module_parts.coming_allocs.Goals as goal
 
 allocs_of_four : (a b d e : List Call) → allocs_of (a ++ b ++ d ++ e) ≡ allocs_of a + (allocs_of b + (allocs_of d + allocs_of e))
 allocs_of_four a b d e = omega (arith, allocs-append (a ++ b ++ d) e, allocs-append (a ++ b) d, allocs-append a b)

@@ -4,9 +4,9 @@ use Rattle.klp_types.specs.Callbacks.{Call}
 use Rattle.klp_model.specs.ModuleCalls.{Part, part_refuses}
 use Rattle.klp_patch.specs.UntilRefused.{calls_until_refused, refusal}
 use Rattle.klp_patch.specs.Calls.{HaveRun, HasRoomFor}
-use Rattle.klp_patch.proofs.ModuleShareLemmas.{no_part, one_part, brings, has_effect, none_before}
+use Rattle.klp_patch.proofs.ModulePartLemmas.{no_part, one_part, brings, has_effect, none_before}
 use Rattle.klp_patch.proofs.RanLemmas.{none_ran}
-use Rattle.klp_patch.proofs.module_share.part_coming.Goals as goal
+use Rattle.klp_patch.proofs.module_parts.part_coming.Goals as goal
 
 pub returns-in_err-place-clause-refused : goal.returns-in_err-place-clause-refused
 returns-in_err-place-clause-refused g c =

@@ -7,8 +7,8 @@ use Rattle.klp_patch.specs.Calls.{records_of}
 use Rattle.klp_patch.specs.Places.{call_at, still_at}
 use Rattle.klp_patch.proofs.CallLemmas.{allocs-append}
 use Rattle.klp_patch.proofs.RanLemmas.{records-append}
-use Rattle.klp_patch.proofs.ModuleShareLemmas.{no_part, one_part, may_go}
-use Rattle.klp_patch.proofs.module_share.going_allocs.Goals as goal
+use Rattle.klp_patch.proofs.ModulePartLemmas.{no_part, one_part, may_go}
+use Rattle.klp_patch.proofs.module_parts.going_allocs.Goals as goal
 
 pub returns-in-Some-clause-value : goal.returns-in-Some-clause-value
 returns-in-Some-clause-value g c =

@@ -7,9 +7,9 @@ use Rattle.klp_model.specs.EventCalls.{coming_may_run}
 use Rattle.klp_catalog.specs.Runs.{script_at}
 use Rattle.klp_patch.specs.Calls.{are_some}
 use Rattle.klp_patch.specs.Places.{call_at, still_at}
-use Rattle.klp_patch.proofs.ModuleShareLemmas.{no_part, one_part, may_come}
+use Rattle.klp_patch.proofs.ModulePartLemmas.{no_part, one_part, may_come}
 use Rattle.klp_patch.proofs.SomeLemmas.{some-append, some-call}
-use Rattle.klp_patch.proofs.module_share.a_coming_may_run.Goals as goal
+use Rattle.klp_patch.proofs.module_parts.a_coming_may_run.Goals as goal
 
 some_of_four : (a b d e : List Call) → are_some (a ++ b ++ d ++ e) ≡ (((are_some a || are_some b) || are_some d) || are_some e)
 some_of_four a b d e = some-append (a ++ b ++ d) e ∙ ap (λ s. s || are_some e) (some-append (a ++ b) d ∙ ap (λ s. s || are_some d) (some-append a b))

@@ -3,9 +3,9 @@ use Rattle.std.specs.List.{flat_map}
 use Rattle.klp_types.specs.Callbacks.{Call}
 use Rattle.klp_model.specs.ModuleCalls.{part_going}
 use Rattle.klp_patch.specs.Calls.{HaveRun, HasRoomFor}
-use Rattle.klp_patch.proofs.ModuleShareLemmas.{no_part, one_part, lets_go}
+use Rattle.klp_patch.proofs.ModulePartLemmas.{no_part, one_part, lets_go}
 use Rattle.klp_patch.proofs.RanLemmas.{none_ran}
-use Rattle.klp_patch.proofs.module_share.part_going.Goals as goal
+use Rattle.klp_patch.proofs.module_parts.part_going.Goals as goal
 
 pub going_at-requires : goal.going_at-requires
 going_at-requires g c =

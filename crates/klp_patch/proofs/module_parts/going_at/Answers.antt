@@ -5,7 +5,7 @@ use Rattle.klp_catalog.specs.Catalog.{Catalog}
 use Rattle.klp_patch.specs.Calls.{HaveRun}
 use Rattle.klp_patch.specs.Places.{call_at, still_at}
 use Rattle.klp_patch.proofs.RanLemmas.{then_ran}
-use Rattle.klp_patch.proofs.module_share.going_at.Goals as goal
+use Rattle.klp_patch.proofs.module_parts.going_at.Goals as goal
 
 pub returns : goal.returns
 returns g c =

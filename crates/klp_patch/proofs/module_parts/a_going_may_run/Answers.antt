@@ -6,9 +6,9 @@ use Rattle.klp_model.specs.EventCalls.{going_may_run}
 use Rattle.klp_catalog.specs.Runs.{script_at}
 use Rattle.klp_patch.specs.Calls.{are_some}
 use Rattle.klp_patch.specs.Places.{call_at, still_at}
-use Rattle.klp_patch.proofs.ModuleShareLemmas.{no_part, one_part, may_go}
+use Rattle.klp_patch.proofs.ModulePartLemmas.{no_part, one_part, may_go}
 use Rattle.klp_patch.proofs.SomeLemmas.{some-append, some-call}
-use Rattle.klp_patch.proofs.module_share.a_going_may_run.Goals as goal
+use Rattle.klp_patch.proofs.module_parts.a_going_may_run.Goals as goal
 
 pub returns-in-Some : goal.returns-in-Some
 returns-in-Some g c =

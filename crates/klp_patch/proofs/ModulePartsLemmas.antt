@@ -17,7 +17,7 @@ use Rattle.klp_types.specs.Callbacks.{Call}
 use Rattle.klp_model.specs.ModuleCalls.{Part, part_call, still_call, part_coming, part_going, part_refuses, parts_before, refused_parts, coming_calls, going_calls}
 use Rattle.klp_model.specs.EventCalls.{coming_may_run, going_may_run}
 use Rattle.klp_catalog.specs.Catalog.{Catalog}
-use Rattle.klp_patch.specs.ModuleShares.{parts_at, parts_in}
+use Rattle.klp_patch.specs.ModuleParts.{parts_at, parts_in}
 use Rattle.klp_patch.specs.UntilRefused.{calls_until_refused, refusal}
 use Rattle.klp_patch.specs.Calls.{HaveRun, HasRoomFor}
 use Rattle.klp_patch.proofs.CallLemmas.{drop_past}

@@ -9,7 +9,7 @@ use Rattle.klp_model.specs.Callbacks.{status_of}
 use Rattle.klp_patch.specs.Refusing.{refusal_of}
 use Rattle.klp_patch.proofs.LoopLemmas.{refusing-none}
 use Rattle.klp_patch.proofs.RanLemmas.{then_ran}
-use Rattle.klp_patch.proofs.module_share.coming_at.Goals as goal
+use Rattle.klp_patch.proofs.module_parts.coming_at.Goals as goal
 
 -- pre-patch didn't refuse, so post-patch runs if the patch doesn't move
 pub returns-in-None-clause-ran : goal.returns-in-None-clause-ran

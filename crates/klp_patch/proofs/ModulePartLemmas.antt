@@ -18,7 +18,7 @@ use Rattle.klp_catalog.specs.Catalog.{Catalog}
 use Rattle.klp_catalog.specs.Runs.{callbacks_of, callbacks_at, objects_at, place_of, script_at}
 use Rattle.klp_patch.specs.Refusing.{refusal_of}
 use Rattle.klp_patch.specs.Places.{call_at, still_at, coming_at, going_at}
-use Rattle.klp_patch.specs.ModuleShares.{parts_at}
+use Rattle.klp_patch.specs.ModuleParts.{parts_at}
 use Rattle.klp_patch.specs.UntilRefused.{calls_until_refused, refusal}
 use Rattle.klp_patch.proofs.LoopLemmas.{refusing-status}
 

@@ -13,7 +13,7 @@ ghost use Rattle.klp_catalog.specs.Runs.{script_at};
 ghost use Rattle.klp_patch.specs.Refusing.{refusal_of};
 ghost use Rattle.klp_patch.specs.Places as places;
 ghost use Rattle.klp_patch.specs.Places.{call_at, still_at};
-ghost use Rattle.klp_patch.specs.ModuleShares.{parts_at};
+ghost use Rattle.klp_patch.specs.ModuleParts.{parts_at};
 ghost use Rattle.klp_patch.specs.UntilRefused.{calls_until_refused, refusal};
 ghost use Rattle.klp_patch.specs.Calls.{HaveRun, HasRoomFor, records_of, are_some};
 
