@@ -45,7 +45,7 @@ with_room : (result : Result Reply Refusal) → unless_full true result ≡ resu
 with_room (Ok reply) = refl
 with_room (Err reason) = refl
 
-answered : (setting : Setting) (state : State) (groups : List Group) (event : Event) → has_room groups ≡ true
+pub answered : (setting : Setting) (state : State) (groups : List Group) (event : Event) → has_room groups ≡ true
     → answer_in setting state groups event ≡ answer setting state event
 answered setting state groups event room = ap (λ (b : Bool). unless_full b (answer setting state event)) room ∙ with_room (answer setting state event)
 
@@ -101,7 +101,7 @@ cause_by_rules setting w groups (Calls task site) cause room is = absurd is
 cause_by_rules setting w groups (Returns task) NoReturn room is = is
 cause_by_rules setting w groups (Returns task) cause room is = absurd is
 
-reported_left : (before after : Journaled) (item : Seen) → after ≡ once_taken_back before item → after.managed ≡ once_reported before.managed item
+pub reported_left : (before after : Journaled) (item : Seen) → after ≡ once_taken_back before item → after.managed ≡ once_reported before.managed item
 reported_left before after (Happens event) is = ap (λ (m : Journaled). m.managed) is
 reported_left before after (Calls task site) is = ap (λ (m : Journaled). m.managed) is
 reported_left before after (Returns task) is = ap (λ (m : Journaled). m.managed) is
