@@ -1,6 +1,6 @@
 -- A whole trace, item by item: with room in the journal the rules alone answer an event.
-use Rattle.std.proofs.Common.{◌≡◌, ℕ, ◌+◌, ◌<◌, Bool, true, false, List, [], ◌∷◌, ◌++◌, length, take, drop, get_or, Option, Some, None, refl, sym, ap, subst, ◌∙◌, arith, add-one}
-use Rattle.std.specs.Prelude.{is_none, is_ok, if◌then◌else◌, Result, Ok, Err, IfOk, IfErr}
+use Rattle.std.proofs.Common.{◌≡◌, ℕ, ◌+◌, ◌<◌, Bool, true, false, List, [], ◌∷◌, ◌++◌, length, take, drop, get_or, Option, Some, None, refl, sym, ap, subst, ◌∙◌, arith}
+use Rattle.std.specs.Prelude.{is_none, is_ok, if◌then◌else◌, Result, Ok, Err}
 use Rattle.std.proofs.lemmas.List.{length-take-le}
 use Rattle.klp_types.specs.declared.version.Version.{Version}
 use Rattle.klp_types.specs.Callbacks.{Call}
@@ -15,8 +15,8 @@ use Rattle.klp_model.specs.State.{State}
 use Rattle.klp_model.specs.EventCalls.{calls}
 use Rattle.klp_model.specs.Refusals.{refusal, accepts}
 use Rattle.klp_model.specs.Step.{accepted, calls_unless}
-use Rattle.klp_model.specs.Run.{answer, answer_of, state_after, run}
-use Rattle.klp_model.specs.Observed.{Stacks, Watched, begun, events_of, opening, seen_next, seen_run, seen_from, HasNoTask, AreHonest, IsHonestItem, IsHonestRun}
+use Rattle.klp_model.specs.Run.{answer, answer_of, state_after}
+use Rattle.klp_model.specs.Observed.{Stacks, Watched, begun, events_of, opening, seen_next, seen_run, seen_from, HasNoTask, AreHonest, IsHonestItem}
 use Rattle.klp_journal.specs.Journal.{Group, has_room}
 use Rattle.klp_catalog.specs.Runs.{after_runs}
 use Rattle.klp_manager_state.specs.Managed.{Managed, setting_of}
@@ -24,7 +24,7 @@ use Rattle.klp_core.specs.Events.{after_events}
 use Rattle.klp_core.specs.Journaled.{Journaled, IsWellFormed}
 use Rattle.klp_core.specs.Taking.{unless_full, answer_in}
 use Rattle.klp_watch.specs.declared.cause.Cause.{Cause}
-use Rattle.klp_watch.specs.declared.cause.Cause.TheVariants.{NotOpening, Frames, FramesLeft, ModuleInUse, Forced, NoCall, NoReturn, Deep}
+use Rattle.klp_watch.specs.declared.cause.Cause.TheVariants.{NoCall, NoReturn, Deep}
 use Rattle.klp_watch.specs.Inside.{AreInside}
 use Rattle.klp_watch.specs.Watching.{Became, accepted_in, moment_of, IsTakenAs, IsCause, IsDone, IsReported, once_taken_back}
 use Rattle.klp_watch.specs.Whole.{LeadHonestly, once_reported, BreakOff}
