@@ -4,6 +4,8 @@ import importlib.util
 import os
 import re
 import tempfile
+import threading
+import time
 
 from testing.run import TOP, fault, finish, start
 
@@ -36,9 +38,9 @@ def said(came, status, word):
     return None if came[0] == status and word in both else f"status {came[0]}: {both[-300:]}"
 
 
-def module(name):
+def module(name, folder="tools/"):
     """A tool as a module."""
-    loader = importlib.machinery.SourceFileLoader(name, f"{TOP}/tools/{name}")
+    loader = importlib.machinery.SourceFileLoader(name, f"{TOP}/{folder}{name}")
     it = importlib.util.module_from_spec(importlib.util.spec_from_loader(name, loader))
     loader.exec_module(it)
     return it
@@ -73,6 +75,31 @@ def walk():
     return None
 
 
+def prove_fits():
+    """Proofs that run side by side fit into the memory that there is, each runs once, and behind those that it waits for."""
+    lock, running, most, done = threading.Lock(), [], [0], []
+
+    def task(key, waits, need):
+        def call(_given, jobs):
+            with lock:
+                running.append(need * (1 + 0.6 * (jobs - 1)))
+                most[0] = max(most[0], sum(running))
+                late = [it for it in waits if it not in done]
+            time.sleep(0.01)
+            with lock:
+                running.remove(need * (1 + 0.6 * (jobs - 1)))
+                done.append(key)
+            return late
+        return waits, 100, need, call
+
+    keys = [("klp_types", number) for number in range(12)]
+    tasks = {key: task(key, keys[: index // 4], 2 + index % 3) for index, key in enumerate(keys)}
+    given = module("prove", "").in_chains(tasks, 6.8)
+    if sorted(done) != keys or any(given.values()):
+        return f"{sorted(done)} ran, too early {given}"
+    return None if most[0] <= 6.8 else f"{most[0]} of 6.8 were used"
+
+
 def edit_is_whole():
     """Each wrong body turns lines that are there."""
     for folder, _, names in os.walk(f"{TOP}/crates"):
@@ -99,6 +126,7 @@ def cases():
         ("tools/edits: each edit has its lines", edit_is_whole),
         ("tools/gate-times: a table", table),
         ("tools/hostile: an unknown part", lambda: said(ran("tools/hostile", "nothing"), 2, "usage")),
+        ("prove: within the memory that there is", prove_fits),
         ("tools/stored: no word", lambda: said(ran("tools/stored"), 2, "usage")),
         ("tools/walk: where it begins", walk),
         ("tools/words", lambda: said(ran("tools/words"), 0, "")),
