@@ -166,7 +166,7 @@ impl Sites {
 
     /// Gives one row what the record has: an entry, with which the hook of its site comes or goes, or
     /// whether an object is loaded. Nothing changes where there is no such site or object, and by a record
-    /// of another kind: a hook's own record is one, since the entry's has brought the hook back
+    /// of another kind: a hook's own record is one, since the entry's, put back right after it, brings the hook back
     /// (docs/DECISIONS.md, "Hooks in undo"). The cost is at most the stack's height.
     pub fn put_back(&mut self, row: Record)
         requires due { is_due self.old row ≡ true }
