@@ -1,5 +1,5 @@
 use Rattle.std.proofs.Common.{rules}
-use Rattle.klp_stack.proofs.pick.pick.Goals as goal
+use Rattle.klp_stack.proofs.picks.pick.Goals as goal
 
 pub returns : goal.returns
 returns c = search rules

@@ -1,5 +1,5 @@
 use Rattle.std.proofs.Common.{rules}
-use Rattle.klp_stack.proofs.pick.version_of.Goals as goal
+use Rattle.klp_stack.proofs.picks.version_of.Goals as goal
 
 pub returns-in-None : goal.returns-in-None
 returns-in-None c = search rules
