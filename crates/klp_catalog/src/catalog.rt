@@ -213,7 +213,7 @@ impl Catalog {
         Some(patch.replace)
     }
 
-    /// The same where a patch that isn't there counts as one that replaces nothing.
+    /// Whether a patch is cumulative. One that isn't there isn't.
     pub fn is_cumulative(&self, patch: PatchId) -> bool
         ensures { result ≡ states.is_cumulative self.now patch }
     {

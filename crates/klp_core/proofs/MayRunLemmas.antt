@@ -23,7 +23,7 @@ use Rattle.klp_patch.specs.Calls.{are_some}
 use Rattle.klp_patch.specs.Refusing.{pre_calls}
 use Rattle.klp_patch.specs.UntilRefused.{calls_until_refused}
 use Rattle.klp_patch.proofs.CallLemmas.{clean_calls, enable-parts}
-use Rattle.klp_patch.proofs.ModuleSharesLemmas.{coming-passed, coming-refused, coming-weight, going-weight}
+use Rattle.klp_patch.proofs.ModulePartsLemmas.{coming-passed, coming-refused, coming-weight, going-weight}
 use Rattle.klp_core.specs.Events.{may_run_some}
 
 none_there : (calls : List Call) → are_some calls ≡ false → calls ≡ []

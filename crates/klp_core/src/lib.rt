@@ -7,7 +7,7 @@
 //! (`specs/Withdrawal`). `rewind` takes events back: the state is again the one that the events left in the
 //! journal lead to (`specs/Rewinding`). `seal` makes what is now what events are taken back to.
 //!
-//! `src/take.rt` hands each event to its step, `src/journal.rt` appends and takes back, `src/queries.rt` and
+//! `src/manager.rt` has these calls with their clauses, `src/take.rt` hands each event to its step, `src/journal.rt` appends and takes back, `src/queries.rt` and
 //! `src/row.rt` show the state, each by what the definitions say of it, and `src/holders.rt` which tasks hold
 //! a transition up (`specs/Holders`). [`Manager::boot`] makes the opening
 //! state, or answers why it can't (`specs/Boot`). No call after it has an allocator or an answer for want

@@ -50,7 +50,7 @@ impl Manager {
     pub fn stack(&self, site: Site) -> ArrayVec<Entry, MAX_PATCHES>
         ensures { result.items ≡ entries_of (setting_of self.now.managed) self.now.managed.state site }
     {
-        self.state.sites.entries(site)
+        self.state.sites.stacks().entries(site)
     }
 
     /// The installed patches, oldest first, as a copy, so that one may go over them while events are taken.

@@ -151,7 +151,7 @@ impl Manager {
             (setting_of self.now.managed) self.now.managed.state site) }
     {
         let moving = patch_of(self.state.moving);
-        self.state.sites.word(site, moving)
+        self.state.sites.stacks().word(site, moving)
     }
 
     /// Where a version begins, if there is such a version: an original behind its entry site, so that it

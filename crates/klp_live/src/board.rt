@@ -63,7 +63,7 @@ pub struct Board<S: Start + Protocol<Published, View>, R: Wait + Drop> {
 }
 
 impl<S: Start + Protocol<Published, View>, R: Wait + Drop> Drop for Board<S, R> {
-    /// Waits until no reader is inside, and ends.
+    /// Waits until no reader is inside, then drops the end that publishes.
     fn drop(self) {
         let Board { changes, rt } = self;
         changes.take(&rt);

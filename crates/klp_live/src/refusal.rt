@@ -17,7 +17,7 @@ pub enum LiveRefusal {
     NoMemory,
 }
 
-/// Three events never fill a journal: so one that is told as full has seen more. A function that does nothing: its
+/// Three events never fill a journal: one that has no room has more than three. A function that does nothing: its
 /// contract is the law.
 pub fn few_events_leave_room()
     ensures { (setting : Setting) (base : State) (list : History) (event : Event)

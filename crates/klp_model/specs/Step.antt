@@ -23,8 +23,8 @@ use Rattle.klp_model.specs.Completing.{polled}
 use Rattle.klp_model.specs.ModuleStep.{come, gone}
 use Rattle.klp_model.specs.TaskStep.{state_wanted, change, put_task, new_task, state_of_task, exited}
 
--- what an event does that nothing refuses: so the patch that is forced is the one that moves, and what starts a disabling is the
--- value false
+-- what an event does that nothing refuses: so `Force` takes the patch that moves, and a `SetEnabled` that starts
+-- a transition has the value false
 abbrev pub accepted : Setting → State → Event → Reply × State
 accepted setting state (Enable patch) = enabled setting state patch
 accepted setting state (SetEnabled patch value) = turned setting state patch value

@@ -73,7 +73,7 @@ pub enum Reply {
     Woken(Frames),
 }
 
-/// Why an event is refused. The numbers are this project's own, and stay, so that scripts may rely on them.
+/// Why an event is refused. The numbers stay. The console writes others, after Linux's (docs/CONSOLE.md).
 #[derive(Clone, Copy, Debug)]
 pub enum Refusal {
     /// The catalog has no such patch. It is asked first of all, since nothing else is known of such a

@@ -1,5 +1,5 @@
 //! What is proved of a patch that is enabled and gone again. A function here does nothing: its contract is
-//! the law. The premises are those of `specs/Company`; `examples` shows what is lost where some of them
+//! the law. The premises are those of `specs/Company`; `round_trip_examples` shows what is lost where some of them
 //! fail.
 ghost use Rattle.std.specs.Prelude.{◌≡◌, ℕ, ◌<◌, false, List, [], ◌∷◌, ◌++◌, Some};
 ghost use Rattle.std.specs.List.{find};

@@ -164,7 +164,7 @@ impl Watched {
         Ok(())
     }
 
-    /// Takes up the system states that the patches of a catalog name.
+    /// Adds each system state that a patch of the manager's catalog names, with no value yet.
     pub(crate) fn open(&mut self, manager: &Manager) -> Result<(), AllocError> {
         let catalog = manager.catalog();
         for number in 0..catalog.patches() {

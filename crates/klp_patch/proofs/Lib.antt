@@ -13,7 +13,7 @@ pub mod RanLemmas
 pub mod RunLemmas
 pub mod UndoLemmas
 pub mod RefusalLemmas
-pub mod ModuleShareLemmas
-pub mod ModuleSharesLemmas
+pub mod ModulePartLemmas
+pub mod ModulePartsLemmas
 pub mod MayRunLemmas
 pub mod RoomLemmas

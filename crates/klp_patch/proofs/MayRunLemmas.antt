@@ -15,7 +15,7 @@ use Rattle.klp_patch.specs.Refusing.{pre_calls}
 use Rattle.klp_patch.specs.UntilRefused.{calls_until_refused}
 use Rattle.klp_patch.proofs.CallLemmas.{clean_calls, enable-parts, clean-few}
 use Rattle.klp_patch.proofs.RanLemmas.{pre_notes_few}
-use Rattle.klp_patch.proofs.ModuleSharesLemmas.{coming-passed, coming-refused, coming-weight, going-weight}
+use Rattle.klp_patch.proofs.ModulePartsLemmas.{coming-passed, coming-refused, coming-weight, going-weight}
 
 -- how many records a callback notes at most, beside those of variables that are gone
 abbrev notes_of : Call → ℕ

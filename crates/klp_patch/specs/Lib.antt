@@ -6,5 +6,5 @@ pub mod Loaded
 pub mod Refusing
 pub mod Places
 pub mod Calls
-pub mod ModuleShares
+pub mod ModuleParts
 pub mod UntilRefused

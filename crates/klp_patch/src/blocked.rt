@@ -22,10 +22,11 @@ fn block_at(sites: &Sites, site: Site, moving: &Transition, blocked: &mut Versio
         → IsSetOf blocked.new (versions ++ blocked_among site moving.now (entries_at sites.now.stacks site)) }
 {
     // where the patch has no entry, it holds nobody back, since no task runs anything else afterwards
-    if sites.entry(site, moving.patch).is_none() {
+    let stacks = sites.stacks();
+    if stacks.entry(site, moving.patch).is_none() {
         return;
     }
-    if let Some(version) = sites.blocked(site, *moving) {
+    if let Some(version) = stacks.blocked(site, *moving) {
         blocked.insert(version);
     }
 }

@@ -40,7 +40,7 @@ pub(crate) fn site_in_scope(
     if in_scope { function.site() } else { None }
 }
 
-/// Whether a change is about a site. The cost is the number of the object that the site lies in.
+/// Whether a site lies in the object `only`, or without one in any loaded object. The cost is the number of the object that the site lies in.
 pub(crate) fn covers(sites: &Sites, only: &Option<ObjId>, site: Site) -> bool
     ensures { result ≡ covered.is_covered sites.now only.now site }
 {

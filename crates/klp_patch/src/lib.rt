@@ -10,7 +10,7 @@
 //! (`specs/Blocked`): that of the stacks, and by a law of this crate that of the state.
 //!
 //! Callbacks run as the definitions list them, in that order (callbacks, "Callbacks" and "How it works";
-//! `specs/Calls`, `Loaded`, `ModuleShares`): for a patch the kind asked for of each loaded object; at an
+//! `specs/Calls`, `Loaded`, `ModuleParts`): for a patch the kind asked for of each loaded object; at an
 //! enabling pre-patch up to the first that refuses, and then the cleaning up; for a module that comes or
 //! goes the installed patches one by one, oldest first. Each run is counted, the world is what the scripts
 //! make of it, the same patches are installed, and the changed rows are logged. The records are few, and
@@ -24,7 +24,7 @@ mod callback_run;
 mod covered;
 pub mod laws;
 mod module_callbacks;
-mod module_share;
+mod module_parts;
 mod patch;
 mod patch_callbacks;
 mod site;

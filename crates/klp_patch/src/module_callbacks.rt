@@ -8,11 +8,11 @@ ghost use Rattle.klp_types.specs.Callbacks.{script_for, allocs_of};
 ghost use Rattle.klp_model.specs.Callbacks.{status_of};
 ghost use Rattle.klp_model.specs.ModuleCalls.{Part, part_refuses, parts_before, coming_calls, going_calls};
 ghost use Rattle.klp_model.specs.EventCalls.{coming_may_run, going_may_run};
-ghost use Rattle.klp_patch.specs.ModuleShares.{parts_in};
+ghost use Rattle.klp_patch.specs.ModuleParts.{parts_in};
 ghost use Rattle.klp_patch.specs.UntilRefused.{calls_until_refused, refusal};
 ghost use Rattle.klp_patch.specs.Calls.{HaveRun, HasRoomFor, records_of, are_some};
 
-use crate::module_share::{
+use crate::module_parts::{
     a_coming_may_run, a_going_may_run, coming_allocs, going_allocs, part_coming, part_going,
 };
 use klp_catalog::Catalog;

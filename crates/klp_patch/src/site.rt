@@ -38,7 +38,7 @@ pub(crate) fn put_nop(sites: &mut Sites, site: Site, patch: PatchId, log: &mut R
     ensures entries { AreMade sites.old sites.new (λ other. site == other) (λ other entries. with_nop patch entries) }
     ensures notes { Notes sites.old sites.new log.old log.new 1 (hooked_count sites.old) (hooked_count sites.new) }
 {
-    if sites.has_only_others(site, patch) {
+    if sites.stacks().has_only_others(site, patch) {
         put(sites, site, Entry { patch, func: None }, log);
     }
 }
@@ -63,7 +63,8 @@ pub(crate) fn take_nop(sites: &mut Sites, site: Site, patch: PatchId, log: &mut 
         (λ other entries. without_nop patch entries) }
     ensures notes { Notes sites.old sites.new log.old log.new 1 (hooked_count sites.new) (hooked_count sites.old) }
 {
-    let Some(entry) = sites.entry(site, patch) else {
+    let stacks = sites.stacks();
+    let Some(entry) = stacks.entry(site, patch) else {
         return;
     };
     if entry.func.is_none() {

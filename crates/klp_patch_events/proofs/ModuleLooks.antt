@@ -10,7 +10,7 @@ use Rattle.klp_model.specs.Refusals.{lacks_symbol_of}
 use Rattle.klp_modules.specs.Names.{ObjectNames}
 use Rattle.klp_catalog_text.specs.Plan.{PlanTarget, PlanPatch}
 use Rattle.klp_catalog.specs.Catalog.{Catalog, CatalogFunction, catalog_functions, functions_of_target, functions_of_patch, targets_of_patch, patch_object, setting_patch}
-use Rattle.klp_patch.specs.ModuleShares.{parts_at, parts_in}
+use Rattle.klp_patch.specs.ModuleParts.{parts_at, parts_in}
 use Rattle.klp_patch_events.proofs.SymbolLemmas.{lacks_target}
 
 -- a patch has a function for the module that names no site

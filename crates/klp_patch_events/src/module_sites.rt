@@ -14,6 +14,7 @@ ghost use Rattle.klp_patch.specs.Changes.{hooked_count, most_entries};
 ghost use Rattle.klp_patch.specs.Room.{HasRoom};
 ghost use Rattle.klp_patch.specs.Covered.{is_covered};
 ghost use Rattle.klp_manager_state.specs.Rows.{SitesGoBack};
+ghost use Rattle.klp_patch_events.specs.Installed.{AreInstalled};
 
 use klp_catalog::Catalog;
 use klp_journal::Records;
@@ -50,12 +51,7 @@ pub(crate) fn patch_object(
     object: ObjId,
     log: &mut Records,
 )
-    requires numbers { All (λ p. p < MAX_PATCHES) patches.now }
-    requires few { length patches.now ≤ MAX_PATCHES }
-    requires distinct { AreDistinct patches.now }
-    requires replace { count_by (is_cumulative catalog.now) patches.now ≤ 2 }
-    requires sites { site_count sites.old.image ≤ MAX_SITES }
-    requires names { catalog.now.names ≡ names_of sites.old.image.objects }
+    requires installed { AreInstalled catalog.now sites.old patches.now }
     requires bare { (site : ℕ) → is_covered sites.old (Some object) site ≡ true
         → entries_at sites.old.stacks site ≡ [] }
     requires fit { HasRoom sites.old (is_covered sites.old (Some object))
@@ -92,10 +88,7 @@ pub(crate) fn unpatch_object(
     object: ObjId,
     log: &mut Records,
 )
-    requires few { length patches.now ≤ MAX_PATCHES }
-    requires replace { count_by (is_cumulative catalog.now) patches.now ≤ 2 }
-    requires sites { site_count sites.old.image ≤ MAX_SITES }
-    requires names { catalog.now.names ≡ names_of sites.old.image.objects }
+    requires installed { AreInstalled catalog.now sites.old patches.now }
     requires own { (site : ℕ) → is_covered sites.old (Some object) site ≡ true
         → entries_at sites.old.stacks site ≡ entries_from (record { image = sites.old.image; patches = patches_of catalog.now }) site (reverse patches.now) }
     requires records { length log.old.logged ≤ RECORDS_BEFORE_SITES }

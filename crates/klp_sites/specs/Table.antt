@@ -1,9 +1,8 @@
 -- The image and the stacks of its sites, in step.
-use Rattle.std.specs.Prelude.{◌≡◌, ℕ, Bool, false, not, List, [], length, map, replicate, Option, None, option_map, slice_index_or, if◌then◌else◌}
+use Rattle.std.specs.Prelude.{◌≡◌, ℕ, Bool, not, List, [], length, map, replicate}
 use Rattle.klp_types.specs.declared.version.Entry.{Entry}
-use Rattle.klp_types.specs.Bytes.{symbol_in, text_where}
 use Rattle.klp_types.specs.Entries.{is_empty}
-use Rattle.klp_types.specs.Image.{Symbol, Image}
+use Rattle.klp_types.specs.Image.{Image}
 use Rattle.klp_text.specs.TextImage.{TextImage, site_count}
 use Rattle.klp_stack.specs.Stack.{entries_at}
 
@@ -37,11 +36,3 @@ pub record IsInStep (image : TextImage) (stacks : List (List Entry)) : Type 0 wh
 -- the image as it was given, with no entries
 abbrev pub opening : TextImage → SiteTable
 opening image = record { image = image.image; loaded = image.loaded; stacks = replicate (site_count image.image) [] }
-
--- the symbols of a loaded object, with the bytes that a processor would run
-abbrev pub text_at : SiteTable → ℕ → Option (List Symbol)
-text_at table object = if slice_index_or table.loaded object false then text_where table.image (is_hooked_at table.stacks) object else None
-
--- the bytes of one of them
-abbrev pub bytes_at : SiteTable → ℕ → ℕ → Option (List ℕ)
-bytes_at table object number = option_map (λ (symbol : Symbol). symbol.body) (symbol_in (text_at table object) number)

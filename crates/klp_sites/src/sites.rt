@@ -1,28 +1,21 @@
-ghost use Rattle.std.specs.Prelude.{◌≡◌, ℕ, ◌<◌, ◌≤◌, ◌==◌, ◌&&◌, not, find, true, false, length, replicate, option_map, slice_index_or, slice_set, is_some, IfOk, IfSome, IfNone, MatchOption};
-ghost use Rattle.std.specs.Option.{option_to_list};
+ghost use Rattle.std.specs.Prelude.{◌≡◌, ℕ, ◌<◌, ◌≤◌, true, false, length, replicate, option_map, slice_index_or, slice_set, is_some, IfOk, IfSome, IfNone, MatchOption};
 ghost use Rattle.klp_types.specs.declared.limits.TheConstants.{MAX_SITES};
 ghost use Rattle.klp_types.specs.Entries.{is_empty};
 ghost use Rattle.klp_types.specs.Records.{spare_of};
 ghost use Rattle.klp_text.specs.TextImage.{site_count};
-ghost use Rattle.klp_model.specs.Blocked.{blocked_among};
-ghost use Rattle.klp_model.specs.Rows.{word_of};
-ghost use Rattle.klp_types.specs.declared.version.Entry.{Entry as AnyEntry};
 ghost use Rattle.klp_stack.specs.Spare.{spare_in};
-ghost use Rattle.klp_stack.specs.Stack.{IsStack, entries_at, has_entry, entries_of_others, place_of};
+ghost use Rattle.klp_stack.specs.Stack.{entries_at, has_entry, entries_of_others, place_of};
 ghost use Rattle.klp_stack.specs.Undo as of_stacks;
-ghost use Rattle.klp_sites.specs.Table.{bytes_at, image_of, is_hooked_at, opening};
+ghost use Rattle.klp_sites.specs.Table.{image_of, is_hooked_at, opening};
 ghost use Rattle.klp_sites.specs.Hooked.{IsNextHooked};
 ghost use Rattle.klp_sites.specs.Changes.{Changes, pushed, taken, rows_of_push, rows_of_take};
 ghost use Rattle.klp_sites.specs.Undo.{put_back, put_loaded, is_due};
 
 use crate::hooked::HookedSites;
-use arrayvec::ArrayVec;
 use klp_journal::Records;
 use klp_stack::{Stacks, Taken};
 use klp_text::Image;
-use klp_types::{
-    Entry, MAX_PATCHES, ObjId, PatchId, Place, Record, Site, SiteWord, Transition, Version,
-};
+use klp_types::{Entry, MAX_PATCHES, ObjId, PatchId, Place, Record, Site};
 use std::alloc::{AllocError, Global};
 use std::marker::Model;
 
@@ -173,7 +166,7 @@ impl Sites {
 
     /// Gives one row what the record has: an entry, with which the hook of its site comes or goes, or
     /// whether an object is loaded. Nothing changes where there is no such site or object, and by a record
-    /// of another kind: a hook's own record is one, since the entry's has brought the hook back
+    /// of another kind: a hook's own record is one, since the entry's, put back right after it, brings the hook back
     /// (docs/DECISIONS.md, "Hooks in undo"). The cost is at most the stack's height.
     pub fn put_back(&mut self, row: Record)
         requires due { is_due self.old row ≡ true }
@@ -248,24 +241,6 @@ impl Sites {
         self.image.is_loaded(object)
     }
 
-    /// The bytes of a symbol of a loaded object, as a processor would run them. Symbols count from
-    /// 0 in each object. There is none where the object isn't loaded or has no such symbol. The cost
-    /// is constant.
-    pub fn bytes(&self, object: ObjId, number: u16) -> Option<&[u8]>
-        ensures { option_map (λ b. b.now) result ≡ bytes_at self.now object number }
-    {
-        self.image.bytes(object, number)
-    }
-
-    /// Whether a site has entries, and none of the patch: so a nop of the patch would change what runs there.
-    /// The cost is at most the stack's height.
-    pub fn has_only_others(&self, site: Site, patch: PatchId) -> bool
-        ensures { let entries = entries_at self.now.stacks site in
-            result ≡ (not (is_empty entries) && not (has_entry patch entries)) }
-    {
-        self.stacks.has_only_others(site, patch)
-    }
-
     /// The first site from a number on that has an entry, and so is hooked. It looks at no site that isn't, so who walks
     /// over all that are hooked by it pays for these alone, and a step for each 64 sites.
     pub fn next_hooked(&self, from: usize) -> Option<Site>
@@ -283,38 +258,11 @@ impl Sites {
         self.stacks.sites()
     }
 
-    /// The entry of a patch on a site's stack, if it has one there: by it one sees whether a sleeper may be
-    /// held at the site. The cost is at most the stack's height.
-    pub fn entry(&self, site: Site, patch: PatchId) -> Option<Entry>
-        ensures value { result ≡ find (λ (e : AnyEntry). e.patch == patch) (entries_at self.now.stacks site) }
-        // what each stack keeps to, so that callers needn't prove it again
-        ensures stack { IsStack (entries_at self.now.stacks site) }
+    /// The function stacks as they are, to be looked at: which entries a site has, and what runs there. They are lent for
+    /// reading alone, as the image is.
+    pub fn stacks(&self) -> &Stacks
+        ensures { result.now ≡ self.now.stacks }
     {
-        self.stacks.entry(site, patch)
-    }
-
-    /// What a call at a site needs to know, at a constant cost. `moving` is the patch in transition, if
-    /// there is one, which isn't kept here.
-    pub fn word(&self, site: Site, moving: Option<PatchId>) -> SiteWord
-        ensures { result ≡ word_of moving (entries_at self.now.stacks site) }
-    {
-        self.stacks.word(site, moving)
-    }
-
-    /// The entries of a site, newest first, in an array, so that none is lent. The cost is the stack's
-    /// height.
-    pub fn entries(&self, site: Site) -> ArrayVec<Entry, MAX_PATCHES>
-        ensures { result.items ≡ entries_at self.now.stacks site }
-    {
-        self.stacks.entries(site)
-    }
-
-    /// The version at a site that a task mustn't be inside of when it switches (what the kernel's
-    /// `klp_check_stack_func` looks for): none where the moving patch has no entry there. The cost is
-    /// at most the stack's height.
-    pub fn blocked(&self, site: Site, moving: Transition) -> Option<Version>
-        ensures { option_to_list result ≡ blocked_among site moving (entries_at self.now.stacks site) }
-    {
-        self.stacks.blocked(site, moving)
+        &self.stacks
     }
 }

@@ -8,7 +8,7 @@ ghost use Rattle.klp_types.specs.declared.limits.TheConstants.{MAX_PATCHES};
 ghost use Rattle.klp_stack.specs.Stack.{has_entry, place_of};
 ghost use Rattle.klp_stack.specs.Pool.{IsLinked, entries_from, entries_below, slot_below};
 
-use crate::handler::version_of;
+use crate::picks::version_of;
 use crate::slot::Slot;
 use arrayvec::ArrayVec;
 use klp_types::{Entry, MAX_PATCHES, PatchId, Place, Site, SiteWord, Transition, Version};

@@ -15,12 +15,12 @@
 #![tactic(auto)]
 
 mod chain;
-mod handler;
+mod picks;
 pub mod laws;
 mod pool;
 mod slot;
 mod stacks;
 
-pub use handler::{pick, version_of};
+pub use picks::{pick, version_of};
 pub use slot::MAX_ENTRIES;
 pub use stacks::{Stacks, Taken};

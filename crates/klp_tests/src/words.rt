@@ -43,7 +43,7 @@ fn wanted_words(alloc: Global, words: &Wanted) -> Result<String, AllocError> {
     }
 }
 
-/// Whether these words are answered so. Where they are refused, and only then, a line says so.
+/// Whether the arguments `given` mean `wanted`. Where they are refused, and only then, standard error has a line.
 fn is_answer(alloc: Global, given: &[String], wanted: &str) -> Result<bool, AllocError> {
     let mut err = Vec::new(alloc);
     Ok(match parse_arguments(alloc, given, &mut err) {

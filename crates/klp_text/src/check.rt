@@ -3,7 +3,7 @@ ghost use Rattle.std.specs.List.{list_any};
 ghost use Rattle.klp_types.specs.Image.{Object, symbols_of};
 ghost use Rattle.klp_text.specs.Faults as faults;
 
-use crate::entry::{can_reach, entry_offset};
+use crate::entry_site::{can_reach, entry_offset};
 use crate::fault::ImageFault;
 use klp_types::{ENTRY_SITE_LEN, MAX_BODY, MAX_OBJECTS, MAX_SITES, ObjectText, SymbolText};
 

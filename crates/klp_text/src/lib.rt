@@ -15,7 +15,7 @@
 #![tactic(auto)]
 
 mod check;
-mod entry;
+mod entry_site;
 mod fault;
 mod image;
 mod stored;

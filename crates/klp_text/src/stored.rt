@@ -4,7 +4,7 @@ ghost use Rattle.klp_types.specs.Bytes.{entry_offset, entry_end, entry_address, 
 ghost use Rattle.klp_types.specs.Bytes as bytes;
 ghost use Rattle.klp_text.specs.Kept.{with_entry_at};
 
-use crate::entry::{NOP, call, entry_offset};
+use crate::entry_site::{NOP, call, entry_offset};
 use klp_types::{ENTRY_SITE_LEN, SymbolText};
 use std::alloc::{AllocError, Global};
 

@@ -1,5 +1,5 @@
 -- An event whose answer was observed.
-use Rattle.std.proofs.Common.{◌≡◌, ℕ, ◌<◌, ◌≤◌, arith, Bool, true, false, List, [], ◌∷◌, length, take, refl, sym, ap, subst, ◌∙◌}
+use Rattle.std.proofs.Common.{◌≡◌, ℕ, ◌<◌, ◌≤◌, arith, Bool, true, false, List, [], ◌∷◌, length, take, sym, ap, subst, ◌∙◌}
 use Rattle.std.proofs.Math.Seq.{take-append_seam}
 use Rattle.std.proofs.lemmas.List.{length-append}
 use Rattle.std.specs.Prelude.{is_ok, is_err, Result, Ok, Err, IfOk, IfErr, if◌then◌else◌}
@@ -24,9 +24,9 @@ use Rattle.klp_watch.specs.declared.observed.Observed.TheVariants.{Answered}
 use Rattle.klp_watch.specs.declared.difference.Difference.{Difference}
 use Rattle.klp_watch.specs.declared.difference.Difference.TheVariants.{Premise, Answer}
 use Rattle.klp_watch.specs.Inside.{AreInside}
-use Rattle.klp_watch.specs.Watching.{IsAgainst, IsDone, once_taken_back}
+use Rattle.klp_watch.specs.Watching.{IsAgainst, once_taken_back}
 use Rattle.klp_watch.specs.Compared.{IsDoneSo, IsFound, IsReportedFor}
-use Rattle.klp_watch.proofs.DoneLemmas.{refused_done, accepted_done}
+use Rattle.klp_watch.proofs.DoneLemmas.{refused_done}
 
 -- what is honest breaks no premise
 pub breaks_none : (setting : Setting) (stacks : Stacks) (event : Event) (cause : Cause) → IsHonestEvent setting stacks event → IsAgainst setting stacks event cause → ⊥

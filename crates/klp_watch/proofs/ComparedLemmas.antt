@@ -14,7 +14,7 @@ use Rattle.klp_watch.specs.declared.observed.Observed.{Observed}
 use Rattle.klp_watch.specs.declared.observed.Observed.TheVariants.{Seen as Item, Answered, Saw}
 use Rattle.klp_watch.specs.declared.difference.Difference.{Difference}
 use Rattle.klp_watch.specs.Inside.{AreInside}
-use Rattle.klp_watch.specs.Watching.{AreWatched, IsDone, IsReported, groups_in, accepted_in}
+use Rattle.klp_watch.specs.Watching.{AreWatched, IsReported, groups_in, accepted_in}
 use Rattle.klp_watch.specs.Compared.{taken_of, taken_from, IsSoAt, IsSoBehind, AreCompared, inside_behind, IsDoneSo, IsReportedFor, IsDifference}
 use Rattle.klp_watch.proofs.RunLemmas.{GoOn, OfEvents}
 use Rattle.klp_watch.proofs.WatchedLemmas.{StaysAllowed, SoFar, none_so_far, one_more, parted_at}

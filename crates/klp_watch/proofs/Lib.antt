@@ -1,5 +1,6 @@
 pub mod AnsweredLemmas
 pub mod ComparedLemmas
+pub mod ComparedWholeLemmas
 pub mod DoneLemmas
 pub mod EnteredLemmas
 pub mod FramesLemmas

@@ -1,6 +1,6 @@
 -- A whole trace, item by item: with room in the journal the rules alone answer an event.
-use Rattle.std.proofs.Common.{◌≡◌, ℕ, ◌+◌, ◌<◌, Bool, true, false, List, [], ◌∷◌, ◌++◌, length, take, drop, get_or, Option, Some, None, refl, sym, ap, subst, ◌∙◌, arith, add-one}
-use Rattle.std.specs.Prelude.{is_none, is_ok, if◌then◌else◌, Result, Ok, Err, IfOk, IfErr}
+use Rattle.std.proofs.Common.{◌≡◌, ℕ, ◌+◌, ◌<◌, Bool, true, false, List, [], ◌∷◌, ◌++◌, length, take, drop, get_or, Option, Some, None, refl, sym, ap, subst, ◌∙◌, arith}
+use Rattle.std.specs.Prelude.{is_none, is_ok, if◌then◌else◌, Result, Ok, Err}
 use Rattle.std.proofs.lemmas.List.{length-take-le}
 use Rattle.klp_types.specs.declared.version.Version.{Version}
 use Rattle.klp_types.specs.Callbacks.{Call}
@@ -15,8 +15,8 @@ use Rattle.klp_model.specs.State.{State}
 use Rattle.klp_model.specs.EventCalls.{calls}
 use Rattle.klp_model.specs.Refusals.{refusal, accepts}
 use Rattle.klp_model.specs.Step.{accepted, calls_unless}
-use Rattle.klp_model.specs.Run.{answer, answer_of, state_after, run}
-use Rattle.klp_model.specs.Observed.{Stacks, Watched, begun, events_of, opening, seen_next, seen_run, seen_from, HasNoTask, AreHonest, IsHonestItem, IsHonestRun}
+use Rattle.klp_model.specs.Run.{answer, answer_of, state_after}
+use Rattle.klp_model.specs.Observed.{Stacks, Watched, begun, events_of, opening, seen_next, seen_run, seen_from, HasNoTask, AreHonest, IsHonestItem}
 use Rattle.klp_journal.specs.Journal.{Group, has_room}
 use Rattle.klp_catalog.specs.Runs.{after_runs}
 use Rattle.klp_manager_state.specs.Managed.{Managed, setting_of}
@@ -24,7 +24,7 @@ use Rattle.klp_core.specs.Events.{after_events}
 use Rattle.klp_core.specs.Journaled.{Journaled, IsWellFormed}
 use Rattle.klp_core.specs.Taking.{unless_full, answer_in}
 use Rattle.klp_watch.specs.declared.cause.Cause.{Cause}
-use Rattle.klp_watch.specs.declared.cause.Cause.TheVariants.{NotOpening, Frames, FramesLeft, ModuleInUse, Forced, NoCall, NoReturn, Deep}
+use Rattle.klp_watch.specs.declared.cause.Cause.TheVariants.{NoCall, NoReturn, Deep}
 use Rattle.klp_watch.specs.Inside.{AreInside}
 use Rattle.klp_watch.specs.Watching.{Became, accepted_in, moment_of, IsTakenAs, IsCause, IsDone, IsReported, once_taken_back}
 use Rattle.klp_watch.specs.Whole.{LeadHonestly, once_reported, BreakOff}
@@ -45,7 +45,7 @@ with_room : (result : Result Reply Refusal) → unless_full true result ≡ resu
 with_room (Ok reply) = refl
 with_room (Err reason) = refl
 
-answered : (setting : Setting) (state : State) (groups : List Group) (event : Event) → has_room groups ≡ true
+pub answered : (setting : Setting) (state : State) (groups : List Group) (event : Event) → has_room groups ≡ true
     → answer_in setting state groups event ≡ answer setting state event
 answered setting state groups event room = ap (λ (b : Bool). unless_full b (answer setting state event)) room ∙ with_room (answer setting state event)
 
@@ -101,7 +101,7 @@ cause_by_rules setting w groups (Calls task site) cause room is = absurd is
 cause_by_rules setting w groups (Returns task) NoReturn room is = is
 cause_by_rules setting w groups (Returns task) cause room is = absurd is
 
-reported_left : (before after : Journaled) (item : Seen) → after ≡ once_taken_back before item → after.managed ≡ once_reported before.managed item
+pub reported_left : (before after : Journaled) (item : Seen) → after ≡ once_taken_back before item → after.managed ≡ once_reported before.managed item
 reported_left before after (Happens event) is = ap (λ (m : Journaled). m.managed) is
 reported_left before after (Calls task site) is = ap (λ (m : Journaled). m.managed) is
 reported_left before after (Returns task) is = ap (λ (m : Journaled). m.managed) is

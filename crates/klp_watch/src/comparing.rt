@@ -73,7 +73,7 @@ fn compare_all(manager: &mut Manager, items: &[Observed]) -> Result<(), Differs>
 }
 
 /// One item, where the tasks are inside of what is kept.
-fn compare_item(
+pub(crate) fn compare_item(
     manager: &mut Manager,
     inside: &mut Inside,
     item: &Observed,

@@ -5,12 +5,14 @@
 //! (`specs/Watching`), so at every moment each task ran one version of each function, and none was in code
 //! that had left (`klp_model::consistency`). The first item that breaks a premise is told with its [`Cause`],
 //! and leaves nothing behind. [`watch_whole`] does the same over a trace of any length.
-//! [`compare`] holds against the rules what the kernel answered and showed besides (`specs/Compared`).
+//! [`compare`] holds against the rules what the kernel answered and showed besides (`specs/Compared`), and
+//! [`compare_whole`] does so over a trace of any length (`specs/ComparedWhole`).
 #![tactic(auto)]
 
 mod answered;
 mod cause;
 mod comparing;
+mod comparing_whole;
 mod difference;
 mod event;
 mod inside;
@@ -22,6 +24,7 @@ mod whole;
 
 pub use cause::{Cause, NotHonest};
 pub use comparing::compare;
+pub use comparing_whole::compare_whole;
 pub use difference::{Difference, Differs};
 pub use observed::{Observed, PatchFiles, Sight};
 pub use watching::watch;

@@ -68,7 +68,7 @@ fn watch_each(manager: &mut Manager, items: &[Seen]) -> Result<(), NotHonest>
 }
 
 /// Seals the journal where one more event might find no room in it.
-fn make_room(manager: &mut Manager)
+pub(crate) fn make_room(manager: &mut Manager)
     requires { IsWellFormed manager.old }
     ensures same { manager.new.managed ≡ manager.old.managed }
     ensures room { has_room manager.new.groups ≡ true }

@@ -2,7 +2,7 @@ use Rattle.std.proofs.Common.{◌≡◌, ◌+◌, ◌*◌, ◌≤◌, drop}
 use Rattle.std.specs.List.{flat_map}
 use Rattle.klp_types.specs.Callbacks.{allocs_of}
 use Rattle.klp_model.specs.EventCalls.{coming_may_run}
-use Rattle.klp_patch.specs.ModuleShares.{parts_in}
+use Rattle.klp_patch.specs.ModuleParts.{parts_in}
 use Rattle.klp_patch.specs.Calls.{records_of}
 use Rattle.klp_patch.proofs.module_callbacks.allocs_of_coming.Given as goal
 

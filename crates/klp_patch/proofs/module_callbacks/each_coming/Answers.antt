@@ -2,9 +2,9 @@ use Rattle.std.proofs.Common.{rules, w32, to_z, of_z, ◌≡◌, ◌+◌, ◌++�
 use Rattle.std.specs.Prelude.{find}
 use Rattle.std.proofs.lemmas.List.{append-nil}
 use Rattle.klp_model.specs.ModuleCalls.{part_refuses}
-use Rattle.klp_patch.specs.ModuleShares.{parts_at, parts_in}
+use Rattle.klp_patch.specs.ModuleParts.{parts_at, parts_in}
 use Rattle.klp_patch.specs.UntilRefused.{calls_until_refused, refusal}
-use Rattle.klp_patch.proofs.ModuleSharesLemmas.{unless_found, parts_so_far, refusal-some, refusal-none, part_coming-next, passed-calls, passed-refused, passed-before, stopped-calls, stopped-refused, stopped-before}
+use Rattle.klp_patch.proofs.ModulePartsLemmas.{unless_found, parts_so_far, refusal-some, refusal-none, part_coming-next, passed-calls, passed-refused, passed-before, stopped-calls, stopped-refused, stopped-before}
 use Rattle.klp_patch.proofs.RanLemmas.{goes_on, all_ran, room_for_next}
 use Rattle.klp_patch.proofs.module_callbacks.each_coming.Goals as goal
 

@@ -1,7 +1,7 @@
 use Rattle.std.proofs.Common.{◌≡◌, ◌++◌, drop, take}
 use Rattle.std.specs.Prelude.{find}
 use Rattle.klp_model.specs.ModuleCalls.{part_refuses, parts_before}
-use Rattle.klp_patch.specs.ModuleShares.{parts_in}
+use Rattle.klp_patch.specs.ModuleParts.{parts_in}
 use Rattle.klp_patch.specs.UntilRefused.{calls_until_refused}
 use Rattle.klp_patch.proofs.RanLemmas.{SoFar}
 use Rattle.klp_patch.proofs.module_callbacks.each_coming.Given as goal

@@ -1,7 +1,7 @@
 use Rattle.std.proofs.Common.{◌+◌, drop, ap}
 use Rattle.klp_model.specs.ModuleCalls.{going_calls}
-use Rattle.klp_patch.specs.ModuleShares.{parts_at, parts_in}
-use Rattle.klp_patch.proofs.ModuleSharesLemmas.{parts_so_far, going-next, parts-none_left}
+use Rattle.klp_patch.specs.ModuleParts.{parts_at, parts_in}
+use Rattle.klp_patch.proofs.ModulePartsLemmas.{parts_so_far, going-next, parts-none_left}
 use Rattle.klp_patch.proofs.RanLemmas.{begins, goes_on, all_ran, room_for_next}
 use Rattle.klp_patch.proofs.module_callbacks.each_going.Goals as goal
 

@@ -1,6 +1,6 @@
 use Rattle.std.proofs.Common.{drop}
 use Rattle.klp_model.specs.ModuleCalls.{going_calls}
-use Rattle.klp_patch.specs.ModuleShares.{parts_in}
+use Rattle.klp_patch.specs.ModuleParts.{parts_in}
 use Rattle.klp_patch.proofs.RanLemmas.{SoFar}
 use Rattle.klp_patch.proofs.module_callbacks.each_going.Given as goal
 

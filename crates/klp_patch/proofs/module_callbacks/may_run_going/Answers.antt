@@ -1,10 +1,10 @@
 use Rattle.std.proofs.Common.{◌+◌, drop, sym, ap, ◌∙◌, refl, arith}
 use Rattle.std.specs.List.{flat_map}
 use Rattle.klp_model.specs.EventCalls.{going_may_run}
-use Rattle.klp_patch.specs.ModuleShares.{parts_at, parts_in}
+use Rattle.klp_patch.specs.ModuleParts.{parts_at, parts_in}
 use Rattle.klp_patch.specs.Calls.{are_some}
 use Rattle.klp_patch.proofs.CallLemmas.{drop_past}
-use Rattle.klp_patch.proofs.ModuleSharesLemmas.{may_run-next}
+use Rattle.klp_patch.proofs.ModulePartsLemmas.{may_run-next}
 use Rattle.klp_patch.proofs.SomeLemmas.{some-first, some-behind}
 use Rattle.klp_patch.proofs.module_callbacks.may_run_going.Goals as goal
 

@@ -1,7 +1,7 @@
 use Rattle.std.proofs.Common.{◌≡◌, drop}
 use Rattle.std.specs.List.{flat_map}
 use Rattle.klp_model.specs.EventCalls.{going_may_run}
-use Rattle.klp_patch.specs.ModuleShares.{parts_in}
+use Rattle.klp_patch.specs.ModuleParts.{parts_in}
 use Rattle.klp_patch.specs.Calls.{are_some}
 use Rattle.klp_patch.proofs.module_callbacks.may_run_going.Given as goal
 

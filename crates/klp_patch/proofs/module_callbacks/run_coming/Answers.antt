@@ -3,11 +3,11 @@ use Rattle.std.specs.Prelude.{find}
 use Rattle.klp_types.specs.Callbacks.{Call}
 use Rattle.klp_model.specs.ModuleCalls.{part_refuses, going_calls}
 use Rattle.klp_catalog.specs.Catalog.{Catalog}
-use Rattle.klp_patch.specs.ModuleShares.{parts_in}
+use Rattle.klp_patch.specs.ModuleParts.{parts_in}
 use Rattle.klp_patch.specs.UntilRefused.{calls_until_refused}
 use Rattle.klp_patch.specs.Calls.{HaveRun, HasRoomFor}
 use Rattle.klp_patch.proofs.RanLemmas.{then_ran}
-use Rattle.klp_patch.proofs.ModuleSharesLemmas.{coming-passed, coming-refused, refusal-some, room_to_coming, room_to_clean}
+use Rattle.klp_patch.proofs.ModulePartsLemmas.{coming-passed, coming-refused, refusal-some, room_to_coming, room_to_clean}
 use Rattle.klp_patch.proofs.module_callbacks.run_coming.Goals as goal
 
 pub each_coming-requires : goal.each_coming-requires

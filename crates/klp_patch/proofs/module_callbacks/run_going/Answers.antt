@@ -1,5 +1,5 @@
-use Rattle.klp_patch.specs.ModuleShares.{parts_in}
-use Rattle.klp_patch.proofs.ModuleSharesLemmas.{room_to_go}
+use Rattle.klp_patch.specs.ModuleParts.{parts_in}
+use Rattle.klp_patch.proofs.ModulePartsLemmas.{room_to_go}
 use Rattle.klp_patch.proofs.module_callbacks.run_going.Goals as goal
 
 pub each_going-requires : goal.each_going-requires

@@ -20,7 +20,7 @@ use Rattle.klp_modules.specs.Names.{ModuleTable}
 use Rattle.klp_catalog.specs.Catalog.{Catalog, patches_of}
 use Rattle.klp_catalog.specs.Runs.{after_runs}
 use Rattle.klp_patch.specs.Calls.{records_of}
-use Rattle.klp_patch.specs.ModuleShares.{parts_in}
+use Rattle.klp_patch.specs.ModuleParts.{parts_in}
 use Rattle.klp_stack.specs.Stack.{entries_at}
 use Rattle.klp_sites.specs.Table.{SiteTable}
 use Rattle.klp_patch.specs.Covered.{is_covered}

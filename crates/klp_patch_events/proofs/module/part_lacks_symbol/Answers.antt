@@ -2,7 +2,7 @@ use Rattle.std.proofs.Common.{ap, ◌∙◌}
 use Rattle.std.specs.List.{list_any}
 use Rattle.klp_model.specs.ModuleCalls.{Part}
 use Rattle.klp_model.specs.Refusals.{lacks_symbol_of}
-use Rattle.klp_patch.specs.ModuleShares.{parts_in}
+use Rattle.klp_patch.specs.ModuleParts.{parts_in}
 use Rattle.klp_patch_events.proofs.ModuleLooks.{lacks_in}
 use Rattle.klp_patch_events.proofs.module.part_lacks_symbol.Goals as goal
 

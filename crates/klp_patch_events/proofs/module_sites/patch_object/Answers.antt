@@ -17,7 +17,7 @@ loop-patch-init g c = record {
 pub patch_sites-requires-clause-fresh : goal.patch_sites-requires-clause-fresh
 patch_sites-requires-clause-fresh g c =
     still_fresh c.entries_are_of_their_patches.ensures.installed c.args.catalog.now c.args.patches.now c.loop-patch.patch-index c.patch-item.result c.args.object c.args.sites.now c.loop-patch.sites
-    c.requires.distinct c.loop-patch-test.true c.patch-item.is c.loop-patch.invariant.come
+    c.requires.installed.distinct c.loop-patch-test.true c.patch-item.is c.loop-patch.invariant.come
 
 pub loop-patch-preserved : goal.loop-patch-preserved
 loop-patch-preserved g c =

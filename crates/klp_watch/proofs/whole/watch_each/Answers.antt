@@ -4,7 +4,7 @@ use Rattle.klp_types.specs.declared.limits.TheConstants.{MAX_TASKS}
 use Rattle.klp_types.specs.declared.version.Version.{Version}
 use Rattle.klp_manager_state.specs.Managed.{setting_of}
 use Rattle.klp_watch.specs.Inside.{AreInside}
-use Rattle.klp_watch.specs.Whole.{LeadHonestly, IsFaultOfWhole}
+use Rattle.klp_watch.specs.Whole.{LeadHonestly}
 use Rattle.klp_watch.proofs.InsideLemmas.{none_inside}
 use Rattle.klp_watch.proofs.WatchedLemmas.{next_of}
 use Rattle.klp_watch.proofs.WholeLemmas.{SeenTo, nothing_seen, seen_next_to, breaks_off}

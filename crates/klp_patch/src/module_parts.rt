@@ -1,0 +1,276 @@
+//! The callbacks of one patch for a module that comes or goes.
+//!
+//! The patch in transition is lent, since it is asked for each callback.
+ghost use Rattle.std.specs.Prelude.{◌≡◌, ◌+◌, ◌*◌, ◌≤◌, [], find, option_map, is_some, true};
+ghost use Rattle.std.specs.List.{flat_map};
+ghost use Rattle.klp_types.specs.declared.limits.TheConstants.{MAX_EDITS};
+ghost use Rattle.klp_types.specs.declared.callback.Which.TheVariants.{Pre};
+ghost use Rattle.klp_types.specs.Callbacks.{allocs_of};
+ghost use Rattle.klp_model.specs.Callbacks.{status_of};
+ghost use Rattle.klp_model.specs.ModuleCalls.{part_refuses, parts_before, going_calls};
+ghost use Rattle.klp_model.specs.EventCalls.{coming_may_run, going_may_run};
+ghost use Rattle.klp_catalog.specs.Runs.{script_at};
+ghost use Rattle.klp_patch.specs.Refusing.{refusal_of};
+ghost use Rattle.klp_patch.specs.Places as places;
+ghost use Rattle.klp_patch.specs.Places.{call_at, still_at};
+ghost use Rattle.klp_patch.specs.ModuleParts.{parts_at};
+ghost use Rattle.klp_patch.specs.UntilRefused.{calls_until_refused, refusal};
+ghost use Rattle.klp_patch.specs.Calls.{HaveRun, HasRoomFor, records_of, are_some};
+
+use crate::callback_run::run_at;
+use klp_catalog::Catalog;
+use klp_journal::Records;
+use klp_types::{ObjId, PatchId, Transition, Which, is_in_transition};
+use klp_world::World;
+
+/// How many shadow variables a callback adds at most; none where there is no such callback.
+fn allocs_at(catalog: &Catalog, patch: PatchId, place: u8, which: Which) -> usize
+    ensures value { result ≡ allocs_of (call_at catalog.now patch place which) }
+    ensures limit { result ≤ MAX_EDITS }
+    ensures records { records_of (call_at catalog.now patch place which) ≤ MAX_EDITS + result }
+{
+    usize::from(catalog.allocs(patch, place, which))
+}
+
+/// How many shadow variables a callback adds at most that runs only if the patch doesn't move.
+fn allocs_still(
+    catalog: &Catalog,
+    patch: PatchId,
+    place: u8,
+    which: Which,
+    moving: &Option<Transition>,
+) -> usize
+    ensures value { result ≡ allocs_of (still_at moving.now catalog.now patch place which) }
+    ensures limit { result ≤ MAX_EDITS }
+    ensures records { records_of (still_at moving.now catalog.now patch place which) ≤ MAX_EDITS + result }
+{
+    if is_in_transition(moving, patch) {
+        0
+    } else {
+        allocs_at(catalog, patch, place, which)
+    }
+}
+
+/// How many shadow variables the patch's callbacks that may run when the module comes add at most: all four
+/// kinds, since a patch behind this one may refuse and this one be cleaned up.
+pub(crate) fn coming_allocs(
+    catalog: &Catalog,
+    patch: PatchId,
+    object: ObjId,
+    moving: &Option<Transition>,
+) -> usize
+    ensures value { result ≡ allocs_of (flat_map (coming_may_run moving.now) (parts_at catalog.now object patch)) }
+    ensures limit { result ≤ 4 * MAX_EDITS }
+    ensures records { records_of (flat_map (coming_may_run moving.now) (parts_at catalog.now object patch))
+        ≤ 4 * MAX_EDITS + result }
+{
+    match catalog.place(patch, object) {
+        Some(place) => {
+            let comes = allocs_at(catalog, patch, place, Which::Pre);
+            let goes = allocs_at(catalog, patch, place, Which::PostUn);
+            let came = allocs_still(catalog, patch, place, Which::Post, moving);
+            let leaves = allocs_still(catalog, patch, place, Which::PreUn, moving);
+            comes + goes + came + leaves
+        }
+        None => 0,
+    }
+}
+
+/// How many shadow variables the patch's callbacks that may run when the module goes add at most: the two
+/// kinds of leaving.
+pub(crate) fn going_allocs(
+    catalog: &Catalog,
+    patch: PatchId,
+    object: ObjId,
+    moving: &Option<Transition>,
+) -> usize
+    ensures value { result ≡ allocs_of (flat_map (going_may_run moving.now) (parts_at catalog.now object patch)) }
+    ensures limit { result ≤ 2 * MAX_EDITS }
+    ensures records { records_of (flat_map (going_may_run moving.now) (parts_at catalog.now object patch))
+        ≤ 2 * MAX_EDITS + result }
+{
+    match catalog.place(patch, object) {
+        Some(place) => {
+            allocs_at(catalog, patch, place, Which::PostUn)
+                + allocs_still(catalog, patch, place, Which::PreUn, moving)
+        }
+        None => 0,
+    }
+}
+
+/// Whether there is a callback that runs only if the patch doesn't move, and the patch doesn't.
+fn has_still(
+    catalog: &Catalog,
+    patch: PatchId,
+    place: u8,
+    which: Which,
+    moving: &Option<Transition>,
+) -> bool
+    ensures { result ≡ are_some (still_at moving.now catalog.now patch place which) }
+{
+    !is_in_transition(moving, patch) && catalog.has_callback(patch, place, which)
+}
+
+/// Whether the patch has a callback that may run when the module comes.
+pub(crate) fn a_coming_may_run(
+    catalog: &Catalog,
+    patch: PatchId,
+    object: ObjId,
+    moving: &Option<Transition>,
+) -> bool
+    ensures { result ≡ are_some (flat_map (coming_may_run moving.now) (parts_at catalog.now object patch)) }
+{
+    match catalog.place(patch, object) {
+        Some(place) => {
+            let comes = catalog.has_callback(patch, place, Which::Pre);
+            let goes = catalog.has_callback(patch, place, Which::PostUn);
+            let came = has_still(catalog, patch, place, Which::Post, moving);
+            let leaves = has_still(catalog, patch, place, Which::PreUn, moving);
+            comes | goes | came | leaves
+        }
+        None => false,
+    }
+}
+
+/// Whether the patch has a callback that may run when the module goes.
+pub(crate) fn a_going_may_run(
+    catalog: &Catalog,
+    patch: PatchId,
+    object: ObjId,
+    moving: &Option<Transition>,
+) -> bool
+    ensures { result ≡ are_some (flat_map (going_may_run moving.now) (parts_at catalog.now object patch)) }
+{
+    match catalog.place(patch, object) {
+        Some(place) => {
+            let goes = catalog.has_callback(patch, place, Which::PostUn);
+            let leaves = has_still(catalog, patch, place, Which::PreUn, moving);
+            goes | leaves
+        }
+        None => false,
+    }
+}
+
+/// Runs a callback if the patch doesn't move, and drops its status, as only pre-patch may refuse.
+fn run_still(
+    catalog: &mut Catalog,
+    patch: PatchId,
+    place: u8,
+    which: Which,
+    moving: &Option<Transition>,
+    world: &mut World,
+    log: &mut Records,
+)
+    requires { HasRoomFor world.old log.old (still_at moving.now catalog.old patch place which) }
+    ensures { HaveRun catalog.old catalog.new world.old world.new log.old log.new
+        (still_at moving.now catalog.old patch place which) }
+{
+    if !is_in_transition(moving, patch) {
+        run_at(catalog, patch, place, which, world, log);
+    }
+}
+
+/// Runs pre-patch for the object at this place, and answers its status where it refuses, as 0 is no
+/// refusal.
+fn run_pre_at(
+    catalog: &mut Catalog,
+    patch: PatchId,
+    place: u8,
+    world: &mut World,
+    log: &mut Records,
+) -> Option<i32>
+    requires { HasRoomFor world.old log.old (call_at catalog.old patch place Pre) }
+    ensures refused { result ≡ refusal_of (status_of (script_at catalog.old patch place Pre)) }
+    ensures ran { HaveRun catalog.old catalog.new world.old world.new log.old log.new
+        (call_at catalog.old patch place Pre) }
+{
+    match run_at(catalog, patch, place, Which::Pre, world, log) {
+        0 => None,
+        status => Some(status),
+    }
+}
+
+/// Runs pre-patch, and post-patch if the patch doesn't move, for the object at this place. Where pre-patch
+/// refuses it runs alone, since nothing was set up, and its status is answered.
+fn coming_at(
+    catalog: &mut Catalog,
+    patch: PatchId,
+    place: u8,
+    moving: &Option<Transition>,
+    world: &mut World,
+    log: &mut Records,
+) -> Option<i32>
+    requires { HasRoomFor world.old log.old (places.coming_at moving.now catalog.old patch place) }
+    ensures status { result ≡ refusal_of (status_of (script_at catalog.old patch place Pre)) }
+    ensures ran { HaveRun catalog.old catalog.new world.old world.new log.old log.new
+        (places.coming_at moving.now catalog.old patch place) }
+{
+    klp_catalog::laws::runs_add_up();
+    match run_pre_at(catalog, patch, place, world, log) {
+        None => {
+            run_still(catalog, patch, place, Which::Post, moving, world, log);
+            None
+        }
+        Some(status) => Some(status),
+    }
+}
+
+/// Brings a module to one patch: where the patch has it, pre-patch runs for it, and post-patch if the patch
+/// doesn't move. Answers the status of a pre-patch that refuses.
+pub(crate) fn part_coming(
+    catalog: &mut Catalog,
+    patch: PatchId,
+    object: ObjId,
+    moving: &Option<Transition>,
+    world: &mut World,
+    log: &mut Records,
+) -> Option<i32>
+    requires { HasRoomFor world.old log.old (calls_until_refused moving.now (parts_at catalog.old object patch)) }
+    ensures refused { option_map (λ status. (patch, status)) result
+        ≡ option_map refusal (find part_refuses (parts_at catalog.old object patch)) }
+    // nothing of the patch comes before what refuses, since a patch has the module once
+    ensures first { is_some result ≡ true → parts_before (parts_at catalog.old object patch) ≡ [] }
+    ensures ran { HaveRun catalog.old catalog.new world.old world.new log.old log.new
+        (calls_until_refused moving.now (parts_at catalog.old object patch)) }
+{
+    let place = catalog.place(patch, object)?;
+    coming_at(catalog, patch, place, moving, world, log)
+}
+
+/// Runs pre-unpatch if the patch doesn't move, and post-unpatch, for the object at this place. One that
+/// moves gets post-unpatch alone, because it has run pre-unpatch already, or never post-patch.
+fn going_at(
+    catalog: &mut Catalog,
+    patch: PatchId,
+    place: u8,
+    moving: &Option<Transition>,
+    world: &mut World,
+    log: &mut Records,
+)
+    requires { HasRoomFor world.old log.old (places.going_at moving.now catalog.old patch place) }
+    ensures { HaveRun catalog.old catalog.new world.old world.new log.old log.new
+        (places.going_at moving.now catalog.old patch place) }
+{
+    klp_catalog::laws::runs_add_up();
+    run_still(catalog, patch, place, Which::PreUn, moving, world, log);
+    run_at(catalog, patch, place, Which::PostUn, world, log);
+}
+
+/// Lets a module go from one patch: where the patch has it, pre-unpatch runs for it if the patch doesn't
+/// move, and post-unpatch.
+pub(crate) fn part_going(
+    catalog: &mut Catalog,
+    patch: PatchId,
+    object: ObjId,
+    moving: &Option<Transition>,
+    world: &mut World,
+    log: &mut Records,
+)
+    requires { HasRoomFor world.old log.old (going_calls moving.now (parts_at catalog.old object patch)) }
+    ensures { HaveRun catalog.old catalog.new world.old world.new log.old log.new
+        (going_calls moving.now (parts_at catalog.old object patch)) }
+{
+    if let Some(place) = catalog.place(patch, object) {
+        going_at(catalog, patch, place, moving, world, log);
+    }
+}

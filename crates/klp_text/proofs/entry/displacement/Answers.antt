@@ -1,5 +1,0 @@
-use Rattle.std.proofs.Common.{rules}
-use Rattle.klp_text.proofs.entry.displacement.Goals as goal
-
-pub returns : goal.returns
-returns c = search rules
