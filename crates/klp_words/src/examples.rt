@@ -2,6 +2,7 @@
 //! example, so a definition that comes to something else isn't proved.
 ghost use Rattle.std.specs.Prelude.{◌≡◌, ◌^◌, pos, negsuc, true, false, [], ◌∷◌, replicate, codes, Some, None};
 ghost use Rattle.klp_words.specs.declared.split.Separators.TheVariants.{Spaces, SpacesAndTabs};
+ghost use Rattle.klp_words.specs.Seconds.{seconds_of};
 ghost use Rattle.klp_words.specs.Split.{separates, words_between};
 ghost use Rattle.klp_words.specs.Words.{is_name, is_symbol_name, hexadecimal_of, decimal_of, sympos_of, status_of, shadow_value_of, value_text, spelling_of};
 
@@ -107,4 +108,20 @@ pub fn symbols_are_spelled_with_object_and_position()
     ensures no_dot { spelling_of (codes ".klp.sym.f,0") ≡ None }
     ensures no_prefix { spelling_of (codes "klp.sym.m.f,0") ≡ None }
     ensures minus { spelling_of (codes ".klp.sym.m.f,-1") ≡ None }
+{}
+
+/// A time is seconds, whole or with one to six decimals.
+pub fn times_are_seconds()
+    ensures whole { seconds_of (codes "12") ≡ Some 12_000_000 }
+    ensures decimals { seconds_of (codes "12.345") ≡ Some 12_345_000 }
+    ensures zeros_in_front { seconds_of (codes "007.05") ≡ Some 7_050_000 }
+    ensures least { seconds_of (codes "0.000001") ≡ Some 1 }
+    ensures too_small { seconds_of (codes "0.0000001") ≡ None }
+    ensures greatest { seconds_of (codes "18446744073709.551615") ≡ Some 0xffff_ffff_ffff_ffff }
+    ensures too_great { seconds_of (codes "18446744073709.551616") ≡ None }
+    ensures no_decimals { seconds_of (codes "12.") ≡ None }
+    ensures no_seconds { seconds_of (codes ".5") ≡ None }
+    ensures two_points { seconds_of (codes "1.2.3") ≡ None }
+    ensures minus { seconds_of (codes "-1.5") ≡ None }
+    ensures none { seconds_of [] ≡ None }
 {}
