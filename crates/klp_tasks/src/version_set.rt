@@ -92,13 +92,15 @@ impl VersionSet {
         }
     }
 
-    /// Whether one of the frames is in the set. It looks at no more than the frames.
+    /// Whether one of the frames is in the set. The innermost frame is looked at first, as in the kernel's
+    /// `klp_check_stack`: a sleeper mostly waits in one of the last functions that it called.
     pub(crate) fn holds(&self, frames: &Frames) -> bool
         ensures { result ≡ list_any (has self.now) frames.now }
     {
         frames
             .as_slice()
             .iter()
+            .rev()
             .any(|version| self.contains(*version))
     }
 }
