@@ -11,7 +11,7 @@ ghost use Rattle.klp_world.specs.Undo.{undone, is_of_world, HaveEffects};
 
 use klp_types::MAX_VARIABLES;
 
-/// Two scripts that touch no common shadow variable have the same effect in either order.
+/// Two scripts that touch no common shadow variable leave the same variables in either order.
 pub use klp_types::laws::scripts_apart_commute;
 
 /// A script logs at most one record for each edit, one more for each edit that adds a shadow variable, and one for
