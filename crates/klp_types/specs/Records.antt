@@ -1,5 +1,5 @@
--- Records, oldest first: `logged` are those of the current event, `room` is how many it may log, and `older` are those of
--- earlier events, which come first in the same list.
+-- Records, oldest first: `logged` are those of the current event, `room` is how many it may log, and `older` are
+-- those of earlier events, which come first in the same list.
 use Rattle.std.specs.Prelude.{ℕ, ◌-◌, List, length}
 use Rattle.klp_types.specs.declared.record.Record.{Record}
 

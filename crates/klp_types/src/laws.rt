@@ -182,8 +182,8 @@ pub fn entries_are_of_their_patches()
         (entries_from setting site patches) }
 {}
 
-/// The value of each limit, and the length of an entry site. Some definitions write these numbers out, so this law fails
-/// if a constant changes.
+/// The value of each limit, and the length of an entry site. Some definitions write these numbers out, so this law
+/// fails if a constant changes.
 pub fn limits_are_these()
     ensures objects { MAX_OBJECTS ≡ 17 }
     ensures sites { MAX_SITES ≡ 256 }
