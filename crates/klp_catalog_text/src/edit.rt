@@ -99,6 +99,7 @@ fn alloc_edit(parts: &mut Fields<'_>) -> Result<Edit, TextFaultKind>
     Ok(Edit::Alloc(ShadowKey { obj, id }, value))
 }
 
+/// Reads the parts of `free:OBJ:ID` behind its name.
 #[tactic(auto, using(crate::proofs::EditLemmas::free_by))]
 fn free_edit(parts: &mut Fields<'_>) -> Result<Edit, TextFaultKind>
     ensures { result ≡ free_of parts.old }
@@ -107,6 +108,7 @@ fn free_edit(parts: &mut Fields<'_>) -> Result<Edit, TextFaultKind>
     Ok(Edit::Free(ShadowKey { obj, id }))
 }
 
+/// Reads the part of `freeall:ID` behind its name.
 #[tactic(auto, using(crate::proofs::EditLemmas::free_all_by))]
 fn free_all_edit(parts: &mut Fields<'_>) -> Result<Edit, TextFaultKind>
     ensures { result ≡ free_all_of parts.old }
@@ -114,6 +116,7 @@ fn free_all_edit(parts: &mut Fields<'_>) -> Result<Edit, TextFaultKind>
     Ok(Edit::FreeAll(one_number(parts)?))
 }
 
+/// Reads the parts of `set:STATE:VALUE` behind its name.
 #[tactic(auto, using(crate::proofs::EditLemmas::set_by))]
 fn set_data_edit(parts: &mut Fields<'_>) -> Result<Edit, TextFaultKind>
     ensures { result ≡ set_of parts.old }
@@ -122,6 +125,7 @@ fn set_data_edit(parts: &mut Fields<'_>) -> Result<Edit, TextFaultKind>
     Ok(Edit::SetData(state, value))
 }
 
+/// Reads the part of `takeprev:STATE` behind its name.
 #[tactic(auto, using(crate::proofs::EditLemmas::take_prev_by))]
 fn take_prev_edit(parts: &mut Fields<'_>) -> Result<Edit, TextFaultKind>
     ensures { result ≡ take_prev_of parts.old }

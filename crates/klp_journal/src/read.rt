@@ -106,7 +106,7 @@ pub(crate) fn state_of(word: u64) -> PatchState
     }
 }
 
-/// Returns the mode of a word that is known to be one.
+/// Returns the mode that a word stands for: 0 is user space, 1 the kernel, and any other asleep.
 #[inline(always)]
 pub(crate) fn mode_of(word: u64) -> Mode
     ensures { result ≡ mode_of word }
@@ -118,7 +118,7 @@ pub(crate) fn mode_of(word: u64) -> Mode
     }
 }
 
-/// Returns the function of an entry from its word: `None`, for a nop, from 0, else the word less 1.
+/// Returns the function of an entry from its word: 0 stands for a nop, any other word for the function plus 1.
 #[inline(always)]
 pub(crate) fn func_of(word: u64) -> Option<u16>
     requires { word ≤ 65536 }
@@ -175,7 +175,7 @@ fn read_task_row(word: u64, frames: &[u64]) -> Option<Task>
     })
 }
 
-/// Reads a record of a task: its number alone if it didn't exist.
+/// Reads a record of a task. If there is only its number, the task didn't exist.
 fn read_task(body: &[u64]) -> Option<Record>
     ensures { Finds (IsBody KIND_TASK body.now) result }
 {
@@ -196,7 +196,7 @@ fn read_task(body: &[u64]) -> Option<Record>
     }
 }
 
-/// Reads a record of a shadow variable: its key alone if it didn't exist.
+/// Reads a record of a shadow variable. If the words are only its key, the variable didn't exist.
 fn read_variable(body: &[u64]) -> Option<Record>
     ensures { Finds (IsBody KIND_VARIABLE body.now) result }
 {
@@ -260,7 +260,7 @@ fn read_state_value(body: &[u64]) -> Option<Record>
     })
 }
 
-/// Reads a record of a patch's system state: no value if the state didn't exist.
+/// Reads a record of a patch's system state. If there is no value, the state didn't exist.
 fn read_state_row(body: &[u64]) -> Option<Record>
     ensures { Finds (IsBody KIND_STATE body.now) result }
 {
@@ -311,7 +311,7 @@ fn read_loaded(body: &[u64]) -> Option<Record>
     })
 }
 
-/// Reads a record of a patch: no index if it wasn't installed.
+/// Reads a record of an installed patch. If there is no index, the patch wasn't installed.
 fn read_installed(body: &[u64]) -> Option<Record>
     ensures { Finds (IsBody KIND_INSTALLED body.now) result }
 {
@@ -336,7 +336,7 @@ fn read_installed(body: &[u64]) -> Option<Record>
     })
 }
 
-/// Reads a record of an entry of a function stack: no place if it didn't exist.
+/// Reads a record of an entry of a function stack. If there is no place, the entry didn't exist.
 fn read_entry(body: &[u64]) -> Option<Record>
     ensures { Finds (IsBody KIND_ENTRY body.now) result }
 {
@@ -396,7 +396,7 @@ fn read_hook(body: &[u64]) -> Option<Record>
     })
 }
 
-/// Reads a record of the transition: no words if there was none.
+/// Reads a record of the transition. If there are no words, there was no transition.
 fn read_moving(body: &[u64]) -> Option<Record>
     ensures { Finds (IsBody KIND_TRANSITION body.now) result }
 {

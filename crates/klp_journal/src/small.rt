@@ -77,7 +77,7 @@ fn hook(body: &[u64]) -> SmallRecord
     }
 }
 
-// Reads a record of a task inside of nothing from the words before its tag.
+/// Reads a record of a task inside of nothing from the words before its tag.
 #[inline(always)]
 fn resting(body: &[u64]) -> SmallRecord
     requires kind { AreOfKind KIND_TASK body.now }
@@ -91,7 +91,7 @@ fn resting(body: &[u64]) -> SmallRecord
     }
 }
 
-// Reads a record of an entry that didn't exist from the words before its tag.
+/// Reads a record of an entry that didn't exist from the words before its tag.
 #[inline(always)]
 fn no_entry(body: &[u64]) -> SmallRecord
     requires kind { AreOfKind KIND_ENTRY body.now }
@@ -105,7 +105,7 @@ fn no_entry(body: &[u64]) -> SmallRecord
     }
 }
 
-// Reads a record of an entry that existed from the words before its tag.
+/// Reads a record of an entry that existed from the words before its tag.
 #[inline(always)]
 fn entry(body: &[u64]) -> SmallRecord
     requires kind { AreOfKind KIND_ENTRY body.now }

@@ -67,7 +67,7 @@ impl StoredRecords {
         self.count
     }
 
-    // Appends a record.
+    /// Appends a record.
     #[inline(always)]
     pub(crate) fn note(&mut self, row: Record)
         requires { length self.old.rows < self.old.room }
@@ -77,7 +77,7 @@ impl StoredRecords {
         self.count += 1;
     }
 
-    // Appends the record of a task, whose frames have these words.
+    /// Appends the record of a task, whose frames have these words.
     #[inline(always)]
     pub(crate) fn note_task(&mut self, task: TaskId, was: &Task, frames: &FrameWords)
         requires room { length self.old.rows < self.old.room }

@@ -119,8 +119,8 @@ pub fn histories_grow_and_are_cut_at_their_end()
         → map (λ (p : AnyEvent × AnyReply). p.0) one ≡ map (λ (p : AnyEvent × AnyReply). p.0) other → one ≡ other }
 {}
 
-/// A list of events adds a legal history, and that leads to the same state as the whole list, since refused events
-/// change nothing.
+/// The accepted events of any list, with their replies, are a legal history. It leads to the same state as the whole
+/// list, since refused events change nothing.
 pub fn accepted_events_lead_where_all_lead()
     ensures legal { (setting : Setting) (state : State) (events : List AnyEvent)
         → IsLegal setting state (history_of setting state events) }

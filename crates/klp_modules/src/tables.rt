@@ -91,7 +91,7 @@ fn sites_by_name(
     Ok(table)
 }
 
-/// Makes a table from a site to its symbol: the name that an administrator uses for the site.
+/// Makes a table with the symbol of each site. An administrator names a site by its symbol.
 fn symbols_by_site(
     alloc: Global,
     objects: &[NumberedObject],

@@ -38,8 +38,8 @@ pub fn scripts_are_undone()
         → undone (effect patch world script) (rows_of_script patch world script) ≡ world }
 {}
 
-/// Each record of a script, put back in its turn, changes its row, if the world before has that room: an edit that
-/// leaves a row as it was logs nothing.
+/// Each record of a script, put back in its turn, changes its row, if the world before has room for all variables
+/// that the script adds. An edit that leaves a row as it was logs nothing.
 #[tactic(auto, using(crate::proofs::EffectLemmas::effective_script))]
 pub fn scripts_tell_what_they_change()
     ensures { (patch : ℕ) (world : World) (script : Script)
