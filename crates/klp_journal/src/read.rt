@@ -1,4 +1,4 @@
-//! Records read from the end of a list of words.
+//! Reads a record from the end of a list of words.
 ghost use Rattle.std.specs.Prelude.{◌≡◌, ℕ, ◌+◌, ◌*◌, ◌^◌, ◌<◌, ◌≤◌, List, [], ◌∷◌, ◌++◌, length, drop, Some, IfSome};
 ghost use Rattle.std.specs.List.{All};
 ghost use Rattle.klp_types.specs.declared.record.Record.{Record};
@@ -16,15 +16,17 @@ use klp_types::{
     ShadowValue, Site, Task, TaskId, Transition, Version,
 };
 
-/// How many numbers there are of each type.
+/// How many object numbers there are.
 const OBJECT_NUMBERS: u64 = 256;
 
+/// How many patch numbers there are.
 const PATCH_NUMBERS: u64 = 256;
 
+/// How many site numbers there are.
 const SITE_NUMBERS: u64 = 65536;
 
-/// The record that the list ends with, and how many words it has with its tag. `None` where the list ends
-/// with none, as an empty list does.
+/// Returns the record that the list ends with, and how many words it has with its tag. `None` if the list doesn't
+/// end with a record; an empty list doesn't.
 pub fn read_back(words: &[u64]) -> Option<(Record, usize)>
     ensures read { IfSome result (λ found. (older : List ℕ) × ((words.now ≡ older ++ words_of found.0)
         × (found.1 ≡ length (words_of found.0)) × IsRecord found.0)) }
@@ -47,7 +49,8 @@ pub fn read_back(words: &[u64]) -> Option<(Record, usize)>
     }
 }
 
-/// The record of this kind with these words before its tag.
+/// Reads the record of this kind that has these words before its tag. `None` if there is no such record. The
+/// functions below do so for each kind.
 fn read_body(kind: u64, body: &[u64]) -> Option<Record>
     ensures { Finds (IsBody kind body.now) result }
 {
@@ -66,6 +69,7 @@ fn read_body(kind: u64, body: &[u64]) -> Option<Record>
     }
 }
 
+/// Reads a patch state: 0, 1 and 2 mean -1, 0 and 1.
 fn read_state(word: u64) -> Option<PatchState>
     ensures { Finds (IsStateOf word) result }
 {
@@ -77,6 +81,7 @@ fn read_state(word: u64) -> Option<PatchState>
     }
 }
 
+/// Reads the mode of a task.
 fn read_mode(word: u64) -> Option<Mode>
     ensures { Finds (λ mode. mode_word mode ≡ word) result }
 {
@@ -88,7 +93,7 @@ fn read_mode(word: u64) -> Option<Mode>
     }
 }
 
-/// The state that a word says which is known to say one.
+/// Returns the patch state of a word from 0 to 2.
 #[inline(always)]
 pub(crate) fn state_of(word: u64) -> PatchState
     requires { word ≤ 2 }
@@ -101,7 +106,7 @@ pub(crate) fn state_of(word: u64) -> PatchState
     }
 }
 
-/// The mode, likewise.
+/// Returns the mode that a word stands for: 0 is user space, 1 the kernel, and any other asleep.
 #[inline(always)]
 pub(crate) fn mode_of(word: u64) -> Mode
     ensures { result ≡ mode_of word }
@@ -113,7 +118,7 @@ pub(crate) fn mode_of(word: u64) -> Mode
     }
 }
 
-/// The function of an entry, likewise.
+/// Returns the function of an entry from its word: 0 stands for a nop, any other word for the function plus 1.
 #[inline(always)]
 pub(crate) fn func_of(word: u64) -> Option<u16>
     requires { word ≤ 65536 }
@@ -126,6 +131,7 @@ pub(crate) fn func_of(word: u64) -> Option<u16>
     }
 }
 
+/// Reads a frame: below 65536 a site's original, and from there on a new function of a patch.
 fn read_frame(word: u64) -> Option<Version>
     ensures { Finds (IsFrameOf word) result }
 {
@@ -139,6 +145,7 @@ fn read_frame(word: u64) -> Option<Version>
     Some(Version::New(PatchId(patch as u8), (word % 65536) as u16))
 }
 
+/// Reads the frames of a task, one from each word. `None` if a word is wrong or there are too many.
 fn read_frames(words: &[u64]) -> Option<Frames>
     ensures { Finds (AreFramesOf words.now) result }
 {
@@ -154,6 +161,7 @@ fn read_frames(words: &[u64]) -> Option<Frames>
     Some(frames)
 }
 
+/// Reads a task: `word` has its patch state and its mode.
 fn read_task_row(word: u64, frames: &[u64]) -> Option<Task>
     ensures { Finds (IsTaskOf word frames.now) result }
 {
@@ -167,6 +175,7 @@ fn read_task_row(word: u64, frames: &[u64]) -> Option<Task>
     })
 }
 
+/// Reads a record of a task. If there is only its number, the task didn't exist.
 fn read_task(body: &[u64]) -> Option<Record>
     ensures { Finds (IsBody KIND_TASK body.now) result }
 {
@@ -187,6 +196,7 @@ fn read_task(body: &[u64]) -> Option<Record>
     }
 }
 
+/// Reads a record of a shadow variable. If the words are only its key, the variable didn't exist.
 fn read_variable(body: &[u64]) -> Option<Record>
     ensures { Finds (IsBody KIND_VARIABLE body.now) result }
 {
@@ -206,7 +216,7 @@ fn read_variable(body: &[u64]) -> Option<Record>
     }
 }
 
-/// The value of so many bytes, where these words are as many as it has, and zeros are behind its bytes.
+/// Reads a value of `count` bytes. `None` unless there are exactly the words that it needs, filled up with zeros.
 fn read_value(count: u64, words: &[u64]) -> Option<ShadowValue>
     ensures { Finds (IsValueOf count words.now) result }
 {
@@ -221,7 +231,7 @@ fn read_value(count: u64, words: &[u64]) -> Option<ShadowValue>
     ShadowValue::unpadded(bytes, count as u8)
 }
 
-/// The bytes of words, over the first of these bytes.
+/// Writes the bytes of the words over the first bytes of `bytes`.
 fn unpack(words: &[u64], bytes: &mut [u8])
     requires { 8 * length words.now ≤ length bytes.old }
     ensures bytes { bytes.new ≡ bytes_in words.now ++ drop (8 * length words.now) bytes.old }
@@ -232,6 +242,7 @@ fn unpack(words: &[u64], bytes: &mut [u8])
     }
 }
 
+/// Reads a record of the value of a system state.
 fn read_state_value(body: &[u64]) -> Option<Record>
     ensures { Finds (IsBody KIND_STATE_VALUE body.now) result }
 {
@@ -249,6 +260,7 @@ fn read_state_value(body: &[u64]) -> Option<Record>
     })
 }
 
+/// Reads a record of a patch's system state. If there is no value, the state didn't exist.
 fn read_state_row(body: &[u64]) -> Option<Record>
     ensures { Finds (IsBody KIND_STATE body.now) result }
 {
@@ -278,7 +290,7 @@ fn read_state_row(body: &[u64]) -> Option<Record>
     })
 }
 
-/// A number below this limit with a flag, where these words are one.
+/// Reads a number below this limit and a flag. `None` if the words are anything else.
 fn number_and_flag(body: &[u64], limit: u64) -> Option<(u64, bool)>
     ensures { Finds (λ pair. (pair.0 ∷ flag_word pair.1 ∷ [] ≡ body.now) × (pair.0 < limit)) result }
 {
@@ -288,6 +300,7 @@ fn number_and_flag(body: &[u64], limit: u64) -> Option<(u64, bool)>
     }
 }
 
+/// Reads a record of whether an object was loaded.
 fn read_loaded(body: &[u64]) -> Option<Record>
     ensures { Finds (IsBody KIND_LOADED body.now) result }
 {
@@ -298,6 +311,7 @@ fn read_loaded(body: &[u64]) -> Option<Record>
     })
 }
 
+/// Reads a record of an installed patch. If there is no index, the patch wasn't installed.
 fn read_installed(body: &[u64]) -> Option<Record>
     ensures { Finds (IsBody KIND_INSTALLED body.now) result }
 {
@@ -322,6 +336,7 @@ fn read_installed(body: &[u64]) -> Option<Record>
     })
 }
 
+/// Reads a record of an entry of a function stack. If there is no place, the entry didn't exist.
 fn read_entry(body: &[u64]) -> Option<Record>
     ensures { Finds (IsBody KIND_ENTRY body.now) result }
 {
@@ -352,6 +367,7 @@ fn read_entry(body: &[u64]) -> Option<Record>
     }
 }
 
+/// Reads the place of an entry: its index and its function.
 fn read_place(words: &[u64]) -> Option<Place>
     ensures { Finds (IsPlaceOf words.now) result }
 {
@@ -369,6 +385,7 @@ fn read_place(words: &[u64]) -> Option<Place>
     })
 }
 
+/// Reads a record of whether a site was hooked.
 fn read_hook(body: &[u64]) -> Option<Record>
     ensures { Finds (IsBody KIND_HOOK body.now) result }
 {
@@ -379,6 +396,7 @@ fn read_hook(body: &[u64]) -> Option<Record>
     })
 }
 
+/// Reads a record of the transition. If there are no words, there was no transition.
 fn read_moving(body: &[u64]) -> Option<Record>
     ensures { Finds (IsBody KIND_TRANSITION body.now) result }
 {
@@ -394,6 +412,7 @@ fn read_moving(body: &[u64]) -> Option<Record>
     })
 }
 
+/// Reads a record of whether a patch was pinned.
 fn read_pinned(body: &[u64]) -> Option<Record>
     ensures { Finds (IsBody KIND_PINNED body.now) result }
 {

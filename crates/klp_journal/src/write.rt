@@ -1,5 +1,5 @@
-//! Records as words, each put behind those that are there. The list has room for them all from the start, so that a word
-//! is one store, and nothing looks for room.
+//! Writes records as words, each behind those that are there. The list has room for all of them from the start, so
+//! writing a word is one store, without a check for room.
 ghost use Rattle.std.specs.Prelude.{◌≡◌, ◌+◌, ◌*◌, ◌<◌, ◌≤◌, [], ◌∷◌, ◌++◌, length, map, take, vec_len, vec_capacity};
 ghost use Rattle.std.specs.Int.{w64, from_le_bytes};
 ghost use Rattle.std.specs.List.{All};
@@ -17,8 +17,8 @@ use klp_types::{
     Version,
 };
 
-/// Writes a record behind the words that are there, as [`Records`](crate::Records) does. The caller has seen to room for
-/// the longest record, so no memory is taken.
+/// Writes a record behind the words that are there, as [`Records`](crate::Records) does. The caller made sure that
+/// there is room for the longest record, so no memory is taken.
 #[inline(always)]
 pub fn write_record(row: &Record, words: &mut Vec<u64>)
     requires { vec_len words.old + 36 ≤ vec_capacity words.old }
@@ -72,8 +72,7 @@ pub fn write_record(row: &Record, words: &mut Vec<u64>)
     }
 }
 
-/// Puts words behind those that are there. One by one, since there are few: where their number is known, that is a store
-/// for each.
+/// Appends words one by one, since there are few: if their number is known at compile time, each is just a store.
 #[inline(always)]
 fn append(words: &mut Vec<u64>, new: &[u64])
     requires { vec_len words.old + length new.now ≤ vec_capacity words.old }
@@ -86,7 +85,8 @@ fn append(words: &mut Vec<u64>, new: &[u64])
     }
 }
 
-/// Numbers as words. A reader gets the range of each with it, which only a read of the number shows.
+/// Returns a task's number as a word. Like the next functions it also promises the number's range, which contracts
+/// know only from reading the number itself.
 fn task_number(task: TaskId) -> u64
     ensures value { result ≡ task }
     ensures range { task < 256 }
@@ -94,6 +94,7 @@ fn task_number(task: TaskId) -> u64
     u64::from(task.0)
 }
 
+/// Returns a patch's number as a word.
 fn patch_number(patch: PatchId) -> u64
     ensures value { result ≡ patch }
     ensures range { patch < 256 }
@@ -101,6 +102,7 @@ fn patch_number(patch: PatchId) -> u64
     u64::from(patch.0)
 }
 
+/// Returns an object's number as a word.
 fn object_number(object: ObjId) -> u64
     ensures value { result ≡ object }
     ensures range { object < 256 }
@@ -108,6 +110,7 @@ fn object_number(object: ObjId) -> u64
     u64::from(object.0)
 }
 
+/// Returns a site's number as a word.
 fn site_number(site: Site) -> u64
     ensures value { result ≡ site }
     ensures range { site < 65536 }
@@ -115,12 +118,14 @@ fn site_number(site: Site) -> u64
     u64::from(site.0)
 }
 
+/// Returns 1 for true, and 0 for false.
 fn flag_word(flag: bool) -> u64
     ensures { result ≡ flag_word flag }
 {
     if flag { 1 } else { 0 }
 }
 
+/// Returns the word of a patch state: 0, 1 or 2 for -1, 0 or 1.
 fn state_word(state: PatchState) -> u64
     ensures value { result ≡ state_word state }
     ensures range { IsPatchState state }
@@ -128,6 +133,7 @@ fn state_word(state: PatchState) -> u64
     (state.number() + 1) as u64
 }
 
+/// Returns the word of a mode.
 fn mode_word(mode: Mode) -> u64
     ensures value { result ≡ mode_word mode }
     ensures small { result ≤ 2 }
@@ -139,6 +145,7 @@ fn mode_word(mode: Mode) -> u64
     }
 }
 
+/// Returns the word of a frame: below 65536 a site's original, and from there on a new function of a patch.
 fn frame_word(frame: Version) -> u64
     ensures value { result ≡ frame_word frame }
     ensures range { IsFrame frame }
@@ -149,7 +156,7 @@ fn frame_word(frame: Version) -> u64
     }
 }
 
-/// The frames of a task, outermost first.
+/// Writes the words of frames, outermost first, over `words` from index `at` on, and returns the index behind them.
 pub(crate) fn write_frames(frames: &[Version], words: &mut [u64], at: usize) -> usize
     requires { at + length frames.now ≤ length words.old }
     ensures written { take result words.new ≡ take at words.old ++ map frame_word frames.now }
@@ -162,7 +169,8 @@ pub(crate) fn write_frames(frames: &[Version], words: &mut [u64], at: usize) -> 
     at + frames.len()
 }
 
-/// A task the words of whose frames aren't at hand. They are made apart, since hardly any task is logged so.
+/// Writes the record of a task, and makes the words of its frames for it. Most tasks are logged by `copy_task`
+/// instead, with words that exist already.
 fn write_task(task: TaskId, was: &Task, words: &mut Vec<u64>)
     requires { vec_len words.old + 36 ≤ vec_capacity words.old }
     ensures written { words.new.items ≡ words.old.items ++ words_of (TaskRow task was.now) }
@@ -174,7 +182,7 @@ fn write_task(task: TaskId, was: &Task, words: &mut Vec<u64>)
     copy_task(task, was, &frames, words);
 }
 
-/// A task the words of whose frames are at hand.
+/// Writes the record of a task, whose frames have these words.
 #[inline(always)]
 pub(crate) fn copy_task(task: TaskId, was: &Task, frames: &FrameWords, words: &mut Vec<u64>)
     requires spare { vec_len words.old + 36 ≤ vec_capacity words.old }
@@ -193,8 +201,8 @@ pub(crate) fn copy_task(task: TaskId, was: &Task, frames: &FrameWords, words: &m
     }
 }
 
-/// Puts the words of a task that is inside of functions behind those that are there: those of its frames all at once,
-/// since they may be many. It is called, so that a task which is inside of nothing pays for none of this.
+/// Writes the record of a task that is inside of functions. The words of its frames are copied all at once, since
+/// they may be many. It isn't inlined, so that a task which is inside of nothing pays for none of this.
 #[inline(never)]
 fn append_sleeper(words: &mut Vec<u64>, number: u64, word: u64, frames: &[u64])
     requires spare { vec_len words.old + 36 ≤ vec_capacity words.old }
@@ -208,6 +216,7 @@ fn append_sleeper(words: &mut Vec<u64>, number: u64, word: u64, frames: &[u64])
     append(words, &[tag(KIND_TASK, 2 + frames.len() as u64)]);
 }
 
+/// Writes the record of a shadow variable that existed.
 fn write_variable(key: ShadowKey, was: &ShadowValue, words: &mut Vec<u64>)
     requires { vec_len words.old + 36 ≤ vec_capacity words.old }
     ensures written { words.new.items ≡ words.old.items ++ words_of (ShadowVariable key was.now) }
@@ -220,6 +229,7 @@ fn write_variable(key: ShadowKey, was: &ShadowValue, words: &mut Vec<u64>)
     append(words, &[tag(KIND_VARIABLE, 3 + (count as u64 + 7) / 8)]);
 }
 
+/// Writes the record of a shadow variable that didn't exist.
 fn write_no_variable(key: ShadowKey, words: &mut Vec<u64>)
     requires { vec_len words.old + 36 ≤ vec_capacity words.old }
     ensures written { words.new.items ≡ words.old.items ++ words_of (NoShadowVariable key) }
@@ -229,7 +239,7 @@ fn write_no_variable(key: ShadowKey, words: &mut Vec<u64>)
     append(words, &[key.obj, key.id, tag(KIND_VARIABLE, 2)]);
 }
 
-/// So many words of bytes, eight to a word.
+/// Writes `count` words of bytes, eight bytes to a word.
 fn write_bytes(bytes: &[u8], count: usize, words: &mut Vec<u64>)
     requires within { 8 * count ≤ length bytes.now }
     requires spare { vec_len words.old + count ≤ vec_capacity words.old }
@@ -243,7 +253,7 @@ fn write_bytes(bytes: &[u8], count: usize, words: &mut Vec<u64>)
     }
 }
 
-/// The first eight bytes, the lowest first.
+/// Returns the word of the first eight bytes, the lowest first.
 fn first_word(bytes: &[u8]) -> u64
     requires { 8 ≤ length bytes.now }
     ensures { result ≡ from_le_bytes w64 (take 8 bytes.now) }
@@ -254,6 +264,7 @@ fn first_word(bytes: &[u8]) -> u64
     }
 }
 
+/// Writes the record of a patch's system state, with its value if it existed.
 fn write_state_row(patch: PatchId, id: u64, was: Option<u64>, words: &mut Vec<u64>)
     requires { vec_len words.old + 36 ≤ vec_capacity words.old }
     ensures written { words.new.items ≡ words.old.items ++ words_of (StateRow patch id was) }
@@ -266,6 +277,7 @@ fn write_state_row(patch: PatchId, id: u64, was: Option<u64>, words: &mut Vec<u6
     }
 }
 
+/// Writes the record of a patch, with its index if it was installed.
 fn write_installed(patch: PatchId, place: Option<u8>, words: &mut Vec<u64>)
     requires { vec_len words.old + 36 ≤ vec_capacity words.old }
     ensures written { words.new.items ≡ words.old.items ++ words_of (InstalledPatch patch place) }
@@ -285,6 +297,7 @@ fn write_installed(patch: PatchId, place: Option<u8>, words: &mut Vec<u64>)
     }
 }
 
+/// Returns the word of an entry's function: 0 for a nop, else the function plus 1.
 fn func_word(func: Option<u16>) -> u64
     ensures value { result ≡ func_word func }
     ensures range { IsBelow 65536 func }
@@ -295,6 +308,7 @@ fn func_word(func: Option<u16>) -> u64
     }
 }
 
+/// Writes the record of an entry of a function stack, with its place if it existed.
 fn write_entry(site: Site, patch: PatchId, was: Option<Place>, words: &mut Vec<u64>)
     requires { vec_len words.old + 36 ≤ vec_capacity words.old }
     ensures written { words.new.items ≡ words.old.items ++ words_of (StackEntry site patch was) }
