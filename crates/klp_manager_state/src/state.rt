@@ -35,8 +35,8 @@ pub struct ManagerState {
     pub pinned: Pins,
     /// The versions that block sleepers. Filled while a transition is tried.
     pub blocked: VersionSet,
-    /// The rows that events changed, each as it was before, oldest first. The records of the event that is under way are
-    /// behind those that the journal keeps of earlier events. An event first drops all records that aren't kept.
+    /// The rows that events changed, each as it was before, oldest first. The records of the event under way are behind
+    /// those that the journal keeps of earlier events. An event first drops all records that aren't kept.
     pub log: Records,
 }
 
