@@ -1,5 +1,5 @@
-//! What one that owns a manager without naming it asks of it. Manager owns boxes, and a struct that owns one by
-//! name can't be stated with a bound of its own beside; this trait is what stands in between.
+//! A trait for the calls of a manager, for owners that don't name the type. A manager owns boxes, and a struct that
+//! owns one by name can't have a bound of its own besides; so such structs own a `Machine`.
 ghost use Rattle.std.specs.Prelude.{◌≡◌, ◌<◌, ◌≤◌, length, option_map, option_and_then, slice_get, IfOk, IfErr};
 ghost use Rattle.klp_types.specs.declared.limits.TheConstants.{MAX_GROUPS, MAX_SITES};
 ghost use Rattle.klp_types.specs.declared.task.Task.{Task as AnyTask};
@@ -23,7 +23,7 @@ use klp_types::{ObjId, PatchId, Site, SiteRow, TaskId};
 pub trait Machine {
     ghost use Rattle.klp_core.specs.Journaled.{Journaled};
 
-    /// What contracts see of it.
+    /// The machine as contracts see it.
     ghost journaled: { Self → Journaled };
 
     /// [`Manager::apply`].
@@ -66,7 +66,8 @@ pub trait Machine {
     fn in_transition(&self) -> Option<PatchId>
         ensures { result ≡ moving_patch (journaled self.now).managed.state.moving };
 
-    /// Whether a patch is a cumulative one, which replaces all older ones; one that isn't there isn't.
+    /// Whether a patch is cumulative, so that it replaces all older ones. False for a patch that the catalog doesn't
+    /// have.
     fn is_cumulative(&self, patch: PatchId) -> bool
         ensures { result ≡ replaces (setting_of (journaled self.now).managed) patch };
 

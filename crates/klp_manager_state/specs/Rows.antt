@@ -16,8 +16,7 @@ use Rattle.klp_sites.specs.Undo as of_sites
 use Rattle.klp_manager_state.specs.declared.state.ManagerState.{ManagerState}
 use Rattle.klp_manager_state.specs.Codes.{is_same, flags_code, stacks_code, tasks_code, moving_code}
 
--- the rows that events change: the world, the loaded flags with the function stacks, the tasks, the transition and the
--- pins
+-- the rows that events change: the world, loaded flags with function stacks, tasks, the transition and pins
 pub record Rows : Type 0 where
   pub world : World
   pub sites : SiteTable
@@ -82,8 +81,7 @@ are_same rows other =
     && (is_same tasks_code rows.tasks other.tasks && (is_same moving_code rows.moving other.moving && is_same flags_code rows.pinned other.pinned))))
 
 -- Whether a record has an effect: putting it back changes the rows. The rows decide this, so no kind of record needs a
--- rule of its own, and a record whose row is missing or has no room has no effect. A hook's record is the exception: it
--- counts, though putting it back changes nothing.
+-- rule of its own. Only the record of a hook counts although it changes nothing itself.
 abbrev pub has_effect : Rows → Record → Bool
 has_effect rows row = is_some (of_sites.hook_of row) || not (are_same (put_back rows row) rows)
 
