@@ -80,8 +80,8 @@ are_same rows other =
     && (is_same flags_code rows.sites.loaded other.sites.loaded && (is_same stacks_code rows.sites.stacks other.sites.stacks
     && (is_same tasks_code rows.tasks other.tasks && (is_same moving_code rows.moving other.moving && is_same flags_code rows.pinned other.pinned))))
 
--- Whether a record has an effect: putting it back changes the rows. The rows decide this, so no kind of record needs a
--- rule of its own. Only the record of a hook counts although it changes nothing itself.
+-- Whether a record has an effect: putting it back changes the rows. So a record without a row or without room has none,
+-- and no kind of record needs a rule of its own. A hook's record counts although it changes nothing itself.
 abbrev pub has_effect : Rows → Record → Bool
 has_effect rows row = is_some (of_sites.hook_of row) || not (are_same (put_back rows row) rows)
 
