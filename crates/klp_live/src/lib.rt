@@ -8,7 +8,6 @@
 //! `history` has the list, and `kept` a row as a receipt keeps it. `publisher`, `published`, `rules` and `board`
 //! publish a table, `change` computes what an event changes in it, and `target` what a call finds in it.
 //! docs/THREADS.md explains all of it.
-//! words.
 #![tactic(auto)]
 
 mod board;
