@@ -53,8 +53,8 @@ pub record IsAdmitted (setting : Setting) (base : State) (event : Event) (old ne
   pub knows : after.list ≡ new.list
   pub counts : after.accepted ≡ before.accepted + 1
 
--- The model accepts the event, but a journal of this history may have no room: some records, as many as its events leave
--- at most, would fill it.
+-- The model accepts the event, but a journal of this history may have no room: some records, as many as its events
+-- leave at most, would fill it.
 pub record FindsNoRoom (setting : Setting) (base : State) (list : History) (event : Event) : Type 0 where
   pub reply : Reply
   pub accepted : answer setting (state_after_history setting base list) event ≡ Ok reply

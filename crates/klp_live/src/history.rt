@@ -173,8 +173,8 @@ impl<S: Start> Front<S> {
     }
 }
 
-/// Never returns. Called if two structures disagree that always agree, such as a history that is longer than what its only
-/// writer knows. That they agree is more than their contracts say.
+/// Never returns. Called if two structures disagree that always agree, such as a history that is longer than what its
+/// only writer knows. That they agree is more than their contracts say.
 fn stop<W: Wait>(rt: &W)
     ensures { ⊥ }
 {

@@ -24,8 +24,8 @@ use std::marker::PhantomData;
 use std::sync::ledger::{Blank, Share};
 use std::sync::{Mutex, Wait};
 
-/// How many seats a start has: as many as its ledger has parts. Kept apart from the ledger: a struct that owns the ledger
-/// can't mention the number.
+/// How many seats a start has: as many as its ledger has parts. Kept apart from the ledger: a struct that owns the
+/// ledger can't mention the number.
 #[derive(Drop)]
 struct Places<S: Start> {
     count: usize,
