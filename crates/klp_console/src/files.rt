@@ -201,7 +201,8 @@ fn say_function<W: Sink>(answers: &mut Answers, writer: &mut W, function: &Catal
     say_position(answers, writer, function.symbol(), position);
 }
 
-/// Says those of the functions that are in this object. A patch's functions are one list, so each is looked at.
+/// Says the functions in the list that are in this object, with their positions. The list has all functions of a patch,
+/// so each is looked at.
 fn say_positions<W: Sink>(
     answers: &mut Answers,
     writer: &mut W,

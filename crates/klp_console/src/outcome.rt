@@ -7,7 +7,7 @@ ghost use Rattle.klp_console.specs.Outcomes.{is_refusal, other_outcome};
 use klp_console_commands::{Asked, LineFault};
 use klp_model::{Event, Refusal, Reply};
 
-/// What a line came to.
+/// The outcome of a line: what it did, or that it was refused.
 #[derive(Clone, Copy)]
 pub enum Outcome {
     /// The line asks for this event, which was accepted with this reply, or refused for this reason.

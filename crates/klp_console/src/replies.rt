@@ -125,7 +125,7 @@ fn say_frame<W: Sink>(
     }
 }
 
-/// Says the functions that a task was inside of, outermost first, in the order in which a line has them.
+/// Says the functions that a task was inside of, outermost first, as a `task sleep` line has them.
 fn say_frames<W: Sink>(
     answers: &mut Answers,
     writer: &mut W,
@@ -162,7 +162,7 @@ fn say_woken<W: Sink>(
     answers.say(writer, b"\n");
 }
 
-/// Says the reply to an event, by the word of the [`Reply`] with its names and numbers, or why it was refused.
+/// Says the reply to an event, as its word followed by its names and numbers, or says why the event was refused.
 ///
 /// A function that a task was inside of is spelled as a livepatch symbol, with the position from 1 (livepatch module
 /// ELF format, livepatch symbols), or as `PATCH:INDEX`, by its place over the patch's objects from 0. The time is

@@ -36,7 +36,7 @@ fn switch(value: &[u8]) -> Result<bool, LineFault>
     }
 }
 
-/// Reads `echo VALUE > ../PATCH/enabled`: sets the event `SetEnabled`.
+/// Reads a write to the `enabled` file of a patch, which asks for the event `SetEnabled`.
 fn enabled_line(
     value: &[u8],
     patch: &[u8],
@@ -50,7 +50,7 @@ fn enabled_line(
     Ok(Asked::Take)
 }
 
-/// Reads `echo VALUE > ../PATCH/force`: sets the event `Force` for 1. For 0 no event is needed.
+/// Reads a write to the `force` file of a patch. Writing 1 asks for the event `Force`; writing 0 needs no event.
 fn force_line(
     value: &[u8],
     patch: &[u8],
@@ -112,7 +112,7 @@ pub(crate) fn echo_line(
     }
 }
 
-/// Reads the path of a task's file, below `/proc/`. It must be `patch_state`, the only file of a task that means
+/// Reads the path of a task's file, below `/proc/`. The file must be `patch_state`: no other file of a task means
 /// something here.
 fn proc_query(file: &[u8]) -> Result<Query, LineFault>
     ensures { shown result ≡ proc_query file.now }

@@ -83,7 +83,7 @@ fn keyword_of(word: &[u8]) -> Option<Keyword>
     }
 }
 
-/// Reads `load PATCH`.
+/// Reads the rest of `load PATCH`, which asks for the event `Enable`.
 fn load_line(
     words: &mut LineWords<'_>,
     names: &NameResolver<'_>,
@@ -96,7 +96,7 @@ fn load_line(
     Ok(Asked::Take)
 }
 
-/// Reads `insmod MODULE`.
+/// Reads the rest of `insmod MODULE`, which asks for the event `Coming`.
 fn insmod_line(
     words: &mut LineWords<'_>,
     names: &NameResolver<'_>,
@@ -109,7 +109,7 @@ fn insmod_line(
     Ok(Asked::Take)
 }
 
-/// Reads `rmmod MODULE`.
+/// Reads the rest of `rmmod MODULE`, which asks for the event `Going`.
 fn rmmod_line(
     words: &mut LineWords<'_>,
     names: &NameResolver<'_>,
@@ -122,7 +122,7 @@ fn rmmod_line(
     Ok(Asked::Take)
 }
 
-/// Reads a line of one word, which asks for this.
+/// Returns what a line asks for whose first word is its only one, or `BadLine` if another word follows.
 fn alone(asked: Asked, words: &mut LineWords<'_>) -> Result<Asked, LineFault>
     ensures { (event : Event) → line_with result event ≡ alone (request_with asked event) words.old }
 {
@@ -130,7 +130,7 @@ fn alone(asked: Asked, words: &mut LineWords<'_>) -> Result<Asked, LineFault>
     Ok(asked)
 }
 
-/// Reads `poll`.
+/// Reads the rest of `poll`, which asks for the event `Poll`.
 fn poll_line(words: &mut LineWords<'_>, event: &mut Event) -> Result<Asked, LineFault>
     ensures { line_with result event.new ≡ alone (Take Poll) words.old }
 {
@@ -139,7 +139,7 @@ fn poll_line(words: &mut LineWords<'_>, event: &mut Event) -> Result<Asked, Line
     Ok(Asked::Take)
 }
 
-/// Reads `text OBJECT`.
+/// Reads the rest of `text OBJECT`, which asks to see an object's text.
 fn text_line(words: &mut LineWords<'_>, names: &NameResolver<'_>) -> Result<Asked, LineFault>
     ensures { (event : Event) → line_with result event ≡ text_line names.now words.old }
 {
@@ -147,7 +147,7 @@ fn text_line(words: &mut LineWords<'_>, names: &NameResolver<'_>) -> Result<Aske
     Ok(Asked::Ask(Query::Text(names.object(object)?)))
 }
 
-/// Reads `stack SYMBOL`.
+/// Reads the rest of `stack SYMBOL`, which asks to see a symbol's function stack.
 fn stack_line(words: &mut LineWords<'_>, names: &NameResolver<'_>) -> Result<Asked, LineFault>
     ensures { (event : Event) → line_with result event ≡ stack_line names.now words.old }
 {
@@ -156,7 +156,7 @@ fn stack_line(words: &mut LineWords<'_>, names: &NameResolver<'_>) -> Result<Ask
     Ok(Asked::Ask(Query::Stack(names.site(&spelling)?)))
 }
 
-/// Reads `pick TASK SYMBOL`.
+/// Reads the rest of `pick TASK SYMBOL`, which asks to see what a task runs at a symbol.
 fn pick_line(words: &mut LineWords<'_>, names: &NameResolver<'_>) -> Result<Asked, LineFault>
     ensures { (event : Event) → line_with result event ≡ pick_line names.now words.old }
 {
@@ -167,7 +167,7 @@ fn pick_line(words: &mut LineWords<'_>, names: &NameResolver<'_>) -> Result<Aske
     Ok(Asked::Ask(Query::Pick(task, names.site(&spelling)?)))
 }
 
-/// Reads `runs PATCH OBJECT`.
+/// Reads the rest of `runs PATCH OBJECT`, which asks to see how often callbacks ran.
 fn runs_line(words: &mut LineWords<'_>, names: &NameResolver<'_>) -> Result<Asked, LineFault>
     ensures { (event : Event) → line_with result event ≡ runs_line names.now words.old }
 {
@@ -179,7 +179,7 @@ fn runs_line(words: &mut LineWords<'_>, names: &NameResolver<'_>) -> Result<Aske
     Ok(Asked::Ask(Query::Runs(patch, names.object(object)?)))
 }
 
-/// Reads `rewind MARK`.
+/// Reads the rest of `rewind MARK`, which asks to undo all events but the first MARK.
 fn rewind_line(words: &mut LineWords<'_>) -> Result<Asked, LineFault>
     ensures { (event : Event) → line_with result event ≡ rewind_line words.old }
 {
@@ -187,7 +187,7 @@ fn rewind_line(words: &mut LineWords<'_>) -> Result<Asked, LineFault>
     Ok(Asked::Rewind(number_to(MAX_MARK, mark)? as u32))
 }
 
-/// Reads the words after the first one, by the form that the keyword picks.
+/// Reads the words after the first one, in the form of the keyword. Without a keyword the line is bad.
 fn line_of(
     keyword: Option<Keyword>,
     words: &mut LineWords<'_>,

@@ -36,7 +36,7 @@ fn variable(words: &mut LineWords<'_>) -> Result<(ShadowKey, ShadowValue), LineF
     Ok((ShadowKey { obj, id }, value(bytes)?))
 }
 
-/// Reads `shadow alloc OBJ ID VALUE`.
+/// Reads the rest of `shadow alloc OBJ ID VALUE`, which asks for the event `ShadowAlloc`.
 fn alloc_line(words: &mut LineWords<'_>, event: &mut Event) -> Result<Asked, LineFault>
     ensures { line_with result event.new ≡ alloc_line words.old }
 {
@@ -45,7 +45,7 @@ fn alloc_line(words: &mut LineWords<'_>, event: &mut Event) -> Result<Asked, Lin
     Ok(Asked::Take)
 }
 
-/// Reads `shadow getalloc OBJ ID VALUE`.
+/// Reads the rest of `shadow getalloc OBJ ID VALUE`, which asks for the event `ShadowGetOrAlloc`.
 fn get_or_alloc_line(words: &mut LineWords<'_>, event: &mut Event) -> Result<Asked, LineFault>
     ensures { line_with result event.new ≡ get_or_alloc_line words.old }
 {
@@ -54,7 +54,7 @@ fn get_or_alloc_line(words: &mut LineWords<'_>, event: &mut Event) -> Result<Ask
     Ok(Asked::Take)
 }
 
-/// Reads `shadow free OBJ ID`.
+/// Reads the rest of `shadow free OBJ ID`, which asks for the event `ShadowFree`.
 fn free_line(words: &mut LineWords<'_>, event: &mut Event) -> Result<Asked, LineFault>
     ensures { line_with result event.new ≡ free_line words.old }
 {
@@ -62,7 +62,7 @@ fn free_line(words: &mut LineWords<'_>, event: &mut Event) -> Result<Asked, Line
     Ok(Asked::Take)
 }
 
-/// Reads `shadow freeall ID`.
+/// Reads the rest of `shadow freeall ID`, which asks for the event `ShadowFreeAll`.
 fn free_all_line(words: &mut LineWords<'_>, event: &mut Event) -> Result<Asked, LineFault>
     ensures { line_with result event.new ≡ free_all_line words.old }
 {
@@ -71,7 +71,7 @@ fn free_all_line(words: &mut LineWords<'_>, event: &mut Event) -> Result<Asked, 
     Ok(Asked::Take)
 }
 
-/// Reads `shadow get OBJ ID`.
+/// Reads the rest of `shadow get OBJ ID`, which asks to see a variable.
 fn get_line(words: &mut LineWords<'_>) -> Result<Asked, LineFault>
     ensures { (event : Event) → line_with result event ≡ get_line words.old }
 {

@@ -106,7 +106,7 @@ fn plain_event(verb: &[u8], number: u64, event: &mut Event) -> Result<Asked, Lin
     Ok(Asked::Take)
 }
 
-/// Reads a line of a verb and a task, with no word behind them.
+/// Reads the rest of a `task` line whose verb needs no word but the task.
 fn plain_line(
     verb: &[u8],
     number: u64,

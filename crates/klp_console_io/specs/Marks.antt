@@ -6,6 +6,6 @@ use Rattle.klp_console_io.specs.declared.marks.Mark.{Mark}
 abbrev pub ends_behind : ℕ → Mark → Bool
 ends_behind taken mark = nat_lt taken mark.end
 
--- the number of events after the first line whose answer ends behind the first `taken` bytes
+-- how many events the journal had after the first line whose answer ends behind the first `taken` bytes
 abbrev pub events_at_cut : ℕ → List Mark → Option ℕ
 events_at_cut taken marks = option_map (λ (m : Mark). m.events) (find (ends_behind taken) marks)

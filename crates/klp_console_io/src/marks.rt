@@ -66,9 +66,9 @@ impl Marks {
         self.marks.push(mark);
     }
 
-    /// Returns the number of events after the line whose answer was cut off, if only `written` of the gathered bytes
-    /// were written. That is the first line whose answer ends behind these bytes. None if all these answers were
-    /// written.
+    /// Finds the line whose answer was cut off, if only `written` of the gathered bytes were written: the first one
+    /// whose answer ends behind these bytes. Returns how many events the journal had once that line was done. None if
+    /// all these answers were written.
     pub fn events_at_cut(&self, written: usize) -> Option<u32>
         ensures { result ≡ events_at_cut written self.now }
     {

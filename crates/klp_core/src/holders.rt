@@ -61,7 +61,7 @@ fn held_in(frames: &[Version], blocked: &VersionSet) -> Option<Version>
         .copied()
 }
 
-/// Returns why a task lags. The caller knows that it isn't at the target.
+/// Returns why a task lags. The task must not be at the target.
 fn lag_of(task: &Task, blocked: &VersionSet) -> Lag
     ensures { result ≡ lag_of (has blocked.now) task.now }
 {

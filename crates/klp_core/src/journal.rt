@@ -38,7 +38,7 @@ fn append(state: &mut ManagerState, journal: &mut Journal, event: &Event, reply:
     journal.append(event, reply, &mut state.log);
 }
 
-/// The reply to an event that is dropped by the caller. Only contracts know the reply, so this takes no memory.
+/// A reply that the caller doesn't need. Only contracts know it, so it takes no memory.
 #[derive(Drop)]
 pub struct Unasked {
     reply: Snapshot<Reply>,
@@ -94,7 +94,7 @@ pub(crate) fn take_and_append(
     append_long(state, catalog, journal, event)
 }
 
-/// Like [`take_and_append`], for a caller that drops the reply.
+/// Like [`take_and_append`], for a caller that needs no reply.
 pub(crate) fn take_unasked(
     state: &mut ManagerState,
     catalog: &mut Catalog,

@@ -58,9 +58,9 @@ pub fn events_go_on_where_they_end()
     klp_catalog::laws::runs_add_up();
 }
 
-/// The number that a poll replies with, if it doesn't complete the transition, is known before the poll from `holders`:
-/// it is the number of tasks that block the transition or wait awake. So `holders` and a poll agree on what keeps a
-/// task.
+/// A poll that doesn't complete the transition replies with the number of tasks that still lag. `holders` gives the
+/// same number before the poll: the tasks that block the transition, and those that wait awake. So `holders` and a poll
+/// agree on what keeps a task.
 pub fn a_poll_tells_how_many_are_left()
     ensures { (setting : Setting) (state : State) (move : Transition) → state.moving ≡ Some move
         → pending setting state move ≡ count_by is_left (holders setting state) }

@@ -108,8 +108,8 @@ impl Manager {
         self.apply_lent(&event)
     }
 
-    /// Like [`Manager::apply`], for an event that is borrowed. That saves a copy: an event has room for the frames of a
-    /// sleeper.
+    /// Like [`Manager::apply`], for an event that is borrowed. This saves copying the event, which is large, since it
+    /// has room for the frames of a sleeper.
     #[inline(always)]
     pub fn apply_lent(&mut self, event: &Event) -> Result<Reply, Refusal>
         ensures taken { IsTaken self.old self.new event.now result }
@@ -123,7 +123,7 @@ impl Manager {
         take_and_append(&mut self.state, &mut self.catalog, &mut self.journal, event)
     }
 
-    /// Like [`Manager::apply`], for a caller that drops the reply: no reply is made, and only contracts know it.
+    /// Like [`Manager::apply`], for a caller that needs no reply. No reply is made then, and only contracts know it.
     #[inline(always)]
     pub fn apply_unasked(&mut self, event: &Event) -> Result<Unasked, Refusal>
         ensures taken { IsTaken self.old self.new event.now result }

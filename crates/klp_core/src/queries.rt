@@ -164,8 +164,8 @@ impl Manager {
 
     /// Whether an event taken now might run a callback: nothing refuses it, and one of the callbacks that it might run
     /// exists. If this is false, it runs none (`laws::what_may_not_run_does_not`). The cost grows with the objects of
-    /// the event's patch, or of all installed patches for a module. If such a callback exists, finding out whether the
-    /// event is refused is added.
+    /// the event's patch, or of all installed patches for a module. If such a callback exists, the event is also
+    /// checked for refusals.
     pub fn may_run(&self, event: &Event) -> bool
         ensures { result ≡ may_run_some (setting_of self.now.managed) self.now.managed.state event.now }
     {

@@ -29,6 +29,7 @@ impl<'a> TextView<'a> {
     ghost use Rattle.std.specs.Prelude.{true, false, slice_index_or};
     ghost use Rattle.klp_core.specs.View.{symbols_at};
 
+    /// Makes the view of an object's text. The object must be loaded.
     pub(crate) fn new(image: &'a Image, object: ObjId) -> TextView<'a>
         requires { slice_index_or image.now.loaded object false ≡ true }
         ensures { result ≡ symbols_at image.now object }

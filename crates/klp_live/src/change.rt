@@ -85,7 +85,7 @@ impl Table {
         }
     }
 
-    /// Makes the table that of the machine's present state. Looks at every site.
+    /// Fills the table with the rows and patch states of the machine's present state. Looks at every site.
     pub fn fill<M: Machine>(&mut self, machine: &M)
         ensures { let managed = (M.journaled machine.now).managed in
             IsDispatch (setting_of managed) managed.state self.new }

@@ -40,7 +40,7 @@ pub struct StartFault<M> {
     pub cause: StartCause,
 }
 
-/// Returns this table as that of a history without rows.
+/// Returns this table as the published table of a history without rows.
 fn first_of(table: &Table, seen: &Seen<Accepted, u64, Law>) -> Published
     ensures { result ≡ record { table = table.now; rows = 0; seen = seen.now } }
 {

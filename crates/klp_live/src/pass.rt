@@ -125,6 +125,7 @@ impl<S: Start + Protocol<Published, View>> Model for TaskPass<S> {
 }
 
 impl<S: Start + Protocol<Published, View>> TaskPass<S> {
+    /// Makes the pass of a task with this seat.
     pub(crate) fn new(seat: Seat<S>, task: TaskId) -> TaskPass<S>
         ensures { result ≡ record { task = task; knows = seat } }
     {

@@ -82,7 +82,7 @@ impl<S: Start> Model for Receipt<S> {
 }
 
 impl<S: Start> Receipt<S> {
-    /// Makes the receipt of the last row of this history.
+    /// Makes the receipt of the last row of this history. `kept` must have that row.
     pub(crate) fn new(kept: Kept, front: Front<S>) -> Receipt<S>
         requires { IsLast front (event_kept kept) (reply_kept kept) }
         ensures { result ≡ record { number = length front; event = event_kept kept; reply = reply_kept kept; list = front } }

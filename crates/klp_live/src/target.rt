@@ -49,7 +49,7 @@ pub fn target_of(table: &Table, task: TaskId, site: Site) -> Result<Target, Ente
     Ok(chosen(site, row, state))
 }
 
-/// The table of a state gives the same answer as the state itself.
+/// A call finds the same in the table of a state as by the state itself.
 pub fn tables_answer_what_the_machine_picks()
     ensures { (setting : Setting) (state : State) (table : AnyTable) (task site : ℕ)
         → IsDispatch setting state table → found table task site ≡ entered setting state task site }

@@ -24,7 +24,7 @@ pub struct Accepted {
     pub reply: Reply,
 }
 
-/// What a step came to.
+/// What a step came to: one of the possible results of each kind of step.
 #[derive(Clone, Copy)]
 pub enum What {
     /// The event was accepted.
@@ -41,7 +41,7 @@ pub enum What {
     Deep,
 }
 
-/// What a step came to, and how many events the task's pass knew after it.
+/// An outcome of a step: what the step came to, and how many events the task knew after it.
 #[derive(Clone, Copy)]
 pub struct Outcome {
     pub known: u64,

@@ -178,7 +178,7 @@ fn race<M: Runs + Drop + Send, W: Write, R: Threads + Wait + Sync>(
     }
 }
 
-/// Reads the steps, runs those of both tasks, and writes what is shown of them.
+/// Reads the steps from a text, runs the steps of both tasks, and writes what is shown of them.
 fn live_over_manager<M: Runs + Drop + Send, W: Write, R: Threads + Wait + Sync>(
     rt: &R,
     alloc: Global,

@@ -71,7 +71,8 @@ fn alone(step: Step, words: &mut LineWords<'_>) -> Option<Step>
     }
 }
 
-/// Reads a line's step behind its task's number, or returns None if it is none. Of the manager only the names are used.
+/// Reads a step from the part of a line behind the task's number. None if it isn't a step. Looks up names, but the
+/// manager's state makes no difference.
 fn step_of(line: &[u8], manager: &Manager) -> Option<Step>
     ensures { result ≡ step_of manager.now line.now }
 {
@@ -132,7 +133,8 @@ fn push<T: Copy>(steps: &mut Vec<T>, step: T, line: u64) -> Result<(), ReadFault
 }
 
 impl Steps {
-    /// Adds a step to those of its task. `line` is the number of its line.
+    /// Appends a step to the list of its task, or returns `TooMany` if that is full. `line` is the number of the step's
+    /// line.
     fn add(&mut self, half: Half, step: Step, line: u64) -> Result<(), ReadFault>
         requires first { length self.old.first.items ≤ MAX_STEPS }
         requires second { length self.old.second.items ≤ MAX_STEPS }

@@ -31,8 +31,8 @@ fn block_at(sites: &Sites, site: Site, moving: &Transition, blocked: &mut Versio
     }
 }
 
-/// Adds the versions that a cumulative patch blocks to the empty set. Goes over all sites that have entries, because
-/// such a patch also has nops at sites where it has no function.
+/// Adds to the empty set the versions that the transition of a cumulative patch blocks. Goes over all sites that have
+/// entries, because such a patch also has nops at sites where it has no function.
 fn block_all(sites: &Sites, moving: &Transition, blocked: &mut VersionSet)
     requires empty { IsSetOf blocked.old [] }
     requires number { (site : ℕ) → AreFunctions (entries_at sites.now.stacks site) }
@@ -46,8 +46,8 @@ fn block_all(sites: &Sites, moving: &Transition, blocked: &mut VersionSet)
     }
 }
 
-/// Adds the versions that a patch which isn't cumulative blocks to the empty set. Goes over the sites of the patch's
-/// functions alone, because the patch has no entry elsewhere.
+/// Adds to the empty set the versions that the transition of a patch blocks which isn't cumulative. Goes over the sites
+/// of the patch's functions alone, because the patch has no entry elsewhere.
 fn block_functions(sites: &Sites, catalog: &Catalog, moving: &Transition, blocked: &mut VersionSet)
     requires empty { IsSetOf blocked.old [] }
     requires number { (site : ℕ) → AreFunctions (entries_at sites.now.stacks site) }

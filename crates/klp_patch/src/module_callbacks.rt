@@ -94,8 +94,8 @@ pub fn may_run_going(
     false
 }
 
-/// Runs post-unpatch for each of these patches that changes the module, and pre-unpatch before it unless the patch is
-/// in transition. Serves the unloading of a module, and the cleaning up after a refused load.
+/// For each of these patches that changes the module, runs pre-unpatch unless the patch is in transition, and then
+/// post-unpatch. Called when a module is unloaded, and to clean up after a refused load.
 fn each_going(
     catalog: &mut Catalog,
     installed: &[PatchId],
@@ -114,9 +114,9 @@ fn each_going(
     }
 }
 
-/// Runs pre-patch for each of these patches that changes the module, and post-patch after it unless the patch is in
-/// transition. Stops after the first pre-patch that refuses. Returns then the index of the refusing patch in
-/// `installed`, so that the caller can clean up the patches before it, with the patch and the status.
+/// For each of these patches that changes the module, runs pre-patch, and then post-patch unless the patch is in
+/// transition. Stops after the first pre-patch that refuses, and then returns three things: the index of the refusing
+/// patch in `installed`, so that the caller can clean up the patches before it; the patch; and the status.
 fn each_coming(
     catalog: &mut Catalog,
     installed: &[PatchId],

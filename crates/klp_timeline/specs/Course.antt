@@ -1,4 +1,4 @@
--- The course of the transition that goes on at the end of a run, or of the last one.
+-- The course of the transition at the end of a run; if there is none then, of the last one.
 use Rattle.std.specs.Prelude.{ℕ, true, false, List, [], ◌∷◌, Some, None}
 use Rattle.klp_timeline.specs.declared.course.Since.TheVariants.{Turned, Undone}
 use Rattle.klp_timeline.specs.declared.course.Course.{Course}

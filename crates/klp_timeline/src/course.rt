@@ -13,7 +13,7 @@ pub enum Since {
     Undone(u64),
 }
 
-/// The course of the transition that goes on at the end of a run, or of the last one.
+/// The course of the transition at the end of a run. If there is none then, the course of the last one.
 #[derive(Clone, Copy)]
 pub struct Course {
     /// None if the transition had its present target already before the run.

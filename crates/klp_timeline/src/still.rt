@@ -6,7 +6,7 @@ use crate::moment::{Moment, Stay, View};
 use crate::stays::{is_seen, is_transition};
 use klp_types::{PatchId, Transition};
 
-/// Whether the same transition goes on, or none.
+/// Whether both views show the same transition, or both none.
 fn is_same_move(before: &Option<Transition>, after: &Option<Transition>) -> bool
     ensures { result ≡ is_same_move before.now after.now }
 {
@@ -17,7 +17,7 @@ fn is_same_move(before: &Option<Transition>, after: &Option<Transition>) -> bool
     }
 }
 
-/// Whether a task is in the same stay, or in none.
+/// Whether a task is in the same stay before and after, or in none both times.
 fn is_same_stay(before: &Option<Stay>, after: &Option<Stay>) -> bool
     ensures { result ≡ is_same_stay before.now after.now }
 {
@@ -27,7 +27,7 @@ fn is_same_stay(before: &Option<Stay>, after: &Option<Stay>) -> bool
     }
 }
 
-/// Whether each task is in the same stay as before, or in none.
+/// Whether each task is in the same stay before and after, or in none both times.
 pub fn are_same(before: &[Option<Stay>], after: &[Option<Stay>]) -> bool
     ensures { result ≡ are_same before.now after.now }
 {

@@ -27,7 +27,7 @@ fn is_alike(own: &Sleep, other: &Sleep) -> bool
     is_stay(&own.stay, &other.stay) && is_end(&own.to, &other.to)
 }
 
-/// Whether one of these stays is alike to this one.
+/// Whether the list has a stay that is alike to this one.
 fn has_alike(own: &Sleep, sleeps: &[Sleep]) -> bool
     ensures { result ≡ list_any (is_alike own.now) sleeps.now }
 {
@@ -39,7 +39,7 @@ fn has_alike(own: &Sleep, sleeps: &[Sleep]) -> bool
     false
 }
 
-/// Returns the tasks of those of these stays that are alike to this one.
+/// Returns the tasks of all stays in the list that are alike to this one.
 fn tasks_alike(alloc: Global, own: &Sleep, sleeps: &[Sleep]) -> Result<TaskList, AllocError>
     ensures { IfOk result (λ tasks. tasks ≡ tasks_alike own.now sleeps.now) }
 {
@@ -52,7 +52,7 @@ fn tasks_alike(alloc: Global, own: &Sleep, sleeps: &[Sleep]) -> Result<TaskList,
     Ok(tasks)
 }
 
-/// Appends one sentence for all of these stays that are alike to `own`.
+/// Appends one sentence for all stays in the list that are alike to `own`.
 fn add_alike(
     sentences: &mut Vec<Sentence>,
     alloc: Global,
@@ -71,7 +71,7 @@ fn add_alike(
     Ok(())
 }
 
-/// Appends one sentence for each group of these stays that are alike, in the order of the groups' first stays.
+/// Appends one sentence for each group of alike stays in the list, in the order of the groups' first stays.
 fn add_slept(
     sentences: &mut Vec<Sentence>,
     alloc: Global,
