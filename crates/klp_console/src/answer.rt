@@ -75,9 +75,9 @@ fn take<W: Sink>(
     Outcome::Answered(*event, answer_event(manager, event, answers, writer))
 }
 
-/// Does what a line asks for and says the answer. Returns whether the line was refused, which is counted; a refused
-/// line changed nothing. A line without words does nothing and has no answer, so that a script may have empty lines. A
-/// line at fault is refused.
+/// Does what a line asks for and says the answer. Returns whether the line was refused, so that it can be counted; a
+/// refused line changed nothing. A line without words does nothing and has no answer, so that a script may have empty
+/// lines. A line at fault is refused.
 fn done<W: Sink>(
     manager: &mut Manager,
     asked: &Option<Result<Asked, LineFault>>,

@@ -9,15 +9,15 @@ use klp_console_io::{Answers, Sink};
 use klp_modules::Modules;
 use klp_types::{ObjId, PatchId};
 
-/// Returns the name of a patch of a catalog. It is empty for a patch that doesn't exist, which no answer of a manager
-/// has. Needs no look-up by name.
+/// Returns the name of a patch of a catalog. The name is empty if there is no such patch, which never happens for a
+/// manager's own patches. Needs no look-up by name.
 pub(crate) fn patch_name(catalog: &Catalog, patch: PatchId) -> &str
     ensures { result.now ≡ patch_name catalog.now patch }
 {
     catalog.patch_name(patch).unwrap_or("")
 }
 
-/// Returns the name of an object, loaded or not. It is empty for an object that doesn't exist, so that no caller needs
+/// Returns the name of an object, loaded or not. The name is empty if there is no such object, so that no caller needs
 /// a case for it. Needs no look-up by name.
 pub(crate) fn object_name(modules: &Modules, object: ObjId) -> &str
     ensures { result.now ≡ object_name modules.now.names object }

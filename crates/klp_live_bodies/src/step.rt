@@ -24,7 +24,7 @@ pub struct Accepted {
     pub reply: Reply,
 }
 
-/// What a step came to: one of the possible results of each kind of step.
+/// The result of a step.
 #[derive(Clone, Copy)]
 pub enum What {
     /// The event was accepted.

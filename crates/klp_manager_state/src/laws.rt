@@ -45,8 +45,8 @@ pub fn changes_of_one_kind_are_taken()
     ensures world { IsWorldTaken }
 {}
 
-/// Putting back the records of a change gives the rows before it, whatever is logged of other rows. Each record must
-/// have an effect. By this law the records of each part are proved by themselves.
+/// Putting back the records of a change gives the rows before it, whatever is logged of other rows, if each of the
+/// records has an effect. So the records of each kind of rows are proved without those of the others.
 #[tactic(auto, using(crate::proofs::RowLemmas::world_back, crate::proofs::RowLemmas::tasks_back))]
 pub fn what_is_logged_gives_the_rows_back()
     ensures world { (before after : World) (log_before log_after : RecordList) (rows : List Record)

@@ -76,8 +76,8 @@ pub fn poll_refusal(state: &ManagerState, catalog: &Catalog) -> Option<Refusal>
     None
 }
 
-/// Tries the transition, which nothing refuses, and completes it if no task lags. If a task lags, only tasks have
-/// changed.
+/// Tries the transition, and completes it if no task lags then. The caller has checked that nothing refuses the poll.
+/// If a task lags, only tasks have changed.
 fn try_once_more(state: &mut ManagerState, catalog: &mut Catalog) -> BriefReply
     requires kept { Invariant state.old catalog.old }
     requires free { refused_in state.old catalog.old Poll ≡ None }

@@ -124,8 +124,9 @@ fn lacks_room_to_enable(state: &ManagerState, catalog: &Catalog, patch: PatchId)
     usize::from(state.world.count()) + pre + post_un > MAX_VARIABLES
 }
 
-/// Puts a patch, which nothing refuses, last in the list, runs pre-patch, and starts the transition unless a pre-patch
-/// refuses. The patch is in the list before its callbacks run, so that they can set its states.
+/// Puts a patch last in the list, runs pre-patch, and starts the transition unless a pre-patch refuses. The caller has
+/// checked that nothing refuses the event. The patch is in the list before its callbacks run, so that they can set its
+/// states.
 fn install(state: &mut ManagerState, catalog: &mut Catalog, patch: PatchId) -> BriefReply
     requires kept { Invariant state.old catalog.old }
     requires free { refused_in state.old catalog.old (Enable patch) ≡ None }

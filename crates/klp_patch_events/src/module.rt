@@ -191,9 +191,9 @@ fn installed_patches(state: &ManagerState, catalog: &Catalog) -> ArrayVec<PatchI
     state.world.installed_list()
 }
 
-/// Loads a module, which nothing refuses. All callbacks run before the entries are put on its sites: callbacks see no
-/// function stack, an event is one step, and so a refused module costs no entry (docs/DECISIONS.md, "Callbacks of a
-/// module before its entries").
+/// Loads a module. The caller has checked that nothing refuses it. All callbacks run before the entries are put on its
+/// sites: callbacks see no function stack, an event is one step, and so a refused module costs no entry
+/// (docs/DECISIONS.md, "Callbacks of a module before its entries").
 fn come(state: &mut ManagerState, catalog: &mut Catalog, object: ObjId) -> BriefReply
     requires kept { Invariant state.old catalog.old }
     requires free { refused_in state.old catalog.old (Coming object) ≡ None }
@@ -230,8 +230,8 @@ fn come(state: &mut ManagerState, catalog: &mut Catalog, object: ObjId) -> Brief
     }
 }
 
-/// Unloads a module, which nothing refuses. The callbacks run before its entries leave, as when a module is loaded. The
-/// loaded flag changes last, so that undo first sets it back and then the entries.
+/// Unloads a module. The caller has checked that nothing refuses it. The callbacks run before its entries leave, as
+/// when a module is loaded. The loaded flag changes last, so that undo first sets it back and then the entries.
 fn go(state: &mut ManagerState, catalog: &mut Catalog, object: ObjId) -> BriefReply
     requires kept { Invariant state.old catalog.old }
     requires free { refused_in state.old catalog.old (Going object) ≡ None }

@@ -21,8 +21,8 @@ use klp_model::{Refusal, Reply};
 use klp_types::{MAX_VARIABLES, ShadowKey, ShadowValue};
 use klp_world::NotAdded;
 
-/// Adds a variable that doesn't exist. If it exists the event is refused with `Exists`: the kernel warns and returns
-/// nothing then (`klp_shadow_alloc`). With all variables in use it is refused with `Full`.
+/// Adds a shadow variable. If it exists already the event is refused with `Exists`, while the kernel warns and returns
+/// nothing (`klp_shadow_alloc`). If no more variables fit it is refused with `Full`.
 pub fn shadow_alloc(
     state: &mut ManagerState,
     catalog: &Catalog,

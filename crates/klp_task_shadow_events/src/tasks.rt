@@ -333,7 +333,8 @@ fn frames_of(state: &ManagerState, task: TaskId) -> Frames
     }
 }
 
-/// Whether neither image nor catalog have this version. Its object need not be loaded.
+/// Whether a version doesn't exist: the image has no such site, or the catalog no such function. Its object need not be
+/// loaded.
 fn is_bad(state: &ManagerState, catalog: &Catalog, version: Version) -> bool
     requires { Invariant state.now catalog.now }
     ensures { result ≡ is_bad (setting_in state.now catalog.now) version }
@@ -344,7 +345,7 @@ fn is_bad(state: &ManagerState, catalog: &Catalog, version: Version) -> bool
     }
 }
 
-/// Whether one of these versions is unknown to image and catalog. One is enough to refuse the sleep.
+/// Whether one of these versions doesn't exist. One is enough to refuse the sleep.
 fn has_bad(state: &ManagerState, catalog: &Catalog, frames: &Frames) -> bool
     requires { Invariant state.now catalog.now }
     ensures { result ≡ list_any (is_bad (setting_in state.now catalog.now)) frames.now }

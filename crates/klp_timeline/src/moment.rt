@@ -2,7 +2,7 @@ use crate::task_list::TaskList;
 use arrayvec::ArrayVec;
 use klp_types::{MAX_PATCHES, MAX_TASKS, Mode, ObjId, PatchId, TaskId, Transition, Version};
 
-/// Why it matters what a task sleeps inside of.
+/// A stay of a task: what it sleeps inside of, and why that matters.
 #[derive(Clone, Copy)]
 pub enum Stay {
     /// The version is blocked and the task isn't at the target, so the transition can't complete.
@@ -62,7 +62,7 @@ pub(crate) struct Sleep {
     pub to: Option<u64>,
 }
 
-/// Tasks that begin the same stay with a line, and end it with the same.
+/// Tasks that begin the same stay with the same line, and end it with the same line.
 #[derive(Drop)]
 pub struct Sleepers {
     pub stay: Stay,
