@@ -9,7 +9,7 @@ use std::marker::Model;
 use std::sync::ledger::{Blank, Book, Ledger};
 
 /// Bytes in memory as a source. One read returns at most `most` of them, so that an input can be cut as finely as one
-/// wants, and one read, chosen by its number, may fail. A feed ends only when no byte is left.
+/// wants. One read, chosen by its number, may fail. A feed ends only when no byte is left.
 #[derive(Drop)]
 pub struct Feed<'a, L: Ledger> {
     left: &'a [u8],

@@ -21,9 +21,9 @@ ghost use Rattle.klp_core.specs.Withdrawal.{GoesOn, LeavesNoTrace};
 
 use klp_model::round_trip::{gone_at_the_end, only_shadow_events_outside};
 
-/// Each function of a patch that names a site is in the object of that site, if the catalog has the image's names, as
-/// `Manager::catalog` promises of every manager. The laws of what tasks run (`klp_model`) need this, and nothing else
-/// gives it (docs/DECISIONS.md, "The object of a function").
+/// Each function of a patch that names a site is in the object of that site. The catalog must have the image's names,
+/// as `Manager::catalog` promises of every manager. The laws of what tasks run (`klp_model`) need this, and nothing
+/// else gives it (docs/DECISIONS.md, "The object of a function").
 pub fn functions_are_in_their_objects()
     ensures { (managed : Managed) → managed.catalog.names ≡ names_of managed.image.objects
         → IsInPlace (setting_of managed) }
@@ -31,9 +31,9 @@ pub fn functions_are_in_their_objects()
     klp_catalog::laws::sites_lie_in_their_objects();
 }
 
-/// A patch that is no longer installed has left no trace between two managers, whatever calls were made between them,
-/// if the later manager goes on from the earlier one in the same setting. Events that were taken back in between, and
-/// counts of runs, make no difference.
+/// Let a later manager go on from an earlier one in the same setting. Then a patch that isn't installed in the later
+/// one has left no trace between them, whatever calls were made in between. Events that were taken back, and counts of
+/// runs, make no difference.
 pub fn what_is_withdrawn_leaves_no_trace()
     ensures { (earlier later : Journaled) → IsWellFormed earlier → IsWellFormed later → GoesOn earlier later
         → setting_of later.managed ≡ setting_of earlier.managed → LeavesNoTrace earlier later }

@@ -54,9 +54,9 @@ impl Model for Manager {
 }
 
 impl Manager {
-    /// Boots a manager over an image, its modules and a catalog, all as they were made: `vmlinux` alone is loaded, no
-    /// patch is installed, there are no tasks and no shadow variables, and no event to take back. Allocates all memory
-    /// that events need, so no later call can fail for want of memory (docs/DECISIONS.md, "Memory after boot").
+    /// Boots a manager over an image, its modules and a catalog, all as they were made. Then `vmlinux` alone is loaded,
+    /// no patch is installed, and there are no tasks, no shadow variables and no event to take back. Allocates all
+    /// memory that events need, so no later call can fail for want of memory (docs/DECISIONS.md, "Memory after boot").
     ///
     /// Returns `Mismatch` if the three don't have the same number of objects, or of symbols in each. That their names
     /// are the same is for the caller to know. The three are dropped on a fault.
@@ -170,10 +170,10 @@ impl Manager {
         self.journal.mark()
     }
 
-    /// Takes back all events but the first `mark`, newest first: text, hooks, function stacks, system states, shadow
-    /// variables and tasks are again as they were right after those. No callback runs, since what callbacks did is in
-    /// rows like all else, and the counts of their runs stay. The cost grows with the number of rows that are put back.
-    /// Returns `BadMark` if the journal has fewer than `mark` events.
+    /// Takes back all events but the first `mark`, newest first. Text, hooks, function stacks, system states, shadow
+    /// variables and tasks are then as they were after those `mark` events. No callback runs, since what callbacks did
+    /// is in rows like all else, and the counts of their runs stay. The cost grows with the number of rows that are put
+    /// back. Returns `BadMark` if the journal has fewer than `mark` events.
     pub fn rewind(&mut self, mark: u32) -> Result<(), BadMark>
         ensures rewound { IfOk result (λ _. (mark ≤ length self.old.groups) × IsRewound self.old self.new mark) }
         ensures bad_mark { IfErr result (λ _. length self.old.groups < mark) }

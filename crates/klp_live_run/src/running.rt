@@ -220,9 +220,9 @@ fn live_over_plan<W: Write, R: Threads + Wait + Sync>(
     live_over_manager::<Manager, W, R>(rt, alloc, manager, text, out)
 }
 
-/// Boots a manager over the catalog's text, runs the steps of the other text in a thread for each of the tasks 1 and 2,
-/// and takes back all that was accepted. The threads run at once if a second one can be made. Only then writes how many
-/// steps of each task are done, and the text of each loaded object.
+/// Boots a manager over the catalog's text, and runs the steps of the other text: those of task 1 and those of task 2
+/// in a thread each. The threads run at once if a second one can be made. Then takes back all accepted events. Only
+/// then writes how many steps of each task are done, and the text of each loaded object.
 pub(crate) fn live_over_text<W: Write, R: Threads + Wait + Sync>(
     rt: &R,
     alloc: Global,

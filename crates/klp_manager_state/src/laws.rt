@@ -37,8 +37,8 @@ pub fn steps_keep()
     klp_catalog::laws::runs_add_up();
 }
 
-/// How an event is taken that changes one kind of rows alone: if nothing refuses it, and it runs no callback, the
-/// manager takes it by that change. The events of tasks and of shadow variables are proved by this.
+/// An event that nothing refuses, that runs no callback and that changes rows of one kind alone, is taken by making
+/// that change. The events of tasks and of shadow variables are proved by this.
 #[tactic(auto, using(crate::proofs::StepLemmas::tasks_taken, crate::proofs::StepLemmas::world_taken))]
 pub fn changes_of_one_kind_are_taken()
     ensures tasks { AreTasksTaken }

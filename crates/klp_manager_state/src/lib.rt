@@ -1,10 +1,10 @@
 //! The state of a manager, beside its catalog, and what every event of it promises.
 //!
 //! [`ManagerState`] has sites, names, world, tasks, the transition, pins and undo records. The catalog is separate,
-//! because it holds boxes, which a definition can't mention. An event replies and leaves what the model's definition
-//! says, or is refused for the reason that it says, and the runs of its callbacks are counted (`TakesEvent` in
-//! `specs/Events`). Afterwards the state is allowed, installed patches have the states that the catalog gives them, and
-//! each site has the function stack that the state says (`specs/Invariant`).
+//! because it holds boxes, which a definition can't mention. An event has the reply and the effect that the model
+//! defines, or is refused for the reason that the model gives (`TakesEvent` in `specs/Events`). The runs of its
+//! callbacks are counted. Afterwards the state is allowed, installed patches have the states that the catalog gives
+//! them, and each site has the function stack that the state says (`specs/Invariant`).
 //!
 //! An accepted event logs records that give back the rows before it, and each record has an effect. A refused event
 //! changes nothing (`IsLogged` in `specs/Rows`). There is always room for the records of one event, 4,096.

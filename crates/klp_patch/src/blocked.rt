@@ -64,9 +64,9 @@ fn block_functions(sites: &Sites, catalog: &Catalog, moving: &Transition, blocke
     }
 }
 
-/// Fills the set with the versions that block a sleeper: no task may be inside of one of them when it switches to the
-/// target of the transition. Drops what the set held before. One set serves all tasks of a try, while the kernel goes
-/// over the patch's functions for each frame (`klp_check_stack`).
+/// Fills the set with the versions that block sleepers: a task inside of one of them can't switch to the target of the
+/// transition. Drops what the set held before. One set serves all tasks of a try, while the kernel goes over the
+/// patch's functions for each frame (`klp_check_stack`).
 ///
 /// The cost grows with the number of the patch's functions, or for a cumulative patch with the number of sites that
 /// have entries.

@@ -145,8 +145,8 @@ fn each_coming(
 }
 
 /// Runs the callbacks for a module that is loaded: for each of these patches that changes it, pre-patch, and post-patch
-/// unless the patch is in transition. If a pre-patch refuses, no later patch runs, and the patches before it are
-/// cleaned up, oldest first (the kernel's `klp_cleanup_module_patches_limited`): pre-unpatch unless the patch is in
+/// unless the patch is in transition. If a pre-patch refuses, no later patch runs. The patches before it are cleaned up
+/// then, oldest first (the kernel's `klp_cleanup_module_patches_limited`): pre-unpatch unless the patch is in
 /// transition, then post-unpatch. Returns the refusing patch and its status, or None if none refused.
 pub fn run_coming(
     catalog: &mut Catalog,

@@ -1,8 +1,9 @@
 //! The events of patches and modules, each as a step of the model, over a manager's state.
 //!
-//! Each event replies and leaves what the model's definition says, or is refused for the reason that it says, and the
-//! runs of its callbacks are counted (`TakesEvent` in `klp_manager_state/specs/Events`). Putting back what it logged
-//! gives the rows before it. For each event a function of its own returns why it would be refused, without taking it.
+//! Each event has the reply and the effect that the model defines, or is refused for the reason that the model gives
+//! (`TakesEvent` in `klp_manager_state/specs/Events`). The runs of its callbacks are counted. Putting back what it
+//! logged gives the rows before it. For each event a function of its own returns why it would be refused, without
+//! taking it.
 //!
 //! There is one file for each kind of event: `src/enabling.rt`, `disabling.rt`, `forcing.rt`, `completing.rt` and
 //! `module.rt`. `callbacks.rt` finds out whether an event may run a callback, `replacing.rt` takes out what a

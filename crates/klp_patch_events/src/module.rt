@@ -192,8 +192,8 @@ fn installed_patches(state: &ManagerState, catalog: &Catalog) -> ArrayVec<PatchI
 }
 
 /// Loads a module. The caller has checked that nothing refuses it. All callbacks run before the entries are put on its
-/// sites: callbacks see no function stack, an event is one step, and so a refused module costs no entry
-/// (docs/DECISIONS.md, "Callbacks of a module before its entries").
+/// sites, so a refused module costs no entry. Nobody sees this order, since callbacks see no function stack, and an
+/// event is one step (docs/DECISIONS.md, "Callbacks of a module before its entries").
 fn come(state: &mut ManagerState, catalog: &mut Catalog, object: ObjId) -> BriefReply
     requires kept { Invariant state.old catalog.old }
     requires free { refused_in state.old catalog.old (Coming object) ≡ None }

@@ -2,10 +2,10 @@
 //! alone.
 //!
 //! There are seven events of tasks (`src/tasks.rt`), each of which logs one record, and four of shadow variables
-//! (`src/shadow.rt`). They have the contracts of the events of `klp_manager_state`: each replies and leaves what the
-//! model's definition says, or is refused for the reason that it says, and putting back what it logged gives the rows
-//! before it. They are a crate of their own since they need nothing of how patches change, except for the frames of a
-//! sleeper.
+//! (`src/shadow.rt`). They have the contracts of the events of `klp_manager_state`. Each has the reply and the effect
+//! that the model defines, or is refused for the reason that the model gives. Putting back what it logged gives the
+//! rows before it. They are a crate of their own since they need nothing of how patches change, except for the frames
+//! of a sleeper.
 #![tactic(auto)]
 
 pub mod shadow;

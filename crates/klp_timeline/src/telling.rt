@@ -108,7 +108,7 @@ fn add_line(
 }
 
 /// Returns all sentences on a run that begins with the view `opening`: for each line in order its facts, and then the
-/// stays that begin with it, those that are alike in one sentence. The cost of a line grows with the length of its
+/// stays that begin with it. Stays that are alike share a sentence. The cost of a line grows with the length of its
 /// stays. An error means that memory ran out.
 pub fn sentences(alloc: Global, opening: &View, run: &[Moment]) -> Result<Vec<Sentence>, AllocError>
     ensures { IfOk result (λ sentences. sentences.items ≡ sentences_of opening.now run.now) }
