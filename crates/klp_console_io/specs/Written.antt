@@ -2,7 +2,7 @@
 use Rattle.std.specs.Prelude.{ℕ, List, Option}
 
 pub record Written : Type 0 where
-  -- the bytes that it took, where they are known
+  -- the bytes that it took, if they are known
   pub taken : Option (List ℕ)
   -- how many writes failed
   pub failures : ℕ

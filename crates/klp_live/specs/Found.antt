@@ -19,6 +19,6 @@ entered_if setting state site false own = Err NoSite
 entered_if setting state site true None = Err NoTask
 entered_if setting state site true (Some task) = Ok (begun setting (newest_version site (entries_for state.moving task.state (entries_of setting state site))))
 
--- the version that the machine picks for the task at the site
+-- what the model picks for the task at the site
 abbrev pub entered : Setting → State → ℕ → ℕ → Result Target EnterFault
 entered setting state task site = entered_if setting state site (is_site_loaded setting state site) (task_at state.tasks task)

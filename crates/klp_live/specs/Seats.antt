@@ -17,10 +17,10 @@ pub record ReceiptValue : Type 0 where
   pub reply : Reply
   pub list : History
 
--- a reader knows one list of this history
+-- a reader knows one beginning of this history
 abbrev pub IsOne : Book → View → Type 0
 IsOne book views = (k : Known) × (views.known ≡ k ∷ []) × (k.seen.book ≡ book)
 
--- the row stands last
+-- the row of this event and reply is the last
 abbrev pub IsLast : History → Event → Reply → Type 0
 IsLast list event reply = (old : History) × (list ≡ old ++ (event, reply) ∷ [])

@@ -1,4 +1,4 @@
--- What is published, and the rule over it and over what readers know.
+-- What is published, and the rule for it and for what readers know.
 use Rattle.std.specs.Prelude.{◌≡◌, ℕ, List, [], ◌∷◌, length, Option, Some, None}
 use mathlib.Core.List.{IsPrefix}
 use mathlib.Core.Option.{some}
@@ -23,7 +23,7 @@ pub record IsTable (setting : Setting) (base : State) (x : Published) : Type 0 w
   pub table : IsDispatch setting (state_after_history setting base x.seen.log) x.table
   pub rows : x.rows ≡ length x.seen.log
 
--- what is known begins what is published
+-- what is known is a beginning of what is published
 pub record Begins (x : Published) (k : Known) : Type 0 where
   pub book : k.seen.book ≡ x.seen.book
   pub rows : IsPrefix k.seen.log x.seen.log
@@ -40,7 +40,7 @@ pub record Holds (setting : Setting) (base : State) (book : Book) (x : Published
   pub book_is : x.seen.book ≡ book
   pub known : (seat : ℕ) (v : View) → get_elem? views seat ≡ some v → EachBegins x v.known
 
--- this is what a start's rule says
+-- the rule of a start says this and no more
 pub record RuleIs (holds : Published → List View → Type 0) (first : View) (setting : Setting) (base : State) (book : Book) : Type 0 where
   pub gives : (x : Published) (views : List View) → holds x views → Holds setting base book x views
   pub given : (x : Published) (views : List View) → Holds setting base book x views → holds x views
@@ -50,7 +50,7 @@ pub record IsSeen (v : View) (x y : Published) (w : View) : Type 0 where
   pub before : EachBegins y v.known
   pub after : w ≡ record { known = known_of y ∷ [] }
 
--- y goes on where x ends
+-- y is a table of the same history as x, with at least the rows of x
 pub record Follows (setting : Setting) (base : State) (x y : Published) : Type 0 where
   pub table : IsTable setting base y
   pub book : x.seen.book ≡ y.seen.book

@@ -1,4 +1,4 @@
-//! The board: where the book publishes.
+//! The board: the place where the book publishes its table, for readers without a lock.
 ghost use Rattle.std.specs.Prelude.{◌≡◌, [], ◌∷◌, ◌++◌, drop, None, Some, MatchBool};
 ghost use Rattle.left_right.specs.Sides.{view};
 ghost use Rattle.klp_live.specs.Shown.{with_news, Follows, RuleIs, known_of};
@@ -12,13 +12,14 @@ use left_right::writer::Writer;
 use std::marker::Model;
 use std::sync::Wait;
 
-/// The end that publishes.
+/// The end of the board that publishes.
 pub type Changes<S> = Writer<Published, Option<News>, View, S>;
 
-/// The end that reads.
+/// The end of the board that reads. Each seat has one.
 pub type Place<S> = Reader<Published, View, S>;
 
-/// Appends what is to be published, and waits until there is memory: room was kept for it, so it doesn't wait.
+/// Appends what is to be published next. Would wait until there is memory, but callers have kept room before, so it
+/// doesn't wait.
 pub fn push<S: Start + Protocol<Published, View>, W: Wait>(
     rt: &W,
     changes: &mut Changes<S>,
@@ -37,7 +38,7 @@ pub fn push<S: Start + Protocol<Published, View>, W: Wait>(
     unreachable!()
 }
 
-/// Publishes one row, for which room was kept.
+/// Publishes one row. The caller has kept room for it.
 pub fn announce<S: Start + Protocol<Published, View>, W: Wait>(
     rt: &W,
     changes: Changes<S>,
@@ -55,8 +56,8 @@ pub fn announce<S: Start + Protocol<Published, View>, W: Wait>(
     changes.publish_as::<Sees, W>(rt).0
 }
 
-/// Where the book publishes. The end that publishes waits for its readers when it goes, so the handle for that is kept
-/// beside it: what lies under a lock has to go by itself.
+/// The publishing end of the board. When it is dropped it must wait for its readers, so it keeps the handle for
+/// waiting: a value under a lock is dropped without arguments.
 pub struct Board<S: Start + Protocol<Published, View>, R: Wait + Drop> {
     changes: Changes<S>,
     rt: R,
@@ -80,14 +81,14 @@ impl<S: Start + Protocol<Published, View>, R: Wait + Drop> Model for Board<S, R>
 }
 
 impl<S: Start + Protocol<Published, View>, R: Wait + Drop> Board<S, R> {
-    /// The board of this end, which waits by the handle when it goes.
+    /// Makes a board of the publishing end. `rt` is the handle for waiting when the board is dropped.
     pub fn over(changes: Changes<S>, rt: R) -> Board<S, R>
         ensures { result ≡ record { value = changes.desk.shown.value; pending = drop changes.behind changes.log.items } }
     {
         Board { changes, rt }
     }
 
-    /// Keeps room for one row, and says whether there was memory.
+    /// Keeps room for one row. Returns whether there was memory for it.
     pub fn reserve(&mut self) -> bool
         requires { self.old.pending ≡ [] }
         ensures { MatchBool result (self.new ≡ record self.old { pending = None ∷ [] }) (self.new ≡ self.old) }
@@ -95,7 +96,7 @@ impl<S: Start + Protocol<Published, View>, R: Wait + Drop> Board<S, R> {
         self.changes.append(None).is_ok()
     }
 
-    /// Publishes one row, for which room was kept.
+    /// Publishes one row. The caller has kept room for it.
     pub fn announce<W: Wait>(&mut self, rt: &W, news: News)
         requires rule { RuleIs S.holds S.first S.setting S.base S.book }
         requires room { self.old.pending ≡ None ∷ [] }

@@ -1,5 +1,5 @@
-//! What the outcomes of a body say of the list that its task knows in the end. Each law is the contract of a function
-//! that does nothing.
+//! Laws about what the outcomes of a body say of the history that its task knows in the end. A function here does
+//! nothing: its contract is the law.
 ghost use Rattle.std.specs.Prelude.{◌≡◌, ℕ, ◌<◌, ◌≤◌, List, length, take, slice_get, Some};
 ghost use Rattle.klp_types.specs.declared.version.Version.{Version};
 ghost use Rattle.klp_types.specs.Setting.{Setting};
@@ -12,8 +12,9 @@ ghost use Rattle.klp_live_bodies.specs.declared.step.Step.{Step};
 ghost use Rattle.klp_live_bodies.specs.declared.step.What.TheVariants.{Receipt};
 ghost use Rattle.klp_live_bodies.specs.Running.{AreDone};
 
-/// What is known never falls, and is never less than at the start or more than in the end. The number of a receipt is
-/// above all that was known before, and its event stands there with its reply.
+/// The number of known events in the outcomes never falls, and stays between those known at the start and in the end.
+/// The number of a receipt is greater than all numbers before it, and the history has the receipt's event and reply at
+/// it.
 pub fn outcomes_are_reported_in_order()
     ensures within { (setting : Setting) (base : State) (task : ℕ) (list : History) (before : ℕ) (frames : List Version)
         (steps : List Step) (outcomes : List Outcome) (place : ℕ) (outcome : Outcome)

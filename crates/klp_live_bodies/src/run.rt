@@ -1,4 +1,4 @@
-//! How the steps of a body are done.
+//! Doing the steps of a body.
 ghost use Rattle.std.specs.Prelude.{◌≡◌, ◌+◌, ◌<◌, ◌≤◌, ◌^◌, ◌++◌, ◌∷◌, [], true, false, List, length, IfSome, IfNone, MatchBool, MatchResult, slice_get, Some, Ok, Err, vec_len, vec_capacity};
 ghost use mathlib.Core.List.{IsPrefix};
 ghost use Rattle.klp_types.specs.declared.limits.TheConstants.{MAX_FRAMES};
@@ -21,7 +21,7 @@ use std::sync::Wait;
 /// How often a gate is asked before one step.
 const TRIES: u32 = 1_000_000;
 
-/// Asks the gate until it lets the task in, so many times at most.
+/// Asks the gate until it lets the task in, at most `TRIES` times. Returns its last answer.
 fn is_let_in<G: Gate>(gate: &G, task: TaskId, step: u32) -> bool
     ensures { G.answers gate.now task step result }
 {
@@ -33,7 +33,7 @@ fn is_let_in<G: Gate>(gate: &G, task: TaskId, step: u32) -> bool
     gate.before(task, step)
 }
 
-/// Submits an event of a step, unless memory is refused.
+/// Submits an event and returns what it came to, or None if there was no memory.
 fn submitted<S: Start + Protocol<Published, View>, M: Machine + Drop, R: Wait + Drop, W: Wait>(
     rt: &W,
     alloc: Global,
@@ -56,14 +56,15 @@ fn submitted<S: Start + Protocol<Published, View>, M: Machine + Drop, R: Wait + 
     }
 }
 
-/// Whether the task is inside of as many versions as are kept.
+/// Whether the task is inside of as many versions as a frame list can keep.
 fn is_full(frames: &Frames) -> bool
     ensures { MatchBool result (length frames.now ≡ MAX_FRAMES) (length frames.now < MAX_FRAMES) }
 {
     frames.count() >= MAX_FRAMES
 }
 
-/// Enters a function, unless as many versions are entered as are kept.
+/// Calls the function at a site, and returns what it came to: the version that was entered, why none was, or `Deep` if
+/// the list of frames is full.
 fn called<S: Start + Protocol<Published, View>>(
     pass: &mut TaskPass<S>,
     frames: &mut Frames,
@@ -85,7 +86,7 @@ fn called<S: Start + Protocol<Published, View>>(
     }
 }
 
-/// What a step comes to, unless memory is refused.
+/// Does a step and returns what it came to, or None if there was no memory.
 fn came_to<S: Start + Protocol<Published, View>, M: Machine + Drop, R: Wait + Drop, W: Wait>(
     rt: &W,
     alloc: Global,
@@ -111,7 +112,7 @@ fn came_to<S: Start + Protocol<Published, View>, M: Machine + Drop, R: Wait + Dr
     }
 }
 
-/// One step, unless memory is refused.
+/// Does a step and returns its outcome, with the number of events known then, or None if there was no memory.
 fn done<S: Start + Protocol<Published, View>, M: Machine + Drop, R: Wait + Drop, W: Wait>(
     rt: &W,
     alloc: Global,
@@ -131,7 +132,8 @@ fn done<S: Start + Protocol<Published, View>, M: Machine + Drop, R: Wait + Drop,
     })
 }
 
-/// Does all steps, for whose outcomes there is room.
+/// Does all steps, and appends the outcome of each to `out`. Stops early if the gate doesn't let the task in, or if
+/// there is no memory.
 pub(crate) fn run_steps<
     S: Start + Protocol<Published, View>,
     G: Gate,

@@ -14,14 +14,14 @@ use klp_sites::Sites;
 use klp_tasks::VersionSet;
 use klp_types::{MAX_SITES, Site, Transition};
 
-/// Puts what is blocked at one site into the set, which is one version at most.
+/// Adds to the set the version that the transition blocks at one site, if there is one.
 fn block_at(sites: &Sites, site: Site, moving: &Transition, blocked: &mut VersionSet)
     requires number { AreFunctions (entries_at sites.now.stacks site) }
     requires sites { length sites.now.stacks ≤ MAX_SITES }
     ensures { (versions : List AnyVersion) → IsSetOf blocked.old versions
         → IsSetOf blocked.new (versions ++ blocked_among site moving.now (entries_at sites.now.stacks site)) }
 {
-    // where the patch has no entry, it holds nobody back, since no task runs anything else afterwards
+    // A site without an entry of the patch blocks nobody: its tasks run the same version after the transition.
     let stacks = sites.stacks();
     if stacks.entry(site, moving.patch).is_none() {
         return;
@@ -31,8 +31,8 @@ fn block_at(sites: &Sites, site: Site, moving: &Transition, blocked: &mut Versio
     }
 }
 
-/// Puts what is blocked at all sites into the empty set: a cumulative patch has nops where it has no
-/// function. Nothing is where a site has no entries.
+/// Adds to the empty set the versions that the transition of a cumulative patch blocks. Goes over all sites that have
+/// entries, because such a patch also has nops at sites where it has no function.
 fn block_all(sites: &Sites, moving: &Transition, blocked: &mut VersionSet)
     requires empty { IsSetOf blocked.old [] }
     requires number { (site : ℕ) → AreFunctions (entries_at sites.now.stacks site) }
@@ -46,8 +46,8 @@ fn block_all(sites: &Sites, moving: &Transition, blocked: &mut VersionSet)
     }
 }
 
-/// Puts what is blocked at the sites of the patch's functions into the empty set. Other sites aren't looked
-/// at, because there such a patch has no entry.
+/// Adds to the empty set the versions that the transition of a patch blocks which isn't cumulative. Goes over the sites
+/// of the patch's functions alone, because the patch has no entry elsewhere.
 fn block_functions(sites: &Sites, catalog: &Catalog, moving: &Transition, blocked: &mut VersionSet)
     requires empty { IsSetOf blocked.old [] }
     requires number { (site : ℕ) → AreFunctions (entries_at sites.now.stacks site) }
@@ -64,17 +64,17 @@ fn block_functions(sites: &Sites, catalog: &Catalog, moving: &Transition, blocke
     }
 }
 
-/// Makes the set that of the versions that a task mustn't be inside of when it switches to the target of
-/// the patch in transition. What the set had before is gone. It is made once for all tasks, while the
-/// kernel goes over the patch's functions for each frame (`klp_check_stack`).
+/// Fills the set with the versions that block sleepers: a task inside of one of them can't switch to the target of the
+/// transition. Drops what the set held before. One set serves all tasks of a try, while the kernel goes over the
+/// patch's functions for each frame (`klp_check_stack`).
 ///
-/// It costs as much as the patch has functions; for a cumulative one as much as there are sites with entries.
+/// The cost grows with the number of the patch's functions, or for a cumulative patch with the number of sites that
+/// have entries.
 pub fn block(sites: &Sites, catalog: &Catalog, moving: Transition, blocked: &mut VersionSet)
     requires number { (site : ℕ) → AreFunctions (entries_at sites.now.stacks site) }
     requires sites { length sites.now.stacks ≤ MAX_SITES }
     requires names { catalog.now.names ≡ names_of sites.now.image.objects }
-    // only a cumulative patch has entries where it has no function, so its functions are enough for any
-    // other
+    // only a cumulative patch has entries at sites where it has no function
     requires own { (site : ℕ) → has_entry moving.patch (entries_at sites.now.stacks site) ≡ true
         → (is_some (function_for (functions_in catalog.now moving.patch) site)
         || is_cumulative catalog.now moving.patch) ≡ true }

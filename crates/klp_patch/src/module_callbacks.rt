@@ -1,5 +1,5 @@
-//! The callbacks of a module that comes or goes, patch by patch, oldest first, as the kernel walks over
-//! `klp_patches`.
+//! The callbacks of a module that is loaded (coming) or unloaded (going): patch by patch, oldest first, as the kernel
+//! walks over `klp_patches`.
 ghost use Rattle.std.specs.Prelude.{◌≡◌, ℕ, ◌+◌, ◌≤◌, find, length, take, None, Some, option_map, MatchOption};
 ghost use Rattle.std.specs.List.{flat_map};
 ghost use Rattle.klp_types.specs.declared.callback.Which.TheVariants.{Pre};
@@ -20,8 +20,8 @@ use klp_journal::Records;
 use klp_types::{ObjId, PatchId, Transition};
 use klp_world::World;
 
-/// How many shadow variables the callbacks that may run when a module comes add at most, the cleaning up
-/// after a refusal among them.
+/// Returns how many shadow variables the callbacks add at most that may run when a module is loaded. The callbacks that
+/// clean up after a refusal count too.
 pub fn allocs_of_coming(
     catalog: &Catalog,
     installed: &[PatchId],
@@ -30,7 +30,7 @@ pub fn allocs_of_coming(
 ) -> usize
     requires { length installed.now ≤ MAX_PATCHES }
     ensures value { result ≡ allocs_of (flat_map (coming_may_run moving) (parts_in catalog.now object installed.now)) }
-    // so they log few records
+    // so a bound on the records follows
     ensures records { records_of (flat_map (coming_may_run moving) (parts_in catalog.now object installed.now))
         ≤ MAX_COMING_EDITS + result }
 {
@@ -41,7 +41,7 @@ pub fn allocs_of_coming(
     sum
 }
 
-/// How many shadow variables the callbacks that may run when a module goes add at most.
+/// Returns how many shadow variables the callbacks add at most that may run when a module is unloaded.
 pub fn allocs_of_going(
     catalog: &Catalog,
     installed: &[PatchId],
@@ -60,7 +60,7 @@ pub fn allocs_of_going(
     sum
 }
 
-/// Whether one of these patches has a callback that may run when a module comes.
+/// Whether one of these patches has a callback that may run when the module is loaded.
 pub fn may_run_coming(
     catalog: &Catalog,
     installed: &[PatchId],
@@ -77,7 +77,7 @@ pub fn may_run_coming(
     false
 }
 
-/// Whether one of these patches has a callback that may run when a module goes.
+/// Whether one of these patches has a callback that may run when the module is unloaded.
 pub fn may_run_going(
     catalog: &Catalog,
     installed: &[PatchId],
@@ -94,9 +94,8 @@ pub fn may_run_going(
     false
 }
 
-/// For each of these patches that has the module, pre-unpatch if the patch doesn't move, and post-unpatch.
-/// It is the going of a module, and also the cleaning up of one that was refused, since both undo what
-/// came.
+/// For each of these patches that changes the module, runs pre-unpatch unless the patch is in transition, and then
+/// post-unpatch. Called when a module is unloaded, and to clean up after a refused load.
 fn each_going(
     catalog: &mut Catalog,
     installed: &[PatchId],
@@ -115,9 +114,9 @@ fn each_going(
     }
 }
 
-/// For each of these patches that has the module, pre-patch, and post-patch if the patch doesn't move; up
-/// to and with the first pre-patch that refuses. If one does, its place among these, before which the
-/// cleaning up stops, its patch and the status are answered.
+/// For each of these patches that changes the module, runs pre-patch, and then post-patch unless the patch is in
+/// transition. Stops after the first pre-patch that refuses, and then returns three things: the index of the refusing
+/// patch in `installed`, so that the caller can clean up the patches before it; the patch; and the status.
 fn each_coming(
     catalog: &mut Catalog,
     installed: &[PatchId],
@@ -145,10 +144,10 @@ fn each_coming(
     None
 }
 
-/// Runs, for each of these patches that has the module, pre-patch, and post-patch if the patch doesn't
-/// move; up to and with the first pre-patch that refuses. If one does, the patches before it are cleaned
-/// up, oldest first (the kernel's `klp_cleanup_module_patches_limited`): pre-unpatch if the patch doesn't
-/// move, and post-unpatch. Its patch and the status are answered.
+/// Runs the callbacks for a module that is loaded: for each of these patches that changes it, pre-patch, and post-patch
+/// unless the patch is in transition. If a pre-patch refuses, no later patch runs. The patches before it are cleaned up
+/// then, oldest first (the kernel's `klp_cleanup_module_patches_limited`): pre-unpatch unless the patch is in
+/// transition, then post-unpatch. Returns the refusing patch and its status, or None if none refused.
 pub fn run_coming(
     catalog: &mut Catalog,
     installed: &[PatchId],
@@ -171,8 +170,8 @@ pub fn run_coming(
     Some((patch, status))
 }
 
-/// Runs, for each of these patches that has the module, pre-unpatch if the patch doesn't move, and
-/// post-unpatch. None of them can keep the module from going.
+/// Runs the callbacks for a module that is unloaded: for each of these patches that changes it, pre-unpatch unless the
+/// patch is in transition, then post-unpatch. None of them can refuse the unloading.
 pub fn run_going(
     catalog: &mut Catalog,
     installed: &[PatchId],

@@ -1,4 +1,4 @@
--- How the transition went that goes on at the end of a run, or went last.
+-- The course of the transition at the end of a run; if there is none then, of the last one.
 use Rattle.std.specs.Prelude.{ℕ, true, false, List, [], ◌∷◌, Some, None}
 use Rattle.klp_timeline.specs.declared.course.Since.TheVariants.{Turned, Undone}
 use Rattle.klp_timeline.specs.declared.course.Course.{Course}
@@ -8,7 +8,7 @@ use Rattle.klp_timeline.specs.declared.moment.Said.{Said}
 use Rattle.klp_timeline.specs.declared.moment.Said.TheVariants.{Did, Slept}
 use Rattle.klp_timeline.specs.declared.moment.Sentence.{Sentence}
 
--- a transition starts unforced, and turns as it was; what was undone of it isn't known
+-- A transition starts unforced, and reversing it doesn't change that. After an undo only the line of the undo is known.
 abbrev pub after_fact : Course → ℕ → Fact → Course
 after_fact course line (Starts move) = record { since = Some (Turned line); is_forced = false }
 after_fact course line (Reverses move) = record course { since = Some (Turned line) }

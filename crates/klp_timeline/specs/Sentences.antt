@@ -1,4 +1,4 @@
--- All that is said of a run: what each line did, and how long each sleeper stays where it matters.
+-- All sentences on a run: what each line did, and from which line to which each stay lasts.
 use Rattle.std.specs.Prelude.{ℕ, suc, Bool, true, false, ◌==◌, ◌&&◌, List, [], ◌∷◌, ◌++◌, map, filter, Option, Some, None, if◌then◌else◌}
 use Rattle.std.specs.List.{list_any}
 use Rattle.klp_timeline.specs.declared.moment.Moment.{Moment}
@@ -18,18 +18,19 @@ is_end None None = true
 is_end (Some to) (Some last) = to == last
 is_end to last = false
 
--- stays that begin with the same line are alike if they are the same and end with the same
+-- stays that begin with the same line are alike if they are the same and end with the same line
 abbrev pub is_alike : Sleep → Sleep → Bool
 is_alike own other = is_stay own.stay other.stay && is_end own.to other.to
 
 abbrev pub tasks_alike : Sleep → List Sleep → List ℕ
 tasks_alike own sleeps = map (λ (sleep : Sleep). sleep.task) (filter (is_alike own) sleeps)
 
--- all that are alike to one of these are told of together
+-- the sentence of all stays that are alike to this one
 abbrev pub slept : ℕ → Sleep → List Sleep → Sentence
 slept line own sleeps = record { line = line; said = Slept (record { stay = own.stay; tasks = tasks_alike own sleeps; to = own.to }) }
 
--- where these came before: with the first of those that are alike
+-- the sentences of the stays behind those of `before`: each that is alike to an earlier one is in the earlier one's
+-- sentence
 abbrev pub slept_from : ℕ → List Sleep → List Sleep → List Sleep → List Sentence
 slept_from line sleeps before [] = []
 slept_from line sleeps before (own ∷ rest) =
@@ -38,15 +39,15 @@ slept_from line sleeps before (own ∷ rest) =
 abbrev pub slept_of : ℕ → List Sleep → List Sentence
 slept_of line sleeps = slept_from line sleeps [] sleeps
 
--- what is said of a line that others follow
+-- the sentences of a line, which the lines `rest` follow
 abbrev pub said_of : View → ℕ → Moment → List Moment → List Sentence
 said_of before line moment rest = map (did line) (facts before moment) ++ slept_of line (sleeps_begun 0 before.stays moment.view.stays line rest)
 
--- what is said of lines, of which the first has this number
+-- the sentences of these lines, the first of which has this number
 abbrev pub sentences_from : View → ℕ → List Moment → List Sentence
 sentences_from before line [] = []
 sentences_from before line (moment ∷ rest) = said_of before line moment rest ++ sentences_from moment.view (suc line) rest
 
--- what is said of a run
+-- the sentences on a run
 abbrev pub sentences_of : View → List Moment → List Sentence
 sentences_of opening run = sentences_from opening 1 run
