@@ -27,8 +27,8 @@ is_blocked setting state version = list_any (is_version version) (blocked_now se
 
 -- the innermost of these frames that is blocked; frames are outermost first, and a walk over a stack begins at the
 -- innermost
-abbrev pub held_in : (Version → Bool) → List Version → Option Version
-held_in blocks frames = find blocks (reverse frames)
+abbrev pub innermost_blocked_in : (Version → Bool) → List Version → Option Version
+innermost_blocked_in blocks frames = find blocks (reverse frames)
 
 -- a sleeper inside of a blocked version blocks the transition, and any other task waits
 abbrev pub lag_by : Mode → Option Version → Lag
@@ -36,7 +36,7 @@ lag_by Asleep (Some version) = Holds version
 lag_by mode held = Waits mode
 
 abbrev pub lag_of : (Version → Bool) → Task → Lag
-lag_of blocks task = lag_by task.mode (held_in blocks task.frames)
+lag_of blocks task = lag_by task.mode (innermost_blocked_in blocks task.frames)
 
 -- no lag without a transition, for a task that doesn't exist, and for a task at the target
 abbrev pub lag_at : (Version → Bool) → Option Transition → Option Task → Option Lag

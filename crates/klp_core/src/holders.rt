@@ -6,7 +6,7 @@ ghost use Rattle.klp_model.specs.Task.{task_at};
 ghost use Rattle.klp_manager_state.specs.Invariant.{Invariant};
 ghost use Rattle.klp_manager_state.specs.Managed.{setting_of, setting_in, state_in};
 ghost use Rattle.klp_tasks.specs.Members.{has, IsSetOf};
-ghost use Rattle.klp_core.specs.Holders.{blocked_now, is_blocked, held_in, lag_of, lag_at, holders};
+ghost use Rattle.klp_core.specs.Holders.{blocked_now, is_blocked, innermost_blocked_in, lag_of, lag_at, holders};
 
 use crate::manager::Manager;
 use klp_catalog::Catalog;
@@ -52,8 +52,8 @@ fn blocked_now(state: &ManagerState, catalog: &Catalog) -> VersionSet
 }
 
 /// Returns the innermost of these frames that is in the set, or None. Frames are outermost first.
-fn held_in(frames: &[Version], blocked: &VersionSet) -> Option<Version>
-    ensures { result ≡ held_in (has blocked.now) frames.now }
+fn innermost_blocked_in(frames: &[Version], blocked: &VersionSet) -> Option<Version>
+    ensures { result ≡ innermost_blocked_in (has blocked.now) frames.now }
 {
     let mut from_inside = frames.iter().rev();
     from_inside
@@ -65,7 +65,7 @@ fn held_in(frames: &[Version], blocked: &VersionSet) -> Option<Version>
 fn lag_of(task: &Task, blocked: &VersionSet) -> Lag
     ensures { result ≡ lag_of (has blocked.now) task.now }
 {
-    match (task.mode, held_in(task.frames.as_slice(), blocked)) {
+    match (task.mode, innermost_blocked_in(task.frames.as_slice(), blocked)) {
         (Mode::Asleep, Some(version)) => Lag::Holds(version),
         (mode, _) => Lag::Waits(mode),
     }

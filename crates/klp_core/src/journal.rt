@@ -40,11 +40,11 @@ fn append(state: &mut ManagerState, journal: &mut Journal, event: &Event, reply:
 
 /// A reply that the caller doesn't need. Only contracts know it, so it takes no memory.
 #[derive(Drop)]
-pub struct Unasked {
+pub struct DroppedReply {
     reply: Snapshot<Reply>,
 }
 
-impl Model for Unasked {
+impl Model for DroppedReply {
     ghost use Rattle.klp_model.specs.declared.event.Reply.{Reply};
 
     ghost Value = { Reply };
@@ -95,12 +95,12 @@ pub(crate) fn take_and_append(
 }
 
 /// Like [`take_and_append`], for a caller that needs no reply.
-pub(crate) fn take_unasked(
+pub(crate) fn take_without_reply(
     state: &mut ManagerState,
     catalog: &mut Catalog,
     journal: &mut Journal,
     event: &Event,
-) -> Result<Unasked, Refusal>
+) -> Result<DroppedReply, Refusal>
     requires { AreInStep state.old catalog.old journal.old }
     ensures kept { AreInStep state.new catalog.new journal.new }
     ensures taken { IsTaken (journaled_of state.old catalog.old (groups_in state.old journal.old))
@@ -109,12 +109,12 @@ pub(crate) fn take_unasked(
     ask_for_room(state, catalog, journal, event)?;
     if is_brief(event) {
         let brief = append_brief(state, catalog, journal, event)?;
-        return Ok(Unasked {
+        return Ok(DroppedReply {
             reply: Snapshot::of(&brief.reply()),
         });
     }
     let reply = append_long(state, catalog, journal, event)?;
-    Ok(Unasked {
+    Ok(DroppedReply {
         reply: Snapshot::of(&reply),
     })
 }

@@ -29,7 +29,7 @@ mod view;
 
 pub use fault::{BadMark, BootFault};
 pub use holders::Lag;
-pub use journal::Unasked;
+pub use journal::DroppedReply;
 pub use machine::Machine;
 pub use manager::Manager;
 pub use view::TextView;

@@ -15,7 +15,7 @@ ghost use Rattle.klp_core.specs.Withdrawal.{LeavesNoTrace};
 
 use crate::boot::parts_over;
 use crate::fault::{BadMark, BootFault};
-use crate::journal::{Unasked, rewind_to, take_and_append, take_unasked};
+use crate::journal::{DroppedReply, rewind_to, take_and_append, take_without_reply};
 use crate::laws::what_is_withdrawn_leaves_no_trace;
 use klp_catalog::Catalog;
 use klp_journal::Journal;
@@ -125,7 +125,7 @@ impl Manager {
 
     /// Like [`Manager::apply`], for a caller that needs no reply. No reply is made then, and only contracts know it.
     #[inline(always)]
-    pub fn apply_unasked(&mut self, event: &Event) -> Result<Unasked, Refusal>
+    pub fn apply_without_reply(&mut self, event: &Event) -> Result<DroppedReply, Refusal>
         ensures taken { IsTaken self.old self.new event.now result }
         ensures counts { IfOk result
             (λ reply. AreCounted self.old.managed.catalog self.new.managed.catalog
@@ -134,7 +134,7 @@ impl Manager {
         ensures well_formed { IsWellFormed self.new }
     {
         klp_catalog::laws::counts_grow_by_runs();
-        take_unasked(&mut self.state, &mut self.catalog, &mut self.journal, event)
+        take_without_reply(&mut self.state, &mut self.catalog, &mut self.journal, event)
     }
 
     /// Takes events in order. Returns how many were accepted and how many refused. A refused event changes nothing, and
@@ -152,7 +152,7 @@ impl Manager {
         let mut accepted = 0;
         let mut refused = 0;
         for event in events {
-            match self.apply_unasked(event) {
+            match self.apply_without_reply(event) {
                 Ok(_) => accepted += 1,
                 Err(_) => refused += 1,
             }

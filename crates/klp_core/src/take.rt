@@ -11,7 +11,7 @@ use klp_manager_state::{BriefReply, ManagerState};
 use klp_model::{Event, Refusal, Reply};
 use klp_patch_events::{
     coming, coming_refusal, enable, enable_refusal, force, force_refusal, going, going_refusal,
-    poll, poll_refusal, set_enabled, set_refusal,
+    poll, poll_refusal, set_enabled, set_enabled_refusal,
 };
 use klp_task_shadow_events::{shadow, tasks};
 
@@ -89,7 +89,7 @@ pub(crate) fn refused(state: &ManagerState, catalog: &Catalog, event: &Event) ->
 {
     match *event {
         Event::Enable(patch) => enable_refusal(state, catalog, patch),
-        Event::SetEnabled(patch, value) => set_refusal(state, catalog, patch, value),
+        Event::SetEnabled(patch, value) => set_enabled_refusal(state, catalog, patch, value),
         Event::Force(patch) => force_refusal(state, catalog, patch),
         Event::Poll => poll_refusal(state, catalog),
         Event::Coming(object) => coming_refusal(state, catalog, object),

@@ -22,7 +22,7 @@ use std::sync::Wait;
 const TRIES: u32 = 1_000_000;
 
 /// Asks the gate until it lets the task in, at most `TRIES` times. Returns its last answer.
-fn is_let_in<G: Gate>(gate: &G, task: TaskId, step: u32) -> bool
+fn waits_for_gate<G: Gate>(gate: &G, task: TaskId, step: u32) -> bool
     ensures { G.answers gate.now task step result }
 {
     for _try in 1..TRIES {
@@ -161,7 +161,7 @@ pub(crate) fn run_steps<
     }
     let mut frames = Frames::new();
     for (number, step) in steps.iter().enumerate() {
-        if !is_let_in(gate, task, number as u32) {
+        if !waits_for_gate(gate, task, number as u32) {
             return Err(BodyCause::Held);
         }
         let Some(outcome) = done(rt, alloc, live, pass, &mut frames, step) else {

@@ -13,15 +13,15 @@ abbrev pub call_at : Catalog → ℕ → ℕ → Which → List Call
 call_at catalog patch place which = call_of patch place which (script_at catalog patch place which)
 
 -- the callback of a kind, if the patch has one and is not in transition
-abbrev pub still_at : Option Transition → Catalog → ℕ → ℕ → Which → List Call
-still_at moving catalog patch place which = if moves moving patch then [] else call_at catalog patch place which
+abbrev pub call_unless_moving : Option Transition → Catalog → ℕ → ℕ → Which → List Call
+call_unless_moving moving catalog patch place which = if moves moving patch then [] else call_at catalog patch place which
 
 -- the module is loaded: pre-patch, and then, unless it refuses, post-patch if the patch isn't in transition
 abbrev pub coming_at : Option Transition → Catalog → ℕ → ℕ → List Call
 coming_at moving catalog patch place =
-    call_at catalog patch place Pre ++ (if is_refusing (script_at catalog patch place Pre) then [] else still_at moving catalog patch place Post)
+    call_at catalog patch place Pre ++ (if is_refusing (script_at catalog patch place Pre) then [] else call_unless_moving moving catalog patch place Post)
 
 -- the module is unloaded, or its refused load cleaned up: pre-unpatch if the patch isn't in transition, then
 -- post-unpatch
 abbrev pub going_at : Option Transition → Catalog → ℕ → ℕ → List Call
-going_at moving catalog patch place = still_at moving catalog patch place PreUn ++ call_at catalog patch place PostUn
+going_at moving catalog patch place = call_unless_moving moving catalog patch place PreUn ++ call_at catalog patch place PostUn

@@ -26,7 +26,7 @@ pub fn the_stacks_tell_what_is_blocked()
 {}
 
 /// The callbacks that run log at most as many records as the callbacks that may run. So room for the latter is enough.
-pub fn those_that_run_note_no_more_than_those_that_may()
+pub fn runs_log_no_more_than_may_run()
     ensures enabling { (patch : ℕ) (objects : List (ℕ × PatchObject))
         → records_of (enable_calls patch objects) ≤ records_of (calls_of patch Pre objects
         ++ calls_of patch PostUn objects) }

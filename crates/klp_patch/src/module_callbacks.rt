@@ -13,7 +13,7 @@ ghost use Rattle.klp_patch.specs.UntilRefused.{calls_until_refused, refusal};
 ghost use Rattle.klp_patch.specs.Calls.{HaveRun, HasRoomFor, records_of, are_some};
 
 use crate::module_parts::{
-    a_coming_may_run, a_going_may_run, coming_allocs, going_allocs, part_coming, part_going,
+    has_coming_callback, has_going_callback, coming_allocs, going_allocs, part_coming, part_going,
 };
 use klp_catalog::Catalog;
 use klp_journal::Records;
@@ -70,7 +70,7 @@ pub fn may_run_coming(
     ensures { result ≡ are_some (flat_map (coming_may_run moving) (parts_in catalog.now object installed.now)) }
 {
     for &patch in installed {
-        if a_coming_may_run(catalog, patch, object, &moving) {
+        if has_coming_callback(catalog, patch, object, &moving) {
             return true;
         }
     }
@@ -87,7 +87,7 @@ pub fn may_run_going(
     ensures { result ≡ are_some (flat_map (going_may_run moving) (parts_in catalog.now object installed.now)) }
 {
     for &patch in installed {
-        if a_going_may_run(catalog, patch, object, &moving) {
+        if has_going_callback(catalog, patch, object, &moving) {
             return true;
         }
     }

@@ -12,7 +12,7 @@ ghost use Rattle.klp_model.specs.EventCalls.{coming_may_run, going_may_run};
 ghost use Rattle.klp_catalog.specs.Runs.{script_at};
 ghost use Rattle.klp_patch.specs.Refusing.{refusal_of};
 ghost use Rattle.klp_patch.specs.Places as places;
-ghost use Rattle.klp_patch.specs.Places.{call_at, still_at};
+ghost use Rattle.klp_patch.specs.Places.{call_at, call_unless_moving};
 ghost use Rattle.klp_patch.specs.ModuleParts.{parts_at};
 ghost use Rattle.klp_patch.specs.UntilRefused.{calls_until_refused, refusal};
 ghost use Rattle.klp_patch.specs.Calls.{HaveRun, HasRoomFor, records_of, are_some};
@@ -34,16 +34,16 @@ fn allocs_at(catalog: &Catalog, patch: PatchId, place: u8, which: Which) -> usiz
 
 /// Returns how many shadow variables one callback adds at most, if it runs only while its patch isn't in transition: 0
 /// while it is.
-fn allocs_still(
+fn allocs_unless_moving(
     catalog: &Catalog,
     patch: PatchId,
     place: u8,
     which: Which,
     moving: &Option<Transition>,
 ) -> usize
-    ensures value { result ≡ allocs_of (still_at moving.now catalog.now patch place which) }
+    ensures value { result ≡ allocs_of (call_unless_moving moving.now catalog.now patch place which) }
     ensures limit { result ≤ MAX_EDITS }
-    ensures records { records_of (still_at moving.now catalog.now patch place which) ≤ MAX_EDITS + result }
+    ensures records { records_of (call_unless_moving moving.now catalog.now patch place which) ≤ MAX_EDITS + result }
 {
     if is_in_transition(moving, patch) {
         0
@@ -69,8 +69,8 @@ pub(crate) fn coming_allocs(
         Some(place) => {
             let comes = allocs_at(catalog, patch, place, Which::Pre);
             let goes = allocs_at(catalog, patch, place, Which::PostUn);
-            let came = allocs_still(catalog, patch, place, Which::Post, moving);
-            let leaves = allocs_still(catalog, patch, place, Which::PreUn, moving);
+            let came = allocs_unless_moving(catalog, patch, place, Which::Post, moving);
+            let leaves = allocs_unless_moving(catalog, patch, place, Which::PreUn, moving);
             comes + goes + came + leaves
         }
         None => 0,
@@ -93,27 +93,27 @@ pub(crate) fn going_allocs(
     match catalog.place(patch, object) {
         Some(place) => {
             allocs_at(catalog, patch, place, Which::PostUn)
-                + allocs_still(catalog, patch, place, Which::PreUn, moving)
+                + allocs_unless_moving(catalog, patch, place, Which::PreUn, moving)
         }
         None => 0,
     }
 }
 
 /// Whether the patch has this callback and isn't in transition, so that a callback runs which runs only then.
-fn has_still(
+fn has_unless_moving(
     catalog: &Catalog,
     patch: PatchId,
     place: u8,
     which: Which,
     moving: &Option<Transition>,
 ) -> bool
-    ensures { result ≡ are_some (still_at moving.now catalog.now patch place which) }
+    ensures { result ≡ are_some (call_unless_moving moving.now catalog.now patch place which) }
 {
     !is_in_transition(moving, patch) && catalog.has_callback(patch, place, which)
 }
 
 /// Whether the patch has a callback that may run when the module is loaded.
-pub(crate) fn a_coming_may_run(
+pub(crate) fn has_coming_callback(
     catalog: &Catalog,
     patch: PatchId,
     object: ObjId,
@@ -125,8 +125,8 @@ pub(crate) fn a_coming_may_run(
         Some(place) => {
             let comes = catalog.has_callback(patch, place, Which::Pre);
             let goes = catalog.has_callback(patch, place, Which::PostUn);
-            let came = has_still(catalog, patch, place, Which::Post, moving);
-            let leaves = has_still(catalog, patch, place, Which::PreUn, moving);
+            let came = has_unless_moving(catalog, patch, place, Which::Post, moving);
+            let leaves = has_unless_moving(catalog, patch, place, Which::PreUn, moving);
             comes | goes | came | leaves
         }
         None => false,
@@ -134,7 +134,7 @@ pub(crate) fn a_coming_may_run(
 }
 
 /// Whether the patch has a callback that may run when the module is unloaded.
-pub(crate) fn a_going_may_run(
+pub(crate) fn has_going_callback(
     catalog: &Catalog,
     patch: PatchId,
     object: ObjId,
@@ -145,7 +145,7 @@ pub(crate) fn a_going_may_run(
     match catalog.place(patch, object) {
         Some(place) => {
             let goes = catalog.has_callback(patch, place, Which::PostUn);
-            let leaves = has_still(catalog, patch, place, Which::PreUn, moving);
+            let leaves = has_unless_moving(catalog, patch, place, Which::PreUn, moving);
             goes | leaves
         }
         None => false,
@@ -153,7 +153,7 @@ pub(crate) fn a_going_may_run(
 }
 
 /// Runs a callback unless its patch is in transition. Drops the status, since only pre-patch may refuse.
-fn run_still(
+fn run_unless_moving(
     catalog: &mut Catalog,
     patch: PatchId,
     place: u8,
@@ -162,9 +162,9 @@ fn run_still(
     world: &mut World,
     log: &mut Records,
 )
-    requires { HasRoomFor world.old log.old (still_at moving.now catalog.old patch place which) }
+    requires { HasRoomFor world.old log.old (call_unless_moving moving.now catalog.old patch place which) }
     ensures { HaveRun catalog.old catalog.new world.old world.new log.old log.new
-        (still_at moving.now catalog.old patch place which) }
+        (call_unless_moving moving.now catalog.old patch place which) }
 {
     if !is_in_transition(moving, patch) {
         run_at(catalog, patch, place, which, world, log);
@@ -208,7 +208,7 @@ fn coming_at(
     klp_catalog::laws::runs_add_up();
     match run_pre_at(catalog, patch, place, world, log) {
         None => {
-            run_still(catalog, patch, place, Which::Post, moving, world, log);
+            run_unless_moving(catalog, patch, place, Which::Post, moving, world, log);
             None
         }
         Some(status) => Some(status),
@@ -252,7 +252,7 @@ fn going_at(
         (places.going_at moving.now catalog.old patch place) }
 {
     klp_catalog::laws::runs_add_up();
-    run_still(catalog, patch, place, Which::PreUn, moving, world, log);
+    run_unless_moving(catalog, patch, place, Which::PreUn, moving, world, log);
     run_at(catalog, patch, place, Which::PostUn, world, log);
 }
 

@@ -164,7 +164,7 @@ fn complete(state: &mut ManagerState, catalog: &mut Catalog, moving: &Transition
     ensures completed { IsCompleted state.old state.new catalog.old catalog.new moving.now }
     ensures logged { rows_before state.new ≡ rows_before state.old }
 {
-    settle_sites(state, catalog, moving);
+    remove_leaving_entries(state, catalog, moving);
     run_callbacks(
         catalog,
         &state.modules,
@@ -173,7 +173,7 @@ fn complete(state: &mut ManagerState, catalog: &mut Catalog, moving: &Transition
         &mut state.world,
         &mut state.log,
     );
-    settle_list(state, catalog, moving);
+    remove_leaving_patches(state, catalog, moving);
     rest(state);
 }
 
@@ -196,7 +196,7 @@ fn rest(state: &mut ManagerState)
 
 /// Takes out the entries of the patches that leave when the transition completes. A patch that comes in without
 /// replacing others changes no site here.
-fn settle_sites(state: &mut ManagerState, catalog: &Catalog, moving: &Transition)
+fn remove_leaving_entries(state: &mut ManagerState, catalog: &Catalog, moving: &Transition)
     requires kept { Invariant state.old catalog.now }
     requires moving { state.old.moving ≡ Some moving.now }
     requires records { length state.old.log.logged ≤ MAX_TASKS }
@@ -256,7 +256,7 @@ fn replace_sites(state: &mut ManagerState, catalog: &Catalog, moving: &Transitio
 }
 
 /// Takes the patches that leave out of the list of installed patches, with the values of their system states.
-fn settle_list(state: &mut ManagerState, catalog: &Catalog, moving: &Transition)
+fn remove_leaving_patches(state: &mut ManagerState, catalog: &Catalog, moving: &Transition)
     requires records { length state.old.log.logged ≤ RECORDS_AFTER_CALLBACKS }
     requires log { state.old.log.room ≡ MAX_RECORDS }
     ensures parts { state.new

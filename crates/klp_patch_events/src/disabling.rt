@@ -32,7 +32,7 @@ pub fn set_enabled(
     ensures taken { TakesEvent state.old state.new catalog.old catalog.new (SetEnabled patch value) result }
     ensures logged { IsLogged state.old state.new result }
 {
-    match set_refusal(state, catalog, patch, value) {
+    match set_enabled_refusal(state, catalog, patch, value) {
         Some(refusal) => Err(refusal),
         None => Ok(turn(state, catalog, patch, value)),
     }
@@ -40,7 +40,7 @@ pub fn set_enabled(
 
 /// Returns the first reason why the value can't be written, or None. Room is computed before the other reasons, though
 /// it is the last, since its proof also bounds the records (docs/DECISIONS.md, "Room computed before the refusals").
-pub fn set_refusal(
+pub fn set_enabled_refusal(
     state: &ManagerState,
     catalog: &Catalog,
     patch: PatchId,

@@ -136,7 +136,7 @@ fn install(state: &mut ManagerState, catalog: &mut Catalog, patch: PatchId) -> B
 {
     klp_manager_state::laws::steps_keep();
     klp_model::laws::events_are_accepted_where_no_case_holds();
-    klp_patch::laws::those_that_run_note_no_more_than_those_that_may();
+    klp_patch::laws::runs_log_no_more_than_may_run();
     klp_types::laws::entries_are_of_their_patches();
     klp_types::laws::the_newest_entry_is_on_top();
     prove!(usize::from(catalog.patches()) <= MAX_PATCHES);

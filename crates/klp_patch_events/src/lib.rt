@@ -21,7 +21,7 @@ mod replacing;
 
 pub use callbacks::may_run;
 pub use completing::{poll, poll_refusal};
-pub use disabling::{set_enabled, set_refusal};
+pub use disabling::{set_enabled, set_enabled_refusal};
 pub use enabling::{enable, enable_refusal};
 pub use forcing::{force, force_refusal};
 pub use module::{coming, coming_refusal, going, going_refusal};

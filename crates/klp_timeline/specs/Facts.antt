@@ -26,13 +26,13 @@ turn None (Some move) stays = Some (Starts move)
 turn (Some move) None stays = Some (Completes move (count_by is_outdated stays))
 turn (Some move) (Some other) stays = if is_transition move other then None else Some (Reverses other)
 
-abbrev pub is_of : Option Transition → ℕ → Bool
-is_of None patch = false
-is_of (Some move) patch = move.patch == patch
+abbrev pub is_moving_patch : Option Transition → ℕ → Bool
+is_moving_patch None patch = false
+is_moving_patch (Some move) patch = move.patch == patch
 
 -- the fact that a patch left, if it isn't installed now; for the patch in transition, its completion says so
 abbrev pub leave_of : Option Transition → List ℕ → ℕ → List Fact
-leave_of moved installed patch = if is_of moved patch || list_any (λ other. other == patch) installed then [] else Leaves patch ∷ []
+leave_of moved installed patch = if is_moving_patch moved patch || list_any (λ other. other == patch) installed then [] else Leaves patch ∷ []
 
 -- the facts of a line: if it undid events, only that
 abbrev pub facts : View → Moment → List Fact

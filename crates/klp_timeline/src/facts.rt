@@ -2,7 +2,7 @@
 ghost use Rattle.std.specs.Prelude.{◌≡◌, ◌++◌, ◌==◌, map, OnOk, ◌∷◌, []};
 ghost use Rattle.std.specs.List.{list_any, count_by, flat_map};
 ghost use Rattle.std.specs.Option.{option_to_list};
-ghost use Rattle.klp_timeline.specs.Facts.{is_outdated, turn, is_of, leave_of, facts};
+ghost use Rattle.klp_timeline.specs.Facts.{is_outdated, turn, is_moving_patch, leave_of, facts};
 ghost use Rattle.klp_timeline.specs.Sentences.{did};
 
 use crate::moment::{Fact, Moment, Said, Sentence, Stay, View};
@@ -38,8 +38,8 @@ fn turn(before: &View, after: &View) -> Option<Fact>
 }
 
 /// Whether the patch is the one in transition.
-fn is_of(moving: &Option<Transition>, patch: PatchId) -> bool
-    ensures { result ≡ is_of moving.now patch }
+fn is_moving_patch(moving: &Option<Transition>, patch: PatchId) -> bool
+    ensures { result ≡ is_moving_patch moving.now patch }
 {
     match moving {
         Some(moving) => moving.patch == patch,
@@ -64,7 +64,7 @@ fn is_among(patch: PatchId, patches: &[PatchId]) -> bool
 fn leave_of(patch: PatchId, moved: &Option<Transition>, installed: &[PatchId]) -> Option<Fact>
     ensures { option_to_list result ≡ leave_of moved.now installed.now patch }
 {
-    if is_of(moved, patch) || is_among(patch, installed) {
+    if is_moving_patch(moved, patch) || is_among(patch, installed) {
         None
     } else {
         Some(Fact::Leaves(patch))

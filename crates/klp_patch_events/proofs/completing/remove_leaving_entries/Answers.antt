@@ -16,7 +16,7 @@ use Rattle.klp_manager_state.specs.Managed.{setting_in, state_in}
 use Rattle.klp_patch_events.proofs.CompleteTaskLemmas.{own_in}
 use Rattle.klp_patch_events.proofs.EntryLemmas.{loaded_in_scope}
 use Rattle.klp_patch_events.proofs.CompleteSiteLemmas.{nowhere_else}
-use Rattle.klp_patch_events.proofs.completing.settle_sites.Goals as goal
+use Rattle.klp_patch_events.proofs.completing.remove_leaving_entries.Goals as goal
 
 pub unpatch_sites-requires-clause-own : goal.unpatch_sites-requires-clause-own
 unpatch_sites-requires-clause-own g c = λ site covered has.

@@ -3,7 +3,7 @@ use Rattle.std.specs.Prelude.{find, reverse}
 use Rattle.std.proofs.lemmas.Iterator.Adapters.{YieldsList-from_rev_slice}
 use Rattle.std.proofs.lemmas.Iterator.Search.{find_from_yields_List}
 use Rattle.klp_tasks.specs.Members.{has}
-use Rattle.klp_core.proofs.holders.held_in.Goals as goal
+use Rattle.klp_core.proofs.holders.innermost_blocked_in.Goals as goal
 
 pub returns : goal.returns
 returns c =

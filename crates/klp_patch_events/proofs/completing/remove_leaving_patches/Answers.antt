@@ -1,6 +1,6 @@
 use Rattle.klp_manager_state.specs.Rows.{rows_in}
 use Rattle.klp_manager_state.proofs.RowLemmas.{world_back}
-use Rattle.klp_patch_events.proofs.completing.settle_list.Goals as goal
+use Rattle.klp_patch_events.proofs.completing.remove_leaving_patches.Goals as goal
 
 pub returns-then-not-moving-clause-logged : goal.returns-then-not-moving-clause-logged
 returns-then-not-moving-clause-logged g c =

@@ -1,5 +1,5 @@
 use Rattle.klp_patch.proofs.MayRunLemmas.{enabling-few, coming-few, going-few}
-use Rattle.klp_patch.proofs.laws.those_that_run_note_no_more_than_those_that_may.Goals as goal
+use Rattle.klp_patch.proofs.laws.runs_log_no_more_than_may_run.Goals as goal
 
 pub returns-clause-enabling : goal.returns-clause-enabling
 returns-clause-enabling c = enabling-few
