@@ -23,7 +23,8 @@ pub trait Callback: Drop + Send {
         ensures status { result ≡ (script_of self.old).status }
         ensures script { script_of self.new ≡ script_of self.old }
         ensures runs { runs_of self.new ≡ counted (runs_of self.old) }
-        ensures changes { Changes world.old world.new log.old log.new (effect patch world.old (script_of self.old)) (rows_of_script patch world.old (script_of self.old)) };
+        ensures changes { Changes world.old world.new log.old log.new (effect patch world.old (script_of self.old))
+            (rows_of_script patch world.old (script_of self.old)) };
 
     /// Returns how many edits of the script add a shadow variable. Callers check for that much room before a run,
     /// so that no run fails half way.

@@ -5,9 +5,11 @@ ghost use Rattle.std.specs.List.{list_any, list_all};
 ghost use Rattle.klp_types.specs.Setting.{Callback as CallbackValue};
 ghost use Rattle.klp_catalog_text.specs.Scripts.{scripts_of};
 ghost use Rattle.klp_catalog.specs.Catalog as catalog;
-ghost use Rattle.klp_catalog.specs.Catalog.{CatalogFunction as FunctionValue, resolved_function, functions_of_target, some_same_site};
+ghost use Rattle.klp_catalog.specs.Catalog.{CatalogFunction as FunctionValue, resolved_function, functions_of_target};
+ghost use Rattle.klp_catalog.specs.Catalog.{some_same_site};
 ghost use Rattle.klp_catalog.specs.Assembled.{IsAssembleFault, IsShort};
-ghost use Rattle.klp_catalog.specs.Stored.{symbol_count, target_size, patch_size, stored_target, stored_patch, stored_patches};
+ghost use Rattle.klp_catalog.specs.Stored.{symbol_count, target_size, patch_size, stored_target, stored_patch};
+ghost use Rattle.klp_catalog.specs.Stored.{stored_patches};
 ghost use Rattle.klp_catalog.specs.declared.assemble.AssembleFault.TheVariants.{NoMemory};
 
 use crate::function::CatalogFunction;

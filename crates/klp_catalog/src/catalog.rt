@@ -1,4 +1,6 @@
-ghost use Rattle.std.specs.Prelude.{◌≡◌, ℕ, ◌<◌, ◌≤◌, ◌==◌, false, List, Option, length, map, position, bytes_eq, slice_get, option_map, ◌+◌, is_some, option_and_then, MatchOption, IfOk, IfErr, IfSome};
+ghost use Rattle.std.specs.Prelude.{◌≡◌, ℕ, ◌<◌, ◌≤◌, ◌==◌, false, List, Option, length, map, position, bytes_eq};
+ghost use Rattle.std.specs.Prelude.{slice_get, option_map, ◌+◌, is_some, option_and_then, MatchOption, IfOk, IfErr};
+ghost use Rattle.std.specs.Prelude.{IfSome};
 ghost use Rattle.std.specs.List.{All, count_by};
 ghost use Rattle.klp_types.specs.Setting.{all_functions, patch_objects};
 ghost use Rattle.klp_modules.specs.Names.{ObjectNames};
@@ -11,13 +13,16 @@ ghost use Rattle.klp_catalog_text.specs.Plan.{PlanPatch as PatchValue};
 ghost use Rattle.klp_catalog_text.specs.Text.{plan_of, IsFaultOf};
 ghost use Rattle.klp_catalog_text.specs.Within.{AreTargetsWithin};
 ghost use Rattle.klp_catalog_text.specs.Draft.{patch_names_of};
-ghost use Rattle.klp_catalog.specs.Catalog.{CatalogFunction as FunctionValue, catalog_functions, setting_function, patches_of, has_same_site, some_same_site};
+ghost use Rattle.klp_catalog.specs.Catalog.{CatalogFunction as FunctionValue, catalog_functions, setting_function};
+ghost use Rattle.klp_catalog.specs.Catalog.{patches_of, has_same_site, some_same_site};
 ghost use Rattle.klp_catalog.specs.States as states;
-ghost use Rattle.klp_catalog.specs.Runs.{HasCounts, objects_at, place_of, script_at, allocs_if, rows_if, after_runs, callback_runs};
+ghost use Rattle.klp_catalog.specs.Runs.{HasCounts, objects_at, place_of, script_at, allocs_if, rows_if, after_runs};
+ghost use Rattle.klp_catalog.specs.Runs.{callback_runs};
 ghost use Rattle.klp_catalog.specs.Limits.{AreWithin};
 ghost use Rattle.klp_catalog.specs.Patch.{IsPatch, IsAbsent, KeepsTo};
 ghost use Rattle.klp_catalog_text.specs.Scripts.{scripts_of};
-ghost use Rattle.klp_catalog.specs.Assembled.{IsAssembleFault, LiesInObject, without_scripts, lent_scripts, lent_counts};
+ghost use Rattle.klp_catalog.specs.Assembled.{IsAssembleFault, LiesInObject, without_scripts, lent_scripts};
+ghost use Rattle.klp_catalog.specs.Assembled.{lent_counts};
 
 use crate::assemble::{AssembleFault, assemble_patches, symbol_counts};
 use crate::function::CatalogFunction;
@@ -62,9 +67,14 @@ impl Model for Catalog {
 
     ghost Value = { Catalog };
 
-    ghost view = { λ c. record { names = c.over.value.names; patches = patches_in (lent_scripts c.callbacks.items) c.patches.items; runs = lent_counts c.callbacks.items } };
+    ghost view = { λ c. record {
+      names = c.over.value.names;
+      patches = patches_in (lent_scripts c.callbacks.items) c.patches.items;
+      runs = lent_counts c.callbacks.items;
+    } };
 
-    ghost invariant = { λ c. IsStored c.over.value.names c.symbols.items c.names c.patches.items (lent_scripts c.callbacks.items) (lent_counts c.callbacks.items) };
+    ghost invariant = { λ c. IsStored c.over.value.names c.symbols.items c.names c.patches.items
+        (lent_scripts c.callbacks.items) (lent_counts c.callbacks.items) };
 }
 
 impl Catalog {

@@ -38,7 +38,13 @@ impl Model for CatalogPatch {
 
     ghost Value = { StoredPatch };
 
-    ghost view = { λ p. record { name = string_bytes p.name.value; replace = p.replace; targets = p.targets.items; functions = p.functions.items; states = p.states.items } };
+    ghost view = { λ p. record {
+      name = string_bytes p.name.value;
+      replace = p.replace;
+      targets = p.targets.items;
+      functions = p.functions.items;
+      states = p.states.items;
+    } };
 
     ghost invariant = { λ p. p.names_sites ≡ list_all (λ (f : FunctionValue). is_some f.site) p.functions.items };
 }

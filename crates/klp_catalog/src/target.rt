@@ -29,7 +29,12 @@ impl Model for CatalogTarget {
 
     ghost Value = { StoredTarget };
 
-    ghost view = { λ t. record { object = t.object; functions = t.functions.value.items; first = t.first; kinds = t.kinds.items } };
+    ghost view = { λ t. record {
+      object = t.object;
+      functions = t.functions.value.items;
+      first = t.first;
+      kinds = t.kinds.items;
+    } };
 
     ghost invariant = { λ t. (t.first + length t.kinds.items < 2 ^ 64) × (t.count ≡ length t.functions.value.items) };
 }

@@ -1,11 +1,14 @@
 //! The plan while its text is being read. Each kind of line has its own function, which checks that the line may be
 //! here.
 
-ghost use Rattle.std.specs.Prelude.{◌≡◌, ◌<◌, ◌==◌, vec_len, length, IsTrue, Ok, Err, OnOk, OnErr, MatchOption, option_copied};
+ghost use Rattle.std.specs.Prelude.{◌≡◌, ◌<◌, ◌==◌, vec_len, length, IsTrue, Ok, Err, OnOk, OnErr, MatchOption};
+ghost use Rattle.std.specs.Prelude.{option_copied};
 ghost use Rattle.std.specs.List.{list_any};
 ghost use Rattle.klp_types.specs.Image.{Symbol};
 ghost use Rattle.klp_catalog_text.specs.Gives.{Gives, Becomes};
-ghost use Rattle.klp_catalog_text.specs.PlanParts.{last_of, targets_of, states_of, callbacks_of, has_which, names_state, on_last, has_some, with_symbol, with_target, with_function_in, with_callback_in, with_state};
+ghost use Rattle.klp_catalog_text.specs.PlanParts.{last_of, targets_of, states_of, callbacks_of, has_which};
+ghost use Rattle.klp_catalog_text.specs.PlanParts.{names_state, on_last, has_some, with_symbol, with_target};
+ghost use Rattle.klp_catalog_text.specs.PlanParts.{with_function_in, with_callback_in, with_state};
 ghost use Rattle.klp_catalog_text.specs.Plan.{PlanTarget as TargetValue};
 ghost use Rattle.klp_catalog_text.specs.Within.{AreTargetsWithin};
 ghost use Rattle.klp_catalog_text.specs.Draft.{empty_draft, open_object, placed};
@@ -51,7 +54,8 @@ impl Model for Draft {
 
     ghost view = { λ d. record { handler = d.handler; objects = d.objects.items; patches = d.patches.items } };
 
-    ghost invariant = { λ d. IsKept d.objects.items d.object_names d.symbols d.patches.items d.patch_names d.functions };
+    ghost invariant = { λ d. IsKept d.objects.items d.object_names d.symbols d.patches.items d.patch_names
+        d.functions };
 }
 
 /// Adds a symbol to the last object, the one that the last `object` line added.

@@ -2,7 +2,8 @@
 
 ghost use Rattle.std.specs.Prelude.{◌≡◌, ℕ, ◌<◌, ◌≤◌, ◌==◌, List, [], ◌∷◌, length, MatchOption};
 ghost use Rattle.klp_catalog_text.specs.Gives.{Gives};
-ghost use Rattle.klp_catalog_text.specs.Edits.{parts_of, one_number, two_numbers, alloc_of, free_of, free_all_of, set_of, take_prev_of, edit_of, edits_of, failure_of, script_of};
+ghost use Rattle.klp_catalog_text.specs.Edits.{parts_of, one_number, two_numbers, alloc_of, free_of, free_all_of};
+ghost use Rattle.klp_catalog_text.specs.Edits.{set_of, take_prev_of, edit_of, edits_of, failure_of, script_of};
 
 use crate::fault::TextFaultKind;
 use crate::lines::is_word;

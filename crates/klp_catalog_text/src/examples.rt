@@ -1,15 +1,21 @@
 //! Worked examples: what a catalog's text means, and an example of each fault. A function here does nothing: its
 //! contract is the example, and it is proved by computing the definition.
-ghost use Rattle.std.specs.Prelude.{◌≡◌, pos, negsuc, true, false, [], ◌∷◌, ◌++◌, replicate, codes, None, Some, Ok, Err};
+ghost use Rattle.std.specs.Prelude.{◌≡◌, pos, negsuc, true, false, [], ◌∷◌, ◌++◌, replicate, codes, None, Some, Ok};
+ghost use Rattle.std.specs.Prelude.{Err};
 ghost use Rattle.klp_types.specs.declared.callback.Which.TheVariants.{Pre, Post, PreUn, PostUn};
 ghost use Rattle.klp_types.specs.declared.edit.Edit.TheVariants.{Alloc, Free, FreeAll, SetData, TakePrev};
-ghost use Rattle.klp_catalog_text.specs.declared.fault.TextFaultKind.TheVariants.{NotAscii, LineTooLong, UnknownWord, WrongCount, BadNumber, BadHex, BadName, BadSymbol, BadEdit, OutOfPlace, Twice, UnknownObject, TooMany, Missing};
+ghost use Rattle.klp_catalog_text.specs.declared.fault.TextFaultKind.TheVariants.{NotAscii, LineTooLong, UnknownWord};
+ghost use Rattle.klp_catalog_text.specs.declared.fault.TextFaultKind.TheVariants.{WrongCount, BadNumber, BadHex};
+ghost use Rattle.klp_catalog_text.specs.declared.fault.TextFaultKind.TheVariants.{BadName, BadSymbol, BadEdit};
+ghost use Rattle.klp_catalog_text.specs.declared.fault.TextFaultKind.TheVariants.{OutOfPlace, Twice, UnknownObject};
+ghost use Rattle.klp_catalog_text.specs.declared.fault.TextFaultKind.TheVariants.{TooMany, Missing};
 ghost use Rattle.klp_catalog_text.specs.declared.line.CatalogLine.TheVariants as line;
 ghost use Rattle.klp_catalog_text.specs.Draft.{empty_draft, placed};
 ghost use Rattle.klp_catalog_text.specs.Edits.{edit_of, script_of};
 ghost use Rattle.klp_catalog_text.specs.Lines.{line_of};
 ghost use Rattle.klp_catalog_text.specs.Text.{plan_of};
-ghost use Rattle.klp_catalog_text.specs.Examples.{small_text, small_plan, longer_text, longer_plan, f, f_p, draft_with, patch_with, target_with, draft_of, script_with, another_patch};
+ghost use Rattle.klp_catalog_text.specs.Examples.{small_text, small_plan, longer_text, longer_plan, f, f_p, draft_with};
+ghost use Rattle.klp_catalog_text.specs.Examples.{patch_with, target_with, draft_of, script_with, another_patch};
 
 /// What two whole texts mean. Comments, empty lines and extra separators mean nothing, and a line may end with a
 /// carriage return.

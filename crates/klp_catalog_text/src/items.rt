@@ -33,7 +33,12 @@ impl Model for PlanFunction {
 
     ghost Value = { PlanFunction };
 
-    ghost view = { λ f. record { symbol = string_bytes f.symbol; sympos = f.sympos; new_name = string_bytes f.new_name; address = f.address } };
+    ghost view = { λ f. record {
+      symbol = string_bytes f.symbol;
+      sympos = f.sympos;
+      new_name = string_bytes f.new_name;
+      address = f.address;
+    } };
 }
 
 /// A system state that a patch names (system-state): its id, and the version with which the patch knows it.

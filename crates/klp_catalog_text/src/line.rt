@@ -2,7 +2,9 @@
 
 ghost use Rattle.std.specs.Prelude.{◌≡◌, option_copied};
 ghost use Rattle.klp_catalog_text.specs.Gives.{Gives};
-ghost use Rattle.klp_catalog_text.specs.Lines.{keyword_of, only_name, handler_line, object_line, symbol_line, replace_line, patch_line, target_line, func_line, callback_line, state_line, line_of_words, line_of};
+ghost use Rattle.klp_catalog_text.specs.Lines.{keyword_of, only_name, handler_line, object_line, symbol_line};
+ghost use Rattle.klp_catalog_text.specs.Lines.{replace_line, patch_line, target_line, func_line, callback_line};
+ghost use Rattle.klp_catalog_text.specs.Lines.{state_line, line_of_words, line_of};
 
 use crate::edit::ScriptText;
 use crate::fault::TextFaultKind;

@@ -1,5 +1,6 @@
 ghost use Rattle.std.specs.Prelude.{◌≡◌, ◌<◌, [], length, slice_get, option_map, OnOk, OnErr};
-ghost use Rattle.klp_catalog_text.specs.PlanParts.{with_function, with_target, with_function_in, with_callback, with_callback_in, with_state};
+ghost use Rattle.klp_catalog_text.specs.PlanParts.{with_function, with_target, with_function_in, with_callback};
+ghost use Rattle.klp_catalog_text.specs.PlanParts.{with_callback_in, with_state};
 ghost use Rattle.klp_catalog_text.specs.Draft.{patch_names_of};
 ghost use Rattle.klp_catalog_text.specs.Limits.{AreFew};
 ghost use Rattle.klp_catalog_text.specs.Scripts.{scripts_of};
@@ -82,7 +83,12 @@ impl Model for PlanPatch {
 
     ghost Value = { PlanPatch };
 
-    ghost view = { λ p. record { name = string_bytes p.name; replace = p.replace; targets = p.targets.items; states = p.states.items } };
+    ghost view = { λ p. record {
+      name = string_bytes p.name;
+      replace = p.replace;
+      targets = p.targets.items;
+      states = p.states.items;
+    } };
 }
 
 impl PlanPatch {

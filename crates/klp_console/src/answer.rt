@@ -1,5 +1,6 @@
 //! Doing one line and answering it. What the line asks for is read first, since reading borrows the manager.
-ghost use Rattle.std.specs.Prelude.{◌≡◌, ℕ, ◌+◌, ◌<◌, ◌≤◌, ◌^◌, ◌⊎◌, true, false, cond, List, [], ◌∷◌, ◌++◌, length, is_err};
+ghost use Rattle.std.specs.Prelude.{◌≡◌, ℕ, ◌+◌, ◌<◌, ◌≤◌, ◌^◌, ◌⊎◌, true, false, cond, List, [], ◌∷◌, ◌++◌, length};
+ghost use Rattle.std.specs.Prelude.{is_err};
 ghost use Rattle.klp_types.specs.declared.limits.TheConstants.{MAX_CONSOLE_LINE};
 ghost use Rattle.klp_console_io.specs.declared.marks.TheConstants.{MARKS_ROOM};
 ghost use Rattle.klp_console_commands.specs.Asked.{asked_with};
@@ -203,7 +204,8 @@ fn gather<W: Sink>(
     ensures comes { (before : Moment) (lines : List (List ℕ)) (line : List ℕ)
         → (asked_with asked.now event.now) ≡ request_of (names_in manager.old) line → length line ≤ MAX_CONSOLE_LINE
         → Ahead before (moment_of manager.old served.old answers.old (W.written writer.old) marks.old) lines
-        → Comes before (moment_of manager.new served.new answers.new (W.written writer.new) marks.new) (lines ++ line ∷ []) }
+        → Comes before (moment_of manager.new served.new answers.new (W.written writer.new) marks.new)
+        (lines ++ line ∷ []) }
     ensures few { served.new.refused ≤ served.new.lines }
     ensures lines { served.new.lines ≡ served.old.lines + 1 }
 {
@@ -234,7 +236,8 @@ pub(crate) fn serve_line<W: Sink>(
     requires short { length line.now ≤ MAX_CONSOLE_LINE }
     ensures comes { (before : Moment) (lines : List (List ℕ))
         → Ahead before (moment_of manager.old served.old answers.old (W.written writer.old) marks.old) lines
-        → Comes before (moment_of manager.new served.new answers.new (W.written writer.new) marks.new) (lines ++ line.now ∷ []) }
+        → Comes before (moment_of manager.new served.new answers.new (W.written writer.new) marks.new)
+        (lines ++ line.now ∷ []) }
     ensures few { served.new.refused ≤ served.new.lines }
     ensures lines { served.new.lines ≤ served.old.lines + 1 }
 {

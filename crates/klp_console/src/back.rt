@@ -71,7 +71,8 @@ pub(crate) fn write_out<W: Sink>(
     ensures comes { (before : Moment) (lines : List (List ℕ)) (served : Served)
         → Ahead before (moment_of manager.old served answers.old (W.written writer.old) marks.old) lines
         → Comes before (moment_of manager.new served answers.new (W.written writer.new) marks.new) lines }
-    ensures empty { answers.new.has_failed ≡ false → (answers.new.bytes ≡ []) × (marks.new ≡ []) × (manager.new ≡ manager.old) }
+    ensures empty { answers.new.has_failed ≡ false → (answers.new.bytes ≡ []) × (marks.new ≡ [])
+        × (manager.new ≡ manager.old) }
 {
     let gathered = answers.hold();
     answers.flush(writer);

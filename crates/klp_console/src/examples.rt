@@ -2,8 +2,12 @@
 //! definition that gives another text isn't proved.
 ghost use Rattle.std.specs.Prelude.{◌≡◌, negsuc, true, false, [], ◌∷◌, codes, None, Some, Ok, Err};
 ghost use Rattle.klp_types.specs.declared.version.Version.TheVariants.{Original, New};
-ghost use Rattle.klp_model.specs.declared.event.Reply.TheVariants.{Done, Started, Reversed, Pending, Completed, PreFailed, Value, Freed, Woken};
-ghost use Rattle.klp_model.specs.declared.event.Refusal.TheVariants.{NoPatch, Busy, AlreadyThere, Pinned, Incompatible, NoSymbol, NoModule, InUse, NoTask, TaskThere, WrongMode, BadFrame, Full, JournalFull, NotMoving, Exists, NotFound, SameValue};
+ghost use Rattle.klp_model.specs.declared.event.Reply.TheVariants.{Done, Started, Reversed, Pending, Completed};
+ghost use Rattle.klp_model.specs.declared.event.Reply.TheVariants.{PreFailed, Value, Freed, Woken};
+ghost use Rattle.klp_model.specs.declared.event.Refusal.TheVariants.{NoPatch, Busy, AlreadyThere, Pinned, Incompatible};
+ghost use Rattle.klp_model.specs.declared.event.Refusal.TheVariants.{NoSymbol, NoModule, InUse, NoTask, TaskThere};
+ghost use Rattle.klp_model.specs.declared.event.Refusal.TheVariants.{WrongMode, BadFrame, Full, JournalFull, NotMoving};
+ghost use Rattle.klp_model.specs.declared.event.Refusal.TheVariants.{Exists, NotFound, SameValue};
 ghost use Rattle.klp_console_commands.specs.declared.fault.LineFault.TheVariants.{BadLine, BadValue, Refused};
 ghost use Rattle.klp_console_commands.specs.declared.request.Query.TheVariants as query;
 ghost use Rattle.klp_console.specs.Answered.{done, nothing, refused_with, seen, replied};

@@ -9,7 +9,8 @@ ghost use Rattle.klp_console.specs.Names.{object_name};
 ghost use Rattle.klp_catalog.specs.Catalog.{CatalogFunction as FunctionValue};
 ghost use Rattle.klp_catalog.specs.Runs.{objects_at};
 ghost use Rattle.klp_console_commands.specs.declared.request.Query.TheVariants as query;
-ghost use Rattle.klp_console.specs.Queries.{lines_of, switch_text, patch_line, object_line, directory_text, position_text, functions_text, has_object, query_text};
+ghost use Rattle.klp_console.specs.Queries.{lines_of, switch_text, patch_line, object_line, directory_text};
+ghost use Rattle.klp_console.specs.Queries.{position_text, functions_text, has_object, query_text};
 
 use crate::names::{object_name, patch_name, say_name};
 use klp_catalog::{Catalog, CatalogFunction};

@@ -1,7 +1,9 @@
 //! The lines with paths of files, which are those of a kernel, so that its users find them here too.
 
 ghost use Rattle.std.specs.Prelude.{◌≡◌};
-ghost use Rattle.klp_console_commands.specs.Lines.{switch, enabled_line, force_line, echo_file, echo_line, proc_query, patch_query, cat_file, cat_line, directory_query, list_query, list_line};
+ghost use Rattle.klp_console_commands.specs.Lines.{switch, enabled_line, force_line, echo_file, echo_line, proc_query};
+ghost use Rattle.klp_console_commands.specs.Lines.{patch_query, cat_file, cat_line, directory_query, list_query};
+ghost use Rattle.klp_console_commands.specs.Lines.{list_line};
 ghost use Rattle.klp_model.specs.declared.event.Event.{Event};
 ghost use Rattle.klp_console_commands.specs.Asked.{line_with, shown};
 

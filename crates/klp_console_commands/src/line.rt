@@ -2,7 +2,8 @@
 
 ghost use Rattle.std.specs.Prelude.{◌≡◌};
 ghost use Rattle.klp_console_commands.specs.Names.{names_of};
-ghost use Rattle.klp_console_commands.specs.Lines.{keyword_of, load_line, insmod_line, rmmod_line, alone, text_line, stack_line, pick_line, runs_line, rewind_line, line_of, request_of};
+ghost use Rattle.klp_console_commands.specs.Lines.{keyword_of, load_line, insmod_line, rmmod_line, alone, text_line};
+ghost use Rattle.klp_console_commands.specs.Lines.{stack_line, pick_line, runs_line, rewind_line, line_of, request_of};
 ghost use Rattle.klp_console_commands.specs.Asked.{asked_with, line_with, request_with};
 ghost use Rattle.klp_console_commands.specs.declared.request.Request.TheVariants.{Take};
 ghost use Rattle.klp_model.specs.declared.event.Event.{Event};

@@ -3,7 +3,8 @@
 
 ghost use Rattle.std.specs.Prelude.{◌≡◌, true, false, MatchOption};
 ghost use Rattle.std.specs.Str.{is_utf8};
-ghost use Rattle.klp_console_commands.specs.Names.{patch_of, object_of, task_of, site_of, new_function_of, version_of, symbol_found};
+ghost use Rattle.klp_console_commands.specs.Names.{patch_of, object_of, task_of, site_of, new_function_of, version_of};
+ghost use Rattle.klp_console_commands.specs.Names.{symbol_found};
 
 use crate::fault::LineFault;
 use crate::words::{is_console_name, number_to};

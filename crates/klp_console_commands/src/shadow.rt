@@ -1,7 +1,8 @@
 //! The lines of shadow variables. Their words are numbers and values, so no name can be unknown.
 
 ghost use Rattle.std.specs.Prelude.{◌≡◌};
-ghost use Rattle.klp_console_commands.specs.Lines.{key_of, variable_of, alloc_line, get_or_alloc_line, free_line, free_all_line, get_line, shadow_line};
+ghost use Rattle.klp_console_commands.specs.Lines.{key_of, variable_of, alloc_line, get_or_alloc_line, free_line};
+ghost use Rattle.klp_console_commands.specs.Lines.{free_all_line, get_line, shadow_line};
 ghost use Rattle.klp_model.specs.declared.event.Event.{Event};
 ghost use Rattle.klp_console_commands.specs.Asked.{line_with};
 

@@ -1,8 +1,10 @@
 //! The words of a line, and what can be read from a word without names.
 
-ghost use Rattle.std.specs.Prelude.{◌≡◌, ℕ, ◌≤◌, true, false, List, ◌∷◌, [], length, drop, nat_eq, bytes_eq, Ok, Err, IfOk, MatchOption, MatchResult};
+ghost use Rattle.std.specs.Prelude.{◌≡◌, ℕ, ◌≤◌, true, false, List, ◌∷◌, [], length, drop, nat_eq, bytes_eq, Ok, Err};
+ghost use Rattle.std.specs.Prelude.{IfOk, MatchOption, MatchResult};
 ghost use Rattle.std.specs.List.{starts_with};
-ghost use Rattle.klp_console_commands.specs.Words.{is_console_name, only_word, only_name, two_words, number_of, value_of, number_to};
+ghost use Rattle.klp_console_commands.specs.Words.{is_console_name, only_word, only_name, two_words, number_of};
+ghost use Rattle.klp_console_commands.specs.Words.{value_of, number_to};
 
 use crate::fault::LineFault;
 use klp_types::ShadowValue;
@@ -29,7 +31,8 @@ pub(crate) fn end(words: &mut LineWords<'_>) -> Result<(), LineFault>
 
 /// Returns the one word that is left, or `BadLine` if there are none or several.
 pub(crate) fn only_word<'a>(words: &mut LineWords<'a>) -> Result<&'a [u8], LineFault>
-    ensures { MatchResult result (λ word. only_word words.old ≡ Ok word.now) (λ fault. only_word words.old ≡ Err fault) }
+    ensures { MatchResult result (λ word. only_word words.old ≡ Ok word.now)
+        (λ fault. only_word words.old ≡ Err fault) }
 {
     let (Some(word), None) = (words.next(), words.next()) else {
         return Err(LineFault::BadLine);
@@ -39,7 +42,8 @@ pub(crate) fn only_word<'a>(words: &mut LineWords<'a>) -> Result<&'a [u8], LineF
 
 /// Returns the one word that is left, if it may name a patch or an object. Else returns `BadLine`.
 pub(crate) fn only_name<'a>(words: &mut LineWords<'a>) -> Result<&'a [u8], LineFault>
-    ensures { MatchResult result (λ word. only_name words.old ≡ Ok word.now) (λ fault. only_name words.old ≡ Err fault) }
+    ensures { MatchResult result (λ word. only_name words.old ≡ Ok word.now)
+        (λ fault. only_name words.old ≡ Err fault) }
 {
     let word = only_word(words)?;
     if is_console_name(word) {

@@ -29,7 +29,15 @@ impl<'a, L: Ledger> Model for Feed<'a, L> {
 
     ghost Value = { Fed };
 
-    ghost view = { λ f. record { left = f.left.now; most = f.most; fails_in = f.fails_in; has_ended = f.has_ended; failures = f.failures; reads = f.reads; asked = f.asked } };
+    ghost view = { λ f. record {
+      left = f.left.now;
+      most = f.most;
+      fails_in = f.fails_in;
+      has_ended = f.has_ended;
+      failures = f.failures;
+      reads = f.reads;
+      asked = f.asked;
+    } };
 
     ghost invariant = { λ f. 0 < f.most };
 }
@@ -43,7 +51,15 @@ impl<'a, L: Ledger> Feed<'a, L> {
         requires parts { blank.parts ≡ L.parts }
         requires three { 3 ≤ blank.parts }
         ensures { result
-            ≡ record { left = bytes.now; most = most; fails_in = fails_at; has_ended = false; failures = 0; reads = 0; asked = 0 } }
+            ≡ record {
+              left = bytes.now;
+              most = most;
+              fails_in = fails_at;
+              has_ended = false;
+              failures = 0;
+              reads = 0;
+              asked = 0;
+            } }
     {
         let (book, failures, reads, asked) = three_counts(blank);
         Feed {

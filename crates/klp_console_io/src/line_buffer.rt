@@ -1,5 +1,6 @@
 //! One line that is heard in pieces, since reads cut an input anywhere.
-ghost use Rattle.std.specs.Prelude.{◌≡◌, ℕ, ◌<◌, ◌≤◌, ◌⊎◌, position, List, [], ◌∷◌, ◌++◌, length, IfOk, IfSome, IfNone, OnOk, OnErr};
+ghost use Rattle.std.specs.Prelude.{◌≡◌, ℕ, ◌<◌, ◌≤◌, ◌⊎◌, position, List, [], ◌∷◌, ◌++◌, length, IfOk, IfSome, IfNone};
+ghost use Rattle.std.specs.Prelude.{OnOk, OnErr};
 ghost use Rattle.klp_console_io.specs.Lines.{is_line_feed, lines_and_rest};
 
 use arrayvec::ArrayVec;
@@ -82,7 +83,8 @@ impl LineBuffer {
     /// the piece has no line feed, or if the line is longer than [`MAX_CONSOLE_LINE`]: `hear` tells these cases apart.
     pub fn whole_line<'a>(&self, piece: &'a [u8]) -> Option<(&'a [u8], &'a [u8])>
         ensures begins { IfSome result (λ _. self.now ≡ []) }
-        ensures finished { IfSome result (λ found. lines_and_rest piece.now ≡ found.0.now ∷ lines_and_rest found.1.now) }
+        ensures finished { IfSome result
+            (λ found. lines_and_rest piece.now ≡ found.0.now ∷ lines_and_rest found.1.now) }
         ensures shorter { IfSome result (λ found. length found.1.now < length piece.now) }
         ensures limit { IfSome result (λ found. length found.0.now ≤ MAX_CONSOLE_LINE) }
         ensures none { IfNone result ((0 < length self.now) ⊎ (lines_and_rest piece.now ≡ piece.now ∷ [])

@@ -25,7 +25,13 @@ impl<R: Read, L: Ledger> Model for OverRead<R, L> {
 
     ghost Value = { Supply };
 
-    ghost view = { λ o. record { left = R.remaining o.reader; has_ended = o.has_ended; failures = o.failures; reads = o.reads; asked = o.asked } };
+    ghost view = { λ o. record {
+      left = R.remaining o.reader;
+      has_ended = o.has_ended;
+      failures = o.failures;
+      reads = o.reads;
+      asked = o.asked;
+    } };
 }
 
 impl<R: Read, L: Ledger> OverRead<R, L> {

@@ -28,7 +28,13 @@ impl<const ROOM: usize, L: Ledger> Model for Taken<ROOM, L> {
 
     ghost Value = { Held };
 
-    ghost view = { λ t. record { bytes = t.bytes.items; most = t.most; fails_in = t.fails_in; failures = t.failures; stalls = t.stalls } };
+    ghost view = { λ t. record {
+      bytes = t.bytes.items;
+      most = t.most;
+      fails_in = t.fails_in;
+      failures = t.failures;
+      stalls = t.stalls;
+    } };
 
     ghost invariant = { λ t. 0 < t.most };
 }

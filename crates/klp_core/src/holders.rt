@@ -65,7 +65,10 @@ fn innermost_blocked_in(frames: &[Version], blocked: &VersionSet) -> Option<Vers
 fn lag_of(task: &Task, blocked: &VersionSet) -> Lag
     ensures { result ≡ lag_of (has blocked.now) task.now }
 {
-    match (task.mode, innermost_blocked_in(task.frames.as_slice(), blocked)) {
+    match (
+        task.mode,
+        innermost_blocked_in(task.frames.as_slice(), blocked),
+    ) {
         (Mode::Asleep, Some(version)) => Lag::Holds(version),
         (mode, _) => Lag::Waits(mode),
     }

@@ -25,7 +25,8 @@ fn append(state: &mut ManagerState, journal: &mut Journal, event: &Event, reply:
     requires room { has_room (groups_in state.old journal.old) ≡ true }
     requires few { state.old.log.room ≡ MAX_RECORDS }
     ensures appended { groups_in state.new journal.new
-        ≡ groups_in state.old journal.old ++ record { event = event.now; reply = reply.now; rows = state.old.log.logged } ∷ [] }
+        ≡ groups_in state.old journal.old
+        ++ record { event = event.now; reply = reply.now; rows = state.old.log.logged } ∷ [] }
     ensures kept { Keeps state.new.log journal.new }
     ensures state { state.new ≡ record state.old {
       log = record state.old.log { logged = []; older = state.old.log.older ++ state.old.log.logged };

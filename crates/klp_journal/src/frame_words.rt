@@ -29,7 +29,8 @@ impl Model for FrameWords {
 
     ghost view = { λ f. map frame_of (take f.count f.words) };
 
-    ghost invariant = { λ f. (f.count ≤ 32) × AreFramesOf (take f.count f.words) (map frame_of (take f.count f.words)) };
+    ghost invariant = { λ f. (f.count ≤ 32) × AreFramesOf (take f.count f.words)
+        (map frame_of (take f.count f.words)) };
 }
 
 impl FrameWords {

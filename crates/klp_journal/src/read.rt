@@ -2,8 +2,11 @@
 ghost use Rattle.std.specs.Prelude.{◌≡◌, ℕ, ◌+◌, ◌*◌, ◌^◌, ◌<◌, ◌≤◌, List, [], ◌∷◌, ◌++◌, length, drop, Some, IfSome};
 ghost use Rattle.std.specs.List.{All};
 ghost use Rattle.klp_types.specs.declared.record.Record.{Record};
-ghost use Rattle.klp_journal.specs.declared.kinds.TheConstants.{KIND_TASK, KIND_VARIABLE, KIND_STATE_VALUE, KIND_STATE, KIND_LOADED, KIND_INSTALLED, KIND_ENTRY, KIND_HOOK, KIND_TRANSITION, KIND_PINNED};
-ghost use Rattle.klp_journal.specs.Words.{flag_word, mode_word, words_of, IsBelow, IsRecord, IsStateOf, IsFrameOf, AreFramesOf, IsTaskOf, IsPlaceOf, IsValueOf, IsBody};
+ghost use Rattle.klp_journal.specs.declared.kinds.TheConstants.{KIND_TASK, KIND_VARIABLE, KIND_STATE_VALUE, KIND_STATE};
+ghost use Rattle.klp_journal.specs.declared.kinds.TheConstants.{KIND_LOADED, KIND_INSTALLED, KIND_ENTRY, KIND_HOOK};
+ghost use Rattle.klp_journal.specs.declared.kinds.TheConstants.{KIND_TRANSITION, KIND_PINNED};
+ghost use Rattle.klp_journal.specs.Words.{flag_word, mode_word, words_of, IsBelow, IsRecord, IsStateOf, IsFrameOf};
+ghost use Rattle.klp_journal.specs.Words.{AreFramesOf, IsTaskOf, IsPlaceOf, IsValueOf, IsBody};
 ghost use Rattle.klp_types.specs.Finds.{Finds};
 ghost use Rattle.klp_journal.specs.Decoded.{state_of, mode_of, func_of, bytes_in};
 

@@ -1,4 +1,5 @@
-ghost use Rattle.std.specs.Prelude.{◌≡◌, ◌+◌, ◌-◌, ◌<◌, ◌≤◌, [], ◌∷◌, ◌++◌, length, map, take, drop, slice_get, Some, IfOk, IfSome, IfNone};
+ghost use Rattle.std.specs.Prelude.{◌≡◌, ◌+◌, ◌-◌, ◌<◌, ◌≤◌, [], ◌∷◌, ◌++◌, length, map, take, drop, slice_get, Some};
+ghost use Rattle.std.specs.Prelude.{IfOk, IfSome, IfNone};
 ghost use Rattle.klp_types.specs.declared.limits.TheConstants.{MAX_JOURNAL_RECORDS};
 ghost use Rattle.klp_types.specs.declared.record.Record.TheVariants.{TaskRow};
 ghost use Rattle.klp_types.specs.declared.task.Task.{Task as AnyTask};
@@ -43,7 +44,8 @@ impl Model for Records {
       older = take r.older r.all.rows;
     } };
 
-    ghost invariant = { λ r. (r.older ≤ length r.all.rows) × (length r.all.rows - r.older ≤ r.room) × (r.older ≤ MAX_JOURNAL_RECORDS)
+    ghost invariant = { λ r. (r.older ≤ length r.all.rows) × (length r.all.rows - r.older ≤ r.room)
+        × (r.older ≤ MAX_JOURNAL_RECORDS)
         × (r.all.room ≡ MAX_JOURNAL_RECORDS + r.room) };
 }
 

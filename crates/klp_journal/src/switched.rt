@@ -84,8 +84,12 @@ pub(crate) fn switched(
     requires record { EndWithRecord words.now }
     requires frames { frames.now ≡ map frames_of tasks.now }
     ensures { IfSome result (λ found. (now : AnyTask) × ((slice_get tasks.now found.0.task ≡ Some (Some now))
-        × ((older : List ℕ) × ((words.now ≡ older ++ words_of (TaskRow found.0.task (record now { state = found.0.state; mode = found.0.mode })))
-        × (found.1 ≡ length (words_of (TaskRow found.0.task (record now { state = found.0.state; mode = found.0.mode }))))
+        × ((older : List ℕ) × ((words.now ≡ older
+        ++ words_of (TaskRow found.0.task (record now { state = found.0.state; mode = found.0.mode })))
+        × (found.1 ≡ length (words_of (TaskRow found.0.task (record now {
+          state = found.0.state;
+          mode = found.0.mode;
+        }))))
         × IsRecord (TaskRow found.0.task (record now { state = found.0.state; mode = found.0.mode })))))) }
 {
     let last = words.len() - 1;

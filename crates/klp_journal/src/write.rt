@@ -3,9 +3,11 @@
 ghost use Rattle.std.specs.Prelude.{◌≡◌, ◌+◌, ◌*◌, ◌<◌, ◌≤◌, [], ◌∷◌, ◌++◌, length, map, take, vec_len, vec_capacity};
 ghost use Rattle.std.specs.Int.{w64, from_le_bytes};
 ghost use Rattle.std.specs.List.{All};
-ghost use Rattle.klp_types.specs.declared.record.Record.TheVariants.{TaskRow, ShadowVariable, NoShadowVariable, StateRow, InstalledPatch, StackEntry};
+ghost use Rattle.klp_types.specs.declared.record.Record.TheVariants.{TaskRow, ShadowVariable, NoShadowVariable};
+ghost use Rattle.klp_types.specs.declared.record.Record.TheVariants.{StateRow, InstalledPatch, StackEntry};
 ghost use Rattle.klp_types.specs.PatchStates.{IsPatchState};
-ghost use Rattle.klp_journal.specs.Words.{flag_word, state_word, mode_word, frame_word, byte_words, func_word, words_of, IsFrame, IsBelow, IsRecord};
+ghost use Rattle.klp_journal.specs.Words.{flag_word, state_word, mode_word, frame_word, byte_words, func_word};
+ghost use Rattle.klp_journal.specs.Words.{words_of, IsFrame, IsBelow, IsRecord};
 
 use crate::frame_words::FrameWords;
 use crate::kinds::{

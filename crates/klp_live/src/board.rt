@@ -26,7 +26,8 @@ pub fn push<S: Start + Protocol<Published, View>, W: Wait>(
     news: Option<News>,
 )
     ensures desk { changes.new.desk ≡ changes.old.desk }
-    ensures pending { drop changes.new.behind changes.new.log.items ≡ drop changes.old.behind changes.old.log.items ++ news ∷ [] }
+    ensures pending { drop changes.new.behind changes.new.log.items ≡ drop changes.old.behind changes.old.log.items
+        ++ news ∷ [] }
 {
     let mut news = news;
     for _ in rt.forever() {
@@ -46,7 +47,8 @@ pub fn announce<S: Start + Protocol<Published, View>, W: Wait>(
 ) -> Changes<S>
     requires rule { RuleIs S.holds S.first S.setting S.base S.book }
     requires room { drop changes.behind changes.log.items ≡ None ∷ [] }
-    requires follows { Follows S.setting S.base changes.desk.shown.value (with_news changes.desk.shown.value (Some news)) }
+    requires follows { Follows S.setting S.base changes.desk.shown.value
+        (with_news changes.desk.shown.value (Some news)) }
     ensures shown { result.desk.shown.value ≡ with_news changes.desk.shown.value (Some news) }
     ensures pending { drop result.behind result.log.items ≡ [] }
     ensures known { view result.desk.place ≡ record { known = known_of result.desk.shown.value ∷ [] } }
@@ -77,13 +79,19 @@ impl<S: Start + Protocol<Published, View>, R: Wait + Drop> Model for Board<S, R>
 
     ghost Value = { OnBoard };
 
-    ghost view = { λ b. record { value = b.changes.desk.shown.value; pending = drop b.changes.behind b.changes.log.items } };
+    ghost view = { λ b. record {
+      value = b.changes.desk.shown.value;
+      pending = drop b.changes.behind b.changes.log.items;
+    } };
 }
 
 impl<S: Start + Protocol<Published, View>, R: Wait + Drop> Board<S, R> {
     /// Makes a board of the publishing end. `rt` is the handle for waiting when the board is dropped.
     pub fn over(changes: Changes<S>, rt: R) -> Board<S, R>
-        ensures { result ≡ record { value = changes.desk.shown.value; pending = drop changes.behind changes.log.items } }
+        ensures { result ≡ record {
+          value = changes.desk.shown.value;
+          pending = drop changes.behind changes.log.items;
+        } }
     {
         Board { changes, rt }
     }

@@ -139,7 +139,8 @@ fn publish<S: Start + Protocol<Published, View>, M: Machine, R: Wait + Drop, W: 
     requires moving { moving ≡ moving_patch (state_after_history S.setting S.base publisher.old).moving }
     ensures { MatchOption result
         ((publisher.new ≡ publisher.old) × (seat.new ≡ seat.old))
-        (λ receipt. IsPublished S.setting S.base (event.now, reply.now) publisher.old publisher.new seat.old seat.new receipt) }
+        (λ receipt. IsPublished S.setting S.base (event.now, reply.now) publisher.old publisher.new seat.old seat.new
+        receipt) }
 {
     let Ok(change) = change_after(alloc, machine, event, moving) else {
         return None;

@@ -1,5 +1,6 @@
 //! Making the table of a manager, and what an event changes in it.
-ghost use Rattle.std.specs.Prelude.{◌≡◌, ℕ, ◌<◌, ◌≤◌, ◌++◌, true, false, Some, None, length, slice_index_or, vec_len, vec_capacity, ◌+◌, IfOk, IfSome, Option, Ok};
+ghost use Rattle.std.specs.Prelude.{◌≡◌, ℕ, ◌<◌, ◌≤◌, ◌++◌, true, false, Some, None, length, slice_index_or, vec_len};
+ghost use Rattle.std.specs.Prelude.{vec_capacity, ◌+◌, IfOk, IfSome, Option, Ok};
 ghost use Rattle.klp_types.specs.declared.limits.TheConstants.{MAX_SITES, MAX_TASKS};
 ghost use Rattle.klp_types.specs.Entries.{patches_site};
 ghost use Rattle.klp_types.specs.Setting.{functions_of};
@@ -7,9 +8,11 @@ ghost use Rattle.klp_model.specs.Rows.{row_of, moving_patch};
 ghost use Rattle.klp_model.specs.Run.{next};
 ghost use Rattle.klp_manager_state.specs.Managed.{setting_of};
 ghost use Rattle.klp_core.specs.Sites.{sites_in};
-ghost use Rattle.klp_live.specs.Dispatch.{IsDispatch, own_state, changed, Makes, LeadsOn, is_of_variables, rows_in, task_of as task_in};
+ghost use Rattle.klp_live.specs.Dispatch.{IsDispatch, own_state, changed, Makes, LeadsOn, is_of_variables, rows_in};
+ghost use Rattle.klp_live.specs.Dispatch.{task_of as task_in};
 ghost use Rattle.klp_live.specs.Listed.{AreRowsOf, is_listed, new_row, with_rows};
-ghost use Rattle.klp_live.specs.Touched.{is_inside, patch_moved as patch_moved_by, module_moved as module_moved_by, rows_touched};
+ghost use Rattle.klp_live.specs.Touched.{is_inside, patch_moved as patch_moved_by, module_moved as module_moved_by};
+ghost use Rattle.klp_live.specs.Touched.{rows_touched};
 
 use crate::table::{Change, Moved, NewRow, Table};
 use klp_core::Machine;

@@ -103,7 +103,8 @@ impl<S: Start> Model for Front<S> {
 
     ghost view = { λ f. f.seen.log };
 
-    ghost invariant = { λ f. (f.rows ≡ length f.seen.log) × (f.seen.book ≡ S.book) × IsLegal S.setting S.base f.seen.log };
+    ghost invariant = { λ f. (f.rows ≡ length f.seen.log) × (f.seen.book ≡ S.book)
+        × IsLegal S.setting S.base f.seen.log };
 }
 
 impl<S: Start> Front<S> {

@@ -86,7 +86,8 @@ fn changes<S: Start + Protocol<Published, View>, W: Wait>(
     requires empty { seen.now.log ≡ [] }
     requires book { seen.now.book ≡ S.book }
     requires places { (0 < places) × (places ≤ 64) }
-    ensures { IfOk result (λ w. IsEmptyBoard S.setting S.base S.book w.desk.shown.value (drop w.behind w.log.items) (view w.desk.place)) }
+    ensures { IfOk result (λ w. IsEmptyBoard S.setting S.base S.book w.desk.shown.value (drop w.behind w.log.items)
+        (view w.desk.place)) }
 {
     let table = table_by::<S>(change);
     let first = first_of(&table, seen);
@@ -130,7 +131,8 @@ fn seats<S: Start + Protocol<Published, View>>(
     requires rule { RuleIs S.holds S.first S.setting S.base S.book }
     requires known { IsOne S.book (view changes.old.desk.place) }
     requires share { (share.parts ≡ places) × (share.amount ≡ 0) }
-    ensures seats { IfOk result (λ seats. (vec_len seats ≡ places) × All (λ seat. seat ≡ record { list = front.now; accepted = 0 }) seats.items) }
+    ensures seats { IfOk result (λ seats. (vec_len seats ≡ places) × All
+        (λ seat. seat ≡ record { list = front.now; accepted = 0 }) seats.items) }
     ensures shown { changes.new.desk.shown ≡ changes.old.desk.shown }
     ensures pending { drop changes.new.behind changes.new.log.items ≡ drop changes.old.behind changes.old.log.items }
 {

@@ -151,7 +151,8 @@ impl<S: Start + Protocol<Published, View>, R: Wait + Drop> Publisher<S, R> {
             ≤ rows_touched S.setting (moving_patch (state_after_history S.setting S.base self.old).moving) event.now }
         ensures { MatchOption result
             ((self.new ≡ self.old) × (seat.new ≡ seat.old))
-            (λ receipt. IsPublished S.setting S.base (event.now, reply.now) self.old self.new seat.old seat.new receipt) }
+            (λ receipt. IsPublished S.setting S.base (event.now, reply.now) self.old self.new seat.old seat.new
+            receipt) }
     {
         if !append(
             rt,

@@ -32,7 +32,8 @@ impl<S: Start + Protocol<Published, View>> Model for Seat<S> {
 
     ghost view = { λ k. record { list = k.front; accepted = k.share.amount } };
 
-    ghost invariant = { λ k. (k.share.parts ≡ 1) × IsOne S.book (seen_by k.reader.place) × RuleIs S.holds S.first S.setting S.base S.book };
+    ghost invariant = { λ k. (k.share.parts ≡ 1) × IsOne S.book (seen_by k.reader.place)
+        × RuleIs S.holds S.first S.setting S.base S.book };
 }
 
 impl<S: Start + Protocol<Published, View>> Seat<S> {
@@ -76,7 +77,12 @@ impl<S: Start> Model for Receipt<S> {
 
     ghost Value = { ReceiptValue };
 
-    ghost view = { λ r. record { number = r.number; event = event_kept r.kept; reply = reply_kept r.kept; list = r.front } };
+    ghost view = { λ r. record {
+      number = r.number;
+      event = event_kept r.kept;
+      reply = reply_kept r.kept;
+      list = r.front;
+    } };
 
     ghost invariant = { λ r. (r.number ≡ length r.front) × IsLast r.front (event_kept r.kept) (reply_kept r.kept) };
 }
@@ -85,7 +91,12 @@ impl<S: Start> Receipt<S> {
     /// Makes the receipt of the last row of this history. `kept` must have that row.
     pub(crate) fn new(kept: Kept, front: Front<S>) -> Receipt<S>
         requires { IsLast front (event_kept kept) (reply_kept kept) }
-        ensures { result ≡ record { number = length front; event = event_kept kept; reply = reply_kept kept; list = front } }
+        ensures { result ≡ record {
+          number = length front;
+          event = event_kept kept;
+          reply = reply_kept kept;
+          list = front;
+        } }
     {
         Receipt {
             number: front.len(),

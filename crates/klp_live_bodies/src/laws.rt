@@ -24,7 +24,8 @@ pub fn outcomes_are_reported_in_order()
         (steps : List Step) (outcomes : List Outcome) (place behind : ℕ) (earlier later : Outcome)
         → AreDone setting base task list before frames steps outcomes → slice_get outcomes place ≡ Some earlier
         → slice_get outcomes behind ≡ Some later → place < behind → earlier.known ≤ later.known }
-    ensures receipts { (setting : Setting) (base : State) (task : ℕ) (list : History) (before : ℕ) (frames : List Version)
+    ensures receipts { (setting : Setting) (base : State) (task : ℕ) (list : History) (before : ℕ)
+        (frames : List Version)
         (steps : List Step) (outcomes : List Outcome) (place : ℕ) (outcome : Outcome) (accepted : Accepted)
         → AreDone setting base task list before frames steps outcomes → slice_get outcomes place ≡ Some outcome
         → outcome.what ≡ Receipt accepted

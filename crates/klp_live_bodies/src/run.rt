@@ -1,5 +1,6 @@
 //! Doing the steps of a body.
-ghost use Rattle.std.specs.Prelude.{◌≡◌, ◌+◌, ◌<◌, ◌≤◌, ◌^◌, ◌++◌, ◌∷◌, [], true, false, List, length, IfSome, IfNone, MatchBool, MatchResult, slice_get, Some, Ok, Err, vec_len, vec_capacity};
+ghost use Rattle.std.specs.Prelude.{◌≡◌, ◌+◌, ◌<◌, ◌≤◌, ◌^◌, ◌++◌, ◌∷◌, [], true, false, List, length, IfSome, IfNone};
+ghost use Rattle.std.specs.Prelude.{MatchBool, MatchResult, slice_get, Some, Ok, Err, vec_len, vec_capacity};
 ghost use mathlib.Core.List.{IsPrefix};
 ghost use Rattle.klp_types.specs.declared.limits.TheConstants.{MAX_FRAMES};
 ghost use Rattle.klp_model.specs.Legal.{IsLegal};
@@ -42,7 +43,8 @@ fn submitted<S: Start + Protocol<Published, View>, M: Machine + Drop, R: Wait + 
     event: Event,
 ) -> Option<What>
     ensures learns { IfSome result (λ what. Learns pass.old pass.new what) }
-    ensures came { IfSome result (λ what. IsSubmission S.setting S.base (length pass.old.knows.list) pass.new.knows.list event what) }
+    ensures came { IfSome result (λ what. IsSubmission S.setting S.base (length pass.old.knows.list)
+        pass.new.knows.list event what) }
     ensures none { IfNone result (pass.new ≡ pass.old) }
 {
     match pass.submit(rt, alloc, live, event) {
@@ -72,7 +74,8 @@ fn called<S: Start + Protocol<Published, View>>(
 ) -> What
     ensures learns { Learns pass.old pass.new result }
     ensures frames { frames.new ≡ frames_after frames.old result }
-    ensures came { IsCall S.setting S.base pass.old.task (length pass.old.knows.list) frames.old pass.new.knows.list site result }
+    ensures came { IsCall S.setting S.base pass.old.task (length pass.old.knows.list) frames.old pass.new.knows.list
+        site result }
 {
     if is_full(frames) {
         return What::Deep;
@@ -97,7 +100,8 @@ fn came_to<S: Start + Protocol<Published, View>, M: Machine + Drop, R: Wait + Dr
 ) -> Option<What>
     ensures learns { IfSome result (λ what. Learns pass.old pass.new what) }
     ensures frames { IfSome result (λ what. frames.new ≡ frames_after frames.old what) }
-    ensures came { IfSome result (λ what. CameTo S.setting S.base pass.old.task (length pass.old.knows.list) frames.old pass.new.knows.list step.now what) }
+    ensures came { IfSome result (λ what. CameTo S.setting S.base pass.old.task (length pass.old.knows.list)
+        frames.old pass.new.knows.list step.now what) }
     ensures none { IfNone result (pass.new ≡ pass.old) }
     ensures why { IfNone result (submits step.now ≡ true) }
 {
@@ -121,7 +125,8 @@ fn done<S: Start + Protocol<Published, View>, M: Machine + Drop, R: Wait + Drop,
     frames: &mut Frames,
     step: &Step,
 ) -> Option<Outcome>
-    ensures done { IfSome result (λ outcome. IsStepped S.setting S.base pass.old pass.new frames.old frames.new step.now outcome) }
+    ensures done { IfSome result (λ outcome. IsStepped S.setting S.base pass.old pass.new frames.old frames.new
+        step.now outcome) }
     ensures none { IfNone result (pass.new ≡ pass.old) }
     ensures why { IfNone result (submits step.now ≡ true) }
 {

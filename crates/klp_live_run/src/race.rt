@@ -117,7 +117,8 @@ fn run_both<
     requires two { seats.items ≡ knows_nothing ∷ knows_nothing ∷ [] }
     requires first { vec_len steps.first ≤ MAX_STEPS }
     requires second { vec_len steps.second ≤ MAX_STEPS }
-    ensures done { IfOk result (λ both. HaveEnded S.setting S.base steps.first.items steps.second.items both.1 both.0.items) }
+    ensures done { IfOk result (λ both. HaveEnded S.setting S.base steps.first.items steps.second.items both.1
+        both.0.items) }
     ensures fault { IfErr result IsRunFault }
 {
     let mut seats = seats;
@@ -157,7 +158,8 @@ fn run_over_start<
     requires fresh { IsFresh S.setting S.base (M.journaled machine) }
     requires first { vec_len steps.first ≤ MAX_STEPS }
     requires second { vec_len steps.second ≤ MAX_STEPS }
-    ensures done { IfOk result (λ ran. HaveRun S.setting S.base (M.journaled ran.0) steps.first.items steps.second.items ran.1) }
+    ensures done { IfOk result (λ ran. HaveRun S.setting S.base (M.journaled ran.0) steps.first.items
+        steps.second.items ran.1) }
     ensures fault { IfErr result IsRunFault }
 {
     let (live, seats) = match Live::<S, M, &R>::start(rt, alloc, blank, opened, machine, 2) {
@@ -182,7 +184,8 @@ pub(crate) fn run_and_rewind<M: Machine + Drop + Send, R: Threads + Wait + Sync>
     requires empty { (M.journaled machine).groups ≡ [] }
     requires first { vec_len steps.first ≤ MAX_STEPS }
     requires second { vec_len steps.second ≤ MAX_STEPS }
-    ensures done { IfOk result (λ ran. HaveRunBoth (M.journaled machine) (M.journaled ran.0) steps.first.items steps.second.items ran.1) }
+    ensures done { IfOk result (λ ran. HaveRunBoth (M.journaled machine) (M.journaled ran.0) steps.first.items
+        steps.second.items ran.1) }
     ensures fault { IfErr result IsRunFault }
 {
     let (machine, done) = run_over_start::<Brand, M, R>(

@@ -1,5 +1,6 @@
 //! Booting a manager over a catalog's text, and running the steps of another text over it in two task threads.
-ghost use Rattle.std.specs.Prelude.{◌≡◌, ◌≤◌, ◌++◌, [], false, length, vec_len, slice_get, slice_index_or, IfOk, IfErr, OnOk, MatchResult};
+ghost use Rattle.std.specs.Prelude.{◌≡◌, ◌≤◌, ◌++◌, [], false, length, vec_len, slice_get, slice_index_or, IfOk, IfErr};
+ghost use Rattle.std.specs.Prelude.{OnOk, MatchResult};
 ghost use Rattle.std.specs.Str.Lines.{lines};
 ghost use Rattle.klp_types.specs.declared.limits.TheConstants.{MAX_GROUPS};
 ghost use Rattle.klp_catalog_text.specs.Within.{AreTargetsWithin};
@@ -66,7 +67,8 @@ fn texts(alloc: Global, manager: &Manager) -> Result<Vec<u8>, AllocError>
 
 /// Returns the two lines that say how many steps of each task are done.
 fn counts(alloc: Global, done: &Done) -> io::Result<Vec<u8>>
-    ensures { IfOk result (λ text. text.items ≡ counts_text (length done.now.first.items) (length done.now.second.items)) }
+    ensures { IfOk result (λ text. text.items
+        ≡ counts_text (length done.now.first.items) (length done.now.second.items)) }
 {
     let mut text = Vec::new(alloc);
     let (first, second) = (done.first.len(), done.second.len());
@@ -126,7 +128,8 @@ trait Runs: Machine {
     /// Writes how many steps of each task are done, and the text of each loaded object.
     fn show<W: Write>(&mut self, alloc: Global, done: &Done, out: &mut W) -> Result<(), LiveFault>
         requires room { length (Self.journaled self.old).groups ≤ MAX_GROUPS }
-        ensures shown { OnOk result (IsShownOn (Self.journaled self.old) done.now (W.contents out.old) (W.contents out.new)) }
+        ensures shown { OnOk result (IsShownOn (Self.journaled self.old) done.now (W.contents out.old)
+            (W.contents out.new)) }
         ensures fault { IfErr result IsRunFault };
 }
 

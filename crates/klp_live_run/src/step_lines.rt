@@ -2,7 +2,8 @@
 //! `return`, `nap`, or a console line that asks for an event.
 ghost use Rattle.std.specs.Prelude.{◌≡◌, ◌<◌, ◌≤◌, ◌==◌, not, ◌++◌, [], ◌∷◌, length, position, MatchResult};
 ghost use Rattle.std.specs.Str.Lines.{lines};
-ghost use Rattle.klp_live_run.specs.Steps.{unindented, call_of, alone, step_of, half_of, task_step, count_of, AreSteps, IsReadFault};
+ghost use Rattle.klp_live_run.specs.Steps.{unindented, call_of, alone, step_of, half_of, task_step, count_of, AreSteps};
+ghost use Rattle.klp_live_run.specs.Steps.{IsReadFault};
 ghost use Rattle.klp_live_run.specs.Reading.{IsFull, IsAdded};
 
 use crate::fault::{ReadFault, StepsFault, StepsFaultKind};
@@ -139,7 +140,8 @@ impl Steps {
         requires first { length self.old.first.items ≤ MAX_STEPS }
         requires second { length self.old.second.items ≤ MAX_STEPS }
         ensures { MatchResult result
-            (λ _. IsAdded half step self.old.first.items self.old.second.items self.new.first.items self.new.second.items)
+            (λ _. IsAdded half step self.old.first.items self.old.second.items self.new.first.items
+            self.new.second.items)
             (λ fault. IsFull (count_of half self.old.first.items self.old.second.items) line fault) }
     {
         match half {

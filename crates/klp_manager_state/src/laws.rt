@@ -64,5 +64,6 @@ pub fn what_is_logged_gives_the_rows_back()
 /// record.
 #[tactic(auto, using(crate::proofs::EffectLemmas::changed_if))]
 pub fn what_tells_a_change_has_an_effect()
-    ensures { (rows : Rows) (row : Record) → has_effect rows row ≡ true → hook_of row ≡ None → put_back rows row ≢ rows }
+    ensures { (rows : Rows) (row : Record) → has_effect rows row ≡ true → hook_of row ≡ None
+        → put_back rows row ≢ rows }
 {}

@@ -7,7 +7,8 @@ ghost use Rattle.klp_types.specs.declared.task.Mode.TheVariants.{Kernel};
 ghost use Rattle.klp_types.specs.Setting.{Setting};
 ghost use Rattle.klp_model.specs.State.{State};
 ghost use Rattle.klp_model.specs.Allowed.{Allowed};
-ghost use Rattle.klp_model.specs.Examples.{small_kernel, faulty, alone, move_of, installed, state_with, with_states, in_user, asleep_in};
+ghost use Rattle.klp_model.specs.Examples.{small_kernel, faulty, alone, move_of, installed, state_with, with_states};
+ghost use Rattle.klp_model.specs.Examples.{in_user, asleep_in};
 
 /// States that are allowed: a cumulative patch above others while it is in transition, or below others if it is the
 /// oldest. A sleeper may be inside of functions that aren't loaded.

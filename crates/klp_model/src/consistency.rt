@@ -11,10 +11,13 @@ ghost use Rattle.klp_model.specs.Run.{run};
 ghost use Rattle.klp_model.specs.Blocked.{blocked, is_held};
 ghost use Rattle.klp_model.specs.declared.seen.Seen.{Seen};
 ghost use Rattle.klp_model.specs.declared.seen.Seen.TheVariants.{Event as Happens, Call as Calls, Return as Returns};
-ghost use Rattle.klp_model.specs.Observed.{IsHonestItem, IsHonestRun, Watched, events_of, seen_next, seen_run, seen_from};
+ghost use Rattle.klp_model.specs.Observed.{IsHonestItem, IsHonestRun, Watched, events_of, seen_next, seen_run};
+ghost use Rattle.klp_model.specs.Observed.{seen_from};
 ghost use Rattle.klp_model.specs.InPlace.{IsInPlace};
 ghost use Rattle.klp_model.specs.Consistent.{version_now, AllCurrent, NoneLeft, NoneMixed, AllNamed};
-ghost use Rattle.klp_model.specs.ObservedExamples.{kernel, stray_kernel, one_task, state_of, towards_1, no_frames, inside, watched, start, in_original, late, sleeper_run, stray_run, under_a_task, inside_both, moving_in, unpatched, stray_behind};
+ghost use Rattle.klp_model.specs.ObservedExamples.{kernel, stray_kernel, one_task, state_of, towards_1, no_frames};
+ghost use Rattle.klp_model.specs.ObservedExamples.{inside, watched, start, in_original, late, sleeper_run, stray_run};
+ghost use Rattle.klp_model.specs.ObservedExamples.{under_a_task, inside_both, moving_in, unpatched, stray_behind};
 
 /// At every moment of an honest observed run, each frame of each task is the version that the task would run at
 /// that site now. This is the consistency model in one sentence: no task is inside of old code while its calls run
@@ -109,7 +112,8 @@ pub fn calls_go_on_the_frames()
         ≡ (inside_both (Original 0) (Original 1)) 1 }
     ensures not_loaded { (seen_next kernel (unpatched Kernel (inside 0 (Original 0))) (Calls 1 2)).stacks 1
         ≡ (inside 0 (Original 0)) 1 }
-    ensures returned { (seen_next kernel (unpatched Kernel (inside_both (Original 0) (Original 1))) (Returns 1)).stacks 1
+    ensures returned { (seen_next kernel (unpatched Kernel (inside_both (Original 0) (Original 1)))
+        (Returns 1)).stacks 1
         ≡ (inside 0 (Original 0)) 1 }
     ensures forked { (seen_next kernel (unpatched Kernel (inside 0 (Original 0))) (Happens (Fork 1 2))).stacks 2 ≡ [] }
     ensures parent { (seen_next kernel (unpatched Kernel (inside 0 (Original 0))) (Happens (Fork 1 2))).stacks 1

@@ -6,9 +6,16 @@ ghost use Rattle.klp_types.specs.declared.callback.Which.TheVariants.{Pre, Post,
 ghost use Rattle.klp_types.specs.declared.version.Version.TheVariants.{Original, New};
 ghost use Rattle.klp_types.specs.World.{state_value};
 ghost use Rattle.klp_types.specs.Examples.{key_of, ran, refusing_in};
-ghost use Rattle.klp_model.specs.declared.event.Event.TheVariants.{Enable, SetEnabled, Force, Poll, Coming, Going, NewTask, Fork, EndTask, EnterKernel, ExitToUser, Sleep, Wake, ShadowAlloc, ShadowGetOrAlloc, ShadowFree, ShadowFreeAll};
-ghost use Rattle.klp_model.specs.declared.event.Reply.TheVariants.{Done, Started, Reversed, Pending, Completed, PreFailed, Woken};
-ghost use Rattle.klp_model.specs.declared.event.Refusal.TheVariants.{NoPatch, Busy, AlreadyThere, Pinned, Incompatible, NoSymbol, NoModule, InUse, NoTask, TaskThere, WrongMode, BadFrame, Full, NotMoving, NotFound, SameValue};
+ghost use Rattle.klp_model.specs.declared.event.Event.TheVariants.{Enable, SetEnabled, Force, Poll, Coming, Going};
+ghost use Rattle.klp_model.specs.declared.event.Event.TheVariants.{NewTask, Fork, EndTask, EnterKernel, ExitToUser};
+ghost use Rattle.klp_model.specs.declared.event.Event.TheVariants.{Sleep, Wake, ShadowAlloc, ShadowGetOrAlloc};
+ghost use Rattle.klp_model.specs.declared.event.Event.TheVariants.{ShadowFree, ShadowFreeAll};
+ghost use Rattle.klp_model.specs.declared.event.Reply.TheVariants.{Done, Started, Reversed, Pending, Completed};
+ghost use Rattle.klp_model.specs.declared.event.Reply.TheVariants.{PreFailed, Woken};
+ghost use Rattle.klp_model.specs.declared.event.Refusal.TheVariants.{NoPatch, Busy, AlreadyThere, Pinned, Incompatible};
+ghost use Rattle.klp_model.specs.declared.event.Refusal.TheVariants.{NoSymbol, NoModule, InUse, NoTask, TaskThere};
+ghost use Rattle.klp_model.specs.declared.event.Refusal.TheVariants.{WrongMode, BadFrame, Full, NotMoving, NotFound};
+ghost use Rattle.klp_model.specs.declared.event.Refusal.TheVariants.{SameValue};
 ghost use Rattle.klp_model.specs.State.{State, is_loaded, installed_patches};
 ghost use Rattle.klp_model.specs.Entries.{entries_of, is_hooked};
 ghost use Rattle.klp_model.specs.Bytes.{text_of};
@@ -21,7 +28,9 @@ ghost use Rattle.klp_model.specs.Opening.{opening_state};
 ghost use Rattle.klp_model.specs.ShadowStep.{concerns};
 ghost use Rattle.klp_model.specs.Refusals.{enabled_value, refusal};
 ghost use Rattle.klp_model.specs.Step.{accepted};
-ghost use Rattle.klp_model.specs.Examples.{small_kernel, module_kernel, taking_over, lacking, crowded, crowded_by, faulty, alone, move_of, state_with, with_state, with_states, in_user, in_kernel, asleep_in, ran_by};
+ghost use Rattle.klp_model.specs.Examples.{small_kernel, module_kernel, taking_over, lacking, crowded, crowded_by};
+ghost use Rattle.klp_model.specs.Examples.{faulty, alone, move_of, state_with, with_state, with_states, in_user};
+ghost use Rattle.klp_model.specs.Examples.{in_kernel, asleep_in, ran_by};
 
 /// A reversal runs no callback, towards either target, and the tasks keep their patch states: what was set up is
 /// still there, and each task goes back from where it is.

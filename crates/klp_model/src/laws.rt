@@ -2,7 +2,9 @@
 //! show that the definitions mean what they should, and a crate above may rely on them. A lemma that a crate above
 //! needs is a law here too, since that crate can cite only public contracts (docs/DECISIONS.md, "Lemmas of other
 //! crates").
-ghost use Rattle.std.specs.Prelude.{◌≡◌, ℕ, ◌+◌, ◌-◌, ◌≤◌, nat_le, if◌then◌else◌, ℤ, pos, Bool, true, false, not, ◌==◌, ◌&&◌, List, [], ◌∷◌, ◌++◌, map, reverse, filter, Some, None, is_some, is_none, option_map, Ok};
+ghost use Rattle.std.specs.Prelude.{◌≡◌, ℕ, ◌+◌, ◌-◌, ◌≤◌, nat_le, if◌then◌else◌, ℤ, pos, Bool, true, false, not, ◌==◌};
+ghost use Rattle.std.specs.Prelude.{◌&&◌, List, [], ◌∷◌, ◌++◌, map, reverse, filter, Some, None, is_some, is_none};
+ghost use Rattle.std.specs.Prelude.{option_map, Ok};
 ghost use Rattle.std.specs.List.{count_by, list_any};
 ghost use Rattle.std.specs.FinMap as finite;
 ghost use Rattle.klp_types.specs.declared.shadow.ShadowKey.{ShadowKey};
@@ -19,7 +21,8 @@ ghost use Rattle.klp_types.specs.Callbacks.{after_calls};
 ghost use Rattle.klp_model.specs.declared.event.Event.{Event as AnyEvent};
 ghost use Rattle.klp_types.specs.FirstOf.{first_of};
 ghost use Rattle.klp_types.specs.Script.{is_key};
-ghost use Rattle.klp_model.specs.declared.event.Event.TheVariants.{ShadowAlloc, ShadowGetOrAlloc, ShadowFree, ShadowFreeAll};
+ghost use Rattle.klp_model.specs.declared.event.Event.TheVariants.{ShadowAlloc, ShadowGetOrAlloc, ShadowFree};
+ghost use Rattle.klp_model.specs.declared.event.Event.TheVariants.{ShadowFreeAll};
 ghost use Rattle.klp_model.specs.declared.event.Reply.TheVariants.{Value, Freed};
 ghost use Rattle.klp_model.specs.declared.event.Refusal.TheVariants.{Exists, Full};
 ghost use Rattle.klp_model.specs.declared.event.Reply.{Reply as AnyReply};
@@ -226,7 +229,8 @@ pub fn shadow_events_go_by_what_is_there()
         → variable state.world key ≡ Some old → refusal setting state (ShadowAlloc key value) ≡ Some Exists }
     ensures room { (setting : Setting) (state : State) (key : ShadowKey) (value : ShadowValue)
         → variable state.world key ≡ None
-        → refusal setting state (ShadowAlloc key value) ≡ (if nat_le 512 (finite.len state.world.shadow) then Some Full else None) }
+        → refusal setting state (ShadowAlloc key value)
+        ≡ (if nat_le 512 (finite.len state.world.shadow) then Some Full else None) }
     ensures added { (setting : Setting) (state : State) (key : ShadowKey) (value : ShadowValue)
         → variable (accepted setting state (ShadowAlloc key value)).1.world key ≡ Some value }
     ensures found { (setting : Setting) (state : State) (key : ShadowKey) (value old : ShadowValue)
@@ -234,10 +238,12 @@ pub fn shadow_events_go_by_what_is_there()
         → step setting state (ShadowGetOrAlloc key value) ≡ Ok (Value old, state) }
     ensures room_to_add { (setting : Setting) (state : State) (key : ShadowKey) (value : ShadowValue)
         → variable state.world key ≡ None
-        → refusal setting state (ShadowGetOrAlloc key value) ≡ (if nat_le 512 (finite.len state.world.shadow) then Some Full else None) }
+        → refusal setting state (ShadowGetOrAlloc key value)
+        ≡ (if nat_le 512 (finite.len state.world.shadow) then Some Full else None) }
     ensures got { (setting : Setting) (state : State) (key : ShadowKey) (value : ShadowValue)
         → variable state.world key ≡ None
-        → accepted setting state (ShadowGetOrAlloc key value) ≡ (Value value, (accepted setting state (ShadowAlloc key value)).1) }
+        → accepted setting state (ShadowGetOrAlloc key value)
+        ≡ (Value value, (accepted setting state (ShadowAlloc key value)).1) }
     ensures one { (setting : Setting) (state : State) (key : ShadowKey) (old : ShadowValue)
         → variable state.world key ≡ Some old → (accepted setting state (ShadowFree key)).0 ≡ Freed 1 }
     ensures none { (setting : Setting) (state : State) (key : ShadowKey)
@@ -245,11 +251,14 @@ pub fn shadow_events_go_by_what_is_there()
     ensures gone { (setting : Setting) (state : State) (key : ShadowKey)
         → variable (accepted setting state (ShadowFree key)).1.world key ≡ None }
     ensures all { (setting : Setting) (state : State) (id : ℕ) (key : ShadowKey)
-        → variable (accepted setting state (ShadowFreeAll id)).1.world key ≡ (if id == key.id then None else variable state.world key) }
+        → variable (accepted setting state (ShadowFreeAll id)).1.world key
+        ≡ (if id == key.id then None else variable state.world key) }
     ensures count { (setting : Setting) (state : State) (id : ℕ)
         → (accepted setting state (ShadowFreeAll id)).0
-        ≡ Freed (finite.len state.world.shadow - finite.len (accepted setting state (ShadowFreeAll id)).1.world.shadow) }
-    ensures others { (setting : Setting) (state : State) (own key : ShadowKey) (value : ShadowValue) → is_key own key ≡ false
+        ≡ Freed (finite.len state.world.shadow - finite.len
+        (accepted setting state (ShadowFreeAll id)).1.world.shadow) }
+    ensures others { (setting : Setting) (state : State) (own key : ShadowKey) (value : ShadowValue) → is_key own key
+        ≡ false
         → (variable (accepted setting state (ShadowAlloc own value)).1.world key ≡ variable state.world key)
         × (variable (accepted setting state (ShadowGetOrAlloc own value)).1.world key ≡ variable state.world key)
         × (variable (accepted setting state (ShadowFree own)).1.world key ≡ variable state.world key) }

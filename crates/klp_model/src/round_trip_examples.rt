@@ -3,17 +3,21 @@
 ghost use Rattle.std.specs.Prelude.{◌≡◌, pos, true, false, [], ◌∷◌, find, is_some, Some, None};
 ghost use Rattle.klp_types.specs.declared.callback.Which.TheVariants.{Pre, Post, PreUn, PostUn};
 ghost use Rattle.klp_types.specs.World.{variable};
-ghost use Rattle.klp_model.specs.declared.event.Event.TheVariants.{Enable, SetEnabled, Force, Poll, Coming, Going, ShadowAlloc, ShadowFree};
+ghost use Rattle.klp_model.specs.declared.event.Event.TheVariants.{Enable, SetEnabled, Force, Poll, Coming, Going};
+ghost use Rattle.klp_model.specs.declared.event.Event.TheVariants.{ShadowAlloc, ShadowFree};
 ghost use Rattle.klp_model.specs.State.{State, is_installed, with_world};
 ghost use Rattle.klp_model.specs.ShadowStep.{shadow_changed, shadow_changes, concerns};
 ghost use Rattle.klp_types.specs.Callbacks.{refuses};
 ghost use Rattle.klp_model.specs.Callbacks.{loaded_objects};
 ghost use Rattle.klp_model.specs.Run.{run};
 ghost use Rattle.klp_model.specs.Allowed.{Allowed};
-ghost use Rattle.klp_model.specs.Company.{object_touches, taking_part, company_keys, EachUndoes, drops_older, IsOfCompany, IsFairEvent, IsFairStart, IsFairCompany};
+ghost use Rattle.klp_model.specs.Company.{object_touches, taking_part, company_keys, EachUndoes, drops_older};
+ghost use Rattle.klp_model.specs.Company.{IsOfCompany, IsFairEvent, IsFairStart, IsFairCompany};
 ghost use Rattle.klp_model.specs.Examples.{small_kernel, move_of, in_kernel, state_with, with_state, with_states};
 ghost use Rattle.klp_model.specs.Footprint.{SameFootprint};
-ghost use Rattle.klp_model.specs.RoundTripExamples.{key_of, value_of, adding, bare, with_a_sleeper, every_stage, own_variable_first, refusing_behind, both_loaded, sharing, with_five, there_and_back, freeing};
+ghost use Rattle.klp_model.specs.RoundTripExamples.{key_of, value_of, adding, bare, with_a_sleeper, every_stage};
+ghost use Rattle.klp_model.specs.RoundTripExamples.{own_variable_first, refusing_behind, both_loaded, sharing};
+ghost use Rattle.klp_model.specs.RoundTripExamples.{with_five, there_and_back, freeing};
 
 /// A fair company with every stage: a cumulative patch is enabled, blocked by a sleeper, reversed twice, completed,
 /// disabled, waited for and gone; in between a variable that isn't the patch's is added. So the laws hold of all

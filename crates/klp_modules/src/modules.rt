@@ -1,5 +1,7 @@
-ghost use Rattle.std.specs.Prelude.{◌≡◌, ◌<◌, length, slice_set, slice_get, slice_index_or, false, option_map, IfOk, IfSome};
-ghost use Rattle.klp_modules.specs.Names.{ObjectNames, names_of_object, Named, opening, object_named, picked, resolved, symbol_at_site};
+ghost use Rattle.std.specs.Prelude.{◌≡◌, ◌<◌, length, slice_set, slice_get, slice_index_or, false, option_map, IfOk};
+ghost use Rattle.std.specs.Prelude.{IfSome};
+ghost use Rattle.klp_modules.specs.Names.{ObjectNames, names_of_object, Named, opening, object_named, picked, resolved};
+ghost use Rattle.klp_modules.specs.Names.{symbol_at_site};
 ghost use Rattle.klp_modules.specs.Kept.{texts_of, text_at, AddsName, AddsObject, AreNumbered};
 ghost use Rattle.klp_modules.specs.Undo.{put_back};
 

@@ -13,7 +13,7 @@ ghost use Rattle.klp_patch.specs.UntilRefused.{calls_until_refused, refusal};
 ghost use Rattle.klp_patch.specs.Calls.{HaveRun, HasRoomFor, records_of, are_some};
 
 use crate::module_parts::{
-    has_coming_callback, has_going_callback, coming_allocs, going_allocs, part_coming, part_going,
+    coming_allocs, going_allocs, has_coming_callback, has_going_callback, part_coming, part_going,
 };
 use klp_catalog::Catalog;
 use klp_journal::Records;
@@ -125,7 +125,8 @@ fn each_coming(
     world: &mut World,
     log: &mut Records,
 ) -> Option<(usize, PatchId, i32)>
-    requires { HasRoomFor world.old log.old (calls_until_refused moving.now (parts_in catalog.old object installed.now)) }
+    requires { HasRoomFor world.old log.old (calls_until_refused moving.now
+        (parts_in catalog.old object installed.now)) }
     ensures refused { MatchOption result
         (find part_refuses (parts_in catalog.old object installed.now) ≡ None)
         (λ r. (r.0 ≤ length installed.now)

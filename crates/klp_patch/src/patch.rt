@@ -11,7 +11,8 @@ ghost use Rattle.klp_catalog.specs.States.{is_cumulative};
 ghost use Rattle.klp_stack.specs.Stack.{entries_at, has_entry, entries_of_others};
 ghost use Rattle.klp_patch.specs.Covered.{functions_in, is_covered};
 ghost use Rattle.klp_patch.specs.Room.{HasRoom};
-ghost use Rattle.klp_patch.specs.Changes.{AreMade, Notes, with_entry, with_nop, without_nop, hooked_count, most_entries};
+ghost use Rattle.klp_patch.specs.Changes.{AreMade, Notes, with_entry, with_nop, without_nop, hooked_count};
+ghost use Rattle.klp_patch.specs.Changes.{most_entries};
 
 use crate::covered::{covers, is_in_scope, site_in_scope};
 use crate::site::{put, put_nop, take, take_nop};
@@ -68,7 +69,8 @@ fn put_nops(sites: &mut Sites, patch: PatchId, only: &Option<ObjId>, log: &mut R
     requires sites { length sites.old.stacks ≤ MAX_SITES }
     requires room { HasRoom sites.old (is_covered sites.old only.now) (λ site entries. with_nop patch entries) }
     requires records { length sites.old.stacks + MAX_SITES ≤ spare_of log.old + hooked_count sites.old }
-    ensures entries { AreMade sites.old sites.new (is_covered sites.old only.now) (λ site entries. with_nop patch entries) }
+    ensures entries { AreMade sites.old sites.new (is_covered sites.old only.now)
+        (λ site entries. with_nop patch entries) }
     ensures notes { Notes sites.old sites.new log.old log.new (length sites.old.stacks) (hooked_count sites.old)
         (hooked_count sites.new) }
 {

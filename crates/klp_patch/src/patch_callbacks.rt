@@ -1,6 +1,8 @@
 //! The callbacks of a patch, object by object, in the order of the patch's objects.
-ghost use Rattle.std.specs.Prelude.{◌≡◌, ℕ, ◌*◌, ◌≤◌, ◌++◌, length, slice_get, find, None, Some, option_map, MatchOption};
-ghost use Rattle.klp_types.specs.declared.limits.TheConstants.{MAX_CALLBACK_RECORDS, MAX_EDITS, MAX_KIND_RECORDS, MAX_TARGETS};
+ghost use Rattle.std.specs.Prelude.{◌≡◌, ℕ, ◌*◌, ◌≤◌, ◌++◌, length, slice_get, find, None, Some, option_map};
+ghost use Rattle.std.specs.Prelude.{MatchOption};
+ghost use Rattle.klp_types.specs.declared.limits.TheConstants.{MAX_CALLBACK_RECORDS, MAX_EDITS, MAX_KIND_RECORDS};
+ghost use Rattle.klp_types.specs.declared.limits.TheConstants.{MAX_TARGETS};
 ghost use Rattle.klp_types.specs.declared.callback.Which.TheVariants.{Pre, PostUn};
 ghost use Rattle.klp_types.specs.Setting.{PatchObject as ObjectOf};
 ghost use Rattle.klp_types.specs.Callbacks.{script_for, calls_of, enable_calls, refuses, allocs_of};

@@ -3,7 +3,9 @@
 //! the patches that leave.
 ghost use Rattle.std.specs.Prelude.{◌≡◌, ◌≢◌, ℕ, ◌+◌, ◌*◌, ◌≤◌, true, [], None, Some, ◌==◌, length};
 ghost use Rattle.std.specs.FinMap as finite;
-ghost use Rattle.klp_types.specs.declared.limits.TheConstants.{MAX_KIND_RECORDS, MAX_RECORDS, MAX_SITES, MAX_TASKS, MAX_VARIABLES, RECORDS_AFTER_CALLBACKS, RECORDS_AFTER_LIST, RECORDS_AFTER_SITES};
+ghost use Rattle.klp_types.specs.declared.limits.TheConstants.{MAX_KIND_RECORDS, MAX_RECORDS, MAX_SITES, MAX_TASKS};
+ghost use Rattle.klp_types.specs.declared.limits.TheConstants.{MAX_VARIABLES, RECORDS_AFTER_CALLBACKS};
+ghost use Rattle.klp_types.specs.declared.limits.TheConstants.{RECORDS_AFTER_LIST, RECORDS_AFTER_SITES};
 ghost use Rattle.klp_types.specs.Callbacks.{end_of, allocs_of};
 ghost use Rattle.klp_model.specs.declared.event.Event.TheVariants.{Poll};
 ghost use Rattle.klp_model.specs.declared.event.Reply.TheVariants.{Completed};
@@ -159,7 +161,8 @@ fn complete(state: &mut ManagerState, catalog: &mut Catalog, moving: &Transition
         + allocs_of (end_calls (setting_in state.old catalog.old) (state_in state.old catalog.old)
         (Some moving.now)) ≤ MAX_VARIABLES }
     requires calls { records_of
-        (end_calls (setting_in state.old catalog.old) (state_in state.old catalog.old) (Some moving.now)) ≤ MAX_KIND_RECORDS }
+        (end_calls (setting_in state.old catalog.old) (state_in state.old catalog.old) (Some moving.now))
+        ≤ MAX_KIND_RECORDS }
     requires records { length state.old.log.logged ≤ MAX_TASKS }
     ensures completed { IsCompleted state.old state.new catalog.old catalog.new moving.now }
     ensures logged { rows_before state.new ≡ rows_before state.old }

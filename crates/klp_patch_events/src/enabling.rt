@@ -1,7 +1,9 @@
 //! Enabling a patch (livepatch, Enabling; callbacks, pre-patch; cumulative-patches).
-ghost use Rattle.std.specs.Prelude.{◌≡◌, ℕ, ◌+◌, ◌<◌, ◌≤◌, true, false, None, Some, length, slice_index_or, is_none, ◌&&◌};
+ghost use Rattle.std.specs.Prelude.{◌≡◌, ℕ, ◌+◌, ◌<◌, ◌≤◌, true, false, None, Some, length, slice_index_or, is_none};
+ghost use Rattle.std.specs.Prelude.{◌&&◌};
 ghost use Rattle.std.specs.List.{list_any};
-ghost use Rattle.klp_types.specs.declared.limits.TheConstants.{MAX_ENABLING_RECORDS, MAX_LIST_RECORDS, RECORDS_BEFORE_SITES};
+ghost use Rattle.klp_types.specs.declared.limits.TheConstants.{MAX_ENABLING_RECORDS, MAX_LIST_RECORDS};
+ghost use Rattle.klp_types.specs.declared.limits.TheConstants.{RECORDS_BEFORE_SITES};
 ghost use Rattle.klp_types.specs.World.{with_patch, without_patch};
 ghost use Rattle.klp_model.specs.declared.event.Event.TheVariants.{Enable};
 ghost use Rattle.klp_model.specs.declared.event.Reply.TheVariants.{PreFailed};

@@ -62,7 +62,8 @@ pub fn force_refusal(state: &ManagerState, catalog: &Catalog, patch: PatchId) ->
 fn pin(state: &mut ManagerState, catalog: &Catalog, moving: Transition)
     requires { length state.old.log.logged + MAX_PATCHES ≤ state.old.log.room }
     ensures parts { state.new ≡ record state.old {
-      pinned = pin_all (pinned_by (setting_in state.old catalog.now) (state_in state.old catalog.now) moving) state.old.pinned;
+      pinned = pin_all (pinned_by (setting_in state.old catalog.now) (state_in state.old catalog.now) moving)
+          state.old.pinned;
       log = state.new.log;
     } }
     ensures logged { rows_before state.new ≡ rows_before state.old }

@@ -1,5 +1,6 @@
 //! Loading and unloading a module (livepatch, Livepatch life-cycle; callbacks, the cases of modules).
-ghost use Rattle.std.specs.Prelude.{◌≡◌, ◌+◌, ◌<◌, ◌≤◌, ◌==◌, ◌&&◌, not, nat_lt, true, false, length, reverse, is_none, Some, None};
+ghost use Rattle.std.specs.Prelude.{◌≡◌, ◌+◌, ◌<◌, ◌≤◌, ◌==◌, ◌&&◌, not, nat_lt, true, false, length, reverse, is_none};
+ghost use Rattle.std.specs.Prelude.{Some, None};
 ghost use Rattle.std.specs.List.{All, count_by, list_any};
 ghost use Rattle.klp_types.specs.declared.limits.TheConstants.{MAX_COMING_EDITS, MAX_GOING_EDITS, MAX_PATCHES};
 ghost use Rattle.klp_types.specs.Callbacks.{allocs_of};

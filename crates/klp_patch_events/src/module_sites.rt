@@ -2,7 +2,8 @@
 //! bound how many records these changes log.
 ghost use Rattle.std.specs.Prelude.{◌≡◌, ℕ, ◌+◌, ◌*◌, ◌∷◌, ◌<◌, ◌≤◌, true, [], length, reverse, Some, if◌then◌else◌};
 ghost use Rattle.std.specs.List.{All, count_by};
-ghost use Rattle.klp_types.specs.declared.limits.TheConstants.{MAX_FUNCTIONS, MAX_PATCHES, MAX_RECORDS, MAX_SITES, RECORDS_BEFORE_SITES};
+ghost use Rattle.klp_types.specs.declared.limits.TheConstants.{MAX_FUNCTIONS, MAX_PATCHES, MAX_RECORDS, MAX_SITES};
+ghost use Rattle.klp_types.specs.declared.limits.TheConstants.{RECORDS_BEFORE_SITES};
 ghost use Rattle.klp_types.specs.Entries.{entries_from};
 ghost use Rattle.klp_model.specs.Allowed.{AreDistinct};
 ghost use Rattle.klp_text.specs.TextImage.{site_count};
@@ -90,7 +91,8 @@ pub(crate) fn unpatch_object(
 )
     requires installed { AreInstalled catalog.now sites.old patches.now }
     requires own { (site : ℕ) → is_covered sites.old (Some object) site ≡ true
-        → entries_at sites.old.stacks site ≡ entries_from (record { image = sites.old.image; patches = patches_of catalog.now }) site (reverse patches.now) }
+        → entries_at sites.old.stacks site ≡ entries_from
+        (record { image = sites.old.image; patches = patches_of catalog.now }) site (reverse patches.now) }
     requires records { length log.old.logged ≤ RECORDS_BEFORE_SITES }
     requires room { log.old.room ≡ MAX_RECORDS }
     ensures image { sites.new.image ≡ sites.old.image }

@@ -1,7 +1,9 @@
 //! What a cumulative patch replaces when its transition completes (cumulative-patches).
-ghost use Rattle.std.specs.Prelude.{◌≡◌, ℕ, ◌+◌, ◌*◌, ◌≤◌, true, None, Some, not, ◌==◌, length, map, slice_get, if◌then◌else◌};
+ghost use Rattle.std.specs.Prelude.{◌≡◌, ℕ, ◌+◌, ◌*◌, ◌≤◌, true, None, Some, not, ◌==◌, length, map, slice_get};
+ghost use Rattle.std.specs.Prelude.{if◌then◌else◌};
 ghost use Rattle.std.specs.List.{filter, count_by};
-ghost use Rattle.klp_types.specs.declared.limits.TheConstants.{MAX_RECORDS, MAX_SITES, RECORDS_AFTER_CALLBACKS, RECORDS_AFTER_LIST, RECORDS_AFTER_SITES};
+ghost use Rattle.klp_types.specs.declared.limits.TheConstants.{MAX_RECORDS, MAX_SITES, RECORDS_AFTER_CALLBACKS};
+ghost use Rattle.klp_types.specs.declared.limits.TheConstants.{RECORDS_AFTER_LIST, RECORDS_AFTER_SITES};
 ghost use Rattle.klp_types.specs.declared.version.Entry.{Entry};
 ghost use Rattle.klp_types.specs.World.{Installed};
 ghost use Rattle.klp_model.specs.Allowed.{is_one_of};

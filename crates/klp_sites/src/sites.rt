@@ -1,4 +1,5 @@
-ghost use Rattle.std.specs.Prelude.{◌≡◌, ℕ, ◌<◌, ◌≤◌, true, false, length, replicate, option_map, slice_index_or, slice_set, is_some, IfOk, IfSome, IfNone, MatchOption};
+ghost use Rattle.std.specs.Prelude.{◌≡◌, ℕ, ◌<◌, ◌≤◌, true, false, length, replicate, option_map, slice_index_or};
+ghost use Rattle.std.specs.Prelude.{slice_set, is_some, IfOk, IfSome, IfNone, MatchOption};
 ghost use Rattle.klp_types.specs.declared.limits.TheConstants.{MAX_SITES};
 ghost use Rattle.klp_types.specs.Entries.{is_empty};
 ghost use Rattle.klp_types.specs.Records.{spare_of};

@@ -1,5 +1,6 @@
 //! The pool of all entries. Its functions give a slot to a stack, or take one back.
-ghost use Rattle.std.specs.Prelude.{◌≡◌, ◌+◌, ◌-◌, ◌<◌, ◌≤◌, ◌&&◌, not, nat_lt, length, is_some, option_map, IfSome, IfNone};
+ghost use Rattle.std.specs.Prelude.{◌≡◌, ◌+◌, ◌-◌, ◌<◌, ◌≤◌, ◌&&◌, not, nat_lt, length, is_some, option_map, IfSome};
+ghost use Rattle.std.specs.Prelude.{IfNone};
 ghost use Rattle.klp_stack.specs.Stack.{has_entry, place_of};
 ghost use Rattle.klp_stack.specs.Undo.{may_be_at};
 ghost use Rattle.klp_stack.specs.Pool.{IsLinked, slot_at, entries_of, entries_below};

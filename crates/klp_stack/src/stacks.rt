@@ -1,4 +1,5 @@
-ghost use Rattle.std.specs.Prelude.{◌≡◌, ◌<◌, ◌≤◌, ◌==◌, ◌&&◌, not, find, true, false, [], ◌∷◌, length, replicate, slice_set, Some, None, is_some, option_map, IfOk, IfSome, IfNone};
+ghost use Rattle.std.specs.Prelude.{◌≡◌, ◌<◌, ◌≤◌, ◌==◌, ◌&&◌, not, find, true, false, [], ◌∷◌, length, replicate};
+ghost use Rattle.std.specs.Prelude.{slice_set, Some, None, is_some, option_map, IfOk, IfSome, IfNone};
 ghost use Rattle.std.specs.Option.{option_to_list};
 ghost use Rattle.klp_model.specs.Blocked.{blocked_among};
 ghost use Rattle.klp_model.specs.Rows.{word_of};

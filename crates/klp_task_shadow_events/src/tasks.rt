@@ -3,14 +3,16 @@
 //! An accepted event changes one task's row, and leaves a log with that row alone, as it was before. A refused event
 //! changes nothing. For each event a function `.._refusal` returns why it would be refused, or None. A full journal
 //! asks it without taking the event.
-ghost use Rattle.std.specs.Prelude.{◌≡◌, ◌<◌, not, true, false, ℕ, List, [], ◌∷◌, length, is_some, option_map, IfOk, IfNone};
+ghost use Rattle.std.specs.Prelude.{◌≡◌, ◌<◌, not, true, false, ℕ, List, [], ◌∷◌, length, is_some, option_map, IfOk};
+ghost use Rattle.std.specs.Prelude.{IfNone};
 ghost use Rattle.std.specs.List.{list_any};
 ghost use Rattle.klp_types.specs.declared.limits.TheConstants.{MAX_RECORDS, MAX_TASKS};
 ghost use Rattle.klp_types.specs.declared.task.Task.{Task as AnyTask};
 ghost use Rattle.klp_types.specs.FirstOf.{first_of};
 ghost use Rattle.klp_types.specs.Frames.{frames_of};
 ghost use Rattle.klp_types.specs.declared.task.Mode.TheVariants.{User, Kernel, Asleep};
-ghost use Rattle.klp_model.specs.declared.event.Event.TheVariants.{NewTask, Fork, EndTask, EnterKernel, ExitToUser, Sleep, Wake};
+ghost use Rattle.klp_model.specs.declared.event.Event.TheVariants.{NewTask, Fork, EndTask, EnterKernel, ExitToUser};
+ghost use Rattle.klp_model.specs.declared.event.Event.TheVariants.{Sleep, Wake};
 ghost use Rattle.klp_model.specs.declared.event.Refusal.TheVariants.{NoTask, WrongMode};
 ghost use Rattle.klp_model.specs.Task.{task_at, is_in};
 ghost use Rattle.klp_model.specs.TaskStep.{state_wanted};

@@ -1,4 +1,6 @@
-ghost use Rattle.std.specs.Prelude.{◌≡◌, ◌<◌, ◌≤◌, ◌++◌, ◌&&◌, not, Bool, true, false, List, [], ◌∷◌, Some, None, length, map, replicate, is_some, option_map, option_copied, option_to_list, IfOk, IfSome, IfNone};
+ghost use Rattle.std.specs.Prelude.{◌≡◌, ◌<◌, ◌≤◌, ◌++◌, ◌&&◌, not, Bool, true, false, List, [], ◌∷◌, Some, None};
+ghost use Rattle.std.specs.Prelude.{length, map, replicate, is_some, option_map, option_copied, option_to_list, IfOk};
+ghost use Rattle.std.specs.Prelude.{IfSome, IfNone};
 ghost use Rattle.std.specs.List.{count_by, list_any};
 ghost use Rattle.std.specs.Ordering.{int_eq};
 ghost use Rattle.klp_types.specs.Records.{spare_of};
@@ -12,7 +14,8 @@ ghost use Rattle.klp_model.specs.Blocked.{switched, lags};
 ghost use Rattle.klp_types.specs.Frames.{frames_of};
 ghost use Rattle.klp_tasks.specs.Members.{has, ArePassing, IsSetOf};
 ghost use Rattle.klp_tasks.specs.Sleepers.{sleeps_where};
-ghost use Rattle.klp_tasks.specs.Changes.{Changes, changed, record_of, record_if_switched, records_switched, IsSwitchLogged, put_back, undone};
+ghost use Rattle.klp_tasks.specs.Changes.{Changes, changed, record_of, record_if_switched, records_switched};
+ghost use Rattle.klp_tasks.specs.Changes.{IsSwitchLogged, put_back, undone};
 
 use crate::numbers::TaskNumbers;
 use crate::version_set::VersionSet;
@@ -229,7 +232,8 @@ impl Tasks {
     /// Removes a task. Its number is free again.
     pub fn end(&mut self, task: TaskId)
         requires { is_some (task_at self.old task) ≡ true }
-        ensures { Changes self.old self.new task (record_of task (task_at self.old task)) (with_task self.old task None) }
+        ensures { Changes self.old self.new task (record_of task (task_at self.old task))
+            (with_task self.old task None) }
     {
         self.replace(task, None);
     }
@@ -253,7 +257,8 @@ impl Tasks {
     #[inline(always)]
     pub fn leave(&mut self, task: TaskId, moving: Option<Transition>)
         requires { is_some (task_at self.old task) ≡ true }
-        ensures { Changes self.old self.new task (record_of task (task_at self.old task)) (changed self.old task (exited moving)) }
+        ensures { Changes self.old self.new task (record_of task (task_at self.old task))
+            (changed self.old task (exited moving)) }
     {
         let Some(row) = &mut self.rows[usize::from(task.0)] else {
             unreachable!();
@@ -471,7 +476,8 @@ impl Tasks {
 
     /// Replaces a row, as `put` does. Its contract adds that the record of the old row undoes the change.
     fn replace(&mut self, task: TaskId, row: Option<Task>)
-        ensures { Changes self.old self.new task (record_of task (task_at self.old task)) (with_task self.old task row) }
+        ensures { Changes self.old self.new task (record_of task (task_at self.old task))
+            (with_task self.old task row) }
     {
         self.put(task, row);
     }

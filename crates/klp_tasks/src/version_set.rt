@@ -92,12 +92,8 @@ impl VersionSet {
         }
     }
 
-<<<<<<< HEAD
     /// Whether one of the frames is in the set. The innermost frame is looked at first, as in the kernel's
     /// `klp_check_stack`: a sleeper mostly waits in one of the last functions that it called.
-=======
-    /// Whether one of the frames is in the set. It looks up at most as many versions as there are frames.
->>>>>>> e933fedcf7d881955668d84165f7e04df76157dd
     pub(crate) fn holds(&self, frames: &Frames) -> bool
         ensures { result ≡ list_any (has self.now) frames.now }
     {

@@ -20,8 +20,12 @@ ghost use Rattle.klp_types.specs.PatchStates.{IsPatchState};
 ghost use Rattle.klp_types.specs.Records.{spare_of};
 ghost use Rattle.klp_types.specs.Script.{alloc_count, edited_at, edits_made, effect, touches, Undoes};
 ghost use Rattle.klp_types.specs.Setting.{named_states, state_ids, function_for, replaces};
-ghost use Rattle.klp_types.specs.World.{key_cmp, number_of, state_value, previous_value, with_patch, without_patch, with_variable};
-ghost use Rattle.klp_types.specs.Examples.{kernel, patched_kernel, tracked, tracked_kernel, objects_refusing_in, ran, object_calling, object_without_callbacks, editing, refusing, call_by, key_of, patch_4, patch_5, patch_6, patch_3, world_of, four_installed, state_of, naming_kernel};
+ghost use Rattle.klp_types.specs.World.{key_cmp, number_of, state_value, previous_value, with_patch, without_patch};
+ghost use Rattle.klp_types.specs.World.{with_variable};
+ghost use Rattle.klp_types.specs.Examples.{kernel, patched_kernel, tracked, tracked_kernel, objects_refusing_in, ran};
+ghost use Rattle.klp_types.specs.Examples.{object_calling, object_without_callbacks, editing, refusing, call_by};
+ghost use Rattle.klp_types.specs.Examples.{key_of, patch_4, patch_5, patch_6, patch_3, world_of, four_installed};
+ghost use Rattle.klp_types.specs.Examples.{state_of, naming_kernel};
 
 use crate::task::PatchState;
 

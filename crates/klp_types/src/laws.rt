@@ -1,6 +1,8 @@
 //! What is proved of the definitions themselves. Each law is the contract of a function that does nothing. The laws
 //! show that the definitions mean what they should, and a crate above may rely on them.
-ghost use Rattle.std.specs.Prelude.{◌≡◌, ℕ, ◌+◌, ◌-◌, ◌^◌, ◌<◌, ◌≤◌, Bool, ◌==◌, ◌&&◌, ◌||◌, true, false, not, List, [], ◌∷◌, ◌++◌, length, map, take, drop, get_or, slice_get, Option, Some, is_some, option_map, IfSome};
+ghost use Rattle.std.specs.Prelude.{◌≡◌, ℕ, ◌+◌, ◌-◌, ◌^◌, ◌<◌, ◌≤◌, Bool, ◌==◌, ◌&&◌, ◌||◌, true, false, not, List};
+ghost use Rattle.std.specs.Prelude.{[], ◌∷◌, ◌++◌, length, map, take, drop, get_or, slice_get, Option, Some, is_some};
+ghost use Rattle.std.specs.Prelude.{option_map, IfSome};
 ghost use Rattle.std.specs.Int.{w64, to_le_bytes};
 ghost use Rattle.std.specs.List.{All, list_any};
 ghost use Rattle.std.specs.Cmp.{IsTotalOrder};
@@ -14,7 +16,8 @@ ghost use Rattle.klp_types.specs.Setting.{Setting, functions_of, function_for, r
 ghost use Rattle.klp_types.specs.Entries.{patches_site, entry_of, entries_from, is_empty};
 ghost use Rattle.klp_types.specs.Bytes.{symbol_in, patched, resting, text_where};
 ghost use Rattle.klp_types.specs.World.{Installed, World, Shadow, ShadowValue, key_cmp, number_of, variable, states_of};
-ghost use Rattle.klp_types.specs.Script.{Script, alloc_count, is_key, value_taken, edited, edited_at, edited_by, made_of, edits_made, effect, edit_touches, touches};
+ghost use Rattle.klp_types.specs.Script.{Script, alloc_count, is_key, value_taken, edited, edited_at, edited_by};
+ghost use Rattle.klp_types.specs.Script.{made_of, edits_made, effect, edit_touches, touches};
 ghost use Rattle.klp_types.specs.Callbacks.{Call, after_calls};
 
 use crate::limits::{

@@ -88,11 +88,13 @@ impl Model for Frames {
 
     ghost view = { λ f. take f.count f.versions };
 
-    ghost inverse = { λ versions. record { versions = padded MAX_FRAMES (Original 0) versions; count = length versions } };
+    ghost inverse = { λ versions.
+        record { versions = padded MAX_FRAMES (Original 0) versions; count = length versions } };
 
     ghost invariant = { λ f. IsPadded MAX_FRAMES (Original 0) f.versions f.count };
 
-    ghost inverse_ok = { λ f h i. record { versions = is_padded MAX_FRAMES (Original 0) f.versions f.count h i; count = h.0 i } };
+    ghost inverse_ok = { λ f h i.
+        record { versions = is_padded MAX_FRAMES (Original 0) f.versions f.count h i; count = h.0 i } };
 }
 
 impl Frames {

@@ -8,7 +8,8 @@ ghost use Rattle.klp_model.specs.Task.{task_at};
 ghost use Rattle.klp_types.specs.declared.limits.TheConstants.{MAX_TASKS};
 ghost use Rattle.klp_manager_state.specs.Managed.{setting_of};
 ghost use Rattle.klp_timeline.specs.declared.moment.Stay.TheVariants.{Outdated};
-ghost use Rattle.klp_views.specs.Views.{site_of, is_picked, is_current, innermost_outside, outdated_in, lag_in, stay_by, stay_in, wait_by, IsView};
+ghost use Rattle.klp_views.specs.Views.{site_of, is_picked, is_current, innermost_outside, outdated_in, lag_in};
+ghost use Rattle.klp_views.specs.Views.{stay_by, stay_in, wait_by, IsView};
 
 use klp_core::{Lag, Manager};
 use klp_timeline::{Stay, View};

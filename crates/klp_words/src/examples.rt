@@ -4,7 +4,8 @@ ghost use Rattle.std.specs.Prelude.{◌≡◌, ◌^◌, pos, negsuc, true, false
 ghost use Rattle.klp_words.specs.declared.split.Separators.TheVariants.{Spaces, SpacesAndTabs};
 ghost use Rattle.klp_words.specs.Seconds.{seconds_of};
 ghost use Rattle.klp_words.specs.Split.{separates, words_between};
-ghost use Rattle.klp_words.specs.Words.{is_name, is_symbol_name, hexadecimal_of, decimal_of, sympos_of, status_of, shadow_value_of, value_text, spelling_of};
+ghost use Rattle.klp_words.specs.Words.{is_name, is_symbol_name, hexadecimal_of, decimal_of, sympos_of, status_of};
+ghost use Rattle.klp_words.specs.Words.{shadow_value_of, value_text, spelling_of};
 
 /// Separators are between words; there may be any number of them. If only spaces separate, a tab is part of a word.
 pub fn words_stand_between_separators()

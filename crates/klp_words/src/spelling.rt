@@ -3,7 +3,8 @@
 ghost use Rattle.std.specs.Prelude.{◌≡◌, true};
 ghost use Rattle.std.specs.List.{list_all};
 ghost use Rattle.std.specs.Str.{IsAscii};
-ghost use Rattle.klp_words.specs.Words.{is_name_byte, is_symbol_byte, is_name, is_symbol_name, spelling_of_parts, spelling_behind_prefix, spelling_of};
+ghost use Rattle.klp_words.specs.Words.{is_name_byte, is_symbol_byte, is_name, is_symbol_name, spelling_of_parts};
+ghost use Rattle.klp_words.specs.Words.{spelling_behind_prefix, spelling_of};
 
 use crate::number::number32;
 use crate::split::cut;

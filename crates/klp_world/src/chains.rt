@@ -1,6 +1,7 @@
 //! The slots of the shadow variables, as one linked list for each bucket.
 ghost use Rattle.std.specs.Prelude.{◌≡◌, ◌≢◌, ℕ, ◌+◌, ◌<◌, ◌≤◌, [], Some, None, length, vec_capacity, IfOk};
-ghost use Rattle.klp_world.specs.Chained.{IsChained, IsAbove, IsRehomed, bucket_at, is_in, pointed, with_newest, with_links};
+ghost use Rattle.klp_world.specs.Chained.{IsChained, IsAbove, IsRehomed, bucket_at, is_in, pointed, with_newest};
+ghost use Rattle.klp_world.specs.Chained.{with_links};
 
 use klp_types::MAX_VARIABLES;
 use std::alloc::{AllocError, Global};

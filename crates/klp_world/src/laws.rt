@@ -6,7 +6,8 @@ ghost use Rattle.klp_types.specs.declared.shadow.ShadowKey.{ShadowKey};
 ghost use Rattle.std.specs.FinMap as finite;
 ghost use Rattle.klp_types.specs.World.{World, without_id};
 ghost use Rattle.klp_types.specs.Script.{Script, alloc_count, effect};
-ghost use Rattle.klp_world.specs.StoredEvent.{rows_of_alloc, rows_of_free, rows_of_free_all, rows_of_add, rows_of_drop, rows_of_script};
+ghost use Rattle.klp_world.specs.StoredEvent.{rows_of_alloc, rows_of_free, rows_of_free_all, rows_of_add, rows_of_drop};
+ghost use Rattle.klp_world.specs.StoredEvent.{rows_of_script};
 ghost use Rattle.klp_world.specs.Undo.{undone, is_of_world, HaveEffects};
 
 use klp_types::MAX_VARIABLES;

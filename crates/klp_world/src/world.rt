@@ -1,14 +1,19 @@
-ghost use Rattle.std.specs.Prelude.{◌≡◌, ℕ, ◌+◌, ◌<◌, ◌≤◌, ◌==◌, false, List, [], ◌∷◌, ◌++◌, length, map, reverse, insert, remove, slice_index_or, Some, is_some, is_none, unwrap_or, IfOk, IfSome, IfNone};
+ghost use Rattle.std.specs.Prelude.{◌≡◌, ℕ, ◌+◌, ◌<◌, ◌≤◌, ◌==◌, false, List, [], ◌∷◌, ◌++◌, length, map, reverse};
+ghost use Rattle.std.specs.Prelude.{insert, remove, slice_index_or, Some, is_some, is_none, unwrap_or, IfOk, IfSome};
+ghost use Rattle.std.specs.Prelude.{IfNone};
 ghost use Rattle.std.specs.List.{list_any};
 ghost use Rattle.std.specs.FinMap as finite;
 ghost use Rattle.klp_types.specs.Records.{spare_of};
 ghost use Rattle.klp_types.specs.World.{Installed};
-ghost use Rattle.klp_types.specs.World.{variable, state_value, previous_patch, newest_naming, installed_before, change_states, with_variable, without_variable, without_id, with_value, with_patch, without_patch};
+ghost use Rattle.klp_types.specs.World.{variable, state_value, previous_patch, newest_naming, installed_before};
+ghost use Rattle.klp_types.specs.World.{change_states, with_variable, without_variable, without_id, with_value};
+ghost use Rattle.klp_types.specs.World.{with_patch, without_patch};
 ghost use Rattle.klp_types.specs.Script.{allocated};
 ghost use Rattle.klp_world.specs.Added.{against};
 ghost use Rattle.klp_world.specs.Changes.{Changes};
 ghost use Rattle.klp_world.specs.Undo.{put_variable, put_state, put_patch, put_back};
-ghost use Rattle.klp_world.specs.StoredEvent.{noting, rows_of_alloc, rows_of_free, rows_of_free_all, variable_rows, state_row, rows_of_set, rows_of_add, rows_of_drop};
+ghost use Rattle.klp_world.specs.StoredEvent.{noting, rows_of_alloc, rows_of_free, rows_of_free_all, variable_rows};
+ghost use Rattle.klp_world.specs.StoredEvent.{state_row, rows_of_set, rows_of_add, rows_of_drop};
 
 use crate::patch::{InstalledPatch, SystemState, place_of_patch};
 use crate::shadow::ShadowMap;
@@ -47,7 +52,8 @@ impl Model for World {
 
     ghost view = { λ w. record { installed = w.patches.items; shadow = w.shadow } };
 
-    ghost invariant = { λ w. (vec_len w.patches ≤ MAX_PATCHES) × (MAX_PATCHES ≤ vec_capacity w.patches) × (map (λ (i : Installed). i.patch) w.patches.items ≡ w.installed.items) };
+    ghost invariant = { λ w. (vec_len w.patches ≤ MAX_PATCHES) × (MAX_PATCHES ≤ vec_capacity w.patches)
+        × (map (λ (i : Installed). i.patch) w.patches.items ≡ w.installed.items) };
 }
 
 /// Logs the states of a patch, the last one first. Undo puts the newest record back first and adds each state as
