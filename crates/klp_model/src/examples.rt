@@ -172,7 +172,7 @@ pub fn what_is_not_loaded_has_nothing()
 {}
 
 /// The row of a site has its two newest entries, with the addresses at which their versions begin. For a nop, or if
-/// there is no entry, that is the address behind the original's entry site. A site is hooked if it has an entry. A
+/// there is no entry, that is the address after the original's entry site. A site is hooked if it has an entry. A
 /// site of an object that isn't loaded has no row.
 pub fn a_row_tells_the_two_newest_entries()
     ensures nop { row_of small_kernel (state_with true (0 ∷ 1 ∷ []) (move_of 1 true) []) 1

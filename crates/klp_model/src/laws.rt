@@ -171,7 +171,7 @@ pub fn installed_patches_have_their_states()
         (state_ids setting patch)) }
 {}
 
-/// A site has an entry exactly if its object is loaded and an installed patch has a function for it. A nop is never
+/// A site has an entry exactly when its object is loaded and an installed patch has a function for it. A nop is never
 /// alone, because a cumulative patch puts it only over an older entry.
 pub fn entry_where_patched()
     ensures { (setting : Setting) (state : State) (site : ℕ)

@@ -59,7 +59,7 @@ pub fn callbacks_of_one_round()
 {}
 
 /// If an object refuses, each enabling runs its pre-patch callback, no other callback of it, and none of the
-/// objects behind it. So a pre-patch that fails has to clean up after itself.
+/// objects after it. So a pre-patch that fails has to clean up after itself.
 pub fn callbacks_of_the_object_that_refuses()
     ensures refusing { (setting : Setting) (patch : ℕ) (start : State) (first second third : List AnyEvent)
         → IsFairCompany setting patch start (first ++ second ++ third)
