@@ -47,8 +47,8 @@ pub fn callbacks_in_rounds()
         (enablings second) }
 {}
 
-/// If there is one enabling between two such moments, the callbacks of each object that takes part ran in one
-/// round. This is the common case.
+/// The case of `callbacks_in_rounds` with one enabling, which is the common one. Between two moments of a fair
+/// company at which the patch isn't installed, the callbacks of each object that takes part ran in one round.
 pub fn callbacks_of_one_round()
     ensures { (setting : Setting) (patch : ℕ) (start : State) (first second third : List AnyEvent)
         → IsFairCompany setting patch start (first ++ second ++ third)

@@ -237,8 +237,8 @@ pub fn the_first_reason_decides()
     ensures done { unless {A = ℕ} {R = ℕ} None 2 ≡ Ok 2 }
 {}
 
-/// A script undoes another if each variable that one of them touches is afterwards what it was before both. So it
-/// doesn't undo the other in a world where that finds a variable that this one removes.
+/// A script undoes another if each variable that one of them touches is afterwards what it was before both. So
+/// freeing a variable undoes adding it only if the variable didn't exist before.
 pub fn a_script_undoes_another_where_all_is_as_before()
     ensures undone { Undoes 0 (editing (Free (key_of 1 2) ∷ [])) (editing (Alloc (key_of 1 2) [] ∷ [])) (world_of []) }
     ensures there_before { Undoes 0 (editing (Free (key_of 1 2) ∷ [])) (editing (Alloc (key_of 1 2) [] ∷ []))

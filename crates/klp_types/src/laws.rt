@@ -138,7 +138,7 @@ pub fn sites_go_object_by_object()
         → symbols_of (drop index objects) ≡ (get_or objects index at).symbols ++ symbols_of (drop (index + 1) objects) }
 {}
 
-/// The sites of an object are consecutive, from its first site on. So a walk over them just counts.
+/// The sites of an object are consecutive, from its first site on. So a walk over them just counts up.
 pub fn sites_of_an_object_stand_together()
     ensures symbols { (objects : List Object) (index place : ℕ) (object : Object)
         → slice_get objects index ≡ Some object → place < length object.symbols
