@@ -85,13 +85,13 @@ abbrev pub failure_of : ℤ → List (List ℕ) → Result Script TextFaultKind
 failure_of status [] = Ok (record { edits = []; status = status })
 failure_of status words = Err WrongCount
 
--- the script of a status and the words behind it; the words are edits if the status is 0
+-- the script of a status and the words after it; the words are edits if the status is 0
 abbrev pub script_with : Option ℤ → List (List ℕ) → Result Script TextFaultKind
 script_with None words = Err BadNumber
 script_with (Some status) words =
     if is_success status then (edits_of words >>= λ es. Ok (record { edits = es; status = status })) else failure_of status words
 
--- the script of these words: a status, and the words behind it
+-- the script of these words: a status, and the words after it
 abbrev pub script_of : List (List ℕ) → Result Script TextFaultKind
 script_of [] = Err WrongCount
 script_of (status ∷ words) = script_with (status_of status) words

@@ -43,7 +43,7 @@ keyword_of word =
     else if bytes_eq word (codes "state") then Some keyword.State
     else None
 
--- what the words behind each keyword say: first their number is checked, then each word from left to right
+-- what the words after each keyword say: first their number is checked, then each word from left to right
 abbrev pub handler_line : List (List ℕ) → Result CatalogLine TextFaultKind
 handler_line (address ∷ []) = address_of address >>= λ a. Ok (line.Handler a)
 handler_line words = Err WrongCount
@@ -103,7 +103,7 @@ line_of_words target (Some keyword.Func) words = func_line target words
 line_of_words target (Some (keyword.Callback which)) words = callback_line which words
 line_of_words target (Some keyword.State) words = state_line words
 
--- what a line says: its whole text is checked first, then its first word, then the words behind it
+-- what a line says: its whole text is checked first, then its first word, then the words after it
 abbrev pub line_of : Option (List ℕ) → List ℕ → List ℕ → List (List ℕ) → Result CatalogLine TextFaultKind
 line_of target text first words =
     if not (list_all is_ascii text) then Err NotAscii

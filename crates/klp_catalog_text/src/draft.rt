@@ -152,7 +152,7 @@ fn open_states(patches: &[PlanPatch]) -> &[SystemState]
     }
 }
 
-/// Returns the targets of the last patch. Empty if there is no patch. No target is open exactly if this is empty.
+/// Returns the targets of the last patch. Empty if there is no patch. No target is open exactly when this is empty.
 fn open_targets(patches: &[PlanPatch]) -> &[PlanTarget]
     ensures { result.now ≡ targets_of (last_of patches.now) }
 {

@@ -81,7 +81,7 @@ fn two_numbers(parts: &mut Fields<'_>) -> Result<(u64, u64), TextFaultKind>
     Ok((first, second))
 }
 
-/// Reads the parts of `alloc:OBJ:ID:VALUE` behind its name.
+/// Reads the parts of `alloc:OBJ:ID:VALUE` after its name.
 fn alloc_edit(parts: &mut Fields<'_>) -> Result<Edit, TextFaultKind>
     ensures { result ≡ alloc_of parts.old }
 {
@@ -100,7 +100,7 @@ fn alloc_edit(parts: &mut Fields<'_>) -> Result<Edit, TextFaultKind>
     Ok(Edit::Alloc(ShadowKey { obj, id }, value))
 }
 
-/// Reads the parts of `free:OBJ:ID` behind its name.
+/// Reads the parts of `free:OBJ:ID` after its name.
 #[tactic(auto, using(crate::proofs::EditLemmas::free_by))]
 fn free_edit(parts: &mut Fields<'_>) -> Result<Edit, TextFaultKind>
     ensures { result ≡ free_of parts.old }
@@ -109,7 +109,7 @@ fn free_edit(parts: &mut Fields<'_>) -> Result<Edit, TextFaultKind>
     Ok(Edit::Free(ShadowKey { obj, id }))
 }
 
-/// Reads the part of `freeall:ID` behind its name.
+/// Reads the part of `freeall:ID` after its name.
 #[tactic(auto, using(crate::proofs::EditLemmas::free_all_by))]
 fn free_all_edit(parts: &mut Fields<'_>) -> Result<Edit, TextFaultKind>
     ensures { result ≡ free_all_of parts.old }
@@ -117,7 +117,7 @@ fn free_all_edit(parts: &mut Fields<'_>) -> Result<Edit, TextFaultKind>
     Ok(Edit::FreeAll(one_number(parts)?))
 }
 
-/// Reads the parts of `set:STATE:VALUE` behind its name.
+/// Reads the parts of `set:STATE:VALUE` after its name.
 #[tactic(auto, using(crate::proofs::EditLemmas::set_by))]
 fn set_data_edit(parts: &mut Fields<'_>) -> Result<Edit, TextFaultKind>
     ensures { result ≡ set_of parts.old }
@@ -126,7 +126,7 @@ fn set_data_edit(parts: &mut Fields<'_>) -> Result<Edit, TextFaultKind>
     Ok(Edit::SetData(state, value))
 }
 
-/// Reads the part of `takeprev:STATE` behind its name.
+/// Reads the part of `takeprev:STATE` after its name.
 #[tactic(auto, using(crate::proofs::EditLemmas::take_prev_by))]
 fn take_prev_edit(parts: &mut Fields<'_>) -> Result<Edit, TextFaultKind>
     ensures { result ≡ take_prev_of parts.old }
@@ -230,7 +230,7 @@ pub(crate) fn script(alloc: Global, words: &mut LineWords<'_>) -> Result<ScriptT
     let Some(status) = signed(word) else {
         return Err(TextFaultKind::BadNumber);
     };
-    // With another status, any word behind it is one too many (docs/DECISIONS.md, "Edits behind a status").
+    // With another status, any word after it is one too many (docs/DECISIONS.md, "Edits behind a status").
     if status != 0 {
         return failure(alloc, status, words);
     }

@@ -75,7 +75,7 @@ impl<T: Drop> From<AllocFailed<T>> for TextFaultKind {
 }
 
 /// The first faulty line of a catalog's text, printed as `line 3: BadHex`. Later faults aren't reported, since a
-/// faulty line may change what the lines behind it mean.
+/// faulty line may change what the lines after it mean.
 #[derive(Clone, Copy, Debug, PartialEq, Eq, Error)]
 #[error("line {line}: {kind}")]
 pub struct TextFault {

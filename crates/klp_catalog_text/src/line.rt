@@ -80,7 +80,7 @@ fn keyword_of(word: &[u8]) -> Option<Keyword>
     }
 }
 
-/// Reads the words of a `handler` line behind its first: an address.
+/// Reads the words of a `handler` line after its first word: an address.
 fn handler_line(words: &mut LineWords<'_>) -> Result<CatalogLine, TextFaultKind>
     ensures { Gives (λ l. l) result (handler_line words.old) }
 {
@@ -93,7 +93,7 @@ fn handler_line(words: &mut LineWords<'_>) -> Result<CatalogLine, TextFaultKind>
     Ok(CatalogLine::Handler(address))
 }
 
-/// Reads the one word of a line that has only a name behind its first word.
+/// Reads the one word of a line that has only a name after its first word.
 fn only_name(alloc: Global, words: &mut LineWords<'_>) -> Result<Name, TextFaultKind>
     ensures { Gives (λ n. n) result (only_name words.old) }
 {
@@ -103,7 +103,7 @@ fn only_name(alloc: Global, words: &mut LineWords<'_>) -> Result<Name, TextFault
     words::name(alloc, name)
 }
 
-/// Reads the words of an `object` line behind its first: a name.
+/// Reads the words of an `object` line after its first word: a name.
 #[tactic(auto, using(crate::proofs::CountLemmas::object_by))]
 fn object_line(alloc: Global, words: &mut LineWords<'_>) -> Result<CatalogLine, TextFaultKind>
     ensures { Gives (λ l. l) result (object_line words.old) }
@@ -111,7 +111,7 @@ fn object_line(alloc: Global, words: &mut LineWords<'_>) -> Result<CatalogLine, 
     Ok(CatalogLine::Object(only_name(alloc, words)?))
 }
 
-/// Reads the words of a `symbol` line behind its first: a name, an address and a body.
+/// Reads the words of a `symbol` line after its first word: a name, an address and a body.
 #[tactic(auto, using(crate::proofs::CountLemmas::symbol_count))]
 fn symbol_line(alloc: Global, words: &mut LineWords<'_>) -> Result<CatalogLine, TextFaultKind>
     ensures { Gives (λ l. l) result (symbol_line words.old) }
@@ -145,7 +145,7 @@ fn replace_line(
     Ok(CatalogLine::Patch(words::name(alloc, name)?, true))
 }
 
-/// Reads the words of a `patch` line behind its first: a name, and perhaps `replace`.
+/// Reads the words of a `patch` line after its first word: a name, and perhaps `replace`.
 fn patch_line(alloc: Global, words: &mut LineWords<'_>) -> Result<CatalogLine, TextFaultKind>
     ensures { Gives (λ l. l) result (patch_line words.old) }
 {
@@ -159,7 +159,7 @@ fn patch_line(alloc: Global, words: &mut LineWords<'_>) -> Result<CatalogLine, T
     }
 }
 
-/// Reads the words of a `target` line behind its first: the name of an object.
+/// Reads the words of a `target` line after its first word: the name of an object.
 #[tactic(auto, using(crate::proofs::CountLemmas::target_by))]
 fn target_line(alloc: Global, words: &mut LineWords<'_>) -> Result<CatalogLine, TextFaultKind>
     ensures { Gives (λ l. l) result (target_line words.old) }
@@ -167,7 +167,7 @@ fn target_line(alloc: Global, words: &mut LineWords<'_>) -> Result<CatalogLine, 
     Ok(CatalogLine::Target(only_name(alloc, words)?))
 }
 
-/// Reads the words of a `func` line behind its first: a symbol, a name and an address. `target` is the name of the
+/// Reads the words of a `func` line after its first word: a symbol, a name and an address. `target` is the name of the
 /// open target's object, if a target is open.
 #[tactic(auto, using(crate::proofs::CountLemmas::func_count))]
 fn func_line(
@@ -193,7 +193,7 @@ fn func_line(
     }))
 }
 
-/// Reads the words of a `pre`, `post`, `preun` or `postun` line behind its first: a script.
+/// Reads the words of a `pre`, `post`, `preun` or `postun` line after its first word: a script.
 fn callback_line(
     alloc: Global,
     which: Which,
@@ -204,7 +204,7 @@ fn callback_line(
     Ok(CatalogLine::Callback(which, edit::script(alloc, words)?))
 }
 
-/// Reads the words of a `state` line behind its first: an id and a version.
+/// Reads the words of a `state` line after its first word: an id and a version.
 fn state_line(words: &mut LineWords<'_>) -> Result<CatalogLine, TextFaultKind>
     ensures { Gives (λ l. l) result (state_line words.old) }
 {
@@ -220,7 +220,7 @@ fn state_line(words: &mut LineWords<'_>) -> Result<CatalogLine, TextFaultKind>
 }
 
 impl CatalogLine {
-    /// Reads one line. `text` is the whole line, `first` its first word, and `words` the words behind it.
+    /// Reads one line. `text` is the whole line, `first` its first word, and `words` the words after it.
     ///
     /// `target` is the name of the open target's object, if a target is open. The time is linear in the length of
     /// the line. `Err` has the first of the line's faults, in the order of [`TextFaultKind`]; it is never

@@ -184,8 +184,8 @@ impl Plan {
         None
     }
 
-    /// Takes the objects with their symbols out of the plan, for the image. The plan has none afterwards; so no
-    /// body is copied.
+    /// Moves the objects with their symbols out of the plan, for the image, so that no body is copied. The plan has
+    /// none afterwards.
     pub fn take_objects(&mut self) -> Vec<ObjectText>
         ensures objects { result.items ≡ self.old.objects }
         ensures rest { self.new ≡ record self.old { objects = [] } }

@@ -45,7 +45,7 @@ func_of (suc func) = Some func
 abbrev pub word_at : List ℕ → ℕ → ℕ
 word_at body place = get_or body place 0
 
--- the number behind the first `count` words, or None if there are no more words
+-- the number after the first `count` words, or None if there are no more words
 abbrev pub number_behind : ℕ → List ℕ → Option ℕ
 number_behind count body = if length body == count then None else Some (word_at body count)
 

@@ -23,7 +23,7 @@ pub record Group : Type 0 where
 abbrev pub group_of : Accepted → List Record → Group
 group_of accepted rows = record { event = accepted.event; reply = accepted.reply; rows = rows }
 
--- events with their records: the list has the records of one event behind those of another, and each event takes as
+-- events with their records: the list has the records of one event after those of another, and each event takes as
 -- many as it has
 abbrev pub groups_of : List Accepted → List Record → List Group
 groups_of [] rows = []

@@ -1,4 +1,4 @@
--- Records as they are stored: the words of one record behind those of another, and the number of records.
+-- Records as they are stored: the words of one record after those of another, and the number of records.
 use Rattle.std.specs.Prelude.{◌≡◌, ℕ, zero, suc, ◌-◌, ◌/◌, ◌%◌, List, [], ◌∷◌, ◌++◌, length, take, drop}
 use Rattle.klp_types.specs.declared.record.Record.{Record}
 use Rattle.klp_journal.specs.Words.{words_of, IsRecord, IsBody}

@@ -1,4 +1,4 @@
--- Undo records as words: what a record says of its row, and behind it a tag with its kind and its number of words.
+-- Undo records as words: what a record says of its row, and after it a tag with its kind and its number of words.
 use Rattle.std.specs.Prelude.{◌≡◌, ℕ, zero, suc, ◌+◌, ◌*◌, ◌/◌, ◌^◌, ◌<◌, ◌≤◌, ℤ, pos, negsuc, Bool, List, [], ◌∷◌, ◌++◌, length, map, take, drop, Option, Some, None, IfSome, if◌then◌else◌}
 use Rattle.std.specs.List.{All, flat_map}
 use Rattle.std.specs.Int.{w64, from_le_bytes}
@@ -99,7 +99,7 @@ kind_of (PinnedFlag patch was) = KIND_PINNED
 abbrev pub words_of : Record → List ℕ
 words_of row = words_before_tag row ++ (kind_of row + 256 * length (words_before_tag row)) ∷ []
 
--- the words of records one behind another, oldest first
+-- the words of records one after another, oldest first
 abbrev pub words_of_all : List Record → List ℕ
 words_of_all rows = flat_map words_of rows
 

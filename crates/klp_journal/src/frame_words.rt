@@ -13,7 +13,7 @@ use std::marker::Model;
 /// The words of a task's frames, outermost first, as in the task's record.
 #[derive(Clone, Drop)]
 pub struct FrameWords {
-    /// The words of the frames. The words behind them mean nothing.
+    /// The words of the frames. The words after them mean nothing.
     words: [u64; MAX_FRAMES],
     /// How many of the words are of frames.
     count: usize,

@@ -19,7 +19,7 @@ pub fn records_have_few_words()
     ensures { (row : Record) → IsRecord row → length (words_of row) ≤ 36 }
 {}
 
-/// A record that is written behind words is read back from their end, and the words before it don't change. The
+/// A record that is written after words is read back from their end, and the words before it don't change. The
 /// function writes the record and takes it out again.
 pub fn what_is_written_is_read_back(row: &Record, words: &mut Vec<u64>) -> Option<Record>
     requires { vec_len words.old + 36 ≤ vec_capacity words.old }

@@ -16,7 +16,7 @@ use std::alloc::{AllocError, Global};
 use std::marker::Model;
 
 /// Records in the order in which they were logged, in one list whose room is taken when it is made. First are those
-/// of earlier events, at most [`MAX_JOURNAL_RECORDS`], and behind them those of the current event. So nothing is
+/// of earlier events, at most [`MAX_JOURNAL_RECORDS`], and after them those of the current event. So nothing is
 /// copied when an event is over: its records stay where they are.
 ///
 /// Logging takes no memory, since no event may fail half way. To undo a change, its records are taken newest first,
@@ -121,8 +121,8 @@ impl Records {
     }
 
     /// Removes and returns the newest record of the current event, in a form of a few bytes. The records that
-    /// events log most have such a form. `None` removes nothing, and the newest record may be any; then use
-    /// `take_newest`.
+    /// events log most have such a form. `None` removes nothing, and doesn't say that there is no record:
+    /// `take_newest` has to be tried then.
     #[inline(always)]
     pub fn take_small(&mut self) -> Option<SmallRecord>
         ensures newest { IfSome result
@@ -137,7 +137,7 @@ impl Records {
 
     /// Removes and returns the newest record of the current event without its frames, if it is of a task whose
     /// frames are the same now. `tasks` are the tasks now, and `frames` the words of their frames. So the frames of
-    /// a switched sleeper needn't be read. `None` removes nothing, and the newest record may be any.
+    /// a switched sleeper needn't be read. `None` removes nothing, and doesn't say that there is no such record.
     #[inline(always)]
     pub fn take_switched(
         &mut self,

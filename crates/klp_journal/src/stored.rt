@@ -1,4 +1,4 @@
-//! Records as words in one list, one record behind another.
+//! Records as words in one list, one record after another.
 ghost use Rattle.std.specs.Prelude.{◌≡◌, ◌+◌, ◌-◌, ◌*◌, ◌<◌, ◌≤◌, [], ◌∷◌, ◌++◌, length, map, take, slice_get, Some};
 ghost use Rattle.std.specs.Prelude.{IfOk, IfSome, IfNone, vec_len, vec_capacity};
 ghost use Rattle.klp_types.specs.declared.record.Record.TheVariants.{TaskRow};

@@ -1,4 +1,4 @@
-//! Writes records as words, each behind those that are there. The list has room for all of them from the start, so
+//! Writes records as words, each after those that are there. The list has room for all of them from the start, so
 //! writing a word is one store, without a check for room.
 ghost use Rattle.std.specs.Prelude.{◌≡◌, ◌+◌, ◌*◌, ◌<◌, ◌≤◌, [], ◌∷◌, ◌++◌, length, map, take, vec_len, vec_capacity};
 ghost use Rattle.std.specs.Int.{w64, from_le_bytes};
@@ -19,7 +19,7 @@ use klp_types::{
     Version,
 };
 
-/// Writes a record behind the words that are there, as [`Records`](crate::Records) does. The caller made sure that
+/// Writes a record after the words that are there, as [`Records`](crate::Records) does. The caller made sure that
 /// there is room for the longest record, so no memory is taken.
 #[inline(always)]
 pub fn write_record(row: &Record, words: &mut Vec<u64>)
@@ -158,7 +158,7 @@ fn frame_word(frame: Version) -> u64
     }
 }
 
-/// Writes the words of frames, outermost first, over `words` from index `at` on, and returns the index behind them.
+/// Writes the words of frames, outermost first, over `words` from index `at` on, and returns the index after them.
 pub(crate) fn write_frames(frames: &[Version], words: &mut [u64], at: usize) -> usize
     requires { at + length frames.now ≤ length words.old }
     ensures written { take result words.new ≡ take at words.old ++ map frame_word frames.now }

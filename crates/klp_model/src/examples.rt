@@ -181,7 +181,7 @@ pub fn what_is_not_loaded_has_nothing()
 {}
 
 /// The row of a site has its two newest entries, with the addresses at which their versions begin. For a nop, or if
-/// there is no entry, that is the address behind the original's entry site. A site is hooked if it has an entry. A
+/// there is no entry, that is the address after the original's entry site. A site is hooked if it has an entry. A
 /// site of an object that isn't loaded has no row.
 pub fn a_row_tells_the_two_newest_entries()
     ensures nop { row_of small_kernel (state_with true (0 ∷ 1 ∷ []) (move_of 1 true) []) 1
@@ -294,9 +294,9 @@ pub fn tasks_come_and_go()
         ≡ (Woken (Original 0 ∷ Original 1 ∷ []), state_with true [] None (in_kernel (negsuc 0) ∷ [])) }
 {}
 
-/// An event's first callbacks find the list of patches as it is after the change at the event's start, and its last
-/// ones as it was before the change at the event's end. So pre-patch can set a state of its own patch, and
-/// post-patch can take over the value of a patch that is about to be replaced.
+/// Callbacks run after a patch is added to the list of installed patches, and before patches are removed from it.
+/// So pre-patch can set a state of its own patch, and post-patch can take over the value of a patch that is about
+/// to be replaced.
 pub fn callbacks_find_the_patches_there()
     ensures set { state_value (accepted taking_over (with_states (with_state 0 5 ∷ []) None) (Enable 1)).1.world 1 7
         ≡ Some 3 }
@@ -305,9 +305,9 @@ pub fn callbacks_find_the_patches_there()
         ≡ Some 5 }
 {}
 
-/// There must be room for what all callbacks that may run would add, whether they run or not, so that the sum is
-/// known beforehand: at a poll that stays pending, at an enabling that succeeds, and for the clean-up of a module
-/// that is being loaded.
+/// There must be room for the variables of all callbacks that may run, whether they run or not, so that the sum is
+/// known beforehand. The cases are a poll that stays pending, an enabling that succeeds, and the clean-up of a
+/// module that is being loaded.
 pub fn room_is_asked_for_all_that_may_run()
     ensures pending { refusal (crowded Post) (state_with true (0 ∷ []) (move_of 0 true) (in_kernel (pos 0) ∷ [])) Poll
         ≡ Some Full }

@@ -137,9 +137,10 @@ pub fn where_none_lags_none_is_switched()
         → map (option_map (switched blocked target)) tasks ≡ tasks }
 {}
 
-/// When a cumulative patch has replaced the older ones, their entries are gone, and so are its own nops; all other
-/// entries are as they were. If it had older ones it is the newest, and only its own functions are left. If it is
-/// the oldest itself, having been disabled and enabled again, newer ones may exist, and stay.
+/// When a cumulative patch has replaced the older ones, their entries are gone, and so are its own nops. All other
+/// entries are as they were. If there were older patches, the cumulative patch is the newest, and only its own
+/// functions are left. If it is the oldest itself, since it was disabled and enabled again, newer patches may
+/// exist, and stay.
 pub fn a_replacement_takes_the_older_entries_along()
     ensures older { (setting : Setting) (state : State) (move : Transition) (site : ℕ) → Allowed setting state
         → state.moving ≡ Some move → replaces setting move.patch ≡ true
@@ -174,7 +175,7 @@ pub fn installed_patches_have_their_states()
         (state_ids setting patch)) }
 {}
 
-/// A site has an entry exactly if its object is loaded and an installed patch has a function for it. A nop is never
+/// A site has an entry exactly when its object is loaded and an installed patch has a function for it. A nop is never
 /// alone, because a cumulative patch puts it only over an older entry.
 pub fn entry_where_patched()
     ensures { (setting : Setting) (state : State) (site : ℕ)

@@ -5,12 +5,15 @@
 //! `klp_types`. Begin with `specs/State`, `Refusals`, `Step`, `EventCalls`, `Blocked`, `Allowed` and `Observed`.
 //! The code is four enums: [`Event`], [`Reply`], [`Refusal`] and [`Seen`].
 //!
-//! `laws` has what is proved of the definitions themselves. When a site has an entry, how a function of a loaded
-//! object reads, and what the text depends on. That a run continues where the one before it ended. That the opening
-//! state is allowed, and that each step leads to an allowed state. That an event changes a shadow variable as its
-//! callbacks or the shadow event do. That no refusal holds of an accepted event, and that a refused one leaves the
-//! state. That a list of events adds a legal history, which leads where the whole list leads. `consistency` has
-//! what is promised to each task, for runs in which the calls of tasks are observed.
+//! `laws` has what is proved of the definitions themselves:
+//! - when a site has an entry, how a function of a loaded object reads, and what the text depends on;
+//! - a run continues from the state in which the one before it ended;
+//! - the opening state is allowed, and each step leads from an allowed state to an allowed state;
+//! - an event changes a shadow variable exactly as its callbacks or the shadow event do;
+//! - no case of a refusal holds of an accepted event, and a refused event leaves the state;
+//! - the accepted events of a list are a legal history, which leads to the same state as the whole list.
+//!
+//! `consistency` has what is promised to each task, for runs in which the calls of tasks are observed.
 //!
 //! `round_trip` has what holds of a patch that was enabled and is gone again. `specs/Company` defines a fair
 //! company of a patch: the events among which its callbacks undo each other, and the conditions at the start.

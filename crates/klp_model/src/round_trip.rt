@@ -47,8 +47,8 @@ pub fn callbacks_in_rounds()
         (enablings second) }
 {}
 
-/// If there is one enabling between two such moments, the callbacks of each object that takes part ran in one
-/// round. This is the common case.
+/// The case of `callbacks_in_rounds` with one enabling, which is the common one. Between two moments of a fair
+/// company at which the patch isn't installed, the callbacks of each object that takes part ran in one round.
 pub fn callbacks_of_one_round()
     ensures { (setting : Setting) (patch : ℕ) (start : State) (first second third : List AnyEvent)
         → IsFairCompany setting patch start (first ++ second ++ third)
@@ -59,7 +59,7 @@ pub fn callbacks_of_one_round()
 {}
 
 /// If an object refuses, each enabling runs its pre-patch callback, no other callback of it, and none of the
-/// objects behind it. So a pre-patch that fails has to clean up after itself.
+/// objects after it. So a pre-patch that fails has to clean up after itself.
 pub fn callbacks_of_the_object_that_refuses()
     ensures refusing { (setting : Setting) (patch : ℕ) (start : State) (first second third : List AnyEvent)
         → IsFairCompany setting patch start (first ++ second ++ third)

@@ -190,8 +190,7 @@ fn pick(sites: &[Site], position: u32) -> Result<Site, SymbolFault>
     Ok(*first)
 }
 
-/// Collects every name of an image, and returns the set of names and the objects, which have the numbers of their
-/// names.
+/// Returns the set of all names of an image, and its objects, in which each name is a number in that set.
 fn numbered_objects(
     alloc: Global,
     image: &Image,

@@ -56,7 +56,7 @@ fn objects_by_name(
 }
 
 /// Makes a table for each object, from the number of a name to the sites of the object's symbols of that name. A
-/// position less 1 is then an index.
+/// position minus 1 is then an index.
 fn sites_by_object(
     alloc: Global,
     objects: &[NumberedObject],

@@ -48,7 +48,7 @@ noting records rows = record records { logged = records.logged ++ rows }
 pub record Changes (before after : SiteTable) (log_before log_after : RecordList) (to : SiteTable) (rows : List Record) : Type 0 where
   -- the table after is exactly the intended one
   pub table : after ≡ to
-  -- each row that changed is logged as it was, behind the older records
+  -- each row that changed is logged as it was, after the older records
   pub records : log_after ≡ noting log_before rows
   -- these records, put back newest first, restore the table before
   pub undo : undone after rows ≡ before

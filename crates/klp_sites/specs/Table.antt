@@ -30,7 +30,7 @@ image_of table = record { image = table.image; loaded = table.loaded; hooked = m
 pub record IsInStep (image : TextImage) (stacks : List (List Entry)) : Type 0 where
   -- each site has a stack
   pub each_stack : length stacks ≡ site_count image.image
-  -- a site is hooked exactly if its stack has an entry
+  -- a site is hooked exactly when its stack has an entry
   pub hooks : image.hooked ≡ map is_stacked stacks
 
 -- the table at the start: the image as it was given, and no entries

@@ -16,11 +16,11 @@ abbrev pub has : VersionFlags → Version → Bool
 has flags (Original site) = slice_index_or flags.originals site false
 has flags (New patch function) = slice_index_or (slice_index_or flags.functions patch []) function false
 
--- a version is in the set exactly if it passes the test
+-- a version is in the set exactly when it passes the test
 abbrev pub ArePassing : VersionFlags → (Version → Bool) → Type 0
 ArePassing flags test = (version : Version) → has flags version ≡ test version
 
--- a version is in the set exactly if it is in the list
+-- a version is in the set exactly when it is in the list
 abbrev pub IsSetOf : VersionFlags → List Version → Type 0
 IsSetOf flags versions = ArePassing flags (λ version. list_any (is_version version) versions)
 

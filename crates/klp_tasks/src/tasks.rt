@@ -401,8 +401,8 @@ impl Tasks {
     }
 
     /// Removes the newest record from the log if it is of a task whose frames are the same now as in the record, as
-    /// their words show. Returns what `put_switched` needs of that record. `None` leaves the log as it is; the
-    /// newest record may be any then.
+    /// their words show. Returns what `put_switched` needs of that record. `None` leaves the log as it was, and
+    /// doesn't say that there is no such record.
     #[inline(always)]
     pub fn take_switched(&self, log: &mut Records) -> Option<SwitchedTask>
         ensures newest { IfSome result (λ was. (now : AnyTask) × ((task_at self.now was.task ≡ Some now)

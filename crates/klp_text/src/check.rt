@@ -152,7 +152,7 @@ fn symbol_fault(
 fn is_in_the_way(objects: &[ObjectText], symbols: &[SymbolText], symbol: &SymbolText) -> bool
     ensures { result ≡ faults.is_in_the_way (symbols_of objects.now ++ symbols.now) symbol.now }
 {
-    // A symbol that ends exactly at 2^64 is refused too, since the address behind it doesn't fit in 64 bits
+    // A symbol that ends exactly at 2^64 is refused too, since the address after it doesn't fit in 64 bits
     // (docs/DECISIONS.md, "The last address").
     end_of(symbol) > u128::from(u64::MAX)
         || lies_on_objects(objects, symbol)
@@ -185,7 +185,7 @@ fn share_address(a: &SymbolText, b: &SymbolText) -> bool
     u128::from(a.address) < end_of(b) && u128::from(b.address) < end_of(a)
 }
 
-/// Returns the address behind a symbol, in 128 bits, because it may not fit in 64.
+/// Returns the address after a symbol, in 128 bits, because it may not fit in 64.
 fn end_of(symbol: &SymbolText) -> u128
     ensures { result ≡ symbol.now.address + length symbol.now.body }
 {

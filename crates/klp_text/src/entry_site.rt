@@ -13,7 +13,7 @@ pub const NOP: [u8; ENTRY_SITE_LEN] = [0x0f, 0x1f, 0x44, 0x00, 0x00];
 const CALL: u8 = 0xe8;
 
 /// ENDBR64, the first instruction of a function that may be called through a pointer while the processor tracks
-/// such calls. It has to stay the first, so a hook goes behind it.
+/// such calls. It has to stay the first, so a hook goes after it.
 const ENDBR64: [u8; 4] = [0xf3, 0x0f, 0x1e, 0xfa];
 
 /// Returns the offset in a body at which its entry site begins.
@@ -28,7 +28,7 @@ pub fn entry_offset(body: &[u8]) -> usize
     }
 }
 
-/// Returns the displacement of a call at this address: the distance from the instruction behind the call to the
+/// Returns the displacement of a call at this address: the distance from the instruction after the call to the
 /// handler, as the processor counts it. 128 bits have room for any two addresses.
 pub fn displacement(handler: u64, address: u128) -> i128
     requires { address < 2 ^ 65 }

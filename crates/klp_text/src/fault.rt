@@ -8,7 +8,7 @@ use thiserror::Error;
 #[derive(Clone, Copy, Debug, PartialEq, Eq, Error)]
 pub enum ImageFault {
     /// A symbol shares an address with an earlier symbol of any object, or its last byte is at the last address of
-    /// 64 bits or beyond it, so that there is no address behind it.
+    /// 64 bits or beyond it, so that there is no address after it.
     #[error("Overlap")]
     Overlap = 1,
     /// A body ends before its entry site does, so a call would overwrite what follows the body.

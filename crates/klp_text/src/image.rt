@@ -160,7 +160,7 @@ impl Image {
     pub fn address(&self, site: Site) -> u64
         requires { site < site_count self.now.image }
         ensures value { option_map entry_address (symbol_of self.now.image site) ≡ Some result }
-        // The entry site is within 64 bits, and there is an address behind it, to which the handler can jump to run
+        // The entry site is within 64 bits, and there is an address after it, to which the handler can jump to run
         // the original.
         ensures end { result + ENTRY_SITE_LEN < 2 ^ 64 }
     {

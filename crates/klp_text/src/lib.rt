@@ -1,7 +1,7 @@
 //! The text of the kernel and its modules: the bytes of every function, and the entry sites, where calls of the
 //! handler are written and removed.
 //!
-//! A hook needs five bytes of a function: its first ones, or those behind an ENDBR64. While no patch changes the
+//! A hook needs five bytes of a function: its first ones, or those after an ENDBR64. While no patch changes the
 //! function they are a NOP, and else a call of the handler, as in livepatch, Hooks. The image and its numbers are
 //! this project's own model (`specs/TextImage`).
 //!

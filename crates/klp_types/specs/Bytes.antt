@@ -9,11 +9,11 @@ use Rattle.klp_types.specs.Image.{Symbol, Object, Image, first_site}
 abbrev pub endbr64 : List ℕ
 endbr64 = 243 ∷ 15 ∷ 30 ∷ 250 ∷ []
 
--- the offset of the entry site in a body: behind an ENDBR64 if the body begins with one, else 0
+-- the offset of the entry site in a body: after an ENDBR64 if the body begins with one, else 0
 abbrev pub entry_offset : List ℕ → ℕ
 entry_offset body = if starts_with (λ a b. a == b) body endbr64 then 4 else 0
 
--- the offset behind the entry site, which is as long as a call
+-- the offset after the entry site, which is as long as a call
 abbrev pub entry_end : List ℕ → ℕ
 entry_end body = entry_offset body + 5
 
@@ -25,7 +25,7 @@ entry_address symbol = symbol.address + entry_offset symbol.body
 abbrev pub nop : List ℕ
 nop = 15 ∷ 31 ∷ 68 ∷ 0 ∷ 0 ∷ []
 
--- the distance from the instruction behind the call at this address to the handler
+-- the distance from the instruction after the call at this address to the handler
 abbrev pub displacement : ℕ → ℕ → ℤ
 displacement handler address = pos handler -ℤ pos (address + 5)
 

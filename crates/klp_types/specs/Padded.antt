@@ -1,4 +1,4 @@
--- Lists that are stored in an array: all elements behind the last item are the same.
+-- Lists that are stored in an array: all elements after the last item are the same.
 use Rattle.std.specs.Prelude.{◌≡◌, ℕ, ◌-◌, List, ◌++◌, length, take, replicate}
 use Rattle.std.proofs.Common.{sym}
 

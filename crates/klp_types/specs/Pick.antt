@@ -35,7 +35,7 @@ abbrev pub newest_version : ℕ → List Entry → Version
 newest_version site [] = Original site
 newest_version site (newest ∷ older) = version_of site newest.func newest.patch
 
--- the address at which a version begins: a new function at its own address, an original right behind its entry site
+-- the address at which a version begins: a new function at its own address, an original right after its entry site
 abbrev pub address_of : Setting → Version → Option ℕ
 address_of setting (Original site) = option_map (λ (symbol : Symbol). entry_address symbol + 5) (symbol_of setting.image site)
 address_of setting (New patch function) = option_map (λ (f : Function). f.address) (slice_get (functions_of setting patch) function)

@@ -66,7 +66,7 @@ pub fn tasks_pass_over_the_moving_entry()
     ensures no_entry { newest_version 1 [] ≡ Original 1 }
 {}
 
-/// A new function begins at its own address. An original begins behind its entry site, so that it doesn't call the
+/// A new function begins at its own address. An original begins after its entry site, so that it doesn't call the
 /// handler again. A version that doesn't exist has no address.
 pub fn versions_begin_where_their_code_does()
     ensures new { target_of patched_kernel (New 0 1)
@@ -77,8 +77,8 @@ pub fn versions_begin_where_their_code_does()
     ensures no_function { target_of patched_kernel (New 0 3) ≡ None }
 {}
 
-/// An ENDBR64 stays the first instruction of a function, hooked or not, and the entry site is behind it. The call's
-/// displacement counts from there, and the original begins behind the call. With any other beginning the entry site
+/// An ENDBR64 stays the first instruction of a function, hooked or not, and the entry site is after it. The call's
+/// displacement counts from there, and the original begins after the call. With any other beginning the entry site
 /// is the first five bytes.
 pub fn entry_sites_are_behind_endbr64()
     ensures resting { (resting tracked).body
@@ -136,7 +136,7 @@ pub fn callbacks_run_one_after_another()
         ∷ call_by 3 (Alloc (key_of 1 2) [] ∷ []) ∷ []) ≡ 3 }
 {}
 
-/// A call reaches 2^31 - 1 bytes forward and 2^31 bytes back, counted from the instruction behind it, and no byte
+/// A call reaches 2^31 - 1 bytes forward and 2^31 bytes back, counted from the instruction after it, and no byte
 /// further: its displacement is a signed number of 32 bits.
 pub fn calls_reach_32_bits_far()
     ensures forward { can_reach 0xffff_ffff_8100_0000 0xffff_ffff_00ff_fffc ≡ true }
@@ -241,8 +241,8 @@ pub fn the_first_reason_decides()
     ensures done { unless {A = ℕ} {R = ℕ} None 2 ≡ Ok 2 }
 {}
 
-/// A script undoes another if each variable that one of them touches is afterwards what it was before both. So it
-/// doesn't undo the other in a world where that finds a variable that this one removes.
+/// A script undoes another if each variable that one of them touches is afterwards what it was before both. So
+/// freeing a variable undoes adding it only if the variable didn't exist before.
 pub fn a_script_undoes_another_where_all_is_as_before()
     ensures undone { Undoes 0 (editing (Free (key_of 1 2) ∷ [])) (editing (Alloc (key_of 1 2) [] ∷ [])) (world_of []) }
     ensures there_before { Undoes 0 (editing (Free (key_of 1 2) ∷ [])) (editing (Alloc (key_of 1 2) [] ∷ []))

@@ -31,7 +31,7 @@ use crate::limits::{
 };
 
 /// In the text of an object each function reads as it was built, except for its entry site. So hooks never change
-/// what is behind it.
+/// what is after it.
 pub fn text_is_as_built_but_for_entry_sites()
     ensures { (image : Image) (hooked : ℕ → Bool) (object : ℕ) (number : ℕ)
         → symbol_in (text_where image hooked object) number
@@ -141,7 +141,7 @@ pub fn sites_go_object_by_object()
         → symbols_of (drop index objects) ≡ (get_or objects index at).symbols ++ symbols_of (drop (index + 1) objects) }
 {}
 
-/// The sites of an object are consecutive, from its first site on. So a walk over them just counts.
+/// The sites of an object are consecutive, from its first site on. So a walk over them just counts up.
 pub fn sites_of_an_object_stand_together()
     ensures symbols { (objects : List Object) (index place : ℕ) (object : Object)
         → slice_get objects index ≡ Some object → place < length object.symbols
@@ -155,7 +155,7 @@ pub fn numbers_are_read_as_written()
     ensures { (number : ℕ) → number < 2 ^ 64 → number_of (to_le_bytes w64 number) ≡ Some number }
 {}
 
-/// Patches put an entry on a site exactly if one of them has a function for it. So nops alone never hook a site.
+/// Patches put an entry on a site exactly when one of them has a function for it. So nops alone never hook a site.
 pub fn entries_stand_where_functions_are()
     ensures { (setting : Setting) (site : ℕ) (patches : List ℕ)
         → not (is_empty (entries_from setting site patches)) ≡ list_any (patches_site setting site) patches }

@@ -119,8 +119,8 @@ pub const MAX_ADDRESS_DIGITS: usize = 16;
 /// in room of this size.
 pub const MAX_CONSOLE_LINE: usize = 256;
 
-/// The greatest task number that a line of the console may have. Fewer tasks are possible: an impossible task up to
-/// this number is `NoTask`, and above it the line is a `BadLine`.
+/// The greatest task number that a line of the console may have. There are fewer tasks: a number up to this that no
+/// task can have is refused as `NoTask`, and a greater one makes the line a `BadLine`.
 pub const MAX_TASK_NUMBER: u64 = 65_535;
 
 /// The greatest number of a patch's new function that a line of the console may have, of 16 bits. There are fewer

@@ -15,7 +15,7 @@ pub struct SiteWord {
 #[derive(Clone, Copy, PartialEq, Eq)]
 pub struct SiteRow {
     pub word: SiteWord,
-    /// The address behind the entry site, at which the original continues after the handler.
+    /// The address after the entry site, at which the original continues after the handler.
     pub original: u64,
     pub top: u64,
     pub below: u64,

@@ -84,7 +84,7 @@ impl ShadowValue {
         usize::from(self.count)
     }
 
-    /// Returns the bytes with zeros behind them, up to the length of the longest value.
+    /// Returns the bytes with zeros after them, up to the length of the longest value.
     pub fn padded(&self) -> &[u8]
         ensures { result.now ≡ padded MAX_VALUE_BYTES 0 self.now }
     {

@@ -17,7 +17,7 @@ pub enum Version {
 #[derive(Clone, Copy, PartialEq, Eq)]
 pub struct Target {
     pub version: Version,
-    /// The address of a new function, or for an original the address behind its entry site, so that it doesn't call
+    /// The address of a new function, or for an original the address after its entry site, so that it doesn't call
     /// the handler again.
     pub address: u64,
 }

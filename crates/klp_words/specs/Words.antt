@@ -88,7 +88,7 @@ spelling_of_parts object symbol position =
     then option_map (λ n. record { object = object; symbol = symbol; sympos = n }) (sympos_of position)
     else None
 
--- the object's name ends at the first dot, and the symbol's name at the first comma behind that dot
+-- the object's name ends at the first dot, and the symbol's name at the first comma after that dot
 abbrev pub spelling_behind_prefix : List ℕ → Option Spelling
 spelling_behind_prefix text =
     let symbol_on = after_first (λ b. b == 46) text in

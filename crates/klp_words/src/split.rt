@@ -91,7 +91,7 @@ pub fn position_of(bytes: &[u8], at: u8) -> Option<usize>
     }
 }
 
-/// Returns the bytes before the first byte `at`, and those behind it. Without such a byte it returns the whole text
+/// Returns the bytes before the first byte `at`, and those after it. Without such a byte it returns the whole text
 /// and an empty rest; so a text without the byte gives the same as one that ends with it.
 pub fn cut(text: &[u8], at: u8) -> (&[u8], &[u8])
     ensures before { result.0.now ≡ before_first (λ b. b == at) text.now }

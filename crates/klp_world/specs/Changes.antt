@@ -12,7 +12,7 @@ use Rattle.klp_world.specs.Undo.{undone, HaveEffects}
 pub record Changes (before after : World) (log_before log_after : RecordList) (to : World) (rows : List Record) : Type 0 where
   -- the world after is exactly the intended one
   pub world : after ≡ to
-  -- each row that changed is logged as it was, behind the older records
+  -- each row that changed is logged as it was, after the older records
   pub records : log_after ≡ noting log_before rows
   -- these records, put back newest first, restore the world before
   pub undo : undone after rows ≡ before

@@ -12,6 +12,6 @@ Slots = finite.FinMap key_cmp ℕ
 abbrev pub in_slot : List (ShadowKey × ShadowValue) → ℕ → ShadowKey × ShadowValue
 in_slot table slot = get_or table slot (record { obj = 0; id = 0 }, [])
 
--- a key has a slot exactly if it has a value
+-- a key has a slot exactly when it has a value
 abbrev pub SameKeys : Slots → Shadow → Type 0
 SameKeys slots shadow = (key : ShadowKey) → finite.contains_key slots key ≡ finite.contains_key shadow key

@@ -121,7 +121,7 @@ impl InstalledPatch {
         Some(was)
     }
 
-    /// Adds a state behind the others. So the states are in the order in which the patch names them.
+    /// Adds a state after the others. So the states are in the order in which the patch names them.
     pub(crate) fn push(&mut self, id: u64, value: u64)
         requires { length self.old.values < MAX_STATES }
         ensures { self.new ≡ record self.old { values = self.old.values ++ (id, value) ∷ [] } }
@@ -139,7 +139,7 @@ impl InstalledPatch {
         }
     }
 
-    /// Removes the state with this id (`None`), or adds it behind the others if there is room. A record that
+    /// Removes the state with this id (`None`), or adds it after the others if there is room. A record that
     /// doesn't fit changes nothing; records that are put back newest first always fit.
     pub(crate) fn put_back(&mut self, id: u64, was: Option<u64>)
         ensures { self.new ≡ record self.old { values = put_state id was self.old.values } }

@@ -351,7 +351,7 @@ impl World {
         }
     }
 
-    /// Adds an installed patch behind the others, to both lists.
+    /// Adds an installed patch after the others, to both lists.
     fn put_last(&mut self, installed: InstalledPatch)
         requires { length self.old.installed < MAX_PATCHES }
         ensures { self.new ≡ record self.old { installed = self.old.installed ++ installed ∷ [] } }
