@@ -94,16 +94,16 @@ pub(crate) fn number(word: &[u8]) -> Result<u64, LineFault>
     number64(word).ok_or(LineFault::BadLine)
 }
 
-/// Returns the value of a shadow variable that the word spells, as in a catalog's text, or `BadLine`, also if it has
-/// too many bytes.
+/// Returns the value of a shadow variable that the word spells, as in a catalog's text, or `BadLine` if it spells none
+/// or one of too many bytes.
 pub(crate) fn value(word: &[u8]) -> Result<ShadowValue, LineFault>
     ensures { result ≡ value_of word.now }
 {
     shadow_value(word).ok_or(LineFault::BadLine)
 }
 
-/// Returns the decimal number that the word spells, or `BadLine` if it is above `most` and so doesn't fit into an
-/// event.
+/// Returns the decimal number that the word spells, or `BadLine` if it spells none, or one above `most`, which wouldn't
+/// fit into an event.
 pub(crate) fn number_to(most: u64, word: &[u8]) -> Result<u64, LineFault>
     ensures number { result ≡ number_to most word.now }
     ensures limit { IfOk result (λ number. number ≤ most) }

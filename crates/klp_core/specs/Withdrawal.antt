@@ -22,9 +22,9 @@ pub record GoesOn (earlier later : Journaled) : Type 0 where
 abbrev pub appended : Journaled → Journaled → List Event
 appended before after = map (λ (g : Group). g.event) (drop (length before.groups) after.groups)
 
--- For each patch, if the appended events are a fair company of it: whenever the patch isn't installed, the footprint
--- over its variables is as it was before, and all other shadow variables are as the shadow events among the appended
--- events make them.
+-- This holds for each patch of which the appended events are a fair company. Whenever the patch isn't installed, the
+-- footprint over its variables is as it was before. All other shadow variables are as the shadow events among the
+-- appended events make them.
 pub record LeavesNoTrace (before after : Journaled) : Type 0 where
   pub footprint : (patch : ℕ) → IsFairCompany (setting_of before.managed) patch before.managed.state (appended before after)
       → is_installed after.managed.state patch ≡ false

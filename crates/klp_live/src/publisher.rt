@@ -170,7 +170,8 @@ impl<S: Start + Protocol<Published, View>, R: Wait + Drop> Publisher<S, R> {
         Some(Receipt::new(kept, self.front.again()))
     }
 
-    /// Makes sure that the shares of all seats, merged into one, count as many events as the history has.
+    /// Makes sure that `all`, into which the shares of all seats were merged, counts as many events as the history has.
+    /// Changes neither.
     pub fn audit(&mut self, all: &mut Share<S>)
         requires { all.old.parts ≡ S.parts }
         ensures history { self.new ≡ self.old }

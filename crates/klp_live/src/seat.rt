@@ -105,7 +105,7 @@ impl<S: Start> Receipt<S> {
         }
     }
 
-    /// Returns the number of its row, counted from 1.
+    /// Returns the number of the event's row in the history, counted from 1.
     pub fn number(&self) -> u64
         ensures number { result ≡ self.now.number }
         ensures last { self.now.number ≡ length self.now.list }

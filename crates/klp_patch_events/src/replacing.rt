@@ -24,9 +24,9 @@ use klp_sites::Sites;
 use klp_types::{MAX_FUNCTIONS, MAX_SITES, PatchId};
 use klp_world::World;
 
-/// Returns the patches of the list that are before this one, or the whole list if it isn't in it. There may be none
-/// before it, and newer ones behind it, if a cumulative patch was disabled and enabled again. The newer ones stay then
-/// (docs/DECISIONS.md, "Cumulative patches below newer ones").
+/// Returns the patches of the list that are before this one, or the whole list if this one isn't in the list. There may
+/// be none before it, and newer ones behind it, if a cumulative patch was disabled and enabled again. The newer ones
+/// stay then (docs/DECISIONS.md, "Cumulative patches below newer ones").
 pub(crate) fn older_than(patch: PatchId, installed: &[PatchId]) -> &[PatchId]
     ensures { result.now ≡ installed_before patch installed.now }
 {

@@ -242,7 +242,7 @@ pub fn sleep_refusal(
     }
 }
 
-/// Wakes a task up in the kernel. The reply has the functions that it slept inside of, since the row drops them.
+/// Wakes a task up in the kernel. The reply has the functions that it slept inside of, since its row doesn't keep them.
 pub fn wake(state: &mut ManagerState, task: TaskId) -> Result<Reply, Refusal>
     requires room { state.old.log.room ≡ MAX_RECORDS }
     ensures taken { TakesEventAlone state.old state.new (Wake task) result }

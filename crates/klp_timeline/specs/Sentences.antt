@@ -29,8 +29,8 @@ tasks_alike own sleeps = map (λ (sleep : Sleep). sleep.task) (filter (is_alike 
 abbrev pub slept : ℕ → Sleep → List Sleep → Sentence
 slept line own sleeps = record { line = line; said = Slept (record { stay = own.stay; tasks = tasks_alike own sleeps; to = own.to }) }
 
--- the sentences of the stays behind those of `before`: each that is alike to an earlier one is in the earlier one's
--- sentence
+-- the sentences of these stays, which come after those of `before`; a stay that is alike to an earlier one has none of
+-- its own, since the earlier one's sentence names it
 abbrev pub slept_from : ℕ → List Sleep → List Sleep → List Sleep → List Sentence
 slept_from line sleeps before [] = []
 slept_from line sleeps before (own ∷ rest) =

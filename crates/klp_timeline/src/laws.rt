@@ -26,7 +26,8 @@ pub fn no_sentence_is_made_up()
     ensures { (opening : AnyView) → (run : List AnyMoment) → IsAllTrue opening run }
 {}
 
-/// The transition at the end of a run has had its target since the line that its course names.
+/// If there is a transition at the end of a run, it has had its patch and target after every line since the one that
+/// its course names.
 pub fn what_moves_has_moved_since()
     ensures { (opening : AnyView) → (run : List AnyMoment) → IsGoingSince opening run }
 {}
