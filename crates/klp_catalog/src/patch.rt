@@ -93,8 +93,9 @@ impl CatalogPatch {
         ids
     }
 
-    /// Whether the patch can be installed beside a patch with these system states. A cumulative patch must name
-    /// each of them, since it takes them over.
+    /// Whether the patch can be installed beside a patch with these system states. It must name each of them with
+    /// the same or a higher version. Only a patch that isn't cumulative may leave a state out, since a cumulative
+    /// one takes all states over.
     pub(crate) fn can_live_with_all(&self, states: &[SystemState]) -> bool
         ensures { result ≡ list_all (λ (s : StateValue). compatible.can_live_with self.now.replace s
             (compatible.version_among s.id self.now.states)) states.now }

@@ -24,7 +24,7 @@ impl<'a> Model for Lines<'a> {
 }
 
 impl<'a> Lines<'a> {
-    /// Begins with all lines of the text. The text may have any length and any bytes; none is read yet.
+    /// Starts a walk over all lines of the text. The text may have any length and any bytes; none is read yet.
     pub fn new(text: &'a [u8]) -> Lines<'a>
         ensures { result ≡ lines text.now }
     {

@@ -95,8 +95,8 @@ impl Records {
         self.all.note(row);
     }
 
-    /// Logs a task before it changes. The task is lent, since a `Task` has room for the most frames that there can
-    /// be; the words of its frames come from the table of tasks, which stores them.
+    /// Logs a task before it changes. The task is lent and not copied, since a `Task` is large: it has room for the
+    /// most frames that there can be. The words of its frames come from the table of tasks, which stores them.
     #[inline(always)]
     pub fn note_task(&mut self, task: TaskId, was: &Task, frames: &FrameWords)
         requires room { 0 < spare_of self.old }

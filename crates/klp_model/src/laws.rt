@@ -157,8 +157,8 @@ pub fn a_replacement_takes_the_older_entries_along()
         ≡ filter (λ (e : Entry). e.patch == move.patch && is_some e.func) (entries_of setting state site) }
 {}
 
-/// At most two of the installed patches are cumulative: the oldest, and one in transition. A cumulative patch whose
-/// transition completed has no older patch left, since all of them left with that.
+/// At most two of the installed patches are cumulative: the oldest, and one in transition. When the transition of a
+/// cumulative patch completes, all older patches leave.
 pub fn at_most_two_patches_replace()
     ensures { (setting : Setting) (state : State) → Allowed setting state
         → count_by (replaces setting) (installed_patches state) ≤ 2 }

@@ -29,8 +29,8 @@ pub fn a_fair_company_goes_through_every_stage()
 {}
 
 /// A variable that the patch's callbacks touch exists before the patch is enabled. Pre-patch leaves it,
-/// post-unpatch removes it, and so it is lost. This company isn't fair: the event that adds the variable concerns
-/// one of the company's, and after that event the callbacks don't undo each other.
+/// post-unpatch removes it, and so it is lost. This company isn't fair: the event that adds the variable concerns a
+/// variable of the patch's callbacks, and after that event the callbacks don't undo each other.
 pub fn a_variable_that_was_there_is_lost()
     ensures gone { is_installed (run adding bare own_variable_first) 0 ≡ false }
     ensures lost { variable (run adding bare own_variable_first).world (key_of 1 9) ≡ None }

@@ -15,8 +15,8 @@
 #![tactic(auto)]
 
 mod chain;
-pub mod laws;
 mod picks;
+pub mod laws;
 mod pool;
 mod slot;
 mod stacks;

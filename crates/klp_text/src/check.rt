@@ -146,8 +146,8 @@ fn symbol_fault(
 
 /// Whether a symbol ends beyond the last address, or shares an address with one of the earlier symbols.
 ///
-/// Each symbol is compared with all before it: at most 256 * 255 / 2 times for an image. Sorting by address would
-/// be faster, but it takes memory, and loses which symbol is first in the image's order (docs/DECISIONS.md,
+/// Each symbol is compared with all before it: at most 256 * 255 / 2 times for an image. They aren't sorted by
+/// address, since sorting takes memory, and loses which symbol is first in the image's order (docs/DECISIONS.md,
 /// "Overlaps by pairs").
 fn is_in_the_way(objects: &[ObjectText], symbols: &[SymbolText], symbol: &SymbolText) -> bool
     ensures { result ≡ faults.is_in_the_way (symbols_of objects.now ++ symbols.now) symbol.now }

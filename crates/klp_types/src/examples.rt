@@ -233,7 +233,7 @@ pub fn sites_lie_in_their_objects()
         ≡ Some 2 }
 {}
 
-/// The first case that holds decides. If none holds, there is an outcome.
+/// The first case that holds gives the reason of a refusal. If no case holds, the result is the outcome.
 pub fn the_first_reason_decides()
     ensures first { first_of {R = ℕ} ((false, 1) ∷ (true, 2) ∷ (true, 3) ∷ []) ≡ Some 2 }
     ensures none { first_of {R = ℕ} ((false, 1) ∷ []) ≡ None }

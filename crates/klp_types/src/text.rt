@@ -1,8 +1,8 @@
 use std::marker::Model;
 
 /// A symbol of an object: its name, the address of its first byte, and the bytes of its body. It has plain fields,
-/// and contracts see a record of lists, so that it returns what it was made of (docs/DECISIONS.md, "Texts as
-/// records of lists").
+/// and contracts see a record of lists. So taking it apart gives back what it was made of (docs/DECISIONS.md,
+/// "Texts as records of lists").
 #[derive(Drop)]
 pub struct SymbolText {
     pub name: String,

@@ -44,7 +44,7 @@ impl<'a> Model for LineWords<'a> {
 }
 
 impl<'a> LineWords<'a> {
-    /// Begins with all words of the line. The line may have any bytes, since it isn't checked yet.
+    /// Starts a walk over all words of the line. The line may have any bytes, since it isn't checked yet.
     pub fn new(line: &'a [u8], separators: Separators) -> LineWords<'a>
         ensures { result ≡ words_between (separates separators) line.now }
     {
@@ -54,7 +54,7 @@ impl<'a> LineWords<'a> {
         }
     }
 
-    /// Returns a copy of the rest, so that the words can be read twice.
+    /// Returns a copy of this walk at its present position, so that the words can be read twice.
     pub fn again(&self) -> LineWords<'a>
         ensures { result ≡ self.now }
     {
