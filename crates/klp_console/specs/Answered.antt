@@ -27,9 +27,11 @@ pub record Answer : Type 0 where
 abbrev pub nothing : Answer
 nothing = record { text = []; is_refused = false }
 
+-- the answer to a line that was done and shows nothing more
 abbrev pub done : Answer
 done = record { text = done_text; is_refused = false }
 
+-- the answer to a line that wasn't done, with this text
 abbrev pub refused_with : List ℕ → Answer
 refused_with text = record { text = text; is_refused = true }
 

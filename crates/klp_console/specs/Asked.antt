@@ -11,6 +11,7 @@ use Rattle.klp_console_commands.specs.Lines.{request_of}
 use Rattle.klp_console_commands.specs.Names as names
 use Rattle.klp_console.specs.Answered.{names_in}
 
+-- the event of a request to take one
 abbrev pub event_asked : Option (Result Request LineFault) → Option Event
 event_asked (Some (Ok (Take event))) = Some event
 event_asked request = None
@@ -19,6 +20,7 @@ event_asked request = None
 abbrev pub event_of : Journaled → List ℕ → Option Event
 event_of manager line = event_asked (request_of (names_in manager) line)
 
+-- the site of a spelled symbol, if there is one
 abbrev pub site_spelled : Journaled → Option Spelling → Option ℕ
 site_spelled manager None = None
 site_spelled manager (Some spelling) = result_ok (names.site_of (names_in manager) spelling)

@@ -13,6 +13,7 @@ patch_name catalog patch = unwrap_or (slice_get (patch_names_of catalog.patches)
 abbrev pub object_name : List ObjectNames → ℕ → List ℕ
 object_name names object = unwrap_or (option_map (λ (found : ObjectNames). found.name) (slice_get names object)) []
 
+-- the line of a new function of the patch with this name
 abbrev pub function_text : List ℕ → Option CatalogFunction → List ℕ
 function_text patch None = []
 function_text patch (Some function) = patch ++ codes " " ++ function.new_name ++ codes " " ++ address_text function.address ++ codes "\n"

@@ -29,6 +29,7 @@ other_outcome request false = Done
 abbrev pub IsEventOutcome : Journaled → Journaled → Event → Outcome → Type 0
 IsEventOutcome before after event outcome = (reply : Result Reply Refusal) × IsTaken before after event reply × (outcome ≡ Answered event reply)
 
+-- the outcome of a request, by the event that it asks for, if it asks for one
 abbrev pub IsOutcomeOf : Journaled → Journaled → Option (Result Request LineFault) → Option Event → Outcome → Type 0
 IsOutcomeOf before after request (Some event) outcome = IsEventOutcome before after event outcome
 IsOutcomeOf before after request None outcome = outcome ≡ other_outcome request (is_refusal outcome)

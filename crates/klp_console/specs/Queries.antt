@@ -46,6 +46,7 @@ switch_text false = codes "0\n"
 abbrev pub switch_query : Journaled → ℕ → Bool → Result (List ℕ) Refusal
 switch_query manager patch value = if is_installed manager.managed.state patch then Ok (switch_text value) else Err NotFound
 
+-- the patch state of a task, if it exists
 abbrev pub patch_state_query : Option Task → Result (List ℕ) Refusal
 patch_state_query None = Err NoTask
 patch_state_query (Some task) = Ok (signed_decimal task.state ++ codes "\n")
@@ -54,6 +55,7 @@ patch_state_query (Some task) = Ok (signed_decimal task.state ++ codes "\n")
 abbrev pub patch_line : Catalog → ℕ → List ℕ
 patch_line catalog patch = patch_name catalog patch ++ codes "\n"
 
+-- the name of an object on its own line
 abbrev pub object_line : Catalog → PatchObject → List ℕ
 object_line catalog target = object_name catalog.names target.object ++ codes "\n"
 
@@ -65,6 +67,7 @@ directory_text catalog patch = codes "enabled\nforce\ntransition\n" ++ lines_of 
 abbrev pub position_text : CatalogFunction → List ℕ
 position_text function = function.symbol ++ codes "," ++ decimal (max function.sympos 1) ++ codes "\n"
 
+-- the functions that a patch changes in an object, each on its own line
 abbrev pub functions_text : Catalog → ℕ → ℕ → List ℕ
 functions_text catalog patch object =
     lines_of position_text (filter (λ (f : CatalogFunction). f.object == object) (catalog_functions catalog patch))
@@ -73,6 +76,7 @@ functions_text catalog patch object =
 abbrev pub has_object : Catalog → ℕ → ℕ → Bool
 has_object catalog patch object = is_some (place_of object (objects_at catalog patch))
 
+-- the value of a variable, or `none`
 abbrev pub variable_text : Option ShadowValue → List ℕ
 variable_text None = codes "none\n"
 variable_text (Some value) = codes "value " ++ value_text value ++ codes "\n"
@@ -81,10 +85,12 @@ variable_text (Some value) = codes "value " ++ value_text value ++ codes "\n"
 abbrev pub symbol_text : Symbol → List ℕ
 symbol_text symbol = symbol.name ++ codes " " ++ address_text symbol.address ++ codes " " ++ encode_lower symbol.body ++ codes "\n"
 
+-- the symbols of an object, if it is loaded
 abbrev pub text_query : Option (List Symbol) → Result (List ℕ) Refusal
 text_query None = Err NoModule
 text_query (Some symbols) = Ok (lines_of symbol_text symbols)
 
+-- an entry of a patch: its function, or a nop
 abbrev pub entry_of : Catalog → ℕ → Option ℕ → List ℕ
 entry_of catalog patch None = patch_name catalog patch ++ codes " nop\n"
 entry_of catalog patch (Some function) = new_function_text catalog patch function
@@ -98,10 +104,12 @@ abbrev pub stack_text : Catalog → List Entry → List ℕ
 stack_text catalog [] = codes "empty\n"
 stack_text catalog (entry ∷ entries) = lines_of (entry_text catalog) (entry ∷ entries)
 
+-- a version with its address
 abbrev pub version_text : Catalog → Version → ℕ → List ℕ
 version_text catalog (Original site) address = codes "original " ++ address_text address ++ codes "\n"
 version_text catalog (New patch function) address = new_function_text catalog patch function
 
+-- what a task runs, if its site is one of a loaded object
 abbrev pub target_query : Catalog → Option Target → Result (List ℕ) Refusal
 target_query catalog None = Err NoModule
 target_query catalog (Some target) = Ok (version_text catalog target.version target.address)

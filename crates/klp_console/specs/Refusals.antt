@@ -7,6 +7,7 @@ use Rattle.klp_model.specs.declared.event.Refusal.TheVariants.{NoPatch, Busy, Al
 use Rattle.klp_console_commands.specs.declared.fault.LineFault.{LineFault}
 use Rattle.klp_console_commands.specs.declared.fault.LineFault.TheVariants.{BadLine, BadValue, Refused}
 
+-- the whole line of each refusal
 abbrev pub refusal_text : Refusal → List ℕ
 refusal_text NoPatch = codes "error 2 NoPatch\n"
 refusal_text NoModule = codes "error 2 NoModule\n"

@@ -12,6 +12,7 @@ use Rattle.klp_catalog.specs.Catalog.{Catalog}
 use Rattle.klp_console.specs.Names.{patch_name, object_name}
 use Rattle.klp_console.specs.Refusals.{refusal_text}
 
+-- the answer to a line that was done and has no more to report
 abbrev pub done_text : List ℕ
 done_text = codes "ok\n"
 
@@ -30,6 +31,7 @@ abbrev pub frames_text : Catalog → List Version → List ℕ
 frames_text catalog [] = []
 frames_text catalog (version ∷ versions) = frame_text catalog version ++ frames_text catalog versions
 
+-- the whole line of each reply
 abbrev pub reply_text : Catalog → Reply → List ℕ
 reply_text catalog Done = done_text
 reply_text catalog Started = codes "started\n"

@@ -96,10 +96,10 @@ fn end<W: Sink>(
 ///
 /// A line ends with a line feed, or with the input, and has at most [`MAX_CONSOLE_LINE`](klp_types::MAX_CONSOLE_LINE)
 /// bytes. Each answer is written before the next read, so that someone who types sees it at once. The contract implies
-/// this, since any read may be the one that fails (docs/DECISIONS.md, "Answers before the next read"). A patch that is
-/// withdrawn in between leaves no trace, as after `Manager::run`. This compares with the state before any line after
-/// which no `seal` comes, and no `rewind` to before that line. A line costs as much as its words and what it asks for.
-/// Allocates nothing.
+/// this, since any read may be the one that fails (docs/DECISIONS.md, "Answers before the next read"). A patch that was
+/// withdrawn leaves no trace, as after `Manager::run`. That holds in comparison with the state before any of the lines,
+/// if no later line is a `seal`, or a `rewind` to before that line. A line costs as much as its words and what it asks
+/// for. Allocates nothing.
 pub fn serve<R: Source, W: Sink>(
     reader: &mut R,
     writer: &mut W,

@@ -21,6 +21,7 @@ pub record NameResolver : Type 0 where
   pub patches : List (List ℕ)
   pub objects : List ObjectNames
 
+-- the names of a catalog and of a table of modules
 abbrev pub names_of : Catalog → ModuleTable → NameResolver
 names_of catalog modules = record { patches = patch_names_of catalog.patches; objects = modules.names }
 
@@ -36,6 +37,7 @@ object_of names word = if is_utf8 word then ok_or (object_named names.objects wo
 abbrev pub task_of : ℕ → Result ℕ LineFault
 task_of number = if nat_lt number MAX_TASKS then Ok number else Err (Refused NoTask)
 
+-- the site that was found; every fault of a symbol is `NoSymbol`
 abbrev pub symbol_found : Result ℕ SymbolFault → Result ℕ LineFault
 symbol_found (Ok site) = Ok site
 symbol_found (Err fault) = Err (Refused NoSymbol)
@@ -46,6 +48,7 @@ site_of names spelling =
     ok_or (object_named names.objects spelling.object) (Refused NoModule)
     >>= λ object. symbol_found (resolved names.objects object spelling.symbol spelling.sympos)
 
+-- the new function of a patch with this index, if the words have the form of a name and a number
 abbrev pub new_function_at : NameResolver → List ℕ → List ℕ → Result Version LineFault
 new_function_at names patch index =
     if is_console_name patch then (number_to MAX_INDEX index >>= λ i. patch_of names patch >>= λ p. Ok (New p i)) else Err BadLine
@@ -54,6 +57,7 @@ new_function_at names patch index =
 abbrev pub new_function_of : NameResolver → List ℕ → Result Version LineFault
 new_function_of names word = new_function_at names (before_first (λ b. b == 58) word) (after_first (λ b. b == 58) word)
 
+-- the function that a word spells, which is a symbol if it has a spelling
 abbrev pub version_spelled : NameResolver → List ℕ → Option Spelling → Result Version LineFault
 version_spelled names word (Some spelling) = site_of names spelling >>= λ site. Ok (Original site)
 version_spelled names word None = new_function_of names word

@@ -26,6 +26,7 @@ abbrev pub only_word : List (List ℕ) → Result (List ℕ) LineFault
 only_word (word ∷ []) = Ok word
 only_word words = Err BadLine
 
+-- the word, if it may name a patch or an object
 abbrev pub name_of : List ℕ → Result (List ℕ) LineFault
 name_of word = if is_console_name word then Ok word else Err BadLine
 
@@ -46,6 +47,7 @@ number_of word = ok_or (decimal_of (2 ^ 64) word) BadLine
 abbrev pub value_of : List ℕ → Result ShadowValue LineFault
 value_of word = ok_or (shadow_value_of word) BadLine
 
+-- the number, if it is at most this one
 abbrev pub at_most : ℕ → ℕ → Result ℕ LineFault
 at_most most number = if nat_le number most then Ok number else Err BadLine
 

@@ -2,6 +2,7 @@
 use Rattle.std.specs.Prelude.{ℕ, Bool, List, Option, Some, length, min}
 use Rattle.klp_console_io.specs.Supply.{Supply}
 
+-- bytes in memory that a source gives
 pub record Fed : Type 0 where
   -- the bytes that are still to be read
   pub left : List ℕ

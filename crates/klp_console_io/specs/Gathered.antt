@@ -1,6 +1,7 @@
 -- Answers that are gathered before they are written.
 use Rattle.std.specs.Prelude.{ℕ, Bool, List}
 
+-- answers on their way to a sink
 pub record Gathered : Type 0 where
   -- what was said and isn't written yet
   pub bytes : List ℕ

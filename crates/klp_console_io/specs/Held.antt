@@ -2,6 +2,7 @@
 use Rattle.std.specs.Prelude.{ℕ, ◌-◌, List, Option, Some, length, min}
 use Rattle.klp_console_io.specs.Written.{Written}
 
+-- bytes in memory that a sink took
 pub record Held : Type 0 where
   -- the bytes taken
   pub bytes : List ℕ

@@ -2,6 +2,7 @@
 use Rattle.std.specs.Prelude.{◌≡◌, ℕ, ◌+◌, ◌<◌, ◌≤◌, Bool, true, List, Option, length, take}
 use Rattle.std.specs.Io.KnownBytes.{Consumes, Keeps, IsAtEnd}
 
+-- a source as contracts see it
 pub record Supply : Type 0 where
   -- the bytes still to be read, if they are known
   pub left : Option (List ℕ)

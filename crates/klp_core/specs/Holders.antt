@@ -22,6 +22,7 @@ blocked_by setting state (Some move) = blocked setting state move
 abbrev pub blocked_now : Setting → State → List Version
 blocked_now setting state = blocked_by setting state state.moving
 
+-- whether this version is blocked now
 abbrev pub is_blocked : Setting → State → Version → Bool
 is_blocked setting state version = list_any (is_version version) (blocked_now setting state)
 
@@ -35,6 +36,7 @@ abbrev pub lag_by : Mode → Option Version → Lag
 lag_by Asleep (Some version) = Holds version
 lag_by mode held = Waits mode
 
+-- the lag of a task that isn't at the target
 abbrev pub lag_of : (Version → Bool) → Task → Lag
 lag_of blocks task = lag_by task.mode (innermost_blocked_in blocks task.frames)
 

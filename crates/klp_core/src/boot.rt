@@ -15,10 +15,10 @@ use klp_text::Image;
 use klp_types::ObjId;
 use std::alloc::Global;
 
-// Whether the three have the same number of symbols for each object. The loop goes one past the last object of the
-// image: there the other two must have none either. Nothing else is compared, since the caller knows that the names are
-// the same (docs/DECISIONS.md, "Image, modules and catalog as they came"). Borrows the three, so that its two ways out
-// drop nothing (docs/DECISIONS.md, "One way out for an owner").
+// Whether image, modules and catalog have the same number of symbols for each object. The loop goes one past the last
+// object of the image: there the other two must have none either. Nothing else is compared, since the caller knows that
+// the names are the same (docs/DECISIONS.md, "Image, modules and catalog as they came"). Borrows the three, so that its
+// two ways out drop nothing (docs/DECISIONS.md, "One way out for an owner").
 fn is_match(image: &Image, modules: &Modules, catalog: &Catalog) -> bool
     ensures matches { IsTrue result → IsMatch image.now.image modules.now catalog.now }
     ensures differs { result ≡ false → IsMatch image.now.image modules.now catalog.now → ⊥ }

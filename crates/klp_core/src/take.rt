@@ -27,8 +27,8 @@ pub(crate) fn is_brief(event: &Event) -> bool
     }
 }
 
-/// Takes an event that has a brief reply, by passing it to its own step. The event is borrowed, since it has room for
-/// the frames of a sleeper.
+/// Takes an event that has a brief reply, by passing it to its own step. The event is borrowed, since it is large: it
+/// has room for the frames of a sleeper.
 pub(crate) fn take_brief(
     state: &mut ManagerState,
     catalog: &mut Catalog,

@@ -89,6 +89,7 @@ pub record IsTakenBack (setting : Setting) (base : State) (event : Event) (old n
   pub knew : IsPrefix before.list old.list
   pub knows : after ≡ before
 
+-- what becomes of an event that isn't admitted: the manager refused it, or there was no memory to publish it
 abbrev pub IsRefused : Setting → State → Event → Booked → Booked → Knows → Knows → LiveRefusal → Type 0
 IsRefused setting base event old new before after (Refused refusal) = IsTurnedAway setting base event old new before after refusal
 IsRefused setting base event old new before after NoMemory = IsTakenBack setting base event old new before after

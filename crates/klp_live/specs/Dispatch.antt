@@ -15,9 +15,11 @@ use Rattle.klp_live.specs.declared.table.Change.{Change}
 use Rattle.klp_live.specs.declared.table.Change.TheVariants.{Same, Task as OfTask, Moved, All}
 use Rattle.klp_live.specs.Listed.{with_rows}
 
+-- the row of a site in a table
 abbrev pub row_at : Table → ℕ → Option SiteRow
 row_at table site = slice_index_or table.rows site None
 
+-- the patch state of a task in a table
 abbrev pub state_at : Table → ℕ → Option ℤ
 state_at table task = slice_index_or table.states task None
 

@@ -11,9 +11,11 @@ use Rattle.klp_model.specs.Entries.{is_site_loaded, entries_of}
 use Rattle.klp_live.specs.declared.target.EnterFault.{EnterFault}
 use Rattle.klp_live.specs.declared.target.EnterFault.TheVariants.{NoSite, NoTask}
 
+-- a version with its address
 abbrev pub begun : Setting → Version → Target
 begun setting version = record { version = version; address = unwrap_or (address_of setting version) 0 }
 
+-- what a call runs, if its site is one of a loaded object and its task exists
 abbrev pub entered_if : Setting → State → ℕ → Bool → Option Task → Result Target EnterFault
 entered_if setting state site false own = Err NoSite
 entered_if setting state site true None = Err NoTask

@@ -15,6 +15,7 @@ abbrev pub AreRowsOf : Setting → State → List NewRow → Type 0
 AreRowsOf setting state [] = Unit {0}
 AreRowsOf setting state (first ∷ rest) = (first.1 ≡ row_of setting state first.0) × AreRowsOf setting state rest
 
+-- whether the list has a row of this site
 abbrev pub is_listed : ℕ → List NewRow → Bool
 is_listed site rows = list_any (λ (r : NewRow). r.0 == site) rows
 

@@ -35,5 +35,6 @@ pub record IsSeenIn (setting : Setting) (base : State) (task site : ℕ) (before
   pub begins : IsPrefix before.list after.list
   pub accepted : after.accepted ≡ before.accepted
 
+-- what a call of a pass finds: no table, and nothing new is known, or an answer by the history that is known then
 abbrev pub IsEntered : Setting → State → ℕ → ℕ → Knows → Knows → Result Target EnterFault → Type 0
 IsEntered setting base task site before after result = ((result ≡ Err NoTable) × (after ≡ before)) ⊎ IsSeenIn setting base task site before after result

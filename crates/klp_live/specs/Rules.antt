@@ -9,6 +9,7 @@ use Rattle.klp_model.specs.Legal.{History}
 pub record IsKept (cells : List Cell) (log : History) : Type 0 where
   pub words : cells ≡ (length log, true) ∷ (0, true) ∷ []
 
+-- the word that holds the length of the history
 abbrev pub head_of : Book → Named
 head_of b = record { tracked = true; key = 0; book = b }
 

@@ -7,10 +7,12 @@ use Rattle.klp_model.specs.Legal.{History}
 use Rattle.klp_live.specs.declared.published.Known.{Known}
 use Rattle.klp_live.specs.declared.published.View.{View}
 
+-- what a seat knows: a beginning of the history, and how many of its own events were accepted
 pub record Knows : Type 0 where
   pub list : History
   pub accepted : ℕ
 
+-- a receipt: an accepted event with its number and its reply, and the history up to it
 pub record ReceiptValue : Type 0 where
   pub number : ℕ
   pub event : Event

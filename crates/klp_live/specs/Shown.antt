@@ -13,6 +13,7 @@ use Rattle.klp_live.specs.declared.published.News.{News}
 use Rattle.klp_live.specs.declared.published.Known.{Known}
 use Rattle.klp_live.specs.declared.published.View.{View}
 
+-- the published table after this news
 abbrev pub with_news : Published → Option News → Published
 with_news x None = x
 with_news x (Some news) = record { table = changed x.table news.change; rows = news.rows; seen = news.seen }
@@ -28,13 +29,16 @@ pub record Begins (x : Published) (k : Known) : Type 0 where
   pub book : k.seen.book ≡ x.seen.book
   pub rows : IsPrefix k.seen.log x.seen.log
 
+-- each of these known histories is a beginning of what is published
 abbrev pub EachBegins : Published → List Known → Type 0
 EachBegins x [] = Unit {0}
 EachBegins x (k ∷ ks) = Begins x k × EachBegins x ks
 
+-- the history of what is published, as a reader knows it
 abbrev pub known_of : Published → Known
 known_of x = record { seen = x.seen }
 
+-- the rule of a start: what is published is a table of its history, and readers know beginnings of that history
 pub record Holds (setting : Setting) (base : State) (book : Book) (x : Published) (views : List View) : Type 0 where
   pub table : IsTable setting base x
   pub book_is : x.seen.book ≡ book
@@ -46,6 +50,7 @@ pub record RuleIs (holds : Published → List View → Type 0) (first : View) (s
   pub given : (x : Published) (views : List View) → Holds setting base book x views → holds x views
   pub first_is : first ≡ record { known = [] }
 
+-- whoever published or read `y` knew a beginning of its history before, and knows this history now
 pub record IsSeen (v : View) (x y : Published) (w : View) : Type 0 where
   pub before : EachBegins y v.known
   pub after : w ≡ record { known = known_of y ∷ [] }

@@ -26,10 +26,12 @@ module_moved (Coming object) = Some object
 module_moved (Going object) = Some object
 module_moved other = None
 
+-- whether a site lies in this object, if there is one
 abbrev pub is_inside : Setting → Option ℕ → ℕ → Bool
 is_inside setting None site = false
 is_inside setting (Some object) site = is_at (object_of setting.image.objects site) object
 
+-- whether an event may change the row of a site
 abbrev pub is_touched : Setting → Option ℕ → Event → ℕ → Bool
 is_touched setting moving event site = is_touched_by setting (patch_moved moving event) site || is_inside setting (module_moved event) site
 

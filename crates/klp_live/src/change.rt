@@ -225,7 +225,7 @@ fn rows_inside<M: Machine>(
     Ok(rows)
 }
 
-/// Makes a change of these rows and of the patch states of all tasks.
+/// Returns these rows together with the present patch states of all tasks, as one change.
 fn moved<M: Machine>(
     alloc: Global,
     machine: &M,
@@ -244,8 +244,8 @@ fn moved<M: Machine>(
     Ok(moved)
 }
 
-/// Returns the change that an event made, which was just taken. The event is one of patches or modules. `moving` is the
-/// patch that was in transition before it.
+/// Returns what an event that was just taken changed in the table. The event must be one of patches or modules, and not
+/// of one task or of variables. `moving` is the patch that was in transition before it.
 fn change_of_patches<M: Machine>(
     alloc: Global,
     machine: &M,
@@ -272,9 +272,8 @@ fn change_of_patches<M: Machine>(
     }
 }
 
-/// Returns what an event that was just taken changes in the table from before it. `moving` is the patch that was in
-/// transition before it. The cost grows with the event's own sites, and with all tasks if the event may change all of
-/// them.
+/// Returns what an event that was just taken changed in the table. `moving` is the patch that was in transition before
+/// it. The cost grows with the event's own sites, and with all tasks if the event may change all of them.
 pub fn change_after<M: Machine>(
     alloc: Global,
     machine: &M,

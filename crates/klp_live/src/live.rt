@@ -107,7 +107,8 @@ fn shares_of<S: Start + Protocol<Published, View>, W: Wait>(
 }
 
 impl<S: Start + Protocol<Published, View>, M: Machine + Drop, R: Wait + Drop> Live<S, M, R> {
-    /// Starts over a manager: publishes its table, and hands out the seats.
+    /// Starts over a manager: publishes its table, and hands out the seats. On a fault, returns the manager as it was
+    /// passed in.
     pub fn start(
         rt: R,
         alloc: Global,

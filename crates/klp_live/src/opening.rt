@@ -51,7 +51,7 @@ fn first_of(table: &Table, seen: &Seen<Accepted, u64, Law>) -> Published
     }
 }
 
-/// Returns the table that a change makes. The change must make the same table of any other.
+/// Returns the table that a change makes, which must not depend on the table before.
 fn table_by<S: Start>(change: Change) -> Table
     requires { Makes S.setting S.base change }
     ensures { IsDispatch S.setting S.base result }

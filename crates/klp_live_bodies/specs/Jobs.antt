@@ -16,6 +16,7 @@ use Rattle.klp_live_bodies.specs.Running.{Ends}
 abbrev pub body_of : {S G : Type 0} {s : Start.Ghosts S} {g : Gate.Ghosts G} → Job S G s g → Option (TaskBody S G)
 body_of job = job.body
 
+-- the steps of a job
 abbrev pub steps_of : {S G : Type 0} {s : Start.Ghosts S} {g : Gate.Ghosts G} → Job S G s g → List Step
 steps_of job = job.steps.items
 
@@ -23,6 +24,7 @@ steps_of job = job.steps.items
 abbrev pub ended_of : {S G : Type 0} {s : Start.Ghosts S} {g : Gate.Ghosts G} → Job S G s g → Option (Result Passing (BodyFault S))
 ended_of job = job.ended
 
+-- the outcomes of a job's steps, none before it has run
 abbrev pub outcomes_of : {S G : Type 0} {s : Start.Ghosts S} {g : Gate.Ghosts G} → Job S G s g → List Outcome
 outcomes_of job = job.outcomes.items
 

@@ -52,6 +52,7 @@ pub record IsRefusal (setting : Setting) (base : State) (seen : History) (event 
   pub answers : refusal ≢ JournalFull → answer setting (state_after_history setting base seen) event ≡ Err refusal
   pub full : refusal ≡ JournalFull → FindsNoRoom setting base seen event
 
+-- what submitting an event comes to: a receipt or a refusal
 abbrev pub IsSubmission : Setting → State → ℕ → History → Event → What → Type 0
 IsSubmission setting base before seen event (Receipt accepted) = IsReceipt before seen event accepted
 IsSubmission setting base before seen event (Refused refusal) = IsRefusal setting base seen event refusal
@@ -73,12 +74,14 @@ pub record IsDeep (before : ℕ) (frames : List Version) (seen : History) : Type
   pub full : length frames ≡ MAX_FRAMES
   pub same : length seen ≡ before
 
+-- what a call comes to: a version is entered, or none is
 abbrev pub IsCall : Setting → State → ℕ → ℕ → List Version → History → ℕ → What → Type 0
 IsCall setting base task before frames seen site (Entered target) = IsEntry setting base task frames seen site target
 IsCall setting base task before frames seen site (NoEntry fault) = IsNoEntry setting base task before frames seen site fault
 IsCall setting base task before frames seen site Deep = IsDeep before frames seen
 IsCall setting base task before frames seen site other = ⊥
 
+-- a return, which makes no event known
 abbrev pub IsReturn : ℕ → History → What → Type 0
 IsReturn before seen Returned = length seen ≡ before
 IsReturn before seen other = ⊥

@@ -74,6 +74,7 @@ abbrev pub status_of : Result Done LiveFault → ℕ
 status_of (Ok done) = 0
 status_of (Err fault) = 1
 
+-- the program's result, and the exit status that goes with it
 pub record Exits (catalog text : List ℕ) (before after : Option (List ℕ)) (status : ℕ) : Type 0 where
   pub result : Result Done LiveFault
   pub lives : Lives catalog text before after result

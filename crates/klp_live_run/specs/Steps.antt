@@ -30,6 +30,7 @@ abbrev pub alone : Step → List (List ℕ) → Option Step
 alone step [] = Some step
 alone step words = None
 
+-- the step of a line with these words
 abbrev pub step_with : Journaled → List ℕ → List (List ℕ) → Option Step
 step_with manager line [] = None
 step_with manager line (first ∷ words) =

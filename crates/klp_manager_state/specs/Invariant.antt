@@ -10,6 +10,7 @@ use Rattle.klp_stack.specs.Stack.{entries_at}
 use Rattle.klp_manager_state.specs.declared.state.ManagerState.{ManagerState}
 use Rattle.klp_manager_state.specs.Managed.{setting_in, state_in, entries_in}
 
+-- what a manager keeps between events
 pub record Invariant (manager : ManagerState) (catalog : Catalog) : Type 0 where
   -- the state is one that events can lead to
   pub allowed : Allowed (setting_in manager catalog) (state_in manager catalog)

@@ -13,6 +13,7 @@ use Rattle.klp_model.specs.State.{State}
 use Rattle.klp_catalog.specs.Catalog.{Catalog, patches_of}
 use Rattle.klp_manager_state.specs.declared.state.ManagerState.{ManagerState}
 
+-- a manager as contracts see it
 pub record Managed : Type 0 where
   pub image : Image
   pub catalog : Catalog

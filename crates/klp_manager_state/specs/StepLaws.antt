@@ -9,6 +9,7 @@ use Rattle.klp_model.specs.Stated.{IsStated}
 use Rattle.klp_catalog.specs.Catalog.{Catalog}
 use Rattle.klp_catalog.specs.Runs.{after_runs}
 
+-- the facts that each step keeps
 pub record StepLaws : Type 0 where
   -- an allowed state leads to an allowed state
   pub allowed : (setting : Setting) (state : State) (event : Event) → Allowed setting state → Allowed setting (next setting state event)

@@ -9,8 +9,9 @@ use klp_types::{PatchId, Record};
 use std::alloc::{AllocError, Global};
 use std::marker::Model;
 
-/// A flag for each patch: whether it is pinned, since a forced transition left functions behind that a task may still
-/// be inside of (livepatch, Force). Only undo takes a pin away. [`Pins::new`] allocates all memory.
+/// Which patches are pinned, by a flag for each patch. A pinned patch has functions that a forced transition left
+/// behind, and that a task may still be inside of (livepatch, Force). Only undo takes a pin away. [`Pins::new`]
+/// allocates all memory.
 #[derive(Drop)]
 pub struct Pins {
     flags: Vec<bool>,
@@ -74,7 +75,7 @@ impl Pins {
         }
     }
 
-    /// Puts back the pin that a record tells of. Ignores a record of another kind, since each part gets every record.
+    /// Puts back the pin that a record has. Ignores a record of another kind, as the definition does.
     pub fn put_back(&mut self, row: Record)
         ensures { self.new ≡ put_pinned self.old row }
     {

@@ -8,8 +8,8 @@ ghost use Rattle.klp_manager_state.specs.Rows.{row_of_moving, rows_before, put_m
 use crate::state::ManagerState;
 use klp_types::{PatchId, Record, Transition};
 
-/// Returns the transition as it was before, by a record of it. Returns `moving` for a record of another kind, since
-/// each part gets every record.
+/// Returns the transition that a record has from before the change. Returns `moving` for a record of another kind, as
+/// the definition does.
 pub(crate) fn moving_before(moving: Option<Transition>, row: Record) -> Option<Transition>
     ensures { result ≡ put_moving moving row }
 {

@@ -1,4 +1,4 @@
-//! Putting back what an event logged. No step is reversed: the records have all that there was.
+//! Putting back what an event logged. Undo runs no step backwards: the records have all that there was.
 ghost use Rattle.std.specs.Prelude.{◌≡◌, ◌<◌, true, false, [], length};
 ghost use Rattle.klp_journal.specs.Small.{row_of};
 ghost use Rattle.klp_manager_state.specs.Rows.{rows_in, put_back, undone, is_due, are_due};

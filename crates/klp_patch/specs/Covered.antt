@@ -14,6 +14,7 @@ abbrev pub is_in_scope : Option ℕ → List Bool → ℕ → Bool
 is_in_scope None loaded object = slice_index_or loaded object false
 is_in_scope (Some own) loaded object = object == own
 
+-- whether a change covers this object, if there is one
 abbrev pub is_object_in_scope : Option ℕ → List Bool → Option ℕ → Bool
 is_object_in_scope only loaded None = false
 is_object_in_scope only loaded (Some object) = is_in_scope only loaded object

@@ -20,6 +20,7 @@ abbrev pub call_for : (ℕ → Bool) → ℕ → Which → ℕ → Option PatchO
 call_for loaded patch which place None = []
 call_for loaded patch which place (Some object) = if loaded object.object then call_of patch place which (script_for which object.callbacks) else []
 
+-- the callback of the patch's object at this place, if the object is loaded
 abbrev pub loaded_call : Catalog → ModuleTable → ℕ → Which → ℕ → List Call
 loaded_call catalog modules patch which place = call_for (is_loaded_in modules) patch which place (slice_get (objects_at catalog patch) place)
 
@@ -28,6 +29,7 @@ abbrev pub status_for : (ℕ → Bool) → Which → Option PatchObject → ℤ
 status_for loaded which None = pos 0
 status_for loaded which (Some object) = if loaded object.object then status_of (script_for which object.callbacks) else pos 0
 
+-- the status of that callback: 0 if none runs
 abbrev pub loaded_status : Catalog → ModuleTable → ℕ → Which → ℕ → ℤ
 loaded_status catalog modules patch which place = status_for (is_loaded_in modules) which (slice_get (objects_at catalog patch) place)
 

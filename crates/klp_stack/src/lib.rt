@@ -15,8 +15,8 @@
 #![tactic(auto)]
 
 mod chain;
-mod picks;
 pub mod laws;
+mod picks;
 mod pool;
 mod slot;
 mod stacks;

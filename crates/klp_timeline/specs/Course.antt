@@ -16,13 +16,16 @@ after_fact course line (Undoes from to) = record { since = Some (Undone line); i
 after_fact course line (Forces move) = record course { is_forced = true }
 after_fact course line fact = course
 
+-- the course after this sentence of a line
 abbrev pub after_said : Course → ℕ → Said → Course
 after_said course line (Did fact) = after_fact course line fact
 after_said course line (Slept sleepers) = course
 
+-- the course after these sentences
 abbrev pub course_from : Course → List Sentence → Course
 course_from course [] = course
 course_from course (sentence ∷ rest) = course_from (after_said course sentence.line sentence.said) rest
 
+-- the course of the last transition of a run
 abbrev pub course_of : List Sentence → Course
 course_of sentences = course_from (record { since = None; is_forced = false }) sentences

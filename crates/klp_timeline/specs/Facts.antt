@@ -11,10 +11,12 @@ use Rattle.klp_timeline.specs.declared.moment.Fact.{Fact}
 use Rattle.klp_timeline.specs.declared.moment.Fact.TheVariants.{Undoes, Starts, Reverses, Completes, Leaves}
 use Rattle.klp_timeline.specs.Stays.{is_transition}
 
+-- whether the line undid events
 abbrev pub is_undone : Option Fact → Bool
 is_undone (Some (Undoes from to)) = true
 is_undone other = false
 
+-- whether a task sleeps inside of code that it wouldn't call now
 abbrev pub is_outdated : Option Stay → Bool
 is_outdated (Some (Outdated version)) = true
 is_outdated other = false
@@ -26,6 +28,7 @@ turn None (Some move) stays = Some (Starts move)
 turn (Some move) None stays = Some (Completes move (count_by is_outdated stays))
 turn (Some move) (Some other) stays = if is_transition move other then None else Some (Reverses other)
 
+-- whether the patch is the one in transition
 abbrev pub is_moving_patch : Option Transition → ℕ → Bool
 is_moving_patch None patch = false
 is_moving_patch (Some move) patch = move.patch == patch

@@ -3,6 +3,7 @@ use Rattle.std.specs.Prelude.{◌≡◌, ℕ, suc, Bool, false, List, [], ◌∷
 use Rattle.klp_types.specs.declared.task.Mode.{Mode}
 use Rattle.klp_model.specs.Task.{is_mode}
 
+-- whether a task lags in this mode
 abbrev pub is_in : Mode → Option Mode → Bool
 is_in mode None = false
 is_in mode (Some own) = is_mode own mode

@@ -10,9 +10,11 @@ use Rattle.klp_timeline.specs.declared.moment.Sentence.{Sentence}
 use Rattle.klp_timeline.specs.Stays.{is_stay, sleeps_begun}
 use Rattle.klp_timeline.specs.Facts.{facts}
 
+-- the sentence that a line did this
 abbrev pub did : ℕ → Fact → Sentence
 did line fact = record { line = line; said = Did fact }
 
+-- whether two stays end with the same line, or both last until the end
 abbrev pub is_end : Option ℕ → Option ℕ → Bool
 is_end None None = true
 is_end (Some to) (Some last) = to == last
@@ -22,6 +24,7 @@ is_end to last = false
 abbrev pub is_alike : Sleep → Sleep → Bool
 is_alike own other = is_stay own.stay other.stay && is_end own.to other.to
 
+-- the tasks of all stays in the list that are alike to this one
 abbrev pub tasks_alike : Sleep → List Sleep → List ℕ
 tasks_alike own sleeps = map (λ (sleep : Sleep). sleep.task) (filter (is_alike own) sleeps)
 
@@ -36,6 +39,7 @@ slept_from line sleeps before [] = []
 slept_from line sleeps before (own ∷ rest) =
     (if list_any (is_alike own) before then [] else slept line own sleeps ∷ []) ++ slept_from line sleeps (before ++ own ∷ []) rest
 
+-- the sentences of the stays that begin with a line
 abbrev pub slept_of : ℕ → List Sleep → List Sentence
 slept_of line sleeps = slept_from line sleeps [] sleeps
 

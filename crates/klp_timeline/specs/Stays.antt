@@ -12,9 +12,11 @@ abbrev pub is_way : Bool → Bool → Bool
 is_way true other = other
 is_way false other = not other
 
+-- whether two transitions have the same patch and target
 abbrev pub is_transition : Transition → Transition → Bool
 is_transition own other = own.patch == other.patch && is_way own.target other.target
 
+-- whether two stays are the same
 abbrev pub is_stay : Stay → Stay → Bool
 is_stay (Holds move version) (Holds other frame) = is_transition move other && is_version version frame
 is_stay (Outdated version) (Outdated frame) = is_version version frame
@@ -25,6 +27,7 @@ abbrev pub is_seen : Stay → Option Stay → Bool
 is_seen stay None = false
 is_seen stay (Some other) = is_stay stay other
 
+-- the stay of a task, if it is in one
 abbrev pub stay_at : List (Option Stay) → ℕ → Option Stay
 stay_at stays task = slice_index_or stays task None
 

@@ -6,11 +6,13 @@ use Rattle.klp_timeline.specs.declared.moment.Stay.{Stay}
 use Rattle.klp_timeline.specs.declared.moment.View.{View}
 use Rattle.klp_timeline.specs.Stays.{is_transition, is_seen}
 
+-- whether both views show the same transition, or both none
 abbrev pub is_same_move : Option Transition → Option Transition → Bool
 is_same_move None None = true
 is_same_move (Some move) (Some other) = is_transition move other
 is_same_move before after = false
 
+-- whether a task is in the same stay before and after, or in none both times
 abbrev pub is_same_stay : Option Stay → Option Stay → Bool
 is_same_stay None None = true
 is_same_stay (Some stay) after = is_seen stay after
@@ -22,6 +24,7 @@ are_same [] [] = true
 are_same (before ∷ stays) (after ∷ others) = is_same_stay before after && are_same stays others
 are_same stays others = false
 
+-- whether two lists have the same patches in the same order
 abbrev pub are_equal : List ℕ → List ℕ → Bool
 are_equal [] [] = true
 are_equal (patch ∷ patches) (other ∷ others) = patch == other && are_equal patches others

@@ -66,6 +66,7 @@ abbrev pub AreSeen : List Moment → ℕ → Sleepers → Type 0
 AreSeen run from sleepers = (task index : ℕ) → Contains sleepers.tasks task → index < length run → Spans from sleepers (suc index)
     → seen_after run index task ≡ Some sleepers.stay
 
+-- what a sentence says is true of the run
 abbrev pub IsTrueOf : View → List Moment → ℕ → Said → Type 0
 IsTrueOf opening run line (Did fact) = IsFactOf opening run line fact
 IsTrueOf opening run line (Slept sleepers) = AreSeen run line sleepers

@@ -33,6 +33,7 @@ abbrev pub site_of : Setting → Version → Option ℕ
 site_of setting (Original site) = Some site
 site_of setting (New patch function) = option_and_then (λ (f : Function). f.site) (slice_get (functions_of setting patch) function)
 
+-- whether the version is the one that was picked
 abbrev pub is_picked : Version → Option Target → Bool
 is_picked version None = false
 is_picked version (Some target) = is_version target.version version
@@ -41,6 +42,7 @@ is_picked version (Some target) = is_version target.version version
 abbrev pub is_current : Setting → State → Option Task → Version → Bool
 is_current setting state row version = is_picked version (option_and_then (λ site. pick_by setting state site row) (site_of setting version))
 
+-- the first version, or if there is none the other
 abbrev pub else_of : Option Version → Option Version → Option Version
 else_of None other = other
 else_of (Some version) other = Some version
@@ -59,9 +61,11 @@ abbrev pub stay_by : Option Transition → Option Lag → Option Version → Opt
 stay_by (Some move) (Some (lag.Holds version)) outdated = Some (Holds move version)
 stay_by moving own outdated = option_map Outdated outdated
 
+-- the lag of the task of this row
 abbrev pub lag_in : Setting → State → Option Task → Option Lag
 lag_in setting state row = lag_at (is_blocked setting state) state.moving row
 
+-- the stay of the task of this row
 abbrev pub stay_in : Setting → State → Option Task → Option Stay
 stay_in setting state row = stay_by state.moving (lag_in setting state row) (outdated_in setting state row)
 
@@ -83,6 +87,7 @@ abbrev pub IsStayAtEach : Type 0
 IsStayAtEach = (setting : Setting) (state : State) (view : View) (task : ℕ) → IsView setting state view
     → stay_at view.stays task ≡ stay_in setting state (task_at state.tasks task)
 
+-- the fact that this transition was forced
 abbrev pub forces : Option Transition → Option Fact
 forces moving = option_map Forces moving
 
