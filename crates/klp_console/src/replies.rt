@@ -92,7 +92,8 @@ fn say_original<W: Sink>(answers: &mut Answers, writer: &mut W, modules: &Module
     }
 }
 
-/// Says a new function by its patch and its index in it, since other functions may have the same name.
+/// Says a new function by its patch and its index among the patch's functions. Its name would not do, since other
+/// functions may have the same name.
 fn say_new<W: Sink>(answers: &mut Answers, writer: &mut W, patch: &str, function: u64)
     ensures { Says (answers.old, W.written writer.old) (answers.new, W.written writer.new)
         (codes " " ++ patch.now ++ codes ":" ++ decimal function) }

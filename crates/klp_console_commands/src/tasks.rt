@@ -42,8 +42,8 @@ fn are_frames(words: &LineWords<'_>) -> bool
     true
 }
 
-/// Returns the functions that the words spell. There are at most as many words as frames fit, so each `push` succeeds,
-/// and its result is dropped.
+/// Returns the functions that the words spell, or the fault of the first name that can't be found. The caller has
+/// checked that there are at most `MAX_FRAMES` words. So each `push` succeeds, and its result is dropped.
 fn frames(words: &LineWords<'_>, names: &NameResolver<'_>) -> Result<Frames, LineFault>
     requires { length words.now ≤ MAX_FRAMES }
     ensures { result ≡ versions_of names.now words.now }

@@ -155,8 +155,8 @@ impl Answers {
         }
     }
 
-    /// Says a text that fits behind the gathered bytes, or before which nothing is gathered. A text that is longer than
-    /// the whole room is written at once.
+    /// Says a text. It must fit behind the gathered bytes, or nothing may be gathered. A text that is longer than the
+    /// whole room is written at once.
     #[tactic(auto, unfolding(crate::specs::Says::Speaks))]
     fn take<W: Sink>(&mut self, writer: &mut W, text: &[u8])
         requires { (length self.old.bytes + length text.now ≤ ANSWER_ROOM) ⊎

@@ -10,7 +10,8 @@ use klp_sites::Sites;
 use klp_text::Image;
 use klp_types::{ObjId, Site};
 
-/// Whether a change covers this object: the object `only`, loaded or not, or without `only` any loaded object.
+/// Whether a change covers this object. With `only`, the change covers that object alone, loaded or not. Without it,
+/// the change covers each loaded object.
 pub(crate) fn is_in_scope(image: &Image, only: Option<ObjId>, object: ObjId) -> bool
     ensures { result ≡ covered.is_in_scope only image.now.loaded object }
 {
@@ -40,8 +41,9 @@ pub(crate) fn site_in_scope(
     if in_scope { function.site() } else { None }
 }
 
-/// Whether a site lies in the object `only`, or without `only` in any loaded object. The cost grows with the number of
-/// the object that the site lies in, since objects are searched in order.
+/// Whether a change covers a site: with `only`, whether the site lies in that object; without it, whether the site lies
+/// in a loaded object. The cost grows with the number of the object that the site lies in, since objects are searched
+/// in order.
 pub(crate) fn covers(sites: &Sites, only: &Option<ObjId>, site: Site) -> bool
     ensures { result ≡ covered.is_covered sites.now only.now site }
 {
