@@ -168,7 +168,7 @@ impl Catalog {
         };
         for &other in installed {
             let lives = match self.get(other) {
-                Some(other) => own.can_live_with_all(&other.states),
+                Some(other) => own.is_compatible_with_all(&other.states),
                 None => true,
             };
             if !lives {

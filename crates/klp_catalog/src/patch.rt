@@ -96,13 +96,11 @@ impl CatalogPatch {
     /// Whether the patch can be installed beside a patch with these system states. It must name each of them with
     /// the same or a higher version. Only a patch that isn't cumulative may leave a state out, since a cumulative
     /// one takes all states over.
-    pub(crate) fn can_live_with_all(&self, states: &[SystemState]) -> bool
-        ensures { result ≡ list_all (λ (s : StateValue). compatible.can_live_with self.now.replace s
+    pub(crate) fn is_compatible_with_all(&self, states: &[SystemState]) -> bool
+        ensures { result ≡ list_all (λ (s : StateValue). compatible.is_compatible_with self.now.replace s
             (compatible.version_among s.id self.now.states)) states.now }
     {
-        states
-            .iter()
-            .all(|state| can_live_with(self.replace, &self.states, *state))
+        states.iter().all(|state| is_compatible_with(self.replace, &self.states, *state))
     }
 }
 
@@ -151,8 +149,8 @@ fn version_among(id: u64, states: &[SystemState]) -> Option<u32>
 
 /// Whether a patch with the states `own` can be installed beside a patch with this state. It must name the state
 /// with the same or a higher version; only a patch that isn't cumulative may leave the state out.
-fn can_live_with(replace: bool, own: &[SystemState], state: SystemState) -> bool
-    ensures { result ≡ compatible.can_live_with replace state (compatible.version_among state.id own.now) }
+fn is_compatible_with(replace: bool, own: &[SystemState], state: SystemState) -> bool
+    ensures { result ≡ compatible.is_compatible_with replace state (compatible.version_among state.id own.now) }
 {
     match version_among(state.id, own) {
         Some(version) => state.version <= version,

@@ -125,7 +125,7 @@ impl Manager {
     pub fn pick(&self, task: TaskId, site: Site) -> Option<Target>
         ensures { result ≡ pick (setting_of self.now.managed) self.now.managed.state task site }
     {
-        klp_stack::laws::the_word_is_enough();
+        klp_stack::laws::two_newest_entries_decide();
         let state = self.patch_state(task)?;
         if !self.is_site_loaded(site) {
             return None;

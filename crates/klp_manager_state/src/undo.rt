@@ -82,7 +82,9 @@ impl ManagerState {
         match row {
             SmallRecord::Entry { site, patch, was } => self.sites.put_entry(site, patch, was),
             SmallRecord::Hook { site: _, was: _ } => {}
-            SmallRecord::Resting { task, state, mode } => self.tasks.put_resting(task, state, mode),
+            SmallRecord::Resting { task, state, mode } => self
+                .tasks
+                .put_without_frames(task, state, mode),
         }
     }
 

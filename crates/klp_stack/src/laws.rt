@@ -9,7 +9,7 @@ ghost use Rattle.klp_stack.specs.Spare.{spare_in};
 
 /// A site's two newest entries decide which version a task runs there, whatever is below them. Only the newest
 /// entry's patch can be in transition, so a task passes over at most that one entry.
-pub fn the_word_is_enough()
+pub fn two_newest_entries_decide()
     ensures { (site : ℕ) (moving : Option Transition) (task : ℤ) (entries : List Entry)
         → picked site (word_of (moving_patch moving) entries) task ≡ newest_version site
         (entries_for moving task entries) }

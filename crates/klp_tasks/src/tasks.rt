@@ -170,7 +170,7 @@ impl Tasks {
         ensures { (test : AnyVersion → Bool) → ArePassing versions.now test
             → result ≡ list_any (sleeps_where test) self.now }
     {
-        self.holds_sleeper(versions)
+        self.any_sleeps_in(versions)
     }
 
     /// Logs the row of a number before it changes, with or without a task. The row is lent to the log, which
@@ -374,10 +374,10 @@ impl Tasks {
     /// Gives a number a task that is inside of nothing, as `put_back` of its record does. A number that no task can
     /// have changes nothing. If the task there is inside of nothing already, its frames aren't written again.
     #[inline(always)]
-    pub fn put_resting(&mut self, task: TaskId, state: PatchState, mode: Mode)
+    pub fn put_without_frames(&mut self, task: TaskId, state: PatchState, mode: Mode)
         ensures { self.new ≡ with_task self.old task (Some (record { state = state; mode = mode; frames = [] })) }
     {
-        if self.rests(task) {
+        if self.has_no_frames(task) {
             self.put_switched(task, state, mode);
             return;
         }
@@ -391,7 +391,7 @@ impl Tasks {
 
     /// Whether the number has a task, and that task is inside of nothing.
     #[inline(always)]
-    fn rests(&self, task: TaskId) -> bool
+    fn has_no_frames(&self, task: TaskId) -> bool
         ensures { result ≡ true → (now : AnyTask) × ((task_at self.now task ≡ Some now) × (now.frames ≡ [])) }
     {
         match self.get(task) {
@@ -430,7 +430,7 @@ impl Tasks {
 
     /// Whether any task sleeps inside of a version of the set. This contract names the set itself; that of
     /// `sleeps_in` allows any test that agrees with the set.
-    fn holds_sleeper(&self, versions: &VersionSet) -> bool
+    fn any_sleeps_in(&self, versions: &VersionSet) -> bool
         ensures { result ≡ list_any (sleeps_where (has versions.now)) self.now }
     {
         let mut left = self.numbers;

@@ -13,10 +13,10 @@ version_among id states = option_map (λ (s : SystemState). s.version) (find (λ
 
 -- whether a patch is compatible with a state of an installed patch: it names the state with the same or a higher
 -- version, or doesn't name it and isn't cumulative
-abbrev pub can_live_with : Bool → SystemState → Option ℕ → Bool
-can_live_with replace state None = not replace
-can_live_with replace state (Some version) = nat_le state.version version
+abbrev pub is_compatible_with : Bool → SystemState → Option ℕ → Bool
+is_compatible_with replace state None = not replace
+is_compatible_with replace state (Some version) = nat_le state.version version
 
 -- whether a patch is compatible with each state of each installed patch
 abbrev pub is_compatible : Bool → List SystemState → List (List SystemState) → Bool
-is_compatible replace own installed = list_all (list_all (λ (s : SystemState). can_live_with replace s (version_among s.id own))) installed
+is_compatible replace own installed = list_all (list_all (λ (s : SystemState). is_compatible_with replace s (version_among s.id own))) installed

@@ -4,7 +4,7 @@ use Rattle.klp_model.specs.Task.{task_at}
 use Rattle.klp_tasks.specs.Members.{has}
 use Rattle.klp_tasks.specs.Sleepers.{sleeps_where}
 use Rattle.klp_tasks.proofs.WalkLemmas.{row_read, any_started, none_past, none_at_all, one_passes}
-use Rattle.klp_tasks.proofs.tasks.Tasks.holds_sleeper.Goals as goal
+use Rattle.klp_tasks.proofs.tasks.Tasks.any_sleeps_in.Goals as goal
 
 pub loop-number-init : goal.loop-number-init
 loop-number-init c =

@@ -1,5 +1,5 @@
 use Rattle.std.proofs.Common.{rules}
-use Rattle.klp_catalog.proofs.patch.can_live_with.Goals as goal
+use Rattle.klp_catalog.proofs.patch.is_compatible_with.Goals as goal
 
 pub returns-in-None : goal.returns-in-None
 returns-in-None c = search rules

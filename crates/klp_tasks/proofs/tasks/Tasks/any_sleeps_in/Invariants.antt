@@ -1,7 +1,7 @@
 use Rattle.klp_tasks.specs.Members.{has}
 use Rattle.klp_tasks.specs.Sleepers.{sleeps_where}
 use Rattle.klp_tasks.proofs.WalkLemmas.{NoneSoFar}
-use Rattle.klp_tasks.proofs.tasks.Tasks.holds_sleeper.Given as goal
+use Rattle.klp_tasks.proofs.tasks.Tasks.any_sleeps_in.Given as goal
 
 abbrev pub invariant-loop-number : goal.invariant-loop-number
 invariant-loop-number l = NoneSoFar (sleeps_where (has l.versions)) l.left.bits l.self
