@@ -154,7 +154,7 @@ fn has_same_site(functions: &[CatalogFunction]) -> bool
 }
 
 /// Whether each of the functions has a site.
-fn name_sites(functions: &[CatalogFunction]) -> bool
+fn all_have_sites(functions: &[CatalogFunction]) -> bool
     ensures { result ≡ list_all (λ (f : FunctionValue). is_some f.site) functions.now }
 {
     functions.iter().all(|function| function.site.is_some())
@@ -221,7 +221,7 @@ fn assemble_patch(
     for target in given {
         targets.push(assemble_target(alloc, modules, target, numbers, &mut functions)?)?;
     }
-    let names_sites = name_sites(&functions);
+    let names_sites = all_have_sites(&functions);
     Ok(CatalogPatch {
         name: Snapshot::of(&name),
         replace,

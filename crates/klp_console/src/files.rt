@@ -43,7 +43,7 @@ fn say_line<W: Sink>(answers: &mut Answers, writer: &mut W, name: &str)
 }
 
 /// Says 1 for true and 0 for false, as the kernel's files read.
-fn say_switch<W: Sink>(answers: &mut Answers, writer: &mut W, value: bool)
+fn say_flag<W: Sink>(answers: &mut Answers, writer: &mut W, value: bool)
     ensures { Says (answers.old, W.written writer.old) (answers.new, W.written writer.new) (switch_text value) }
 {
     if value {
@@ -66,7 +66,7 @@ pub(crate) fn say_enabled<W: Sink>(
 {
     klp_console_io::laws::what_is_said_adds_up();
     let value = manager.enabled(patch).ok_or(Refusal::NotFound)?;
-    say_switch(answers, writer, value);
+    say_flag(answers, writer, value);
     Ok(())
 }
 
@@ -84,7 +84,7 @@ pub(crate) fn say_transition<W: Sink>(
 {
     klp_console_io::laws::what_is_said_adds_up();
     let value = manager.transition(patch).ok_or(Refusal::NotFound)?;
-    say_switch(answers, writer, value);
+    say_flag(answers, writer, value);
     Ok(())
 }
 

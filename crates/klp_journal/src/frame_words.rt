@@ -6,7 +6,7 @@ ghost use Rattle.std.specs.Prelude.{◌≡◌, ◌≤◌, [], length, map};
 ghost use Rattle.std.specs.List.{All};
 ghost use Rattle.klp_journal.specs.Words.{frame_word, IsFrame};
 
-use crate::write::write_frames;
+use crate::write_words::write_frames;
 use klp_types::{Frames, MAX_FRAMES};
 use std::marker::Model;
 

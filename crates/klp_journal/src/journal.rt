@@ -65,7 +65,7 @@ impl Journal {
         self.events.len() as u32
     }
 
-    /// Returns how many more records fit, for any events, at a constant cost.
+    /// Returns how many more records the journal has room for, whichever events they are of. The cost is constant.
     pub fn records_free(&self, log: &Records) -> u32
         requires { Keeps log.now self.now }
         ensures value { result ≡ records_free (groups_of self.now log.now.older) }

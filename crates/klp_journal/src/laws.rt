@@ -3,8 +3,8 @@ ghost use Rattle.std.specs.Prelude.{◌≡◌, ℕ, ◌+◌, ◌≤◌, List, []
 ghost use Rattle.klp_types.specs.declared.record.Record.{Record};
 ghost use Rattle.klp_journal.specs.Words.{words_of, IsRecord};
 
-use crate::read::read_back;
-use crate::write::write_record;
+use crate::read_words::read_back;
+use crate::write_words::write_record;
 use klp_types::Record;
 
 /// No record's words are the end of another record's words. So the last record of a list can be read in only one

@@ -1,3 +1,4 @@
+//! The list of records. `write_words` has how a record is written as words.
 ghost use Rattle.std.specs.Prelude.{◌≡◌, ◌+◌, ◌-◌, ◌<◌, ◌≤◌, [], ◌∷◌, ◌++◌, length, map, take, drop, slice_get, Some};
 ghost use Rattle.std.specs.Prelude.{IfOk, IfSome, IfNone};
 ghost use Rattle.klp_types.specs.declared.limits.TheConstants.{MAX_JOURNAL_RECORDS};

@@ -7,7 +7,7 @@ ghost use Rattle.klp_journal.specs.Stored.{EndWithRecord, AreOfKind};
 ghost use Rattle.klp_journal.specs.Small.{row_of};
 
 use crate::kinds::{KIND_ENTRY, KIND_HOOK, KIND_TASK, TAG_OF_A_WORD};
-use crate::read::{func_of, mode_of, state_of};
+use crate::read_words::{func_of, mode_of, state_of};
 use klp_types::{Mode, PatchId, PatchState, Place, Site, TaskId};
 
 /// A record of one of the kinds that events log most. It is small. A [`Record`](klp_types::Record) has room for a

@@ -7,10 +7,10 @@ ghost use Rattle.klp_journal.specs.Small.{row_of};
 ghost use Rattle.klp_types.specs.Frames.{frames_of};
 
 use crate::frame_words::FrameWords;
-use crate::read::read_back;
+use crate::read_words::read_back;
 use crate::small::{SmallRecord, small};
 use crate::switched::{SwitchedTask, switched};
-use crate::write::{copy_task, write_record};
+use crate::write_words::{copy_task, write_record};
 use klp_types::{MAX_RECORD_WORDS, Record, Task, TaskId};
 use std::alloc::{AllocError, Global};
 use std::marker::Model;

@@ -11,7 +11,7 @@ ghost use Rattle.klp_types.specs.Frames.{frames_of};
 
 use crate::frame_words::FrameWords;
 use crate::kinds::{KIND_TASK, TAG_OF_A_WORD};
-use crate::read::{mode_of, state_of};
+use crate::read_words::{mode_of, state_of};
 use klp_types::{Mode, PatchState, Task, TaskId};
 
 /// A task, with the patch state and the mode that it had.

@@ -41,6 +41,7 @@ abbrev pub completed_or_pending : Setting → State → Transition → Tasks →
 completed_or_pending setting state move tasks zero = completed setting state move
 completed_or_pending setting state move tasks (suc left) = (Pending (suc left), with_tasks state tasks)
 
+-- what a poll replies and leaves: nothing to do without a transition, else sleepers are tried, and it completes once none lags
 abbrev pub polled : Setting → State → Option Transition → Reply × State
 polled setting state None = (Completed false, state)
 polled setting state (Some move) = completed_or_pending setting state move (tried setting state move) (pending setting state move)

@@ -44,7 +44,8 @@ pub fn none_is_mixed()
         → NoneMixed setting (seen_from setting start first) }
 {}
 
-/// The version of a frame determines the site of the call. So it is enough to store versions to know the frames.
+/// In an honest observed run, the version of each frame is one of the site that was called: its original, or a patch's
+/// new function for it. So the versions alone tell the sites, and frames needn't store both.
 pub fn versions_name_their_sites()
     ensures { (setting : Setting) (start : State) (first second : List Seen)
         → IsInPlace setting → IsHonestRun setting start (first ++ second)

@@ -19,7 +19,7 @@
 //! in `laws`, the callbacks that run log no more than those that may run.
 #![tactic(auto)]
 
-mod blocked;
+mod blocked_versions;
 mod callback_run;
 mod covered;
 pub mod laws;
@@ -29,7 +29,7 @@ mod patch;
 mod patch_callbacks;
 mod site;
 
-pub use blocked::block;
+pub use blocked_versions::block;
 pub use module_callbacks::{
     allocs_of_coming, allocs_of_going, may_run_coming, may_run_going, run_coming, run_going,
 };

@@ -168,8 +168,8 @@ impl Sites {
 
     /// Restores the one row that the record names: an entry, with which its site's hook appears or goes, or whether
     /// an object is loaded. Nothing changes if there is no such site or object, or if the record is of another
-    /// kind. A hook's own record is of another kind: the record of its entry, put back right after it, restores the
-    /// hook (docs/DECISIONS.md, "Hooks in undo"). The cost is at most the stack's height.
+    /// kind. Nor does the record of a hook change anything: the record of its entry, which is put back right after it,
+    /// restores the hook too (docs/DECISIONS.md, "Hooks in undo"). The cost is at most the stack's height.
     pub fn put_back(&mut self, row: Record)
         requires due { is_due self.old row ≡ true }
         ensures { self.new ≡ put_back self.old row }

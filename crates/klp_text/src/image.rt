@@ -117,8 +117,9 @@ impl Image {
         self.loaded[usize::from(object.0)] = true;
     }
 
-    /// Marks an object as not loaded: from now on `bytes` returns nothing of it. Its sites stay hooked or unhooked,
-    /// also when it is loaded again, so the caller unhooks them first. It writes one flag, whatever the object has.
+    /// Marks an object as not loaded: from now on `bytes` returns nothing of it. Unloading changes no hook of its
+    /// sites, and neither does loading it again, so the caller unhooks them first. It writes one flag, whatever the
+    /// object has.
     /// An object that isn't loaded may be unloaded. The caller must not unload `vmlinux`.
     pub fn unload(&mut self, object: ObjId)
         requires { object < length self.old.image.objects }
