@@ -92,8 +92,8 @@ impl VersionSet {
         }
     }
 
-    /// Whether one of the frames is in the set. The innermost frame is looked at first, as in the kernel's
-    /// `klp_check_stack`: a sleeper mostly waits in one of the last functions that it called.
+    /// Whether one of the frames is in the set. Looks at the innermost frame first, since a sleeper mostly waits in one of
+    /// the functions that it called last. The cost is one look-up for each frame up to the first that is in the set.
     pub(crate) fn holds(&self, frames: &Frames) -> bool
         ensures { result ≡ list_any (has self.now) frames.now }
     {
