@@ -1,0 +1,57 @@
+"""agree.py FOLDER: holds each capture of the folder against the kernel's own log of the same time (NAME.log, NAME.dmesg).
+
+At each try the kernel logs which task sleeps on which patched function. The samples nearest to that moment are to show that
+task inside of the function, or of the patch's new one. The exit status is 1 where one shows something else.
+"""
+import glob
+import re
+import sys
+
+TRY = re.compile(r"\[ *([\d.]+)\] livepatch: klp_try_switch_task: .*?:(\d+) is sleeping on function (\S+)")
+# How far a sample may be from a try that it is held against, in seconds.
+NEAR = 0.6
+
+
+def samples(path):
+    """The samples of a log: from when to when each was taken, and for each thread the functions that it was inside of."""
+    inside, kept, found = {}, [], []
+    with open(path, encoding="utf-8") as log:
+        for line in log:
+            word, *rest = line.split()
+            if word == "task":
+                thread = int(rest[0])
+                kept = inside.get(thread, [])
+                inside[thread] = []
+            elif word == "frame":
+                inside[thread].append(rest[0].split("+")[0])
+            elif word == "frames":
+                inside[thread] = kept
+            elif word == "gone":
+                inside.pop(int(rest[0]), None)
+            elif word == "sample":
+                found.append((float(rest[0]), float(rest[1]), dict(inside)))
+    return found
+
+
+def judged(near, thread, function):
+    """Whether one of these samples shows the thread inside of the function; None if none of them has the thread."""
+    shown = [it[thread] for _, _, it in near if thread in it]
+    return any({function, f"livepatch_{function}"} & set(it) for it in shown) if shown else None
+
+
+def main(folder):
+    differ = 0
+    for path in sorted(glob.glob(f"{folder}/*.dmesg")):
+        taken = samples(path.replace(".dmesg", ".log"))
+        with open(path, encoding="utf-8") as log:
+            tries = [(float(time), int(thread), function) for time, thread, function in TRY.findall(log.read())]
+        all_judged = [judged([it for it in taken if it[0] - NEAR <= time <= it[1] + NEAR], *what) for time, *what in tries]
+        counts = [all_judged.count(it) for it in (True, None, False)]
+        differ += counts[2]
+        print("{}: {} tries, {} as captured, {} before the task was followed, {} otherwise".format(
+            path.rsplit("/", 1)[-1], len(tries), *counts))
+    return 1 if differ else 0
+
+
+if __name__ == "__main__":
+    sys.exit(main(sys.argv[1]))

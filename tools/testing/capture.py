@@ -1,0 +1,63 @@
+"""klpcap, over a stored machine (tools/testing/machine) in place of a running kernel, by each shell that is there."""
+import functools
+import shutil
+
+from testing.run import TOP, fault, finish, start
+
+MACHINE = f"{TOP}/tools/testing/machine"
+# What klpcap needs is in POSIX, so that each of these runs it. busybox is on few machines where this is built.
+SHELLS = (("dash",), ("bash", "--posix"), ("busybox", "sh"))
+PATCHES = """patches
+patch eventfd_fix 1 1
+object vmlinux 1
+loaded vmlinux
+function cmdline_proc_show,1
+function eventfd_read,1
+"""
+# A name may have blanks and brackets. The task sleeps in a function that the patch changes; the other two have switched.
+HOLDER = """task 91 91 100 S 0 7 1 0 bill) ing
+frame eventfd_read+0x13a/0x300
+frame vfs_read+0x23c/0x310
+"""
+IN_NEW = """task 92 92 100 S 1 9 1 0 indexer
+frame livepatch_eventfd_read+0x13a/0x300 [eventfd_fix]
+frame vfs_read+0x23c/0x310
+"""
+# The machine doesn't change, so the second sample has no line but its own.
+SAMPLE = "sample 12.34 12.34 3 0 0 0\n"
+LOG = "log 12.100000 livepatch: 'eventfd_fix': starting patching transition\n"
+SYMBOLS = """symbol ffffffff8b93ffe0 t klp_ftrace_handler
+symbol ffffffff8bdcbfa0 t eventfd_read
+symbol ffffffff8be105a0 t cmdline_proc_show
+symbol ffffffffc04a8030 t livepatch_cmdline_proc_show [eventfd_fix]
+symbol ffffffffc04a8050 t livepatch_eventfd_read [eventfd_fix]
+"""
+# _text is at 8b800000, and at 81000000 where it isn't moved: 0a800000 less.
+MOVED = """symbol ffffffff8113ffe0 t klp_ftrace_handler
+symbol ffffffff815cbfa0 t eventfd_read
+symbol ffffffff816105a0 t cmdline_proc_show
+symbol ffffffffb5ca8030 t livepatch_cmdline_proc_show [eventfd_fix]
+symbol ffffffffb5ca8050 t livepatch_eventfd_read [eventfd_fix]
+"""
+KERNEL = "klpcap 1\nkernel 6.1.0-56-amd64 x86_64\n"
+END = "module eventfd_fix\nend count\n"
+RUNS = (
+    (("-c", "2", "-i", "0"), KERNEL + PATCHES + HOLDER + SAMPLE + SAMPLE + LOG + SYMBOLS + END),
+    (("--once", "--zero"), KERNEL + PATCHES + HOLDER + SAMPLE + LOG + MOVED + END),
+    (("-f", "eventfd_read"), KERNEL + "find eventfd_read\n" + PATCHES + HOLDER + IN_NEW + SAMPLE + LOG + SYMBOLS + END),
+)
+REFUSED = (("-x",), ("-c", "0"), ("-c", "two"), ("-i", "1.2.3"), ("-c",), ("one", "two"))
+
+
+def captured(shell):
+    """Each run gives this log, and words that aren't understood are refused, and nothing is written."""
+    wrong = [fault(finish(start([*shell, f"{TOP}/klpcap", "--root", MACHINE, *words])), (0, log.encode(), "")) for words, log in RUNS]
+    for words in REFUSED:
+        status, out, err = finish(start([*shell, f"{TOP}/klpcap", *words]))
+        wrong.append(None if (status, out) == (2, b"") and err.startswith("usage: klpcap ") else f"{words}: {status} {out} {err}")
+    return "; ".join(filter(None, wrong)) or None
+
+
+def cases():
+    there = [shell for shell in SHELLS if shutil.which(shell[0])]
+    return [(f"klpcap under {shell[0]}", functools.partial(captured, shell)) for shell in there]
