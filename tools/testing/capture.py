@@ -1,6 +1,8 @@
 """klpcap, over a stored machine (tools/testing/machine) in place of a running kernel, by each shell that is there."""
 import functools
 import shutil
+import tempfile
+import time
 
 from testing.run import TOP, fault, finish, start
 
@@ -58,6 +60,20 @@ def captured(shell):
     return "; ".join(filter(None, wrong)) or None
 
 
+def ended(shell):
+    """Once the transition has ended, so does the capture, by itself."""
+    with tempfile.TemporaryDirectory(prefix="machine-") as room:
+        shutil.copytree(MACHINE, f"{room}/machine")
+        capture = start([*shell, f"{TOP}/klpcap", "--root", f"{room}/machine", "-i", "0.1"])
+        time.sleep(1)
+        with open(f"{room}/machine/sys/kernel/livepatch/eventfd_fix/transition", "w", encoding="utf-8") as it:
+            it.write("0\n")
+        status, out, err = finish(capture, seconds=20)
+        is_well = (status, err) == (0, "") and out.endswith(b"end over\n") and b"\npatch eventfd_fix 1 0\n" in out
+        return None if is_well else f"status {status}: {out[-200:]} {err}"
+
+
 def cases():
     there = [shell for shell in SHELLS if shutil.which(shell[0])]
-    return [(f"klpcap under {shell[0]}", functools.partial(captured, shell)) for shell in there]
+    runs = [(f"klpcap under {shell[0]}", functools.partial(captured, shell)) for shell in there]
+    return [*runs, *[(f"klpcap under {shell[0]}, to the end", functools.partial(ended, shell)) for shell in there]]
