@@ -16,6 +16,10 @@ pub record CatalogFunction : Type 0 where
   pub new_name : List ℕ
   pub address : ℕ
 
+-- what a manager tells of a new function: its site, if it has one, its name and its address
+abbrev pub new_function_of : CatalogFunction → Option ℕ × List ℕ × ℕ
+new_function_of function = (function.site, function.new_name, function.address)
+
 -- what contracts see of a catalog: the names of the objects and symbols for which it was assembled, the patches of
 -- its plan with the scripts of the callbacks that were handed in, and how often each callback ran, in the order of
 -- the text

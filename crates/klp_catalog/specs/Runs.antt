@@ -3,9 +3,11 @@ use Rattle.std.specs.Prelude.{◌≡◌, ℕ, ◌+◌, ◌==◌, List, [], ◌�
 use Rattle.klp_types.specs.declared.callback.Which.{Which}
 use Rattle.klp_types.specs.declared.record.Record.{Record}
 use Rattle.klp_types.specs.Setting.{PatchObject, Callback, patch_objects}
-use Rattle.klp_types.specs.Callbacks.{Call, script_for}
+use Rattle.klp_types.specs.Callbacks.{Call, script_for, call_of, after_calls}
+use Rattle.klp_types.specs.Records.{RecordList}
 use Rattle.klp_types.specs.Script.{Script, alloc_count}
 use Rattle.klp_types.specs.World.{World}
+use Rattle.klp_world.specs.Changes.{Changes}
 use Rattle.klp_world.specs.StoredEvent.{rows_of_script}
 use Rattle.klp_catalog_text.specs.Plan.{PlanTarget, PlanPatch}
 use Rattle.klp_catalog.specs.Catalog.{Catalog, patches_of}
@@ -37,6 +39,12 @@ allocs_if (Some script) = alloc_count script.edits
 abbrev pub rows_if : ℕ → World → Option Script → List Record
 rows_if patch world None = []
 rows_if patch world (Some script) = rows_of_script patch world script
+
+-- The callback of this kind ran, if the patch has one: world and log are as its script leaves them. Without a callback
+-- both are as before.
+abbrev pub IsRun : ℕ → ℕ → Which → Option Script → World → World → RecordList → RecordList → Type 0
+IsRun patch place which script before after log_before log_after =
+    Changes before after log_before log_after (after_calls before (call_of patch place which script)) (rows_if patch before script)
 
 -- the lists that `gives` makes of each item and its number, joined; the first item has the number n
 abbrev pub by_number : {A B : Type 0} → (ℕ → A → List B) → ℕ → List A → List B

@@ -14,10 +14,10 @@ ghost use Rattle.klp_catalog_text.specs.Text.{plan_of, IsFaultOf};
 ghost use Rattle.klp_catalog_text.specs.Within.{AreTargetsWithin};
 ghost use Rattle.klp_catalog_text.specs.Draft.{patch_names_of};
 ghost use Rattle.klp_catalog.specs.Catalog.{CatalogFunction as FunctionValue, catalog_functions, setting_function};
-ghost use Rattle.klp_catalog.specs.Catalog.{patches_of, has_same_site, some_same_site};
+ghost use Rattle.klp_catalog.specs.Catalog.{patches_of, has_same_site, some_same_site, new_function_of};
 ghost use Rattle.klp_catalog.specs.States as states;
 ghost use Rattle.klp_catalog.specs.Runs.{HasCounts, objects_at, place_of, script_at, allocs_if, rows_if, after_runs};
-ghost use Rattle.klp_catalog.specs.Runs.{callback_runs};
+ghost use Rattle.klp_catalog.specs.Runs.{callback_runs, IsRun};
 ghost use Rattle.klp_catalog.specs.Limits.{AreWithin};
 ghost use Rattle.klp_catalog.specs.Patch.{IsPatch, IsAbsent, KeepsTo};
 ghost use Rattle.klp_catalog_text.specs.Scripts.{scripts_of};
@@ -298,9 +298,8 @@ impl Catalog {
         // The count of the callback grows by one, if there is such a callback.
         ensures catalog { self.new
             ≡ after_runs self.old (call_of patch place which (script_at self.old patch place which)) }
-        ensures changes { let script = script_at self.old patch place which in
-            Changes world.old world.new log.old log.new (after_calls world.old (call_of patch place which script))
-            (rows_if patch world.old script) }
+        ensures changes { IsRun patch place which (script_at self.old patch place which)
+            world.old world.new log.old log.new }
     {
         let number = patch::number_of(&self.patches, patch, usize::from(place), which)?;
         Some(self.callbacks[number].run(patch, world, log))
@@ -361,8 +360,7 @@ impl Catalog {
     /// over all objects of the patch, from 0. `None` if there is no such function.
     pub fn function(&self, patch: PatchId, number: u16) -> Option<(Option<Site>, &str, u64)>
         ensures { option_map {U = Option ℕ × List ℕ × ℕ} (λ f. (f.0, f.1.now, f.2)) result
-            ≡ option_map (λ (f : FunctionValue). (f.site, f.new_name, f.address)) (slice_get
-            (catalog_functions self.now patch) number) }
+            ≡ option_map new_function_of (slice_get (catalog_functions self.now patch) number) }
     {
         let function = self.functions(patch).get(usize::from(number))?;
         Some((function.site(), function.new_name(), function.address()))

@@ -20,6 +20,9 @@ pub record Console : Type 0 where
   pub written : Written
   pub manager : Journaled
 
+abbrev pub console_of : Supply → Written → Journaled → Console
+console_of supply written manager = record { supply = supply; written = written; manager = manager }
+
 -- At most the allowed number of reads were made, each into the whole room. So the number of reads depends only on how
 -- the source cuts its input.
 pub record Asks (before after : Supply) : Type 0 where

@@ -5,7 +5,7 @@ ghost use Rattle.klp_console_io.specs.Lines.{lines_and_rest};
 ghost use Rattle.klp_console.specs.declared.served.ServeFault.TheVariants.{Write};
 ghost use Rattle.klp_console.specs.Lines.{whole};
 ghost use Rattle.klp_console.specs.Said.{moment_of, Hears, IsCut, IsWritten, Serves};
-ghost use Rattle.klp_console.specs.Served.{ComesTo};
+ghost use Rattle.klp_console.specs.Served.{ComesTo, console_of};
 
 use crate::answer::serve_line;
 use crate::back::write_out;
@@ -105,8 +105,8 @@ pub fn serve<R: Source, W: Sink>(
     writer: &mut W,
     manager: &mut Manager,
 ) -> Result<Served, ServeFault>
-    ensures { ComesTo (record { supply = R.supply reader.old; written = W.written writer.old; manager = manager.old })
-        (record { supply = R.supply reader.new; written = W.written writer.new; manager = manager.new }) result }
+    ensures { ComesTo (console_of (R.supply reader.old) (W.written writer.old) manager.old)
+        (console_of (R.supply reader.new) (W.written writer.new) manager.new) result }
 {
     klp_console_io::laws::lines_add_up();
     klp_core::laws::what_is_withdrawn_leaves_no_trace();

@@ -1,6 +1,7 @@
 -- The lines in the bytes that were heard.
-use Rattle.std.specs.Prelude.{ℕ, ◌==◌, Bool, List}
+use Rattle.std.specs.Prelude.{ℕ, ◌<◌, ◌==◌, Bool, List, [], ◌∷◌, length}
 use Rattle.std.specs.List.{slice_split}
+use Rattle.klp_types.specs.declared.limits.TheConstants.{MAX_CONSOLE_LINE}
 
 -- a line feed
 abbrev pub is_line_feed : ℕ → Bool
@@ -9,3 +10,8 @@ is_line_feed b = b == 10
 -- the bytes between line feeds: the finished lines in order, and last the line that no line feed has ended yet
 abbrev pub lines_and_rest : List ℕ → List (List ℕ)
 lines_and_rest bytes = slice_split is_line_feed bytes
+
+-- The first of these lines is longer than a console line may be.
+abbrev pub BeginsLong : List (List ℕ) → Type 0
+BeginsLong [] = ⊥
+BeginsLong (line ∷ lines) = MAX_CONSOLE_LINE < length line

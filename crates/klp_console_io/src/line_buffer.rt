@@ -1,7 +1,7 @@
 //! One line that is heard in pieces, since reads cut an input anywhere.
 ghost use Rattle.std.specs.Prelude.{◌≡◌, ℕ, ◌<◌, ◌≤◌, ◌⊎◌, position, List, [], ◌∷◌, ◌++◌, length, IfOk, IfSome, IfNone};
 ghost use Rattle.std.specs.Prelude.{OnOk, OnErr};
-ghost use Rattle.klp_console_io.specs.Lines.{is_line_feed, lines_and_rest};
+ghost use Rattle.klp_console_io.specs.Lines.{is_line_feed, lines_and_rest, BeginsLong};
 
 use arrayvec::ArrayVec;
 use klp_types::MAX_CONSOLE_LINE;
@@ -88,8 +88,7 @@ impl LineBuffer {
         ensures shorter { IfSome result (λ found. length found.1.now < length piece.now) }
         ensures limit { IfSome result (λ found. length found.0.now ≤ MAX_CONSOLE_LINE) }
         ensures none { IfNone result ((0 < length self.now) ⊎ (lines_and_rest piece.now ≡ piece.now ∷ [])
-            ⊎ ((long : List ℕ) × (more : List (List ℕ)) × (lines_and_rest piece.now ≡ long ∷ more)
-            × (MAX_CONSOLE_LINE < length long))) }
+            ⊎ BeginsLong (lines_and_rest piece.now)) }
     {
         if !self.bytes.is_empty() {
             return None;

@@ -1,8 +1,10 @@
 -- What a manager needs to boot.
-use Rattle.std.specs.Prelude.{◌≡◌, ℕ, ◌⊎◌, List, map, length}
+use Rattle.std.specs.Prelude.{◌≡◌, ℕ, ◌⊎◌, List, [], map, length}
 use Rattle.klp_types.specs.Image.{Object, Image}
 use Rattle.klp_modules.specs.Names.{ObjectNames, ModuleTable, names_of}
-use Rattle.klp_catalog.specs.Catalog.{Catalog}
+use Rattle.klp_model.specs.Opening.{opening_state}
+use Rattle.klp_catalog.specs.Catalog.{Catalog, patches_of}
+use Rattle.klp_core.specs.Journaled.{Journaled}
 use Rattle.klp_core.specs.declared.fault.BootFault.{BootFault}
 use Rattle.klp_core.specs.declared.fault.BootFault.TheVariants.{Mismatch, NoMemory}
 
@@ -23,6 +25,14 @@ pub record IsMatch (image : Image) (modules : ModuleTable) (catalog : Catalog) :
 pub record AreNamed (image : Image) (modules : ModuleTable) (catalog : Catalog) : Type 0 where
   pub modules_named : modules.names ≡ names_of image.objects
   pub catalog_named : catalog.names ≡ names_of image.objects
+
+-- a manager that has just been booted: no event was taken, and its base is its state
+abbrev pub booted : Image → Catalog → Journaled
+booted image catalog = record {
+    managed = record { image = image; catalog = catalog; state = opening_state (record { image = image; patches = patches_of catalog }) };
+    base = opening_state (record { image = image; patches = patches_of catalog });
+    groups = [];
+  }
 
 -- the three don't match, or they match and memory ran out
 abbrev pub IsFaultOf : Image → ModuleTable → Catalog → BootFault → Type 0

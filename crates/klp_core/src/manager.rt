@@ -6,7 +6,7 @@ ghost use Rattle.klp_text.specs.TextImage.{opening};
 ghost use Rattle.klp_catalog.specs.Catalog.{patches_of};
 ghost use Rattle.klp_journal.specs.Journal.{records_free, records_in};
 ghost use Rattle.klp_manager_state.specs.Managed.{setting_of};
-ghost use Rattle.klp_core.specs.Boot.{IsMatch, AreNamed, IsFaultOf};
+ghost use Rattle.klp_core.specs.Boot.{IsMatch, AreNamed, IsFaultOf, booted};
 ghost use Rattle.klp_core.specs.Events.{AreCounted};
 ghost use Rattle.klp_core.specs.Journaled.{IsWellFormed};
 ghost use Rattle.klp_core.specs.Taking.{IsTaken, AreTaken};
@@ -69,15 +69,8 @@ impl Manager {
         requires image { image ≡ opening image.image.handler image.image.objects }
         requires modules { modules.loaded ≡ slice_set (replicate (length modules.names) false) 0 true }
         requires names { IsMatch image.image modules catalog → AreNamed image.image modules catalog }
-        ensures ok { IfOk result (λ manager. IsMatch image.image modules catalog × (manager ≡ record {
-          managed = record {
-            image = image.image;
-            catalog = catalog;
-            state = opening_state (record { image = image.image; patches = patches_of catalog });
-          };
-          base = opening_state (record { image = image.image; patches = patches_of catalog });
-          groups = [];
-        })) }
+        ensures ok { IfOk result (λ manager. IsMatch image.image modules catalog
+            × (manager ≡ booted image.image catalog)) }
         ensures well_formed { IfOk result (λ manager. IsWellFormed manager) }
         ensures fault { IfErr result (λ fault. IsFaultOf image.image modules catalog fault) }
     {

@@ -5,7 +5,7 @@ ghost use Rattle.klp_types.specs.declared.limits.TheConstants.{MAX_JOURNAL_RECOR
 ghost use Rattle.klp_types.specs.declared.record.Record.TheVariants.{TaskRow};
 ghost use Rattle.klp_types.specs.declared.task.Task.{Task as AnyTask};
 ghost use Rattle.klp_types.specs.Records.{spare_of};
-ghost use Rattle.klp_journal.specs.Small.{row_of};
+ghost use Rattle.klp_journal.specs.Small.{row_of, with_switched};
 ghost use Rattle.klp_types.specs.Frames.{frames_of};
 
 use crate::frame_words::FrameWords;
@@ -147,9 +147,7 @@ impl Records {
     ) -> Option<SwitchedTask>
         requires frames { frames.now ≡ map frames_of tasks.now }
         ensures newest { IfSome result (λ was. (now : AnyTask) × ((slice_get tasks.now was.task ≡ Some (Some now))
-            × (self.old ≡ record self.new {
-              logged = self.new.logged ++ TaskRow was.task (record now { state = was.state; mode = was.mode }) ∷ [];
-            }))) }
+            × (self.old ≡ with_switched self.new was now))) }
         ensures unchanged { IfNone result (self.new ≡ self.old) }
     {
         if self.logged() == 0 {

@@ -93,3 +93,8 @@ pub record IsTakenBack (setting : Setting) (base : State) (event : Event) (old n
 abbrev pub IsRefused : Setting → State → Event → Booked → Booked → Knows → Knows → LiveRefusal → Type 0
 IsRefused setting base event old new before after (Refused refusal) = IsTurnedAway setting base event old new before after refusal
 IsRefused setting base event old new before after NoMemory = IsTakenBack setting base event old new before after
+
+-- what becomes of an event: it is admitted, or it isn't
+abbrev pub Admits : Setting → State → Event → Booked → Booked → Knows → Knows → Result ReceiptValue LiveRefusal → Type 0
+Admits setting base event old new before after (Ok receipt) = IsAdmitted setting base event old new before after receipt
+Admits setting base event old new before after (Err fault) = IsRefused setting base event old new before after fault

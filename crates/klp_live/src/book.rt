@@ -78,9 +78,7 @@ impl<S: Start + Protocol<Published, View>, M: Machine + Drop, R: Wait + Drop> Bo
         seat: &mut Seat<S>,
         event: Event,
     ) -> Result<Receipt<S>, LiveRefusal>
-        ensures { MatchResult result
-            (λ receipt. IsAdmitted S.setting S.base event self.old self.new seat.old seat.new receipt)
-            (λ fault. IsRefused S.setting S.base event self.old self.new seat.old seat.new fault) }
+        ensures { Admits S.setting S.base event self.old self.new seat.old seat.new result }
     {
         the_journal_alone_is_full();
         self.publisher.must_cover(rt, seat);

@@ -76,9 +76,7 @@ pub fn block(sites: &Sites, catalog: &Catalog, moving: Transition, blocked: &mut
     requires sites { length sites.now.stacks ≤ MAX_SITES }
     requires names { catalog.now.names ≡ names_of sites.now.image.objects }
     // only a cumulative patch has entries at sites where it has no function
-    requires own { (site : ℕ) → has_entry moving.patch (entries_at sites.now.stacks site) ≡ true
-        → (is_some (function_for (functions_in catalog.now moving.patch) site)
-        || is_cumulative catalog.now moving.patch) ≡ true }
+    requires own { (site : ℕ) → MayHaveEntry catalog.now moving.patch sites.now.stacks site }
     ensures { IsSetOf blocked.new (blocked_at 0 moving sites.now.stacks) }
 {
     blocked.clear();

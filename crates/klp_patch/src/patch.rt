@@ -186,8 +186,7 @@ pub fn unpatch_sites(
     requires names { catalog.now.names ≡ names_of sites.old.image.objects }
     // only a cumulative patch has entries at sites where it has no function
     requires own { (site : ℕ) → is_covered sites.old only site ≡ true
-        → has_entry patch (entries_at sites.old.stacks site) ≡ true
-        → (is_some (function_for (functions_in catalog.now patch) site) || is_cumulative catalog.now patch) ≡ true }
+        → MayHaveEntry catalog.now patch sites.old.stacks site }
     requires records { most_entries catalog.now patch sites.old + MAX_SITES ≤ spare_of log.old }
     ensures entries { AreMade sites.old sites.new (is_covered sites.old only)
         (λ site entries. entries_of_others patch entries) }

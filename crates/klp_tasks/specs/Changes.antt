@@ -5,7 +5,9 @@ use Rattle.klp_types.specs.declared.record.Record.{Record}
 use Rattle.klp_types.specs.declared.record.Record.TheVariants.{TaskRow, NoTaskRow}
 use Rattle.klp_types.specs.declared.task.Task.{Task}
 use Rattle.klp_types.specs.Records.{RecordList}
+use Rattle.klp_types.specs.declared.task.Mode.TheVariants.{Kernel}
 use Rattle.klp_model.specs.Task.{Tasks, task_at, with_task}
+use Rattle.klp_model.specs.TaskStep.{state_of_task}
 
 -- the tasks after a change `f` of the row of one task; no change if there is no task
 abbrev pub changed_row : Tasks → ℕ → (Task → Task) → Option Task → Tasks
@@ -26,6 +28,11 @@ put_back tasks other = tasks
 abbrev pub undone : Tasks → List Record → Tasks
 undone tasks [] = tasks
 undone tasks (row ∷ newer) = put_back (undone tasks newer) row
+
+-- the tasks with one that another started: it runs in the kernel, and has its parent's patch state
+abbrev pub with_child : Tasks → ℕ → ℕ → Tasks
+with_child tasks parent child =
+    with_task tasks child (Some (record { state = state_of_task (task_at tasks parent); mode = Kernel; frames = [] }))
 
 -- the undo record of a number's row
 abbrev pub record_of : ℕ → Option Task → Record

@@ -211,12 +211,7 @@ impl Tasks {
         requires number { child < MAX_TASKS }
         requires free { is_some (task_at self.old child) ≡ false }
         ensures { Changes self.old self.new child (record_of child (task_at self.old child))
-            (with_task self.old child (Some (record {
-              state = state_of_task
-                  (task_at self.old parent);
-              mode = Kernel;
-              frames = [];
-            }))) }
+            (with_child self.old parent child) }
     {
         let state = self.there(parent).state;
         self.replace(
@@ -406,9 +401,7 @@ impl Tasks {
     #[inline(always)]
     pub fn take_switched(&self, log: &mut Records) -> Option<SwitchedTask>
         ensures newest { IfSome result (λ was. (now : AnyTask) × ((task_at self.now was.task ≡ Some now)
-            × (log.old ≡ record log.new {
-              logged = log.new.logged ++ TaskRow was.task (record now { state = was.state; mode = was.mode }) ∷ [];
-            }))) }
+            × (log.old ≡ with_switched log.new was now))) }
         ensures unchanged { IfNone result (log.new ≡ log.old) }
     {
         log.take_switched(&self.rows, &self.frames)
