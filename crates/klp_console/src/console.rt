@@ -1,5 +1,5 @@
 //! Serving a whole input, by reads into room of a fixed size, until the end.
-ghost use Rattle.std.specs.Prelude.{◌≡◌, ◌+◌, ◌<◌, ◌≤◌, ◌^◌, true, false, [], ◌∷◌, ◌++◌, length, IfOk, IfErr};
+ghost use Rattle.std.specs.Prelude.{◌≡◌, ◌+◌, ◌<◌, ◌≤◌, ◌^◌, false, [], ◌∷◌, ◌++◌, length, IfOk, IfErr};
 ghost use Rattle.klp_types.specs.declared.limits.TheConstants.{MAX_CONSOLE_LINE};
 ghost use Rattle.klp_console_io.specs.Lines.{lines_and_rest};
 ghost use Rattle.klp_console.specs.declared.served.ServeFault.TheVariants.{Write};

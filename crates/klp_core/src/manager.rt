@@ -1,9 +1,7 @@
 ghost use Rattle.std.specs.Prelude.{◌≡◌, ◌<◌, ◌≤◌, true, false, [], IfOk, IfErr, OnErr, slice_set, replicate, length};
-ghost use Rattle.klp_model.specs.Opening.{opening_state};
 ghost use Rattle.klp_types.specs.declared.limits.TheConstants.{MAX_GROUPS, MAX_JOURNAL_RECORDS};
 ghost use Rattle.klp_model.specs.Step.{callbacks_of};
 ghost use Rattle.klp_text.specs.TextImage.{opening};
-ghost use Rattle.klp_catalog.specs.Catalog.{patches_of};
 ghost use Rattle.klp_journal.specs.Journal.{records_free, records_in};
 ghost use Rattle.klp_manager_state.specs.Managed.{setting_of};
 ghost use Rattle.klp_core.specs.Boot.{IsMatch, AreNamed, IsFaultOf, booted};

@@ -1,12 +1,12 @@
 //! The book: the manager with what it publishes.
-ghost use Rattle.std.specs.Prelude.{◌≡◌, ◌<◌, ◌≤◌, ◌^◌, length, Ok, Err, MatchResult, MatchOption};
+ghost use Rattle.std.specs.Prelude.{◌≡◌, ◌<◌, ◌≤◌, ◌^◌, length, Ok, Err, MatchOption};
 ghost use Rattle.klp_model.specs.Legal.{IsLegal, state_after_history};
 ghost use Rattle.klp_model.specs.Rows.{moving_patch};
 ghost use Rattle.klp_model.specs.Run.{answer, next};
 ghost use Rattle.klp_manager_state.specs.Managed.{setting_of};
 ghost use Rattle.klp_core.specs.Taking.{IsTaken};
 ghost use Rattle.klp_core.specs.Rewinding.{IsRewound};
-ghost use Rattle.klp_live.specs.Admitting.{IsAdmitted, IsManagerOf, IsRefused};
+ghost use Rattle.klp_live.specs.Admitting.{Admits, IsManagerOf};
 ghost use Rattle.klp_live.specs.Publishing.{IsPublished};
 
 use crate::change::change_after;

@@ -1,13 +1,12 @@
 //! Which versions a transition blocks. `Tasks::switch_if_clear` (klp_tasks) decides whether a task sleeps in one.
-ghost use Rattle.std.specs.Prelude.{◌≡◌, ℕ, ◌<◌, ◌≤◌, ◌||◌, ◌++◌, true, List, [], length, is_some};
+ghost use Rattle.std.specs.Prelude.{◌≡◌, ℕ, ◌≤◌, ◌++◌, true, List, [], length, is_some};
 ghost use Rattle.klp_types.specs.declared.version.Version.{Version as AnyVersion};
 ghost use Rattle.klp_types.specs.Setting.{function_for};
 ghost use Rattle.klp_model.specs.Blocked.{blocked_among};
 ghost use Rattle.klp_modules.specs.Names.{names_of};
-ghost use Rattle.klp_catalog.specs.States.{is_cumulative};
 ghost use Rattle.klp_stack.specs.Stack.{entries_at, has_entry};
 ghost use Rattle.klp_tasks.specs.Members.{IsSetOf};
-ghost use Rattle.klp_patch.specs.Covered.{functions_in};
+ghost use Rattle.klp_patch.specs.Covered.{functions_in, MayHaveEntry};
 ghost use Rattle.klp_patch.specs.Blocked.{blocked_at, AreFunctions};
 
 use klp_catalog::Catalog;

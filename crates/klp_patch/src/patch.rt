@@ -1,4 +1,4 @@
-ghost use Rattle.std.specs.Prelude.{◌≡◌, ℕ, ◌+◌, ◌<◌, ◌≤◌, ◌||◌, ◌&&◌, ◌++◌, true, false, length, map, is_some, None};
+ghost use Rattle.std.specs.Prelude.{◌≡◌, ℕ, ◌+◌, ◌<◌, ◌≤◌, ◌&&◌, ◌++◌, true, false, length, map, is_some};
 ghost use Rattle.std.specs.List.{All};
 ghost use Rattle.klp_types.specs.Setting.{function_for};
 ghost use Rattle.klp_types.specs.Entries.{entry_of};
@@ -7,9 +7,8 @@ ghost use Rattle.klp_modules.specs.Names.{names_of};
 ghost use Rattle.klp_catalog.specs.Catalog.{CatalogFunction as FunctionValue, setting_function, has_same_site};
 ghost use Rattle.klp_catalog.specs.Assembled.{LiesInObject};
 ghost use Rattle.klp_catalog.specs.Patch.{objects_in_order};
-ghost use Rattle.klp_catalog.specs.States.{is_cumulative};
 ghost use Rattle.klp_stack.specs.Stack.{entries_at, has_entry, entries_of_others};
-ghost use Rattle.klp_patch.specs.Covered.{functions_in, is_covered};
+ghost use Rattle.klp_patch.specs.Covered.{is_covered, MayHaveEntry};
 ghost use Rattle.klp_patch.specs.Room.{HasRoom};
 ghost use Rattle.klp_patch.specs.Changes.{AreMade, Notes, with_entry, with_nop, without_nop, hooked_count};
 ghost use Rattle.klp_patch.specs.Changes.{most_entries};

@@ -1,21 +1,21 @@
 ghost use Rattle.std.specs.Prelude.{◌≡◌, ◌<◌, ◌≤◌, ◌++◌, ◌&&◌, not, Bool, true, false, List, [], ◌∷◌, Some, None};
-ghost use Rattle.std.specs.Prelude.{length, map, replicate, is_some, option_map, option_copied, option_to_list, IfOk};
+ghost use Rattle.std.specs.Prelude.{length, map, replicate, is_some, option_map, option_copied, IfOk};
 ghost use Rattle.std.specs.Prelude.{IfSome, IfNone};
 ghost use Rattle.std.specs.List.{count_by, list_any};
 ghost use Rattle.std.specs.Ordering.{int_eq};
 ghost use Rattle.klp_types.specs.Records.{spare_of};
+ghost use Rattle.klp_journal.specs.Small.{with_switched};
 ghost use Rattle.klp_types.specs.declared.version.Version.{Version as AnyVersion};
-ghost use Rattle.klp_types.specs.declared.record.Record.TheVariants.{TaskRow};
 ghost use Rattle.klp_types.specs.declared.task.Task.{Task as AnyTask};
 ghost use Rattle.klp_types.specs.declared.task.Mode.TheVariants.{Kernel, Asleep};
 ghost use Rattle.klp_model.specs.Task.{task_at, with_task, is_mode, at_target, in_state, all_in};
-ghost use Rattle.klp_model.specs.TaskStep.{new_task, state_of_task, exited};
+ghost use Rattle.klp_model.specs.TaskStep.{new_task, exited};
 ghost use Rattle.klp_model.specs.Blocked.{switched, lags};
 ghost use Rattle.klp_types.specs.Frames.{frames_of};
 ghost use Rattle.klp_tasks.specs.Members.{has, ArePassing, IsSetOf};
 ghost use Rattle.klp_tasks.specs.Sleepers.{sleeps_where};
 ghost use Rattle.klp_tasks.specs.Changes.{Changes, changed, record_of, record_if_switched, records_switched};
-ghost use Rattle.klp_tasks.specs.Changes.{IsSwitchLogged, put_back, undone};
+ghost use Rattle.klp_tasks.specs.Changes.{IsSwitchLogged, put_back, undone, with_child};
 
 use crate::numbers::TaskNumbers;
 use crate::version_set::VersionSet;
