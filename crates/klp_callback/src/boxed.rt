@@ -11,8 +11,8 @@ use klp_types::PatchId;
 use klp_world::{MAX_EDITS, World};
 use std::marker::Model;
 
-/// A boxed callback, as its script and the count of its runs. It gave both when it was handed in: what is
-/// known of a value keeps no fact about the inside of a box (docs/DECISIONS.md, "Models and boxes").
+/// A boxed callback. Its model is its script and its count of runs, as the callback gave them when it was handed
+/// in: contracts know nothing of a value inside of a box (docs/DECISIONS.md, "Models and boxes").
 #[derive(Drop)]
 pub struct Boxed {
     counted: CountedBox,
@@ -27,8 +27,8 @@ impl Model for Boxed {
 }
 
 impl Boxed {
-    /// Takes a callback, and asks it for its script and its count, since nothing can be asked of the box in
-    /// a contract afterwards.
+    /// Takes a callback, and asks it for its script and its count now, since a contract can't ask the box
+    /// afterwards.
     pub fn new(callback: Box<dyn Callback>) -> Self
         ensures { result ≡ record { script = script_of callback; runs = runs_of callback } }
     {
@@ -37,10 +37,10 @@ impl Boxed {
         }
     }
 
-    /// Runs the callback for the patch, as [`Callback::run`] does.
+    /// Runs the callback for the patch, as [`Callback::run`] does, and returns the script's status.
     ///
-    /// The callback is asked for its script again, which costs one comparison of at most
-    /// [`klp_world::MAX_EDITS`] edits.
+    /// The callback is asked for its script again. This costs one comparison of at most [`klp_world::MAX_EDITS`]
+    /// edits.
     pub fn run(&mut self, patch: PatchId, world: &mut World, log: &mut Records) -> i32
         requires room { HasRoom world.old log.old (alloc_count self.old.script.edits)
             (rows_of_script patch world.old self.old.script) }
@@ -52,7 +52,7 @@ impl Boxed {
         self.counted.run(patch, world, log)
     }
 
-    /// How many edits of the script add a shadow variable: what a run needs room for.
+    /// Returns how many edits of the script add a shadow variable. A run needs room for as many.
     pub fn allocs(&self) -> u16
         ensures value { result ≡ alloc_count self.now.script.edits }
         ensures limit { length self.now.script.edits ≤ MAX_EDITS }
@@ -60,8 +60,8 @@ impl Boxed {
         self.counted.allocs()
     }
 
-    /// How many times the callback ran; the greatest number stays, since a run is never refused for its
-    /// count.
+    /// Returns how many times the callback ran. The count stops at the greatest `u64`, since a run is never refused
+    /// for its count.
     pub fn runs(&self) -> u64
         ensures { result ≡ self.now.runs }
     {

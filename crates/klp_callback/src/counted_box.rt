@@ -10,11 +10,10 @@ use klp_journal::Records;
 use klp_types::PatchId;
 use klp_world::{MAX_EDITS, Script, World};
 
-/// A callback in its box, beside the script and the count that it gave.
+/// A callback in its box, beside copies of the script and the count that it gave.
 ///
-/// A model can't ask a box, so [`crate::Boxed`] shows what is beside it. Nothing outside this file can
-/// write that: the count grows by [`CountedBox::run`] alone, of which a clause says that the callback in
-/// the box ran as well.
+/// A model can't ask a box, so [`crate::Boxed`] shows these copies. Nothing outside this file can change them. Only
+/// [`CountedBox::run`] increases the count, and its contract says that the callback in the box ran too.
 #[derive(Drop)]
 pub(crate) struct CountedBox {
     script: Script,
@@ -23,7 +22,7 @@ pub(crate) struct CountedBox {
 }
 
 impl CountedBox {
-    /// Takes a callback, and asks it for its script and its count while its contract is still at hand.
+    /// Takes a callback, and copies its script and its count while its contract is still known.
     pub(crate) fn new(callback: Box<dyn Callback>) -> Self
         ensures script { result.script ≡ script_of callback }
         ensures runs { result.runs ≡ runs_of callback }
@@ -35,8 +34,8 @@ impl CountedBox {
         }
     }
 
-    /// Runs the callback in the box, which is asked for its script again: if that were another one, which
-    /// the trait's contract rules out, the world would change by the script that was given first.
+    /// Runs the callback in the box, and returns the script's status. The callback is asked for its script again.
+    /// If that differed from the copy, which the trait's contract rules out, the copy would run instead.
     pub(crate) fn run(&mut self, patch: PatchId, world: &mut World, log: &mut Records) -> i32
         requires room { HasRoom world.old log.old (alloc_count self.old.script.edits)
             (rows_of_script patch world.old self.old.script) }
@@ -50,8 +49,8 @@ impl CountedBox {
             (rows_of_script patch world.old self.old.script) }
     {
         self.runs = self.runs.saturating_add(1);
-        // What was said of the box when it was made can't be known here, so it is compared
-        // (docs/DECISIONS.md, "The script of a boxed callback").
+        // The contract of `new` isn't known here, so the scripts are compared (docs/DECISIONS.md, "The script of a
+        // boxed callback").
         if is_same(self.callback.script(), &self.script) {
             self.callback.run(patch, world, log)
         } else {
@@ -59,7 +58,7 @@ impl CountedBox {
         }
     }
 
-    /// How many edits of the script add a shadow variable, by the copy, without asking the box.
+    /// Returns how many edits of the script add a shadow variable. It reads the copy, not the box.
     pub(crate) fn allocs(&self) -> u16
         ensures value { result ≡ alloc_count self.now.script.edits }
         ensures limit { length self.now.script.edits ≤ MAX_EDITS }
@@ -67,7 +66,7 @@ impl CountedBox {
         allocs_of(&self.script)
     }
 
-    /// How many times the callback ran, by the count beside the box; the greatest number stays.
+    /// Returns how many times the callback ran, by the count beside the box. It stops at the greatest `u64`.
     pub(crate) fn runs(&self) -> u64
         ensures { result ≡ self.now.runs }
     {

@@ -8,8 +8,8 @@ use klp_journal::Records;
 use klp_types::{Edit, PatchId};
 use klp_world::{MAX_EDITS, Script, World};
 
-/// Makes one edit for the patch. What an edit finds (a variable that is there, a state that isn't) is no
-/// fault, so nothing is answered.
+/// Makes one edit for the patch. An edit can't fail: adding a variable that exists, or setting a state that the
+/// patch doesn't name, just changes nothing.
 fn make_edit(edit: &Edit, patch: PatchId, world: &mut World, log: &mut Records)
     requires room { HasRoom world.old log.old (alloc_count (edit.now ∷ [])) (rows_of_edit patch world.old edit.now) }
     ensures changes { Changes world.old world.new log.old log.new (edited patch world.old edit.now)
@@ -30,8 +30,8 @@ fn make_edit(edit: &Edit, patch: PatchId, world: &mut World, log: &mut Records)
     }
 }
 
-/// Gives the patch's state the value that it has in the patch before. Where no older patch names it the
-/// state stays as it is, since there is nothing to take over.
+/// Sets the patch's state to the value that the state has in the newest older patch that names it. If no older
+/// patch names it, the state keeps its value.
 fn take_previous(patch: PatchId, id: u64, world: &mut World, log: &mut Records)
     requires { length (rows_of_edit patch world.old (Edit.TakePrev id)) ≤ spare_of log.old }
     ensures changes { Changes world.old world.new log.old log.new (edited patch world.old (Edit.TakePrev id))
@@ -44,7 +44,7 @@ fn take_previous(patch: PatchId, id: u64, world: &mut World, log: &mut Records)
     }
 }
 
-/// Makes edits one after another, each over what those before it left.
+/// Makes edits one after another, each on the world that the ones before it left.
 fn make_edits(edits: &[Edit], patch: PatchId, world: &mut World, log: &mut Records)
     requires room { HasRoom world.old log.old (alloc_count edits.now) (rows_of_edits patch world.old edits.now) }
     ensures world { world.new ≡ edited_by patch world.old edits.now }
@@ -56,8 +56,8 @@ fn make_edits(edits: &[Edit], patch: PatchId, world: &mut World, log: &mut Recor
     }
 }
 
-/// Runs a script for the patch, and answers its status, as [`crate::Callback::run`] does. A script that
-/// refuses makes no edit.
+/// Runs a script for the patch, and returns its status, as [`crate::Callback::run`] does. A script whose status
+/// isn't 0 makes no edit.
 pub fn run_script(script: &Script, patch: PatchId, world: &mut World, log: &mut Records) -> i32
     requires room { HasRoom world.old log.old (alloc_count script.now.edits)
         (rows_of_script patch world.old script.now) }
@@ -73,8 +73,8 @@ pub fn run_script(script: &Script, patch: PatchId, world: &mut World, log: &mut 
     script.status
 }
 
-/// How many edits of the script add a shadow variable. Those that remove one aren't counted against them,
-/// since the room has to be there before any edit is made.
+/// Returns how many edits of the script add a shadow variable. Edits that remove one aren't subtracted, since the
+/// room has to be there before any edit is made.
 pub fn allocs_of(script: &Script) -> u16
     ensures value { result ≡ alloc_count script.now.edits }
     ensures limit { length script.now.edits ≤ MAX_EDITS }
@@ -82,6 +82,7 @@ pub fn allocs_of(script: &Script) -> u16
     count_allocs(&script.edits) as u16
 }
 
+/// Counts the `Alloc` edits.
 fn count_allocs(edits: &[Edit]) -> usize
     ensures { result ≡ count_by is_alloc edits.now }
 {
@@ -91,7 +92,7 @@ fn count_allocs(edits: &[Edit]) -> usize
         .count()
 }
 
-/// Whether two scripts have the same edits and status. The unused places of their lists don't count.
+/// Whether two scripts have the same edits and status. The unused elements of their arrays don't count.
 pub(crate) fn is_same(a: &Script, b: &Script) -> bool
     ensures same { IsTrue result → a.now ≡ b.now }
     ensures whole { a.now ≡ b.now → IsTrue result }

@@ -1,13 +1,12 @@
-//! What a callback's author can rely on about scripts, whoever's they are. A function here does nothing: its
-//! contract is the law.
+//! What a callback's author can rely on about any scripts. A function here does nothing: its contract is the law.
 ghost use Rattle.std.specs.Prelude.{◌≡◌, ℕ, Bool, ◌||◌, true, false};
 ghost use Rattle.klp_types.specs.declared.shadow.ShadowKey.{ShadowKey};
 ghost use Rattle.klp_types.specs.World.{World, variable};
 ghost use Rattle.klp_types.specs.Script.{Script, effect, touches, Undoes};
 
-/// A script leaves each shadow variable alone that it doesn't touch. So where two scripts undo each other,
-/// they still do after any script that touches none of their variables: it is enough that callbacks which
-/// belong together undo each other, and that no others touch the same variables.
+/// A script changes no shadow variable that it doesn't touch. So if two scripts undo each other, they still do after
+/// any third script that touches none of their variables. So two callbacks that undo each other keep doing so, as long
+/// as no other callback touches their variables.
 pub fn scripts_apart_still_undo_each_other()
     ensures alone { (patch : ℕ) (world : World) (script : Script) (key : ShadowKey) → touches script key ≡ false
         → variable (effect patch world script) key ≡ variable world key }

@@ -1,15 +1,14 @@
-//! The callbacks of livepatches: what they are, the three kinds of this project, and the boxes in which a
-//! manager keeps those that it is handed.
+//! The callbacks of livepatches: the trait, the three kinds of this project, and the boxes in which a manager keeps
+//! the callbacks that it is given.
 //!
-//! [`Callback::run`] answers the status of the callback's script, changes the world by the script's effect,
-//! logs what undoes it, and counts the run. So do the three kinds, [`Quiet`], [`Refusing`] and
-//! [`Scripted`], and so does a [`Boxed`] of any kind. In a `Boxed` the count grows only where the callback
-//! in the box ran, as long as that gives the script that it gave when it was handed in.
+//! [`Callback::run`] changes the world by the effect of the callback's script, logs what undoes it, counts the run,
+//! and returns the script's status. So do the three kinds, [`Quiet`], [`Refusing`] and [`Scripted`], and so does a
+//! [`Boxed`] of any kind. The count of a `Boxed` grows only when the callback in the box runs, provided that it
+//! still has the script that it had when it was handed in.
 //!
-//! [`run_script`] does what a script says, and is what a callback of another crate calls. Begin with
-//! `src/callback.rt`, then `src/boxed.rt` and `src/counted_box.rt`. A callback can't take memory, and sees
-//! no function stack and no text, since all that it is handed is the world. `laws` has which scripts leave
-//! each other alone.
+//! [`run_script`] runs a script; callbacks of other crates call it. Begin with `src/callback.rt`, then read
+//! `src/boxed.rt` and `src/counted_box.rt`. A callback can't take memory. It sees no function stack and no text,
+//! since it is given only the world. `laws` says which scripts don't affect each other.
 #![tactic(auto)]
 
 mod boxed;

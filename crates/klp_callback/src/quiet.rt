@@ -7,10 +7,10 @@ use klp_types::PatchId;
 use klp_world::{Script, World};
 use std::marker::Model;
 
-/// A callback that edits nothing and succeeds: for a place where one is wanted, and nothing has to happen.
+/// A callback that edits nothing and succeeds. Use it if a callback is required but nothing has to happen.
 #[derive(Drop)]
 pub struct Quiet {
-    /// The empty script, which is kept because it is lent.
+    /// The empty script, which `script` lends.
     script: Script,
     runs: u64,
 }
@@ -26,7 +26,7 @@ impl Model for Quiet {
 }
 
 impl Quiet {
-    /// A callback that never ran: its count is 0, and its script is empty.
+    /// Creates a callback that never ran, with the empty script.
     pub fn new() -> Self
         ensures { result ≡ 0 }
     {

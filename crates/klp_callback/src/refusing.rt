@@ -7,10 +7,11 @@ use klp_types::PatchId;
 use klp_world::{Script, World};
 use std::marker::Model;
 
-/// A callback that edits nothing and answers a status, so that a pre-patch refuses its patch.
+/// A callback that edits nothing and returns a fixed status. As a pre-patch callback with a status other than 0 it
+/// refuses its patch.
 #[derive(Drop)]
 pub struct Refusing {
-    /// A script without edits that has the status. It is kept because it is lent.
+    /// A script without edits that has the status. `script` lends it.
     script: Script,
     runs: u64,
 }
@@ -27,7 +28,7 @@ impl Model for Refusing {
 }
 
 impl Refusing {
-    /// A callback that never ran. A status of 0 refuses nothing.
+    /// Creates a callback that never ran and returns this status. Status 0 refuses nothing.
     pub fn new(status: i32) -> Self
         ensures { result ≡ record { status = status; runs = 0 } }
     {

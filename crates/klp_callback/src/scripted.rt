@@ -7,7 +7,7 @@ use klp_types::PatchId;
 use klp_world::{Script, World};
 use std::marker::Model;
 
-/// A callback that runs any script, as a catalog's text gives it.
+/// A callback that runs any script, for example one from a catalog's text.
 #[derive(Drop)]
 pub struct Scripted {
     script: Script,
@@ -23,8 +23,7 @@ impl Model for Scripted {
 }
 
 impl Scripted {
-    /// A callback that never ran. The script is its own from now on, since what a callback means mustn't
-    /// change.
+    /// Creates a callback that never ran, with this script. It owns the script, so that the script can't change.
     pub fn new(script: Script) -> Self
         ensures { result ≡ record { script = script; runs = 0 } }
     {

@@ -8,7 +8,7 @@ use Rattle.std.proofs.lemmas.Option.{slice_get_past, slice_get_within, slice_get
 use Rattle.klp_types.specs.Setting.{PatchObject}
 use Rattle.klp_types.specs.Script.{Script}
 use Rattle.klp_types.specs.declared.callback.Which.{Which}
-use Rattle.klp_types.specs.Compatible.{SystemState, version_among, can_live_with}
+use Rattle.klp_types.specs.Compatible.{SystemState, version_among, is_compatible_with}
 use Rattle.klp_modules.specs.Names.{ObjectNames}
 use Rattle.klp_catalog_text.specs.Plan.{PlanFunction}
 use Rattle.klp_catalog.specs.Catalog.{CatalogFunction, Catalog, patch_object, targets_of_patch, resolved_function, functions_of_patch}
@@ -117,16 +117,16 @@ number_there patches p place which patch target here there =
 -- whether a patch can live with the states of another
 abbrev pub lives_with : Catalog → ℕ → ℕ → Bool
 lives_with catalog p other =
-    list_all (λ (s : SystemState). can_live_with (is_cumulative catalog p) s (version_among s.id (states_of catalog p))) (states_of catalog other)
+    list_all (λ (s : SystemState). is_compatible_with (is_cumulative catalog p) s (version_among s.id (states_of catalog p))) (states_of catalog other)
 
 pub lives_by : (catalog : Catalog) (p other : ℕ) (own others : StoredPatch) → IsPatch catalog p own → IsPatch catalog other others
-    → list_all (λ (s : SystemState). can_live_with own.replace s (version_among s.id own.states)) others.states ≡ lives_with catalog p other
+    → list_all (λ (s : SystemState). is_compatible_with own.replace s (version_among s.id own.states)) others.states ≡ lives_with catalog p other
 lives_by catalog p other own others is there =
-    λ i. list_all (λ (s : SystemState). can_live_with (is.replaces i) s (version_among s.id (is.states i))) (there.states i)
+    λ i. list_all (λ (s : SystemState). is_compatible_with (is.replaces i) s (version_among s.id (is.states i))) (there.states i)
 
 pub lives_with_none : (catalog : Catalog) (p other : ℕ) → IsAbsent catalog other → lives_with catalog p other ≡ true
 lives_with_none catalog p other none =
-    ap (list_all (λ (s : SystemState). can_live_with (is_cumulative catalog p) s (version_among s.id (states_of catalog p)))) none.states
+    ap (list_all (λ (s : SystemState). is_compatible_with (is_cumulative catalog p) s (version_among s.id (states_of catalog p)))) none.states
 
 pub compatible_next : (catalog : Catalog) (p other : ℕ) (rest : List ℕ) → lives_with catalog p other ≡ true → is_compatible catalog p (other ∷ rest) ≡ is_compatible catalog p rest
 compatible_next catalog p other rest lives = ap (λ b. b && is_compatible catalog p rest) lives

@@ -1,4 +1,4 @@
--- A catalog: patches over the names of the objects that it was assembled over.
+-- A catalog: patches over the names of the objects for which it was assembled.
 use Rattle.std.specs.Prelude.{ℕ, ◌||◌, Bool, false, List, [], ◌∷◌, ◌++◌, map, slice_get, Option, Some, None}
 use Rattle.std.specs.List.{list_any}
 use Rattle.std.specs.Result.{result_ok}
@@ -6,8 +6,8 @@ use Rattle.klp_types.specs.Setting.{Function, PatchObject, Patch, is_at}
 use Rattle.klp_modules.specs.Names.{ObjectNames, resolved}
 use Rattle.klp_catalog_text.specs.Plan.{PlanFunction, PlanTarget, PlanPatch}
 
--- a new function of a catalog: the object it lies in, the symbol it stands in for, by name and position, the site that
--- this symbol is, and its own name and address
+-- a new function of a catalog: its object, the symbol that it replaces, by name and position, the site of that
+-- symbol, and the function's own name and address
 pub record CatalogFunction : Type 0 where
   pub object : ℕ
   pub symbol : List ℕ
@@ -16,8 +16,9 @@ pub record CatalogFunction : Type 0 where
   pub new_name : List ℕ
   pub address : ℕ
 
--- what contracts see of a catalog: the names of the objects and symbols that it was assembled over, the patches of its plan
--- with the scripts of the callbacks that were handed in, and how often each callback ran, in the order of the text
+-- what contracts see of a catalog: the names of the objects and symbols for which it was assembled, the patches of
+-- its plan with the scripts of the callbacks that were handed in, and how often each callback ran, in the order of
+-- the text
 pub record Catalog : Type 0 where
   pub names : List ObjectNames
   pub patches : List PlanPatch
@@ -49,11 +50,11 @@ abbrev pub targets_of_patch : Option PlanPatch → List PlanTarget
 targets_of_patch None = []
 targets_of_patch (Some patch) = patch.targets
 
--- the functions of a patch of the catalog; a patch that isn't there has none
+-- the functions of a patch of the catalog; none if there is no such patch
 abbrev pub catalog_functions : Catalog → ℕ → List CatalogFunction
 catalog_functions catalog patch = functions_of_patch catalog.names (targets_of_patch (slice_get catalog.patches patch))
 
--- what the manager needs of a function
+-- the part of a function that the manager needs
 abbrev pub setting_function : CatalogFunction → Function
 setting_function function = record { site = function.site; address = function.address }
 
@@ -67,7 +68,7 @@ setting_patch names patch = record { replace = patch.replace; objects = map (pat
 abbrev pub patches_of : Catalog → List Patch
 patches_of catalog = map (setting_patch catalog.names) catalog.patches
 
--- whether two functions name one site; a function whose symbol isn't resolved names none
+-- whether two functions are for one site; a function whose symbol isn't resolved is for none
 abbrev pub is_same_site : Option ℕ → Option ℕ → Bool
 is_same_site None other = false
 is_same_site (Some site) other = is_at other site

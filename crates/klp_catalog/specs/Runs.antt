@@ -11,7 +11,7 @@ use Rattle.klp_catalog_text.specs.Plan.{PlanTarget, PlanPatch}
 use Rattle.klp_catalog.specs.Catalog.{Catalog, patches_of}
 use Rattle.klp_catalog.specs.Counts.{CallbackId, is_callback, runs_after}
 
--- an object that isn't there has no callbacks
+-- the callbacks of an object of a patch; none if there is no such object
 abbrev pub callbacks_of : Option PatchObject → List Callback
 callbacks_of None = []
 callbacks_of (Some object) = object.callbacks
@@ -20,11 +20,11 @@ callbacks_of (Some object) = object.callbacks
 abbrev pub objects_at : Catalog → ℕ → List PatchObject
 objects_at catalog patch = patch_objects (slice_get (patches_of catalog) patch)
 
--- the callbacks of a patch for one of its objects, which are counted from 0
+-- the callbacks that a patch has for the object at this index, from 0
 abbrev pub callbacks_at : Catalog → ℕ → ℕ → List Callback
 callbacks_at catalog patch place = callbacks_of (slice_get (objects_at catalog patch) place)
 
--- the script of the callback of a kind, if the patch has one for the object
+-- the script of the callback of this kind, if the patch has one for the object
 abbrev pub script_at : Catalog → ℕ → ℕ → Which → Option Script
 script_at catalog patch place which = script_for which (callbacks_at catalog patch place)
 
@@ -33,12 +33,12 @@ abbrev pub allocs_if : Option Script → ℕ
 allocs_if None = 0
 allocs_if (Some script) = alloc_count script.edits
 
--- what a run of a script notes, where there is one
+-- the records that a run of a script logs; none without a script
 abbrev pub rows_if : ℕ → World → Option Script → List Record
 rows_if patch world None = []
 rows_if patch world (Some script) = rows_of_script patch world script
 
--- what each item gives by its number, one after another
+-- the lists that `gives` makes of each item and its number, joined; the first item has the number n
 abbrev pub by_number : {A B : Type 0} → (ℕ → A → List B) → ℕ → List A → List B
 by_number gives n [] = []
 by_number gives n (item ∷ items) = gives n item ++ by_number gives (n + 1) items
@@ -57,24 +57,25 @@ callback_ids patches = by_number patch_ids 0 patches
 abbrev pub HasCounts : List PlanPatch → List ℕ → Type 0
 HasCounts patches runs = length runs ≡ length (callback_ids patches)
 
--- callbacks ran: each count grows by as often as its callback is among them, and everything else stays
+-- the catalog after callbacks ran: each count grows by how often its callback is among them, and all else stays
 abbrev pub after_runs : Catalog → List Call → Catalog
 after_runs catalog calls = record catalog { runs = runs_after calls (callback_ids catalog.patches) catalog.runs }
 
--- how often the callback of a kind ran, if the patch has one for the object at this place
+-- how often the callback of this kind ran, if the patch has one for the object at this index
 abbrev pub runs_of : Catalog → ℕ → ℕ → Which → Option ℕ
 runs_of catalog patch place which =
     option_and_then (slice_get catalog.runs) (position (is_callback patch place which) (callback_ids catalog.patches))
 
--- the place of an object among those of a patch
+-- the index of an object among those of a patch
 abbrev pub place_of : ℕ → List PatchObject → Option ℕ
 place_of object objects = position (λ (o : PatchObject). o.object == object) objects
 
--- how often the callback of a kind ran for this object, if the patch has one
+-- how often the callback of this kind ran for this object, if the patch has one
 abbrev pub callback_runs : Catalog → ℕ → ℕ → Which → Option ℕ
 callback_runs catalog patch object which = option_and_then (λ place. runs_of catalog patch place which) (place_of object (objects_at catalog patch))
 
--- runs that follow one another grow the counts as all of them together, and no run changes nothing
+-- two lists of runs, one after the other, grow the counts as the joined list does, and the empty list changes
+-- nothing
 pub record RunsAddUp : Type 0 where
   pub none : (catalog : Catalog) → after_runs catalog [] ≡ catalog
   pub more : (catalog : Catalog) (calls others : List Call) → after_runs catalog (calls ++ others) ≡ after_runs (after_runs catalog calls) others

@@ -1,4 +1,4 @@
--- What a catalog keeps of its patches, and of the objects.
+-- What a catalog stores of its patches, and of the objects.
 use Rattle.std.specs.Prelude.{◌≡◌, ℕ, ◌+◌, Bool, false, pos, List, [], ◌∷◌, length, map, take, find, reverse, position, slice_get, slice_index_or, is_some, Option, Some, None, option_map, option_and_then}
 use Rattle.klp_types.specs.declared.callback.Which.{Which}
 use Rattle.klp_types.specs.Setting.{Callback}
@@ -20,7 +20,7 @@ pub record StoredTarget : Type 0 where
   pub first : ℕ
   pub kinds : List Which
 
--- a patch, with the new functions in all of its objects
+-- a patch, with the new functions for all of its objects
 pub record StoredPatch : Type 0 where
   pub name : List ℕ
   pub replace : Bool
@@ -28,13 +28,13 @@ pub record StoredPatch : Type 0 where
   pub functions : List CatalogFunction
   pub states : List SystemState
 
--- ---- what is kept, with the scripts of all callbacks in the order of the text
+-- ---- from what is stored to the patches of a plan, given the scripts of all callbacks in the order of the text
 
--- the script of the callback of this number
+-- the script of the callback with this number
 abbrev pub script_number : List Script → ℕ → Script
 script_number scripts n = slice_index_or scripts n (record { edits = []; status = pos 0 })
 
--- callbacks of these kinds, which begin with this number
+-- callbacks of these kinds, numbered from n on
 abbrev pub callbacks_from : List Script → ℕ → List Which → List Callback
 callbacks_from scripts n [] = []
 callbacks_from scripts n (which ∷ kinds) = record { which = which; script = script_number scripts n } ∷ callbacks_from scripts (n + 1) kinds
@@ -50,9 +50,9 @@ patch_in scripts patch =
 abbrev pub patches_in : List Script → List StoredPatch → List PlanPatch
 patches_in scripts stored = map (patch_in scripts) stored
 
--- ---- what is kept of the patches of a plan
+-- ---- from the patches of a plan to what is stored
 
--- each item, made with the number that it begins at: the numbers go up by the size of each
+-- each item, made with its first number; an item takes as many numbers as its size
 abbrev pub placed : {A B : Type 0} → (ℕ → A → B) → (A → ℕ) → ℕ → List A → List B
 placed make size n [] = []
 placed make size n (item ∷ items) = make n item ∷ placed make size (n + size item) items
@@ -89,13 +89,13 @@ stored_patch names first patch = record {
 abbrev pub stored_patches : List ObjectNames → ℕ → List PlanPatch → List StoredPatch
 stored_patches names first patches = placed (stored_patch names) patch_size first patches
 
--- ---- looks
+-- ---- look-ups
 
--- the number of a callback among all of the catalog, if there is one of this kind
+-- the number of an object's callback of this kind among all callbacks of the catalog, if it has one
 abbrev pub number_in : Which → StoredTarget → Option ℕ
 number_in which target = option_map (λ place. target.first + place) (position (λ (w : Which). is_kind w which) target.kinds)
 
--- a patch that isn't there changes nothing, and names no states
+-- the objects of a patch; none if there is no such patch. The next three are alike
 abbrev pub targets_at : Option StoredPatch → List StoredTarget
 targets_at None = []
 targets_at (Some patch) = patch.targets
@@ -115,7 +115,7 @@ stored_replaces (Some patch) = patch.replace
 abbrev pub states_at : List StoredPatch → ℕ → List SystemState
 states_at stored patch = stored_states (slice_get stored patch)
 
--- the number of the callback of a kind, of a patch for its object at a place
+-- the number of the callback of this kind that a patch has for the object at this index
 abbrev pub number_of : List StoredPatch → ℕ → ℕ → Which → Option ℕ
 number_of stored patch place which = option_and_then (number_in which) (slice_get (targets_at (slice_get stored patch)) place)
 
@@ -126,9 +126,10 @@ newest_naming stored id installed = find (λ p. is_some (version_among id (state
 abbrev pub symbol_count : ObjectNames → ℕ
 symbol_count object = length object.symbols
 
--- the names of the objects are known to contracts alone; what is kept agrees with them, with these scripts and counts of callbacks
+-- what is stored agrees with the names of the objects, which only contracts know, and with these scripts and counts
+-- of callbacks
 pub record IsStored (names : List ObjectNames) (symbols : List ℕ) (patch_names : List (List ℕ)) (stored : List StoredPatch) (scripts : List Script) (counts : List ℕ) : Type 0 where
-  -- as many as an `ObjId` can name
+  -- only as many objects as an `ObjId` can name
   pub sizes : symbols ≡ take 256 (map symbol_count names)
   pub by_name : patch_names ≡ patch_names_of (patches_in scripts stored)
   pub kept : stored ≡ stored_patches names 0 (patches_in scripts stored)

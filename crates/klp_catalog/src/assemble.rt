@@ -1,13 +1,15 @@
-//! From a plan to the patches of a catalog: functions get their sites, and callbacks their numbers.
+//! Makes the patches of a catalog from those of a plan: functions get their sites, and callbacks their numbers.
 
 ghost use Rattle.std.specs.Prelude.{◌≡◌, ◌+◌, ◌≤◌, ◌++◌, false, length, take, map, is_some, OnOk, IfOk, IfErr};
 ghost use Rattle.std.specs.List.{list_any, list_all};
 ghost use Rattle.klp_types.specs.Setting.{Callback as CallbackValue};
 ghost use Rattle.klp_catalog_text.specs.Scripts.{scripts_of};
 ghost use Rattle.klp_catalog.specs.Catalog as catalog;
-ghost use Rattle.klp_catalog.specs.Catalog.{CatalogFunction as FunctionValue, resolved_function, functions_of_target, some_same_site};
+ghost use Rattle.klp_catalog.specs.Catalog.{CatalogFunction as FunctionValue, resolved_function, functions_of_target};
+ghost use Rattle.klp_catalog.specs.Catalog.{some_same_site};
 ghost use Rattle.klp_catalog.specs.Assembled.{IsAssembleFault, IsShort};
-ghost use Rattle.klp_catalog.specs.Stored.{symbol_count, target_size, patch_size, stored_target, stored_patch, stored_patches};
+ghost use Rattle.klp_catalog.specs.Stored.{symbol_count, target_size, patch_size, stored_target, stored_patch};
+ghost use Rattle.klp_catalog.specs.Stored.{stored_patches};
 ghost use Rattle.klp_catalog.specs.declared.assemble.AssembleFault.TheVariants.{NoMemory};
 
 use crate::function::CatalogFunction;
@@ -21,17 +23,17 @@ use std::alloc::{AllocError, AllocFailed, Global};
 use std::snapshot::Snapshot;
 use thiserror::Error;
 
-/// Why a plan becomes no catalog. The numbers are this project's own, and stay.
+/// Why no catalog can be made of a plan. The numbers are this project's own, and don't change.
 #[derive(Clone, Copy, Debug, PartialEq, Eq, Error)]
 pub enum AssembleFault {
-    /// There isn't one callback for each script of the plan. This is looked at first, since the callbacks
+    /// The number of callbacks isn't the number of scripts in the plan. This is checked first, since the callbacks
     /// are the caller's and the text isn't at fault.
     #[error("WrongCallbacks")]
     WrongCallbacks = 1,
     /// A patch has two functions for one site, of which only one could run.
     #[error("SameSite")]
     SameSite = 2,
-    /// Memory ran out. This may come in place of the other faults.
+    /// Memory ran out. This may be reported in place of the other faults.
     #[error("NoMemory")]
     NoMemory = 3,
 }
@@ -52,8 +54,8 @@ impl<T: Drop> From<AllocFailed<T>> for AssembleFault {
     }
 }
 
-/// How many symbols each object has, as far as an `ObjId` can name it. They are kept, so that boot can
-/// compare them with the image's.
+/// Returns how many symbols each object has, by the object's number; only the objects that an `ObjId` can name. The
+/// catalog keeps the counts, so that boot can compare them with the image's.
 pub(crate) fn symbol_counts(alloc: Global, modules: &Modules) -> Result<Vec<u16>, AllocError>
     ensures { IfOk result (λ counts. counts.items ≡ take 256 (map symbol_count modules.now.names)) }
 {
@@ -67,6 +69,7 @@ pub(crate) fn symbol_counts(alloc: Global, modules: &Modules) -> Result<Vec<u16>
     Ok(counts)
 }
 
+/// Resolves the symbol of a function to its site. If the symbol isn't found, the function gets no site.
 fn resolve(modules: &Modules, object: ObjId, function: PlanFunction) -> CatalogFunction
     ensures { result ≡ resolved_function modules.now.names object function }
 {
@@ -87,8 +90,8 @@ fn resolve(modules: &Modules, object: ObjId, function: PlanFunction) -> CatalogF
     }
 }
 
-/// Adds the functions of an object behind the others: a patch's functions are numbered over all its
-/// objects.
+/// Resolves the functions of an object, and appends them to `functions`: a patch's functions are numbered over all
+/// its objects.
 fn push_functions(
     modules: &Modules,
     object: ObjId,
@@ -104,7 +107,8 @@ fn push_functions(
     Ok(())
 }
 
-/// The kinds of callbacks, in order: with the number of the first, they give the number of each.
+/// Returns the kinds of the callbacks, in order. With the number of the first one they determine the number of
+/// each.
 fn kinds_of(alloc: Global, callbacks: &[PlanCallback]) -> Result<Vec<Which>, AllocError>
     ensures { IfOk result (λ kinds. kinds.items ≡ map (λ (c : CallbackValue). c.which) callbacks.now) }
 {
@@ -115,6 +119,7 @@ fn kinds_of(alloc: Global, callbacks: &[PlanCallback]) -> Result<Vec<Which>, All
     Ok(kinds)
 }
 
+/// Whether both are the same site. Two functions without a site don't have the same one.
 fn is_same_site(one: Option<Site>, other: Option<Site>) -> bool
     ensures { result ≡ catalog.is_same_site one other }
 {
@@ -124,8 +129,7 @@ fn is_same_site(one: Option<Site>, other: Option<Site>) -> bool
     }
 }
 
-/// Whether one of the functions is for this site. No site is none's, so two functions without one aren't
-/// for the same.
+/// Whether one of the functions is for this site. False if there is no site.
 fn is_among(site: Option<Site>, functions: &[CatalogFunction]) -> bool
     ensures { result ≡ list_any (λ (f : FunctionValue). catalog.is_same_site site f.site) functions.now }
 {
@@ -134,7 +138,7 @@ fn is_among(site: Option<Site>, functions: &[CatalogFunction]) -> bool
         .any(|function| is_same_site(site, function.site))
 }
 
-/// Whether two of the functions are for one site. Each pair is compared, since there are at most 64
+/// Whether two of the functions are for one site. It compares each pair, since there are at most 64 functions
 /// (docs/DECISIONS.md, "Functions by pairs").
 fn has_same_site(functions: &[CatalogFunction]) -> bool
     ensures { result ≡ catalog.has_same_site functions.now }
@@ -149,14 +153,15 @@ fn has_same_site(functions: &[CatalogFunction]) -> bool
     false
 }
 
-fn name_sites(functions: &[CatalogFunction]) -> bool
+/// Whether each of the functions has a site.
+fn all_have_sites(functions: &[CatalogFunction]) -> bool
     ensures { result ≡ list_all (λ (f : FunctionValue). is_some f.site) functions.now }
 {
     functions.iter().all(|function| function.site.is_some())
 }
 
-/// An object with the numbers of its callbacks; its functions go behind the others, so that all of a patch
-/// are one list.
+/// Makes an object of a patch, and takes the next numbers for its callbacks. Its functions are appended to
+/// `functions`, the one list of all functions of the patch.
 fn assemble_target(
     alloc: Global,
     modules: &Modules,
@@ -191,8 +196,8 @@ fn assemble_target(
     })
 }
 
-/// The patch with its functions resolved and the numbers of its callbacks. Its name is a snapshot, since
-/// the catalog's table has it.
+/// Makes a patch, with its functions resolved and numbers for its callbacks. Its name is only a snapshot, since the
+/// catalog's table has the names.
 fn assemble_patch(
     alloc: Global,
     modules: &Modules,
@@ -216,7 +221,7 @@ fn assemble_patch(
     for target in given {
         targets.push(assemble_target(alloc, modules, target, numbers, &mut functions)?)?;
     }
-    let names_sites = name_sites(&functions);
+    let names_sites = all_have_sites(&functions);
     Ok(CatalogPatch {
         name: Snapshot::of(&name),
         replace,
@@ -227,11 +232,11 @@ fn assemble_patch(
     })
 }
 
-/// The patches in order, each with its functions resolved and the numbers of its callbacks, of which there
-/// are so many.
+/// Makes the patches in order, each with its functions resolved and numbers for its callbacks. `callbacks` is how
+/// many callbacks the caller has.
 ///
-/// That two functions are for one site is reported only once all numbers are given out, since a wrong
-/// number of callbacks is looked at first.
+/// Two functions for one site are reported only after all numbers are given out, since a wrong number of callbacks
+/// is the first fault to report.
 pub(crate) fn assemble_patches(
     alloc: Global,
     modules: &Modules,
@@ -251,13 +256,13 @@ pub(crate) fn assemble_patches(
     let mut patches = Vec::new(alloc);
     for patch in given {
         let assembled = assemble_patch(alloc, modules, patch, &mut numbers)?;
-        // A function whose symbol isn't resolved is for no site, and so not for the same as another
+        // A function whose symbol isn't resolved has no site, so it has none in common with another function
         // (docs/DECISIONS.md, "Functions without a site").
         same_site |= has_same_site(&assembled.functions);
         patches.push(assembled)?;
     }
-    // Too many callbacks are known only here, and come before the sites (docs/DECISIONS.md,
-    // "`WrongCallbacks` before `SameSite`").
+    // Only here is it known whether there are too many callbacks; this is reported before two functions for one
+    // site (docs/DECISIONS.md, "`WrongCallbacks` before `SameSite`").
     if numbers.next < callbacks {
         return Err(AssembleFault::WrongCallbacks);
     }

@@ -1,4 +1,6 @@
-ghost use Rattle.std.specs.Prelude.{◌≡◌, ℕ, ◌<◌, ◌≤◌, ◌==◌, false, List, Option, length, map, position, bytes_eq, slice_get, option_map, ◌+◌, is_some, option_and_then, MatchOption, IfOk, IfErr, IfSome};
+ghost use Rattle.std.specs.Prelude.{◌≡◌, ℕ, ◌<◌, ◌≤◌, ◌==◌, false, List, Option, length, map, position, bytes_eq};
+ghost use Rattle.std.specs.Prelude.{slice_get, option_map, ◌+◌, is_some, option_and_then, MatchOption, IfOk, IfErr};
+ghost use Rattle.std.specs.Prelude.{IfSome};
 ghost use Rattle.std.specs.List.{All, count_by};
 ghost use Rattle.klp_types.specs.Setting.{all_functions, patch_objects};
 ghost use Rattle.klp_modules.specs.Names.{ObjectNames};
@@ -11,13 +13,16 @@ ghost use Rattle.klp_catalog_text.specs.Plan.{PlanPatch as PatchValue};
 ghost use Rattle.klp_catalog_text.specs.Text.{plan_of, IsFaultOf};
 ghost use Rattle.klp_catalog_text.specs.Within.{AreTargetsWithin};
 ghost use Rattle.klp_catalog_text.specs.Draft.{patch_names_of};
-ghost use Rattle.klp_catalog.specs.Catalog.{CatalogFunction as FunctionValue, catalog_functions, setting_function, patches_of, has_same_site, some_same_site};
+ghost use Rattle.klp_catalog.specs.Catalog.{CatalogFunction as FunctionValue, catalog_functions, setting_function};
+ghost use Rattle.klp_catalog.specs.Catalog.{patches_of, has_same_site, some_same_site};
 ghost use Rattle.klp_catalog.specs.States as states;
-ghost use Rattle.klp_catalog.specs.Runs.{HasCounts, objects_at, place_of, script_at, allocs_if, rows_if, after_runs, callback_runs};
+ghost use Rattle.klp_catalog.specs.Runs.{HasCounts, objects_at, place_of, script_at, allocs_if, rows_if, after_runs};
+ghost use Rattle.klp_catalog.specs.Runs.{callback_runs};
 ghost use Rattle.klp_catalog.specs.Limits.{AreWithin};
 ghost use Rattle.klp_catalog.specs.Patch.{IsPatch, IsAbsent, KeepsTo};
 ghost use Rattle.klp_catalog_text.specs.Scripts.{scripts_of};
-ghost use Rattle.klp_catalog.specs.Assembled.{IsAssembleFault, LiesInObject, without_scripts, lent_scripts, lent_counts};
+ghost use Rattle.klp_catalog.specs.Assembled.{IsAssembleFault, LiesInObject, without_scripts, lent_scripts};
+ghost use Rattle.klp_catalog.specs.Assembled.{lent_counts};
 
 use crate::assemble::{AssembleFault, assemble_patches, symbol_counts};
 use crate::function::CatalogFunction;
@@ -37,22 +42,21 @@ use std::alloc::Global;
 use std::marker::Model;
 use std::snapshot::Snapshot;
 
-/// The patches of a plan over the objects of a kernel: each function's name and position are resolved to a
-/// site once, so no event looks a name up.
+/// The patches of a plan, over the objects of a kernel. Each function's name and position are resolved to a site
+/// once, so no event looks a name up.
 ///
-/// Patches are numbered from 0 in the order of the text. The names of the objects and of their symbols
-/// aren't kept: contracts alone know them. No call but `read` and `assemble` takes memory.
+/// Patches are numbered from 0, in the order of the text. The names of the objects and of their symbols aren't
+/// stored: only contracts know them. Only `read` and `assemble` take memory.
 #[derive(Drop)]
 pub struct Catalog {
-    /// The modules that it was assembled over, as they were then. A snapshot takes no memory: the names are
-    /// for contracts alone (docs/DECISIONS.md, "Names of objects and symbols").
+    /// The modules for which the catalog was assembled, as they were then. A snapshot takes no memory: only
+    /// contracts use the names (docs/DECISIONS.md, "Names of objects and symbols").
     over: Snapshot<Modules>,
-    /// By object, how many symbols it has, for boot to compare with the image.
+    /// By object, how many symbols it has. Boot compares these counts with the image.
     symbols: Vec<u16>,
     names: Names,
     patches: Vec<CatalogPatch>,
-    /// Those of all patches, in the order of the text, so that they are the caller's list as it was handed
-    /// in.
+    /// The callbacks of all patches, in the order of the text. This is the caller's list, as it was handed in.
     callbacks: Vec<Boxed>,
 }
 
@@ -63,37 +67,41 @@ impl Model for Catalog {
 
     ghost Value = { Catalog };
 
-    ghost view = { λ c. record { names = c.over.value.names; patches = patches_in (lent_scripts c.callbacks.items) c.patches.items; runs = lent_counts c.callbacks.items } };
+    ghost view = { λ c. record {
+      names = c.over.value.names;
+      patches = patches_in (lent_scripts c.callbacks.items) c.patches.items;
+      runs = lent_counts c.callbacks.items;
+    } };
 
-    ghost invariant = { λ c. IsStored c.over.value.names c.symbols.items c.names c.patches.items (lent_scripts c.callbacks.items) (lent_counts c.callbacks.items) };
+    ghost invariant = { λ c. IsStored c.over.value.names c.symbols.items c.names c.patches.items
+        (lent_scripts c.callbacks.items) (lent_counts c.callbacks.items) };
 }
 
 impl Catalog {
-    /// Reads a whole text, in time that is linear in its length.
+    /// Reads a whole text into a plan, in time linear in its length.
     ///
-    /// A fault is that of the first faulty line. A text without a faulty line that has no handler or no
-    /// object is `Missing`, at line 0. `NoMemory` may come in place of any of these, at the line where
-    /// memory ran out.
+    /// `Err` has the first faulty line. If no line is faulty but the text has no handler or no object, the fault is
+    /// `Missing` at line 0. `NoMemory` may be reported in place of any of these, at the line where memory ran out.
     pub fn read(alloc: Global, text: &[u8]) -> Result<Plan, TextFault>
         ensures plan { IfOk result (λ plan. plan_of text.now ≡ Ok plan) }
-        // so a plan's targets are objects of the image that its objects make, as `assemble` wants, though
-        // the objects are handed out in between (docs/DECISIONS.md, "The targets of a plan")
+        // `assemble` requires that the targets of a plan are objects of the image. This says so, although the
+        // objects are taken out in between (docs/DECISIONS.md, "The targets of a plan").
         ensures targets { IfOk result (λ plan. AreTargetsWithin (length plan.objects) plan.patches) }
         ensures fault { IfErr result (λ fault. IsFaultOf text.now fault.line fault.kind) }
     {
         klp_catalog_text::read(alloc, text)
     }
 
-    /// Makes a catalog of a plan, over the modules of the image that its objects make. The handler and the
-    /// objects of the plan aren't looked at, and the plan is dropped on a fault.
+    /// Makes a catalog of a plan, for the modules of the image that is made of the plan's objects. It doesn't look
+    /// at the handler or the objects of the plan. On a fault it drops the plan.
     ///
-    /// Each function is resolved once, and compared with the others of its patch. A function whose symbol
-    /// isn't resolved is for no site, and is no fault, since its module may never come.
+    /// Each function is resolved once, and compared with the other functions of its patch. If a function's symbol
+    /// isn't found, it has no site. This is no fault, since its module may never be loaded.
     ///
-    /// Each script of the plan wants one callback, in the order of the text. The callbacks' own scripts
-    /// count, and not those of the text, so that `patches_of` has what will run (docs/DECISIONS.md,
-    /// "Scripts by the callbacks"). They come in their boxes, because no box is made here
-    /// (docs/DECISIONS.md, "Callbacks in their boxes").
+    /// There must be one callback for each script of the plan, in the order of the text. The callbacks' own scripts
+    /// count, not those of the text, so that `patches_of` has what will run (docs/DECISIONS.md, "Scripts by the
+    /// callbacks"). The callbacks are boxed already, because no box is made here (docs/DECISIONS.md, "Callbacks in
+    /// their boxes").
     pub fn assemble(
         alloc: Global,
         modules: &Modules,
@@ -126,18 +134,18 @@ impl Catalog {
         })
     }
 
-    /// How many patches there are, at most [`MAX_PATCHES`](klp_types::MAX_PATCHES).
+    /// Returns how many patches there are, at most [`MAX_PATCHES`](klp_types::MAX_PATCHES).
     pub fn patches(&self) -> u8
         ensures count { result ≡ length self.now.patches }
         ensures limit { result ≤ MAX_PATCHES }
-        // what each patch keeps to, so that room for its records is known beforehand
+        // Every patch keeps to these limits, so callers know beforehand how much room its records need.
         ensures limits { AreWithin self.now.patches }
     {
         self.patches.len() as u8
     }
 
-    /// The patch of this number (the kernel's `struct klp_patch *`), and none where it isn't there. It is looked
-    /// up here alone, so whoever asks several things of a patch does so once.
+    /// Returns the patch with this number (the kernel's `struct klp_patch *`). `None` if there is no such patch. A
+    /// caller that needs several facts of a patch looks it up once with this, and asks the patch.
     pub fn get(&self, patch: PatchId) -> Option<&CatalogPatch>
         ensures found { MatchOption result (IsAbsent self.now patch) (λ found. IsPatch self.now patch found.now) }
         ensures keeps { KeepsTo self.now patch }
@@ -146,21 +154,21 @@ impl Catalog {
         self.patches.get(usize::from(number))
     }
 
-    /// Whether a patch can be installed beside these (the kernel's `klp_is_patch_compatible`): for each
-    /// system state of each of them, it names the state with the same version or a higher one, or doesn't
-    /// name it and isn't cumulative (system-state).
+    /// Whether a patch can be installed beside these (the kernel's `klp_is_patch_compatible`). For each system
+    /// state of each installed patch, it must name the state with the same or a higher version. Unless it is
+    /// cumulative, it may also not name the state at all (system-state).
     pub fn is_compatible(&self, patch: PatchId, installed: &[PatchId]) -> bool
         requires patch { patch < length self.now.patches }
         requires installed { All (λ other. other < length self.now.patches) installed.now }
         ensures { result ≡ states.is_compatible self.now patch installed.now }
     {
         let Some(own) = self.get(patch) else {
-            // Can't be: the patch is there.
+            // Not reached, by the precondition.
             return false;
         };
         for &other in installed {
             let lives = match self.get(other) {
-                Some(other) => own.can_live_with_all(&other.states),
+                Some(other) => own.is_compatible_with_all(&other.states),
                 None => true,
             };
             if !lives {
@@ -170,9 +178,9 @@ impl Catalog {
         true
     }
 
-    /// The newest of the patches installed before this one that names the state, where the installed ones
-    /// are given oldest first. Where the patch isn't among them, all of them count as before it, since it
-    /// would be the newest. (The rule is this project's own.)
+    /// Returns the newest of the patches installed before this one that names the state. `installed` has the oldest
+    /// first. If the patch isn't among them, all of them count as before it, since it would be the newest. (The
+    /// rule is this project's own.)
     pub fn previous_state(&self, patch: PatchId, id: u64, installed: &[PatchId]) -> Option<PatchId>
         requires patch { patch < length self.now.patches }
         requires installed { All (λ other. other < length self.now.patches) installed.now }
@@ -181,7 +189,8 @@ impl Catalog {
         patch::previous_state(&self.patches, patch, id, installed)
     }
 
-    /// How many symbols an object has, by the names that the catalog was assembled over.
+    /// Returns how many symbols an object has, by the names for which the catalog was assembled. `None` if there is
+    /// no such object.
     pub fn symbols(&self, object: ObjId) -> Option<u16>
         ensures { result ≡ option_map (λ (found : ObjectNames). length found.symbols)
             (slice_get self.now.names object) }
@@ -190,7 +199,8 @@ impl Catalog {
         count_at(&self.symbols, number)
     }
 
-    /// The number of the patch of this name. Takes one look-up by its hash.
+    /// Returns the number of the patch with this name. `None` if there is no such patch. It takes one look-up by
+    /// hash.
     pub fn patch(&self, name: &str) -> Option<PatchId>
         ensures { result ≡ position (bytes_eq name.now) (patch_names_of self.now.patches) }
     {
@@ -198,14 +208,15 @@ impl Catalog {
         Some(PatchId(number as u8))
     }
 
-    /// The name of a patch, as its line of the text has it. `None` where there is no such patch.
+    /// Returns the name of a patch, as in its line of the text. `None` if there is no such patch.
     pub fn patch_name(&self, patch: PatchId) -> Option<&str>
         ensures { option_map (λ name. name.now) result ≡ slice_get (patch_names_of self.now.patches) patch }
     {
         self.names.name(usize::from(patch.0))
     }
 
-    /// Whether a patch is a cumulative one, which replaces all older ones (cumulative-patches).
+    /// Returns whether a patch is cumulative, so that it replaces all older ones (cumulative-patches). `None` if
+    /// there is no such patch.
     pub fn replaces(&self, patch: PatchId) -> Option<bool>
         ensures { result ≡ option_map (λ (found : PatchValue). found.replace) (slice_get self.now.patches patch) }
     {
@@ -213,7 +224,7 @@ impl Catalog {
         Some(patch.replace)
     }
 
-    /// Whether a patch is cumulative. One that isn't there isn't.
+    /// Whether a patch is cumulative. False if there is no such patch.
     pub fn is_cumulative(&self, patch: PatchId) -> bool
         ensures { result ≡ states.is_cumulative self.now patch }
     {
@@ -223,8 +234,8 @@ impl Catalog {
         }
     }
 
-    /// How many objects a patch changes, at most [`MAX_TARGETS`](klp_types::MAX_TARGETS). A patch that
-    /// isn't there changes none, so that a loop over them needs no check.
+    /// Returns how many objects a patch changes, at most [`MAX_TARGETS`](klp_types::MAX_TARGETS). 0 if there is no
+    /// such patch, so that a loop over the objects needs no check.
     pub fn target_len(&self, patch: PatchId) -> u8
         ensures count { result ≡ length (objects_at self.now patch) }
         ensures limit { result ≤ MAX_TARGETS }
@@ -235,8 +246,8 @@ impl Catalog {
         }
     }
 
-    /// The object that a patch changes, by its place among those of the patch from 0, by which its
-    /// callbacks are run.
+    /// Returns the object that a patch changes, by its index among the objects of the patch, from 0. Callbacks are
+    /// run by this index. `None` if there is no such patch or index.
     pub fn target(&self, patch: PatchId, number: u8) -> Option<ObjId>
         ensures { result ≡ option_map (λ (found : PatchObject). found.object) (slice_get
             (objects_at self.now patch) number) }
@@ -246,11 +257,11 @@ impl Catalog {
         Some(target.object)
     }
 
-    /// The place of an object among those that a patch changes, from 0. No patch changes an object
-    /// twice.
+    /// Returns the index of an object among those that a patch changes, from 0. `None` if the patch doesn't change
+    /// it. No patch changes an object twice.
     pub fn place(&self, patch: PatchId, object: ObjId) -> Option<u8>
         ensures place { result ≡ place_of object (objects_at self.now patch) }
-        // so it is the object's only place, and to go by places is to go by objects
+        // So an object has only one index, and walking over the indexes visits each object once.
         ensures once { count_by (λ (found : PatchObject). found.object == object) (objects_at self.now patch) ≤ 1 }
     {
         let found = self.get(patch)?;
@@ -258,8 +269,8 @@ impl Catalog {
         Some(place as u8)
     }
 
-    /// The ids of the system states that a patch names, in the order of the text (system-state). A
-    /// patch that isn't there names none.
+    /// Returns the ids of the system states that a patch names, in the order of the text (system-state). Empty if
+    /// there is no such patch.
     pub fn state_ids(&self, patch: PatchId) -> ArrayVec<u64, MAX_STATES>
         ensures { result.items ≡ states.state_ids self.now patch }
     {
@@ -269,10 +280,10 @@ impl Catalog {
         }
     }
 
-    /// Runs a callback of a patch for one of its objects, by the object's place in the patch from 0, and
-    /// answers its status. `None` where the patch has no such callback. It takes no memory (callbacks). The
-    /// place is what a walk over the objects has, so none is looked up by its number (docs/DECISIONS.md,
-    /// "Callbacks by place").
+    /// Runs the callback of a kind that a patch has for one of its objects, and returns the callback's status.
+    /// `place` is the object's index in the patch, from 0. `None` if the patch has no such callback. It takes no
+    /// memory (callbacks). A walk over a patch's objects has this index, so no object is looked up
+    /// (docs/DECISIONS.md, "Callbacks by place").
     pub fn run(
         &mut self,
         patch: PatchId,
@@ -284,7 +295,7 @@ impl Catalog {
         requires room { IfSome (script_at self.old patch place which)
             (λ script. HasRoom world.old log.old (alloc_count script.edits) (rows_of_script patch world.old script)) }
         ensures status { result ≡ option_map (λ (s : ScriptOfEdits). s.status) (script_at self.old patch place which) }
-        // one run of the callback, if there is one, so its count grows by one
+        // The count of the callback grows by one, if there is such a callback.
         ensures catalog { self.new
             ≡ after_runs self.old (call_of patch place which (script_at self.old patch place which)) }
         ensures changes { let script = script_at self.old patch place which in
@@ -295,19 +306,19 @@ impl Catalog {
         Some(self.callbacks[number].run(patch, world, log))
     }
 
-    /// Whether the patch has a callback of a kind for the object at this place.
+    /// Whether the patch has a callback of this kind for the object at this index.
     pub fn has_callback(&self, patch: PatchId, place: u8, which: Which) -> bool
         ensures { result ≡ is_some (script_at self.now patch place which) }
     {
         patch::number_of(&self.patches, patch, usize::from(place), which).is_some()
     }
 
-    /// How many shadow variables such a run adds at most. 0 where there is no such callback, so that sums
-    /// need no case for it.
+    /// Returns how many shadow variables a run of this callback adds at most. 0 if there is no such callback, so
+    /// that sums need no special case.
     pub fn allocs(&self, patch: PatchId, place: u8, which: Which) -> u16
         ensures value { result ≡ allocs_if (script_at self.now patch place which) }
         ensures limit { result ≤ MAX_EDITS }
-        // so a run logs few rows
+        // So a run logs few rows.
         ensures edits { IfSome (script_at self.now patch place which) (λ script. length script.edits ≤ MAX_EDITS) }
     {
         match patch::number_of(&self.patches, patch, usize::from(place), which) {
@@ -316,8 +327,8 @@ impl Catalog {
         }
     }
 
-    /// How often the callback of a kind for this object ran, up to the greatest number. `None` where the
-    /// patch has no such callback, which isn't the same as one that never ran.
+    /// Returns how often the callback of this kind ran for this object; the count stops at the greatest `u64`.
+    /// `None` if the patch has no such callback, which is different from one that never ran.
     pub fn callback_runs(&self, patch: PatchId, object: ObjId, which: Which) -> Option<u64>
         ensures runs { result ≡ callback_runs self.now patch object which }
         ensures there { is_some result
@@ -329,11 +340,11 @@ impl Catalog {
         Some(self.callbacks[number].runs())
     }
 
-    /// The new functions of a patch, over its objects in order: their places are the numbers in versions
-    /// and entries. A patch that isn't there has none.
+    /// Returns the new functions of a patch, over all its objects in order. A function's index in this list is its
+    /// number in versions and entries. Empty if there is no such patch.
     pub fn functions(&self, patch: PatchId) -> &[CatalogFunction]
         ensures functions { result.now ≡ catalog_functions self.now patch }
-        // what the manager reads of them when it puts their entries on sites
+        // The manager relies on this when it puts the functions' entries on sites.
         ensures setting { map setting_function result.now
             ≡ all_functions (patch_objects (slice_get (patches_of self.now) patch)) }
         ensures in_object { All (LiesInObject self.now.names) result.now }
@@ -346,8 +357,8 @@ impl Catalog {
         }
     }
 
-    /// A new function of a patch, by its place over the patch's objects from 0: the site that it is for,
-    /// its name and its address.
+    /// Returns a new function of a patch: its site, if it has one, its name and its address. `number` is its index
+    /// over all objects of the patch, from 0. `None` if there is no such function.
     pub fn function(&self, patch: PatchId, number: u16) -> Option<(Option<Site>, &str, u64)>
         ensures { option_map {U = Option ℕ × List ℕ × ℕ} (λ f. (f.0, f.1.now, f.2)) result
             ≡ option_map (λ (f : FunctionValue). (f.site, f.new_name, f.address)) (slice_get
@@ -357,9 +368,9 @@ impl Catalog {
         Some((function.site(), function.new_name(), function.address()))
     }
 
-    /// The symbol that a new function of a patch replaces, by the function's place over the patch's objects
-    /// from 0: its object, its name and its position among the symbols of that name, from 1, where 0 asks
-    /// that the name is unique in the object (livepatch, Metadata).
+    /// Returns the symbol that a new function replaces: its object, its name, and its position among the symbols of
+    /// that name, from 1. Position 0 means that the name must be unique in the object (livepatch, Metadata).
+    /// `number` is the function's index over all objects of the patch, from 0. `None` if there is no such function.
     pub fn function_name(&self, patch: PatchId, number: u16) -> Option<(ObjId, &str, u32)>
         ensures { option_map {U = ℕ × List ℕ × ℕ} (λ f. (f.0, f.1.now, f.2)) result
             ≡ option_map (λ (f : FunctionValue). (f.object, f.symbol, f.sympos)) (slice_get
@@ -370,6 +381,7 @@ impl Catalog {
     }
 }
 
+/// Returns the count at this index. `None` if there is none.
 fn count_at(counts: &[u16], number: u8) -> Option<u16>
     ensures { result ≡ slice_get counts.now number }
 {

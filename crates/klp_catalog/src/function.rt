@@ -3,7 +3,7 @@ ghost use Rattle.std.specs.Prelude.{◌≡◌};
 use klp_types::{ObjId, Site};
 use std::marker::Model;
 
-/// A new function of a catalog's patch, with what its line says and the site that this comes to.
+/// A new function of a catalog's patch: what its line says, and the site of the symbol that it replaces.
 #[derive(Drop)]
 pub struct CatalogFunction {
     pub(crate) object: ObjId,
@@ -31,42 +31,44 @@ impl Model for CatalogFunction {
 }
 
 impl CatalogFunction {
-    /// The object that it changes, which is that of its site.
+    /// Returns the object that the function changes. Its site, if any, is in this object.
     pub fn object(&self) -> ObjId
         ensures { result ≡ self.now.object }
     {
         self.object
     }
 
-    /// The name of the symbol that it replaces, which is kept for the console to print.
+    /// Returns the name of the symbol that the function replaces. It is kept for the console to print.
     pub fn symbol(&self) -> &str
         ensures { result.now ≡ self.now.symbol }
     {
         self.symbol.as_str()
     }
 
-    /// Which of the symbols of that name in the object is meant, from 1. With 0 the name is to be
-    /// unique in the object (livepatch, Metadata).
+    /// Returns which symbol of that name in the object is meant, from 1. 0 means that the name must be unique in
+    /// the object (livepatch, Metadata).
     pub fn sympos(&self) -> u32
         ensures { result ≡ self.now.sympos }
     {
         self.sympos
     }
 
-    /// The site of that symbol. `None` where the object has no such symbol, or with position 0 several of
-    /// them: then the patch can't be enabled while the object is loaded.
+    /// Returns the site of that symbol. `None` if the object has no such symbol, or has several and the position is
+    /// 0. Such a patch can't be enabled while the object is loaded.
     pub fn site(&self) -> Option<Site>
         ensures { result ≡ self.now.site }
     {
         self.site
     }
 
+    /// Returns the function's own name.
     pub fn new_name(&self) -> &str
         ensures { result.now ≡ self.now.new_name }
     {
         self.new_name.as_str()
     }
 
+    /// Returns the address of the function's code.
     pub fn address(&self) -> u64
         ensures { result ≡ self.now.address }
     {

@@ -1,17 +1,18 @@
-//! The catalog: the patches of an administrator's text over the objects of the kernel.
+//! The catalog: the patches of an administrator's text, over the objects of the kernel.
 //!
-//! `klp_catalog_text` reads the text into a [`Plan`]. A plan becomes a [`Catalog`] over the objects of the kernel,
-//! whose symbols its functions name (`specs/Assembled`). The model is the modules' names, the plan's
-//! patches with the scripts of the callbacks that were handed in, and how often each callback ran
-//! (`specs/Catalog`, `Counts`).
+//! `klp_catalog_text` reads the text into a [`Plan`]. A [`Catalog`] is made of a plan and the kernel's objects,
+//! whose symbols the plan's functions name (`specs/Assembled`). Its model has the modules' names, the plan's
+//! patches with the scripts of the callbacks that were handed in, and how often each callback ran (`specs/Catalog`,
+//! `Counts`).
 //!
-//! `functions` have the sites that their names and positions pick, no two of a patch for one site. All
-//! patches keep to the limits, and none has an object, a state, or a kind of callback for one object twice.
-//! `run` does what one script says, logs the rows, and counts that callback (`specs/Runs`); `callback_runs`
-//! is its count. `is_compatible` and `previous_state` are those of the definitions (`specs/States`).
+//! Each function in `functions` has the site that its name and position pick, and no two functions of a patch have
+//! the same site. All patches keep to the limits. No patch has an object twice, a state twice, or two callbacks of
+//! one kind for one object. `run` does what one script says, logs the rows, and counts that callback
+//! (`specs/Runs`); `callback_runs` returns the count. `is_compatible` and `previous_state` agree with the
+//! definitions (`specs/States`).
 //!
-//! `laws`: over a list of runs each count grows by how often its callback is in it, and no other changes;
-//! runs add up; sites are in the objects of their functions.
+//! `laws` says: over a list of runs each count grows by how often its callback is in the list, and no other count
+//! changes; runs add up; sites are in the objects of their functions.
 #![tactic(auto)]
 
 mod assemble;

@@ -3,18 +3,18 @@ ghost use Rattle.klp_catalog.specs.Assembled.{IsShort};
 
 use crate::assemble::AssembleFault;
 
-/// The numbers of the callbacks that aren't given out yet. They are counted and not the callbacks moved,
-/// since a box that changed hands would lose what is known of it.
+/// The callback numbers that aren't given out yet. The callbacks themselves aren't moved, since contracts forget
+/// what they know of a box that is moved.
 #[derive(Drop)]
 pub(crate) struct Numbers {
     pub(crate) next: usize,
-    /// One more than the last: too few callbacks are found here, and too many by what is left.
+    /// One more than the last number. If numbers run out there are too few callbacks; if some are left, too many.
     pub(crate) end: usize,
 }
 
 impl Numbers {
-    /// Gives out so many, and answers the first of them. An object's callbacks have numbers in a row, so
-    /// the first is enough.
+    /// Takes the next `wanted` numbers, and returns the first. The callbacks of an object have consecutive numbers,
+    /// so the first is enough. `Err` if there are too few left.
     pub(crate) fn take(&mut self, wanted: usize) -> Result<usize, AssembleFault>
         requires { self.old.next ≤ self.old.end }
         ensures first { IfOk result (λ first. first ≡ self.old.next) }

@@ -15,17 +15,17 @@ use klp_types::{MAX_STATES, ObjId, PatchId, Which};
 use std::marker::Model;
 use std::snapshot::Snapshot;
 
-/// A patch of a catalog (the kernel's `struct klp_patch`): its callbacks are numbers in the catalog's list.
+/// A patch of a catalog (the kernel's `struct klp_patch`). Its callbacks are numbers in the catalog's list.
 #[derive(Drop)]
 pub struct CatalogPatch {
-    /// The name, for contracts alone; the catalog keeps the names of its patches in a table.
+    /// The name, for contracts only; the catalog has the names of its patches in a table.
     pub(crate) name: Snapshot<String>,
     pub(crate) replace: bool,
-    /// The objects that it changes, in the order of the text.
+    /// The objects that the patch changes, in the order of the text.
     pub(crate) targets: Vec<CatalogTarget>,
-    /// The new functions in all of them, in order: their places are the numbers in versions and entries.
+    /// The new functions for all these objects, in order. A function's index is its number in versions and entries.
     pub(crate) functions: Vec<CatalogFunction>,
-    /// Whether each of them names a site, which is looked at once, since an enabling asks for it.
+    /// Whether every function has a site. It is computed once, since each enabling of the patch asks for it.
     pub(crate) names_sites: bool,
     pub(crate) states: Vec<SystemState>,
 }
@@ -38,43 +38,50 @@ impl Model for CatalogPatch {
 
     ghost Value = { StoredPatch };
 
-    ghost view = { λ p. record { name = string_bytes p.name.value; replace = p.replace; targets = p.targets.items; functions = p.functions.items; states = p.states.items } };
+    ghost view = { λ p. record {
+      name = string_bytes p.name.value;
+      replace = p.replace;
+      targets = p.targets.items;
+      functions = p.functions.items;
+      states = p.states.items;
+    } };
 
     ghost invariant = { λ p. p.names_sites ≡ list_all (λ (f : FunctionValue). is_some f.site) p.functions.items };
 }
 
 impl CatalogPatch {
-    /// Whether it replaces all older patches (cumulative-patches).
+    /// Whether the patch replaces all older ones (cumulative-patches).
     pub fn is_cumulative(&self) -> bool
         ensures { result ≡ self.now.replace }
     {
         self.replace
     }
 
-    /// The new functions, over its objects in order: their places are the numbers in versions and entries.
+    /// Returns the new functions, over all objects in order. A function's index is its number in versions and
+    /// entries.
     pub fn functions(&self) -> &[CatalogFunction]
         ensures { result.now ≡ self.now.functions }
     {
         &self.functions
     }
 
-    /// Whether each function names a site, so that none can keep the patch from being enabled.
+    /// Whether every function has a site. If so, no function can prevent that the patch is enabled.
     pub fn names_sites(&self) -> bool
         ensures { result ≡ list_all (λ (f : FunctionValue). is_some f.site) self.now.functions }
     {
         self.names_sites
     }
 
-    /// The objects that it changes, in the order of the text, which is that of its functions: so all functions for
-    /// one object are told by how many those before have.
+    /// Returns the objects that the patch changes, in the order of the text. The functions are in the same order,
+    /// so the functions of an object begin after as many as the objects before it have.
     pub fn targets(&self) -> &[CatalogTarget]
         ensures { result.now ≡ self.now.targets }
     {
         &self.targets
     }
 
-    /// The ids of the system states that it names, in the order of the text (system-state): in an array, since
-    /// an enabling takes no memory.
+    /// Copies the ids of the system states that the patch names, in the order of the text (system-state). The
+    /// result is an array, since enabling a patch takes no memory.
     pub(crate) fn state_ids(&self) -> ArrayVec<u64, MAX_STATES>
         requires { length self.now.states ≤ MAX_STATES }
         ensures { result.items ≡ map (λ (s : StateValue). s.id) self.now.states }
@@ -86,20 +93,19 @@ impl CatalogPatch {
         ids
     }
 
-    /// Whether it can live with each of these states of another patch: one that replaces all others has to know
-    /// each of their states, since it takes them over.
-    pub(crate) fn can_live_with_all(&self, states: &[SystemState]) -> bool
-        ensures { result ≡ list_all (λ (s : StateValue). compatible.can_live_with self.now.replace s
+    /// Whether the patch can be installed beside a patch with these system states. It must name each of them with
+    /// the same or a higher version. Only a patch that isn't cumulative may leave a state out, since a cumulative
+    /// one takes all states over.
+    pub(crate) fn is_compatible_with_all(&self, states: &[SystemState]) -> bool
+        ensures { result ≡ list_all (λ (s : StateValue). compatible.is_compatible_with self.now.replace s
             (compatible.version_among s.id self.now.states)) states.now }
     {
-        states
-            .iter()
-            .all(|state| can_live_with(self.replace, &self.states, *state))
+        states.iter().all(|state| is_compatible_with(self.replace, &self.states, *state))
     }
 }
 
-/// The number of a patch's callback among all of the catalog, if it has one of the kind for the object at
-/// this place.
+/// Returns the number of the callback of this kind that the patch has for the object at this index. The number
+/// counts all callbacks of the catalog. `None` if the patch has no such callback.
 pub(crate) fn number_of(
     patches: &[CatalogPatch],
     patch: PatchId,
@@ -114,15 +120,15 @@ pub(crate) fn number_of(
     Some(target.first + place)
 }
 
-/// The place of an object among those that a patch changes. There is one at most, so it is searched from
-/// the front.
+/// Returns the index of an object among those that a patch changes. `None` if the patch doesn't change it. An
+/// object occurs at most once.
 pub(crate) fn place_of(targets: &[CatalogTarget], object: ObjId) -> Option<usize>
     ensures { result ≡ position (λ (t : StoredTarget). t.object == object) targets.now }
 {
     targets.iter().position(|target| target.object == object)
 }
 
-/// The system states that a patch names; none where it isn't there.
+/// Returns the system states that a patch names. Empty if there is no such patch.
 fn states_of(patches: &[CatalogPatch], patch: PatchId) -> &[SystemState]
     ensures { result.now ≡ states_at patches.now patch }
 {
@@ -132,7 +138,8 @@ fn states_of(patches: &[CatalogPatch], patch: PatchId) -> &[SystemState]
     }
 }
 
-/// The version in which the state of this id is named. Each id is named once.
+/// Returns the version with which the state of this id is named. `None` if it isn't named. Each id is named at most
+/// once.
 fn version_among(id: u64, states: &[SystemState]) -> Option<u32>
     ensures { result ≡ compatible.version_among id states.now }
 {
@@ -140,10 +147,10 @@ fn version_among(id: u64, states: &[SystemState]) -> Option<u32>
     Some(state.version)
 }
 
-/// Whether a patch with these states of its own can live with a state of another: one that replaces all
-/// others has to know each of their states, since it takes them over.
-fn can_live_with(replace: bool, own: &[SystemState], state: SystemState) -> bool
-    ensures { result ≡ compatible.can_live_with replace state (compatible.version_among state.id own.now) }
+/// Whether a patch with the states `own` can be installed beside a patch with this state. It must name the state
+/// with the same or a higher version; only a patch that isn't cumulative may leave the state out.
+fn is_compatible_with(replace: bool, own: &[SystemState], state: SystemState) -> bool
+    ensures { result ≡ compatible.is_compatible_with replace state (compatible.version_among state.id own.now) }
 {
     match version_among(state.id, own) {
         Some(version) => state.version <= version,
@@ -151,8 +158,8 @@ fn can_live_with(replace: bool, own: &[SystemState], state: SystemState) -> bool
     }
 }
 
-/// The newest of the patches installed before this one that names the state. The walk is from the oldest,
-/// because what is behind the patch itself doesn't count.
+/// Returns the newest of the patches installed before this one that names the state. `installed` has the oldest
+/// first. The walk stops at the patch itself, since later ones don't count.
 pub(crate) fn previous_state(
     patches: &[CatalogPatch],
     patch: PatchId,

@@ -6,19 +6,20 @@ use klp_types::{ObjId, Which};
 use std::marker::Model;
 use std::snapshot::Snapshot;
 
-/// An object that a patch changes. Its callbacks are the catalog's; here is only which of them are its own.
+/// An object that a patch changes. The catalog has the callbacks; the target has the numbers and kinds of its own.
 #[derive(Drop)]
 pub struct CatalogTarget {
     pub(crate) object: ObjId,
-    /// The functions as the plan has them, for contracts alone: what runs are the resolved ones.
+    /// The functions as in the plan, for contracts only. At run time the patch's resolved functions are used.
     pub(crate) functions: Snapshot<Vec<PlanFunction>>,
-    /// How many functions there are: the patch's are one list, in the order of its objects.
+    /// How many functions the patch has for the object. The functions of a patch are one list, in the order of its
+    /// objects.
     pub(crate) count: usize,
-    /// The number of its first callback among all of the catalog. Callbacks and their counts are one list
-    /// in the order of the text, so this and the kinds find each (docs/DECISIONS.md, "Counts of
-    /// callbacks").
+    /// The number of the object's first callback, among all callbacks of the catalog. These and their counts are
+    /// one list in the order of the text, so this number and the kinds find each callback (docs/DECISIONS.md,
+    /// "Counts of callbacks").
     pub(crate) first: usize,
-    /// The kinds of its callbacks, in the order of their numbers.
+    /// The kinds of the object's callbacks, in the order of their numbers.
     pub(crate) kinds: Vec<Which>,
 }
 
@@ -28,7 +29,12 @@ impl Model for CatalogTarget {
 
     ghost Value = { StoredTarget };
 
-    ghost view = { λ t. record { object = t.object; functions = t.functions.value.items; first = t.first; kinds = t.kinds.items } };
+    ghost view = { λ t. record {
+      object = t.object;
+      functions = t.functions.value.items;
+      first = t.first;
+      kinds = t.kinds.items;
+    } };
 
     ghost invariant = { λ t. (t.first + length t.kinds.items < 2 ^ 64) × (t.count ≡ length t.functions.value.items) };
 }
@@ -40,7 +46,7 @@ impl CatalogTarget {
         self.object
     }
 
-    /// How many functions the patch has for it.
+    /// Returns how many functions the patch has for this object.
     pub fn functions(&self) -> usize
         ensures { result ≡ length self.now.functions }
     {

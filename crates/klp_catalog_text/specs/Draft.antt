@@ -1,4 +1,4 @@
--- The plan as far as the lines up to here give it, and what each line adds.
+-- The plan that the lines read so far make, and what each line adds to it.
 use Rattle.std.specs.Prelude.{ℕ, ◌==◌, not, Bool, false, nat_lt, nat_le, List, [], ◌∷◌, ◌++◌, length, map, position, slice_get, Option, Some, None, is_some, is_none, option_map, Result, bytes_eq}
 use Rattle.std.specs.List.{list_any}
 use Rattle.klp_types.specs.Compatible.{SystemState}
@@ -27,7 +27,7 @@ names_of objects = map (λ (o : Object). o.name) objects
 abbrev pub patch_names_of : List PlanPatch → List (List ℕ)
 patch_names_of patches = map (λ (p : PlanPatch). p.name) patches
 
--- the place of a name in a list of names
+-- the index of a name in a list of names
 abbrev pub number_of : List ℕ → List (List ℕ) → Option ℕ
 number_of name names = position (bytes_eq name) names
 
@@ -43,7 +43,7 @@ abbrev pub object_name : List Object → Option PlanTarget → Option (List ℕ)
 object_name objects None = None
 object_name objects (Some target) = option_map (λ (o : Object). o.name) (slice_get objects target.object)
 
--- the name of the object of the open target: the last one of the last patch
+-- the name of the open target's object; the open target is the last target of the last patch
 abbrev pub open_object : Draft → Option (List ℕ)
 open_object draft = object_name draft.objects (last_of (open_targets draft))
 
@@ -51,7 +51,7 @@ abbrev pub has_target : List PlanTarget → Option ℕ → Bool
 has_target targets None = false
 has_target targets (Some object) = list_any (λ (t : PlanTarget). t.object == object) targets
 
--- what can be wrong with the place of a line, in the order in which it is looked at
+-- the faults that a line can have at its place, in the order in which they are checked
 abbrev pub place_faults : Draft → CatalogLine → List (Bool × TextFaultKind)
 place_faults draft (line.Handler address) = (has_some draft.patches, OutOfPlace) ∷ (is_some draft.handler, Twice) ∷ []
 place_faults draft (line.Object name) =

@@ -1,4 +1,4 @@
--- Texts of catalogs with what they say, and plans that are as great as may be.
+-- Texts of catalogs with their plans, and drafts that are at a limit.
 use Rattle.std.specs.Prelude.{ℕ, pos, negsuc, true, false, List, [], ◌∷◌, ◌++◌, replicate, codes, Some, None}
 use Rattle.klp_types.specs.declared.callback.Which.TheVariants.{Pre, Post, PostUn}
 use Rattle.klp_types.specs.declared.edit.Edit.TheVariants.{Alloc, Free}
@@ -7,7 +7,7 @@ use Rattle.klp_types.specs.Script.{Script}
 use Rattle.klp_catalog_text.specs.Plan.{PlanFunction, PlanTarget, PlanPatch, Plan}
 use Rattle.klp_catalog_text.specs.Draft.{Draft}
 
--- one patch for one function
+-- one patch with one function
 abbrev pub small_text : List ℕ
 small_text =
     codes "handler ffffffff81000000\nobject vmlinux\nsymbol f ffffffff81001000 e80000000090c3\npatch p\ntarget vmlinux\nfunc .klp.sym.vmlinux.f,0 f_p ffffffffc0001000\n"
@@ -25,7 +25,7 @@ small_plan = record {
   patches = record { name = codes "p"; replace = false; targets = record { object = 0; functions = f_p ∷ []; callbacks = [] } ∷ []; states = [] } ∷ [];
 }
 
--- a module, a cumulative patch that names a state, callbacks; with comments, empty lines, tabs and returns
+-- a module, a cumulative patch that names a state, callbacks; with comments, empty lines, tabs and carriage returns
 abbrev pub longer_text : List ℕ
 longer_text =
     codes "# a test\n\nobject vmlinux\r\nsymbol f ffffffff81001000 e80000000090c3\nobject m\n\tsymbol  g\t10 c3\nhandler ffffffff81000000\npatch p replace\nstate 7 2\ntarget m\nfunc .klp.sym.m.g,1 g_p 20\npre 0 alloc:1:9:5 free:2:1\npost 0\ntarget vmlinux\npostun -16\npatch q"
@@ -53,7 +53,7 @@ longer_plan = record {
       ∷ record { name = codes "q"; replace = false; targets = []; states = [] } ∷ [];
 }
 
--- a handler and `vmlinux` with f, and patches
+-- a draft with a handler, the object `vmlinux` with the symbol f, and these patches
 abbrev pub draft_with : List PlanPatch → Draft
 draft_with patches = record { handler = Some 0; objects = record { name = codes "vmlinux"; symbols = f ∷ [] } ∷ []; patches = patches }
 
@@ -63,7 +63,7 @@ patch_with targets = record { name = codes "p"; replace = false; targets = targe
 abbrev pub target_with : List PlanFunction → PlanTarget
 target_with functions = record { object = 0; functions = functions; callbacks = record { which = Pre; script = record { edits = []; status = pos 0 } } ∷ [] }
 
--- so many objects, and so many symbols in one
+-- a draft with this many objects and one more, which has this many symbols
 abbrev pub draft_of : ℕ → ℕ → Draft
 draft_of objects symbols =
     record { handler = None; objects = replicate objects (record { name = codes "a"; symbols = [] }) ++ record { name = codes "b"; symbols = replicate symbols f } ∷ []; patches = [] }

@@ -1,4 +1,4 @@
--- What a draft and a plan keep beside the plan so far: the names by which it finds objects and patches, and how many things there are.
+-- What a draft and a plan store in addition: tables of the names of objects and patches, and counts.
 use Rattle.std.specs.Prelude.{◌≡◌, ℕ, ◌≤◌, List, length}
 use Rattle.klp_types.specs.Image.{Object, symbols_of}
 use Rattle.klp_types.specs.declared.limits.TheConstants.{MAX_OBJECTS}
@@ -18,7 +18,7 @@ pub record IsKept (objects : List Object) (object_names : List (List ℕ)) (symb
   pub few_patches : AreFew patches
   pub targets_within : AreTargetsWithin (length objects) patches
 
--- what a plan keeps: the names of its patches beside these
+-- a plan's table has the names of its patches
 pub record IsPlanKept (patches : List PlanPatch) (patch_names : List (List ℕ)) : Type 0 where
   pub by_name : patch_names ≡ patch_names_of patches
   pub few : AreFew patches

@@ -18,16 +18,16 @@ use Rattle.klp_catalog_text.specs.Words.{name_of, symbol_name_of, address_of, bo
 use Rattle.klp_catalog_text.specs.Edits.{script_of}
 use Rattle.klp_words.specs.Steps.{◌>>=◌}
 
--- spaces and tabs separate the words
+-- the words of a line: spaces and tabs separate them
 abbrev pub words_of : List ℕ → List (List ℕ)
 words_of line = words_between (separates SpacesAndTabs) line
 
--- `#` makes a comment as the very first byte
+-- whether a line is a comment: its very first byte is `#`
 abbrev pub is_comment : List ℕ → Bool
 is_comment [] = false
 is_comment (b ∷ bs) = b == 35
 
--- the word that a line begins with
+-- the kind of line that begins with this word
 abbrev pub keyword_of : List ℕ → Option Keyword
 keyword_of word =
     if bytes_eq word (codes "handler") then Some keyword.Handler
@@ -43,12 +43,12 @@ keyword_of word =
     else if bytes_eq word (codes "state") then Some keyword.State
     else None
 
--- the words behind each keyword, first their number and then each from left to right
+-- what the words after each keyword say: first their number is checked, then each word from left to right
 abbrev pub handler_line : List (List ℕ) → Result CatalogLine TextFaultKind
 handler_line (address ∷ []) = address_of address >>= λ a. Ok (line.Handler a)
 handler_line words = Err WrongCount
 
--- a name and nothing else
+-- exactly one name
 abbrev pub only_name : List (List ℕ) → Result (List ℕ) TextFaultKind
 only_name (name ∷ []) = name_of name
 only_name words = Err WrongCount
@@ -62,12 +62,12 @@ symbol_line (name ∷ address ∷ body ∷ []) =
     symbol_name_of name >>= λ n. address_of address >>= λ a. body_of body >>= λ b. Ok (line.Symbol (record { name = n; address = a; body = b }))
 symbol_line words = Err WrongCount
 
--- behind `replace` stands nothing
+-- nothing may follow `replace`
 abbrev pub replace_line : List ℕ → List (List ℕ) → Result CatalogLine TextFaultKind
 replace_line name [] = name_of name >>= λ n. Ok (line.Patch n true)
 replace_line name words = Err WrongCount
 
--- behind the name of a patch stands nothing or `replace`
+-- the name of a patch is followed by nothing or by `replace`
 abbrev pub patch_line : List (List ℕ) → Result CatalogLine TextFaultKind
 patch_line [] = Err WrongCount
 patch_line (name ∷ []) = name_of name >>= λ n. Ok (line.Patch n false)
@@ -77,14 +77,14 @@ abbrev pub target_line : List (List ℕ) → Result CatalogLine TextFaultKind
 target_line (object ∷ []) = name_of object >>= λ n. Ok (line.Target n)
 target_line words = Err WrongCount
 
--- target is the object of the open target
+-- `target` is the name of the open target's object, if a target is open
 abbrev pub func_line : Option (List ℕ) → List (List ℕ) → Result CatalogLine TextFaultKind
 func_line target (symbol ∷ name ∷ address ∷ []) =
     symbol_of target (spelling_of symbol) >>= λ s. name_of name >>= λ n. address_of address
     >>= λ a. Ok (line.Function (record { symbol = s.symbol; sympos = s.sympos; new_name = n; address = a }))
 func_line target words = Err WrongCount
 
--- a status, and with status 0 edits
+-- a status, and edits if the status is 0
 abbrev pub callback_line : Which → List (List ℕ) → Result CatalogLine TextFaultKind
 callback_line which words = script_of words >>= λ s. Ok (line.Callback which s)
 
@@ -103,7 +103,7 @@ line_of_words target (Some keyword.Func) words = func_line target words
 line_of_words target (Some (keyword.Callback which)) words = callback_line which words
 line_of_words target (Some keyword.State) words = state_line words
 
--- what a line says: its whole text is looked at first, then its first word, then the words behind it
+-- what a line says: its whole text is checked first, then its first word, then the words after it
 abbrev pub line_of : Option (List ℕ) → List ℕ → List ℕ → List (List ℕ) → Result CatalogLine TextFaultKind
 line_of target text first words =
     if not (list_all is_ascii text) then Err NotAscii

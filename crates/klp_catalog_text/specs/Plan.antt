@@ -1,11 +1,13 @@
--- What a catalog's text says: the handler, the objects with their symbols, and the patches, all in the order of the text.
+-- What a catalog's text says: the handler, the objects with their symbols, and the patches, in the order of the
+-- text.
 use Rattle.std.specs.Prelude.{ℕ, Bool, List}
 use Rattle.klp_types.specs.Compatible.{SystemState}
 use Rattle.klp_types.specs.Image.{Object}
 use Rattle.klp_types.specs.Setting.{Callback}
 pub use Rattle.klp_catalog_text.specs.Function.{PlanFunction}
 
--- an object that a patch changes, by its place among the plan's objects, the new functions in it, and the callbacks for it
+-- an object that a patch changes, by its index among the plan's objects, the new functions in it, and the callbacks
+-- for it
 pub record PlanTarget : Type 0 where
   pub object : ℕ
   pub functions : List PlanFunction

@@ -1,4 +1,4 @@
--- The parts of a plan, and what is put behind what is there already.
+-- The parts of a plan, and how items are appended to them.
 use Rattle.std.specs.Prelude.{ℕ, ◌==◌, ◌-◌, not, Bool, List, [], ◌∷◌, ◌++◌, length, slice_get, Option, Some, None, sum_by}
 use Rattle.std.specs.List.{list_any}
 use Rattle.klp_types.specs.Compatible.{SystemState}
@@ -32,7 +32,7 @@ abbrev pub callbacks_of : Option PlanTarget → List PlanCallback
 callbacks_of None = []
 callbacks_of (Some target) = target.callbacks
 
--- the kinds of callbacks, numbered
+-- a number for each kind of callback
 abbrev pub which_number : Which → ℕ
 which_number Pre = 0
 which_number Post = 1
@@ -43,11 +43,11 @@ which_number PostUn = 3
 abbrev pub has_which : Which → List PlanCallback → Bool
 has_which which callbacks = list_any (λ (c : PlanCallback). which_number c.which == which_number which) callbacks
 
--- whether the state of this id is named
+-- whether the state with this id is named
 abbrev pub names_state : ℕ → List SystemState → Bool
 names_state id states = list_any (λ (s : SystemState). s.id == id) states
 
--- how many functions there are over all targets
+-- how many functions all targets have together
 abbrev pub function_count : List PlanTarget → ℕ
 function_count targets = sum_by (λ (t : PlanTarget). length t.functions) targets
 

@@ -10,12 +10,12 @@ scripts_of_callbacks callbacks = map (λ (c : PlanCallback). c.script) callbacks
 abbrev pub scripts_of_target : PlanTarget → List Script
 scripts_of_target target = scripts_of_callbacks target.callbacks
 
--- over the targets of a patch
+-- the scripts of a patch, over its targets
 abbrev pub scripts_of_targets : List PlanTarget → List Script
 scripts_of_targets [] = []
 scripts_of_targets (target ∷ targets) = scripts_of_target target ++ scripts_of_targets targets
 
--- over all patches
+-- the scripts of all patches
 abbrev pub scripts_of : List PlanPatch → List Script
 scripts_of [] = []
 scripts_of (patch ∷ patches) = scripts_of_targets patch.targets ++ scripts_of patches

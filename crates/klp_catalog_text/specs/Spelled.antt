@@ -11,7 +11,7 @@ use Rattle.klp_types.specs.Script.{Script, is_success}
 use Rattle.klp_types.specs.World.{ShadowValue}
 use Rattle.klp_words.specs.Words.{value_text}
 
--- the name of an edit, its numbers and its value
+-- the parts of an edit: its name, its numbers and its value
 abbrev pub edit_parts : Edit → List (List ℕ)
 edit_parts (Alloc key value) = codes "alloc" ∷ decimal key.obj ∷ decimal key.id ∷ value_text value ∷ []
 edit_parts (Free key) = codes "free" ∷ decimal key.obj ∷ decimal key.id ∷ []
@@ -19,15 +19,15 @@ edit_parts (FreeAll id) = codes "freeall" ∷ decimal id ∷ []
 edit_parts (SetData state value) = codes "set" ∷ decimal state ∷ decimal value ∷ []
 edit_parts (TakePrev state) = codes "takeprev" ∷ decimal state ∷ []
 
--- with colons between them
+-- the word of an edit: its parts with colons between them
 abbrev pub edit_word : Edit → List ℕ
 edit_word edit = join_with_byte 58 (edit_parts edit)
 
--- a status, and the edits behind it
+-- the words of a script: its status, and its edits
 abbrev pub script_words : Script → List (List ℕ)
 script_words script = signed_decimal script.status ∷ map edit_word script.edits
 
--- a value has at most as many bytes as may be
+-- a value has at most the allowed number of bytes
 abbrev pub IsValue : ShadowValue → Type 0
 IsValue value = (length value ≤ MAX_VALUE_BYTES) × IsBytes value
 
@@ -39,7 +39,7 @@ IsEdit (FreeAll id) = id < 2 ^ 64
 IsEdit (SetData state value) = (state < 2 ^ 64) × (value < 2 ^ 64)
 IsEdit (TakePrev state) = state < 2 ^ 64
 
--- a status has 32 bits, and beside another one than 0 there are no edits
+-- a status has 32 bits, and with a status other than 0 there are no edits
 pub record IsScript (script : Script) : Type 0 where
   pub status : FitsSigned w32 script.status
   pub edits : AllByRecursion IsEdit script.edits

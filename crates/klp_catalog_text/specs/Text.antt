@@ -1,4 +1,4 @@
--- What a catalog's text gives: a plan, or the first faulty line and its kind.
+-- What a catalog's text means: a plan, or the first faulty line and its fault.
 use Rattle.std.specs.Prelude.{◌≡◌, ℕ, suc, ◌<◌, ◌≤◌, if◌then◌else◌, List, [], ◌∷◌, length, Option, Some, None, Result, Ok, Err}
 use Rattle.std.specs.Str.Lines.{lines}
 use Rattle.klp_catalog_text.specs.declared.fault.TextFaultKind.{TextFaultKind}
@@ -10,12 +10,12 @@ use Rattle.klp_catalog_text.specs.Lines.{words_of, is_comment, line_of}
 use Rattle.klp_catalog_text.specs.PlanParts.{has_some}
 use Rattle.klp_catalog_text.specs.Draft.{Draft, empty_draft, open_object, placed}
 
--- a line without words adds nothing
+-- the draft after a line with these words; a line without words adds nothing
 abbrev pub with_words : Draft → List ℕ → List (List ℕ) → Result Draft TextFaultKind
 with_words draft text [] = Ok draft
 with_words draft text (first ∷ words) = line_of (open_object draft) text first words >>= placed draft
 
--- and neither does a comment
+-- the draft after a line; a comment adds nothing
 abbrev pub with_line : Draft → List ℕ → Result Draft TextFaultKind
 with_line draft text = if is_comment text then Ok draft else with_words draft text (words_of text)
 
@@ -23,12 +23,12 @@ abbrev pub at_line : {A : Type 0} → ℕ → Result A TextFaultKind → Result 
 at_line number (Ok value) = Ok value
 at_line number (Err kind) = Err (record { line = number; kind = kind })
 
--- all lines in order, the first of them with this number
+-- the draft after these lines, in order; the first has this number
 abbrev pub with_lines : ℕ → List (List ℕ) → Draft → Result Draft TextFault
 with_lines number [] draft = Ok draft
 with_lines number (text ∷ more) draft = at_line number (with_line draft text) >>= with_lines (suc number) more
 
--- a whole catalog has a handler and an object
+-- the plan of a whole text, which must have a handler and an object
 abbrev pub finished_with : Option ℕ → Draft → Result Plan TextFaultKind
 finished_with None draft = Err Missing
 finished_with (Some handler) draft =
@@ -37,7 +37,7 @@ finished_with (Some handler) draft =
 abbrev pub finished : Draft → Result Plan TextFault
 finished draft = at_line 0 (finished_with draft.handler draft)
 
--- the plan of a text: its lines count from 1
+-- the plan of a text, or its first fault; lines count from 1
 abbrev pub plan_of : List ℕ → Result Plan TextFault
 plan_of text = with_lines 1 (lines text) empty_draft >>= finished
 
@@ -52,7 +52,7 @@ pub record IsReached (text : List ℕ) (line : ℕ) : Type 0 where
   pub in_text : line ≤ length (lines text)
   pub first : NoFaultBefore line (plan_of text)
 
--- a fault is the text's own, but for want of memory, which may stand in place of any later one
+-- the fault is the one of the definition; but NoMemory is allowed at any line that no faulty line comes before
 abbrev pub IsFaultOf : List ℕ → ℕ → TextFaultKind → Type 0
 IsFaultOf text line NoMemory = IsReached text line
 IsFaultOf text line kind = plan_of text ≡ Err (record { line = line; kind = kind })

@@ -27,11 +27,11 @@ body_of word = decoded (decode_of word)
 abbrev pub id_of : List ℕ → Result ℕ TextFaultKind
 id_of word = ok_or (decimal_of (2 ^ 64) word) BadNumber
 
--- and its version one of 32 bits
+-- the version of a system state is a number of 32 bits
 abbrev pub version_of : List ℕ → Result ℕ TextFaultKind
 version_of word = ok_or (decimal_of (2 ^ 32) word) BadNumber
 
--- the symbol lies in the object of the open target, where one is open
+-- the spelling of a symbol, which must be in the open target's object, if a target is open
 abbrev pub in_target : Option (List ℕ) → Spelling → Result Spelling TextFaultKind
 in_target None spelling = Ok spelling
 in_target (Some object) spelling = if bytes_eq spelling.object object then Ok spelling else Err BadSymbol

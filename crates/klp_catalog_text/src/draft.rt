@@ -1,11 +1,14 @@
-//! The plan as far as the lines up to here give it. Each kind of line has its own function, which says
-//! where it may be.
+//! The plan while its text is being read. Each kind of line has its own function, which checks that the line may be
+//! here.
 
-ghost use Rattle.std.specs.Prelude.{◌≡◌, ◌<◌, ◌==◌, vec_len, length, IsTrue, Ok, Err, OnOk, OnErr, MatchOption, option_copied};
+ghost use Rattle.std.specs.Prelude.{◌≡◌, ◌<◌, ◌==◌, vec_len, length, IsTrue, Ok, Err, OnOk, OnErr, MatchOption};
+ghost use Rattle.std.specs.Prelude.{option_copied};
 ghost use Rattle.std.specs.List.{list_any};
 ghost use Rattle.klp_types.specs.Image.{Symbol};
 ghost use Rattle.klp_catalog_text.specs.Gives.{Gives, Becomes};
-ghost use Rattle.klp_catalog_text.specs.PlanParts.{last_of, targets_of, states_of, callbacks_of, has_which, names_state, on_last, has_some, with_symbol, with_target, with_function_in, with_callback_in, with_state};
+ghost use Rattle.klp_catalog_text.specs.PlanParts.{last_of, targets_of, states_of, callbacks_of, has_which};
+ghost use Rattle.klp_catalog_text.specs.PlanParts.{names_state, on_last, has_some, with_symbol, with_target};
+ghost use Rattle.klp_catalog_text.specs.PlanParts.{with_function_in, with_callback_in, with_state};
 ghost use Rattle.klp_catalog_text.specs.Plan.{PlanTarget as TargetValue};
 ghost use Rattle.klp_catalog_text.specs.Within.{AreTargetsWithin};
 ghost use Rattle.klp_catalog_text.specs.Draft.{empty_draft, open_object, placed};
@@ -25,21 +28,20 @@ use klp_words::Names;
 use std::alloc::{AllocError, Global};
 use std::marker::Model;
 
-/// The plan as far as the lines up to here give it.
+/// The part of a plan that the lines read so far make.
 ///
-/// The open target, to which a `func` line adds, is the last one of the last patch: it needs no field of
-/// its own, and a `patch` line closes it.
+/// The open target is the last target of the last patch; `func` lines add to it. It needs no field of its own. A
+/// `patch` line closes it.
 #[derive(Drop)]
 pub(crate) struct Draft {
     handler: Option<u64>,
     objects: Vec<ObjectText>,
     object_names: Names,
-    /// How many symbols the objects have together, since the limit is one for all of them.
+    /// How many symbols the objects have together, since one limit holds for all of them.
     symbols: usize,
     patches: Vec<PlanPatch>,
     patch_names: Names,
-    /// How many functions the last patch has, over all of its targets, since the limit is one for all of
-    /// them.
+    /// How many functions the last patch has, over all of its targets, since one limit holds for all of them.
     functions: usize,
 }
 
@@ -52,10 +54,11 @@ impl Model for Draft {
 
     ghost view = { λ d. record { handler = d.handler; objects = d.objects.items; patches = d.patches.items } };
 
-    ghost invariant = { λ d. IsKept d.objects.items d.object_names d.symbols d.patches.items d.patch_names d.functions };
+    ghost invariant = { λ d. IsKept d.objects.items d.object_names d.symbols d.patches.items d.patch_names
+        d.functions };
 }
 
-/// Adds a symbol to the last object, which an `object` line opened.
+/// Adds a symbol to the last object, the one that the last `object` line added.
 fn push_symbol(objects: &mut Vec<ObjectText>, symbol: SymbolText) -> Result<(), AllocError>
     requires { 0 < vec_len objects.old }
     ensures ok { OnOk result (objects.new.items ≡ on_last (with_symbol symbol) objects.old.items) }
@@ -67,7 +70,7 @@ fn push_symbol(objects: &mut Vec<ObjectText>, symbol: SymbolText) -> Result<(), 
     Ok(())
 }
 
-/// Adds an object to the last patch. Where memory runs out, nothing changes.
+/// Adds an object to the last patch, as its open target. If memory runs out, nothing changes.
 fn push_target(alloc: Global, patches: &mut Vec<PlanPatch>, object: ObjId) -> Result<(), AllocError>
     requires { 0 < vec_len patches.old }
     ensures ok { OnOk result (patches.new.items ≡ on_last (with_target (Some object)) patches.old.items) }
@@ -77,7 +80,7 @@ fn push_target(alloc: Global, patches: &mut Vec<PlanPatch>, object: ObjId) -> Re
     patches[last].push_target(alloc, object)
 }
 
-/// Adds a function to the last target of the last patch. Where memory runs out, nothing changes.
+/// Adds a function to the last target of the last patch. If memory runs out, nothing changes.
 fn push_function(patches: &mut Vec<PlanPatch>, function: PlanFunction) -> Result<(), AllocError>
     requires { 0 < length (targets_of (last_of patches.old.items)) }
     ensures ok { OnOk result (patches.new.items ≡ on_last (with_function_in function) patches.old.items) }
@@ -87,7 +90,7 @@ fn push_function(patches: &mut Vec<PlanPatch>, function: PlanFunction) -> Result
     patches[last].push_function(function)
 }
 
-/// Adds a callback to the last target of the last patch. Where memory runs out, nothing changes.
+/// Adds a callback to the last target of the last patch. If memory runs out, nothing changes.
 fn push_callback(patches: &mut Vec<PlanPatch>, callback: PlanCallback) -> Result<(), AllocError>
     requires { 0 < length (targets_of (last_of patches.old.items)) }
     ensures ok { OnOk result (patches.new.items ≡ on_last (with_callback_in callback) patches.old.items) }
@@ -107,25 +110,29 @@ fn push_state(patches: &mut Vec<PlanPatch>, state: SystemState) -> Result<(), Al
     patches[last].push_state(state)
 }
 
+/// Whether one of the targets is this object.
 fn has_target(targets: &[PlanTarget], object: ObjId) -> bool
     ensures { result ≡ list_any (λ (t : TargetValue). t.object == object) targets.now }
 {
     targets.iter().any(|target| target.object == object)
 }
 
+/// Whether one of the callbacks is of this kind.
 fn has_which(callbacks: &[PlanCallback], which: Which) -> bool
     ensures { result ≡ has_which which callbacks.now }
 {
     callbacks.iter().any(|callback| callback.which == which)
 }
 
+/// Whether one of the states has this id.
 fn names_state(states: &[SystemState], id: u64) -> bool
     ensures { result ≡ names_state id states.now }
 {
     states.iter().any(|state| state.id == id)
 }
 
-/// The callbacks of the last target, which is the open one: a kind may be there once.
+/// Returns the callbacks of the last target, which is the open one; empty if there is none. A target may have each
+/// kind once.
 fn last_callbacks(targets: &[PlanTarget]) -> &[PlanCallback]
     ensures { result.now ≡ callbacks_of (last_of targets.now) }
 {
@@ -135,8 +142,7 @@ fn last_callbacks(targets: &[PlanTarget]) -> &[PlanCallback]
     }
 }
 
-/// The system states of the last patch; none where there is no patch, so that the caller needs no case for
-/// it.
+/// Returns the system states of the last patch. Empty if there is no patch, so that callers need no special case.
 fn open_states(patches: &[PlanPatch]) -> &[SystemState]
     ensures { result.now ≡ states_of (last_of patches.now) }
 {
@@ -146,8 +152,7 @@ fn open_states(patches: &[PlanPatch]) -> &[SystemState]
     }
 }
 
-/// The targets of the last patch; none where there is no patch. They are empty exactly where no target is
-/// open.
+/// Returns the targets of the last patch. Empty if there is no patch. No target is open exactly when this is empty.
 fn open_targets(patches: &[PlanPatch]) -> &[PlanTarget]
     ensures { result.now ≡ targets_of (last_of patches.now) }
 {
@@ -172,8 +177,8 @@ impl Draft {
         }
     }
 
-    /// The name of the object of the open target, if one is open. It is asked for before a line is read,
-    /// since the spelling of a symbol has to agree with it (docs/DECISIONS.md, "The open target").
+    /// Returns the name of the open target's object. `None` if no target is open. It is needed before a `func` line
+    /// is read, since the spelling of a symbol has the object's name too (docs/DECISIONS.md, "The open target").
     pub(crate) fn open_object(&self) -> Option<&str>
         ensures { option_copied result ≡ open_object self.now }
     {
@@ -182,6 +187,7 @@ impl Draft {
         Some(object.name.as_str())
     }
 
+    /// Sets the handler. `Err` if a patch was read already, or a handler.
     fn place_handler(&mut self, address: u64) -> Result<(), TextFaultKind>
         ensures { Becomes result self.new (placed self.old (CatalogLine.Handler address)) }
     {
@@ -195,6 +201,7 @@ impl Draft {
         Ok(())
     }
 
+    /// Adds an object. `Err` if a patch was read already, the name exists, or there are too many objects.
     fn place_object(&mut self, alloc: Global, name: Name) -> Result<(), TextFaultKind>
         ensures { Becomes result self.new (placed self.old (CatalogLine.Object name)) }
     {
@@ -202,8 +209,8 @@ impl Draft {
         if !self.patches.is_empty() {
             return Err(TextFaultKind::OutOfPlace);
         }
-        // So that an image made from a plan has no duplicates; it comes before the limit
-        // (docs/DECISIONS.md, "Names given twice").
+        // An image made from a plan mustn't have duplicates. This is reported before the limit (docs/DECISIONS.md,
+        // "Names given twice").
         if self.object_names.number(name.as_str()).is_some() {
             return Err(TextFaultKind::Twice);
         }
@@ -221,6 +228,8 @@ impl Draft {
         Ok(())
     }
 
+    /// Adds a symbol to the last object. `Err` if a patch was read already or no object was, or at the limit of
+    /// symbols or of a body's length.
     fn place_symbol(&mut self, symbol: SymbolText) -> Result<(), TextFaultKind>
         ensures { Becomes result self.new (placed self.old (CatalogLine.Symbol symbol)) }
     {
@@ -235,6 +244,7 @@ impl Draft {
         Ok(())
     }
 
+    /// Adds a patch, which closes the open target. `Err` if the name exists or there are too many patches.
     fn place_patch(&mut self, alloc: Global, name: Name, replace: bool) -> Result<(), TextFaultKind>
         ensures { Becomes result self.new (placed self.old (CatalogLine.Patch name replace)) }
     {
@@ -259,6 +269,8 @@ impl Draft {
         Ok(())
     }
 
+    /// Adds an object to the last patch, as its open target. `Err` if there is no patch or no such object, if the
+    /// patch has the object already, or if it has too many.
     fn place_target(&mut self, alloc: Global, name: &Name) -> Result<(), TextFaultKind>
         ensures { Becomes result self.new (placed self.old (CatalogLine.Target name.now)) }
     {
@@ -280,6 +292,7 @@ impl Draft {
         Ok(())
     }
 
+    /// Adds a function to the open target. `Err` if no target is open, or if the patch has too many functions.
     fn place_function(&mut self, function: PlanFunction) -> Result<(), TextFaultKind>
         ensures { Becomes result self.new (placed self.old (CatalogLine.Function function)) }
     {
@@ -294,6 +307,8 @@ impl Draft {
         Ok(())
     }
 
+    /// Adds a callback to the open target. `Err` if no target is open, if it has a callback of this kind, or if the
+    /// script has too many edits.
     fn place_callback(&mut self, which: Which, script: ScriptText) -> Result<(), TextFaultKind>
         ensures { Becomes result self.new (placed self.old (CatalogLine.Callback which script)) }
     {
@@ -311,8 +326,9 @@ impl Draft {
         Ok(())
     }
 
-    /// A system state is about the patch, so it may be behind any of its targets, and closes none
-    /// (docs/DECISIONS.md, "`state` lines").
+    /// Adds a system state to the last patch. It belongs to the patch, so it may follow any of its targets, and
+    /// leaves the open target open (docs/DECISIONS.md, "`state` lines"). `Err` if there is no patch, or the patch
+    /// names the id already or too many states.
     fn place_state(&mut self, state: SystemState) -> Result<(), TextFaultKind>
         ensures { Becomes result self.new (placed self.old (CatalogLine.State state)) }
     {
@@ -330,11 +346,12 @@ impl Draft {
         Ok(())
     }
 
-    /// Adds one line of the text, without the bytes that end it. An empty line adds nothing.
+    /// Reads one line of the text, and adds what it says. `text` doesn't have the bytes that end the line. An empty
+    /// line adds nothing.
     pub(crate) fn read_line(&mut self, alloc: Global, text: &[u8]) -> Result<(), TextFaultKind>
         ensures { Becomes result self.new (with_line self.old text.now) }
     {
-        // Only the very first byte makes a comment, so that a word may begin with `#` (docs/DECISIONS.md,
+        // Only a `#` as the very first byte makes a comment, so that a word may begin with `#` (docs/DECISIONS.md,
         // "Comments").
         if let [b'#', ..] = text {
             return Ok(());
@@ -343,13 +360,14 @@ impl Draft {
         let Some(first) = words.next() else {
             return Ok(());
         };
-        // The words are checked before the place, so a line that is spelled wrong is reported as such
-        // wherever it is (docs/DECISIONS.md, "Words before the place of a line").
+        // The words are checked before the place, so a misspelled line is reported as such wherever it is
+        // (docs/DECISIONS.md, "Words before the place of a line").
         let line = CatalogLine::read(alloc, self.open_object(), text, first, &mut words)?;
         self.place(alloc, line)
     }
 
-    /// Adds what a line says, where it may be here: each kind of line knows its own place.
+    /// Adds what a line says, or returns a fault if the line may not be here. Each kind of line checks its own
+    /// place.
     pub(crate) fn place(&mut self, alloc: Global, line: CatalogLine) -> Result<(), TextFaultKind>
         ensures { Becomes result self.new (placed self.old line) }
     {
@@ -365,8 +383,8 @@ impl Draft {
         }
     }
 
-    /// The handler of a text that has an object too. These are what only a whole text can lack, and no line is
-    /// at fault then.
+    /// Returns the handler, if the text had both a handler and an object. `None` if either is missing: only the end
+    /// of the text shows this, so no line is at fault.
     pub(crate) fn whole_handler(&self) -> Option<u64>
         ensures { MatchOption result (finished self.now ≡ Err (record { line = 0; kind = TextFaultKind.Missing }))
             (λ handler. finished self.now
@@ -378,7 +396,7 @@ impl Draft {
         self.handler
     }
 
-    /// The plan of a whole text with this handler.
+    /// Makes the plan of the whole text, with this handler.
     pub(crate) fn into_plan(self, handler: u64) -> Plan
         ensures plan { result ≡ record { handler = handler; objects = self.objects; patches = self.patches } }
         ensures targets { AreTargetsWithin (length result.objects) result.patches }

@@ -1,8 +1,9 @@
-//! The edits of a callback, and its script: words with parts, which no other line has.
+//! Reads the edits of a callback, and its script. No other line has words with parts.
 
 ghost use Rattle.std.specs.Prelude.{◌≡◌, ℕ, ◌<◌, ◌≤◌, ◌==◌, List, [], ◌∷◌, length, MatchOption};
 ghost use Rattle.klp_catalog_text.specs.Gives.{Gives};
-ghost use Rattle.klp_catalog_text.specs.Edits.{parts_of, one_number, two_numbers, alloc_of, free_of, free_all_of, set_of, take_prev_of, edit_of, edits_of, failure_of, script_of};
+ghost use Rattle.klp_catalog_text.specs.Edits.{parts_of, one_number, two_numbers, alloc_of, free_of, free_all_of};
+ghost use Rattle.klp_catalog_text.specs.Edits.{set_of, take_prev_of, edit_of, edits_of, failure_of, script_of};
 
 use crate::fault::TextFaultKind;
 use crate::lines::is_word;
@@ -12,11 +13,11 @@ use klp_words::{LineWords, number64, position_of, shadow_value, signed};
 use std::alloc::Global;
 use std::marker::Model;
 
-/// The parts of an edit that are still to be read. Colons separate them, since spaces separate edits.
+/// The parts of an edit that are still to be read. Colons separate parts, since spaces separate edits.
 #[derive(Drop)]
 struct Fields<'a> {
     rest: &'a [u8],
-    /// Whether the last part was read: an empty rest may still be one part, which is empty.
+    /// Whether the last part was read. An empty rest alone doesn't show this, since it may still be one empty part.
     is_over: bool,
 }
 
@@ -39,7 +40,7 @@ impl<'a> Fields<'a> {
         }
     }
 
-    /// The next part, if there is one more.
+    /// Returns the next part. `None` if there is no more.
     fn next(&mut self) -> Option<&'a [u8]>
         ensures { MatchOption result (self.old ≡ []) (λ part. self.old ≡ part.now ∷ self.new) }
     {
@@ -56,8 +57,8 @@ impl<'a> Fields<'a> {
     }
 }
 
-/// The number of an edit that has one. One out of range is a `BadEdit` and no `BadNumber`, since the fault of
-/// a line is no finer than a word (docs/DECISIONS.md, "Faults inside an edit").
+/// Reads the one number that an edit has left. A number out of range is a `BadEdit` and not a `BadNumber`, since a
+/// fault names a whole word and no part of it (docs/DECISIONS.md, "Faults inside an edit").
 fn one_number(parts: &mut Fields<'_>) -> Result<u64, TextFaultKind>
     ensures { result ≡ one_number parts.old }
 {
@@ -67,7 +68,7 @@ fn one_number(parts: &mut Fields<'_>) -> Result<u64, TextFaultKind>
     number64(part).ok_or(TextFaultKind::BadEdit)
 }
 
-/// The two numbers of an edit that has two.
+/// Reads the two numbers that an edit has left.
 fn two_numbers(parts: &mut Fields<'_>) -> Result<(u64, u64), TextFaultKind>
     ensures { result ≡ two_numbers parts.old }
 {
@@ -80,6 +81,7 @@ fn two_numbers(parts: &mut Fields<'_>) -> Result<(u64, u64), TextFaultKind>
     Ok((first, second))
 }
 
+/// Reads the parts of `alloc:OBJ:ID:VALUE` after its name.
 fn alloc_edit(parts: &mut Fields<'_>) -> Result<Edit, TextFaultKind>
     ensures { result ≡ alloc_of parts.old }
 {
@@ -98,6 +100,7 @@ fn alloc_edit(parts: &mut Fields<'_>) -> Result<Edit, TextFaultKind>
     Ok(Edit::Alloc(ShadowKey { obj, id }, value))
 }
 
+/// Reads the parts of `free:OBJ:ID` after its name.
 #[tactic(auto, using(crate::proofs::EditLemmas::free_by))]
 fn free_edit(parts: &mut Fields<'_>) -> Result<Edit, TextFaultKind>
     ensures { result ≡ free_of parts.old }
@@ -106,6 +109,7 @@ fn free_edit(parts: &mut Fields<'_>) -> Result<Edit, TextFaultKind>
     Ok(Edit::Free(ShadowKey { obj, id }))
 }
 
+/// Reads the part of `freeall:ID` after its name.
 #[tactic(auto, using(crate::proofs::EditLemmas::free_all_by))]
 fn free_all_edit(parts: &mut Fields<'_>) -> Result<Edit, TextFaultKind>
     ensures { result ≡ free_all_of parts.old }
@@ -113,6 +117,7 @@ fn free_all_edit(parts: &mut Fields<'_>) -> Result<Edit, TextFaultKind>
     Ok(Edit::FreeAll(one_number(parts)?))
 }
 
+/// Reads the parts of `set:STATE:VALUE` after its name.
 #[tactic(auto, using(crate::proofs::EditLemmas::set_by))]
 fn set_data_edit(parts: &mut Fields<'_>) -> Result<Edit, TextFaultKind>
     ensures { result ≡ set_of parts.old }
@@ -121,6 +126,7 @@ fn set_data_edit(parts: &mut Fields<'_>) -> Result<Edit, TextFaultKind>
     Ok(Edit::SetData(state, value))
 }
 
+/// Reads the part of `takeprev:STATE` after its name.
 #[tactic(auto, using(crate::proofs::EditLemmas::take_prev_by))]
 fn take_prev_edit(parts: &mut Fields<'_>) -> Result<Edit, TextFaultKind>
     ensures { result ≡ take_prev_of parts.old }
@@ -128,8 +134,8 @@ fn take_prev_edit(parts: &mut Fields<'_>) -> Result<Edit, TextFaultKind>
     Ok(Edit::TakePrev(one_number(parts)?))
 }
 
-/// An edit: its name and its numbers. All parts are there before a number is read, but every fault is the
-/// same one.
+/// Reads an edit: its name and its numbers. The number of parts is checked before any number is read; every fault
+/// is `BadEdit` anyway.
 fn edit(word: &[u8]) -> Result<Edit, TextFaultKind>
     ensures { result ≡ edit_of word.now }
 {
@@ -152,8 +158,8 @@ fn edit(word: &[u8]) -> Result<Edit, TextFaultKind>
     }
 }
 
-/// The edits that the words are, of which there may be too many: whether that matters is known only when
-/// the line has its place.
+/// Reads each word as an edit. The result may have too many edits for a script: this is reported only after the
+/// line's place is checked.
 fn edits(alloc: Global, words: &mut LineWords<'_>) -> Result<Vec<Edit>, TextFaultKind>
     ensures { Gives (λ e. e.items) result (edits_of words.old) }
 {
@@ -164,8 +170,8 @@ fn edits(alloc: Global, words: &mut LineWords<'_>) -> Result<Vec<Edit>, TextFaul
     Ok(edits)
 }
 
-/// A script as a line gives it. There may be more edits than a script may have, since every word is checked
-/// before the line is too much (docs/DECISIONS.md, "Scripts with too many edits").
+/// A script as its line has it. It may have more edits than a script may have, since all words are checked before
+/// their number is (docs/DECISIONS.md, "Scripts with too many edits").
 #[derive(Drop)]
 pub struct ScriptText {
     edits: Vec<Edit>,
@@ -181,7 +187,8 @@ impl Model for ScriptText {
 }
 
 impl ScriptText {
-    /// The script, unless it has too many edits. Takes no memory, because a script's edits are an array.
+    /// Returns the script. `None` if it has too many edits. It takes no memory, because a script's edits are an
+    /// array.
     pub fn into_script(self) -> Option<Script>
         ensures { MatchOption result (MAX_EDITS < length self.edits)
             (λ script. (length self.edits ≤ MAX_EDITS) × (script ≡ self)) }
@@ -195,7 +202,8 @@ impl ScriptText {
     }
 }
 
-/// The script of a callback that fails: it has no edits, since a callback that refuses changes nothing.
+/// Makes the script of a callback that fails. No words may follow the status: a callback that refuses makes no
+/// edits.
 fn failure(
     alloc: Global,
     status: i32,
@@ -212,7 +220,7 @@ fn failure(
     })
 }
 
-/// The script of a callback: its status, and with status 0 its edits.
+/// Reads the script of a callback: a status, and edits if the status is 0.
 pub(crate) fn script(alloc: Global, words: &mut LineWords<'_>) -> Result<ScriptText, TextFaultKind>
     ensures { Gives (λ s. s) result (script_of words.old) }
 {
@@ -222,8 +230,7 @@ pub(crate) fn script(alloc: Global, words: &mut LineWords<'_>) -> Result<ScriptT
     let Some(status) = signed(word) else {
         return Err(TextFaultKind::BadNumber);
     };
-    // Behind another status edits are words too many, whatever they are (docs/DECISIONS.md, "Edits behind a
-    // status").
+    // With another status, any word after it is one too many (docs/DECISIONS.md, "Edits behind a status").
     if status != 0 {
         return failure(alloc, status, words);
     }

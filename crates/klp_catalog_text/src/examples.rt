@@ -1,25 +1,31 @@
-//! Worked examples of what a catalog's text says, and of each fault, by computation. A function here does
-//! nothing: its contract is the example, so a definition that comes to something else isn't proved.
-ghost use Rattle.std.specs.Prelude.{◌≡◌, pos, negsuc, true, false, [], ◌∷◌, ◌++◌, replicate, codes, None, Some, Ok, Err};
+//! Worked examples: what a catalog's text means, and an example of each fault. A function here does nothing: its
+//! contract is the example, and it is proved by computing the definition.
+ghost use Rattle.std.specs.Prelude.{◌≡◌, pos, negsuc, true, false, [], ◌∷◌, ◌++◌, replicate, codes, None, Some, Ok};
+ghost use Rattle.std.specs.Prelude.{Err};
 ghost use Rattle.klp_types.specs.declared.callback.Which.TheVariants.{Pre, Post, PreUn, PostUn};
 ghost use Rattle.klp_types.specs.declared.edit.Edit.TheVariants.{Alloc, Free, FreeAll, SetData, TakePrev};
-ghost use Rattle.klp_catalog_text.specs.declared.fault.TextFaultKind.TheVariants.{NotAscii, LineTooLong, UnknownWord, WrongCount, BadNumber, BadHex, BadName, BadSymbol, BadEdit, OutOfPlace, Twice, UnknownObject, TooMany, Missing};
+ghost use Rattle.klp_catalog_text.specs.declared.fault.TextFaultKind.TheVariants.{NotAscii, LineTooLong, UnknownWord};
+ghost use Rattle.klp_catalog_text.specs.declared.fault.TextFaultKind.TheVariants.{WrongCount, BadNumber, BadHex};
+ghost use Rattle.klp_catalog_text.specs.declared.fault.TextFaultKind.TheVariants.{BadName, BadSymbol, BadEdit};
+ghost use Rattle.klp_catalog_text.specs.declared.fault.TextFaultKind.TheVariants.{OutOfPlace, Twice, UnknownObject};
+ghost use Rattle.klp_catalog_text.specs.declared.fault.TextFaultKind.TheVariants.{TooMany, Missing};
 ghost use Rattle.klp_catalog_text.specs.declared.line.CatalogLine.TheVariants as line;
 ghost use Rattle.klp_catalog_text.specs.Draft.{empty_draft, placed};
 ghost use Rattle.klp_catalog_text.specs.Edits.{edit_of, script_of};
 ghost use Rattle.klp_catalog_text.specs.Lines.{line_of};
 ghost use Rattle.klp_catalog_text.specs.Text.{plan_of};
-ghost use Rattle.klp_catalog_text.specs.Examples.{small_text, small_plan, longer_text, longer_plan, f, f_p, draft_with, patch_with, target_with, draft_of, script_with, another_patch};
+ghost use Rattle.klp_catalog_text.specs.Examples.{small_text, small_plan, longer_text, longer_plan, f, f_p, draft_with};
+ghost use Rattle.klp_catalog_text.specs.Examples.{patch_with, target_with, draft_of, script_with, another_patch};
 
-/// A text says what its lines say, in their order. Comments, empty lines and what separates words say
-/// nothing, and a line may end with a return.
+/// What two whole texts mean. Comments, empty lines and extra separators mean nothing, and a line may end with a
+/// carriage return.
 pub fn texts_say_this()
     ensures small { plan_of small_text ≡ Ok small_plan }
     ensures longer { plan_of longer_text ≡ Ok longer_plan }
 {}
 
-/// The first faulty line is told, where every line counts from 1. What no line is at fault for is told of
-/// line 0.
+/// The fault of a text is that of its first faulty line. Every line counts, from 1. If no line is at fault, the
+/// fault is at line 0.
 pub fn the_first_faulty_line_is_reported()
     ensures cut { plan_of
         (codes "handler ffffffff81000000\nobject vmlinux\nsymbol f ffffffff81001000 e80000000090c3\npatch p\ntarget vmlinux\nfunc .klp.sym.vmlinux.f,0")
@@ -32,7 +38,7 @@ pub fn the_first_faulty_line_is_reported()
     ensures comment_behind_a_space { plan_of (codes " # x") ≡ Err (record { line = 1; kind = UnknownWord }) }
 {}
 
-/// A line says one of eight things, by its first word.
+/// The first word of a line determines which of eight kinds of line it is.
 pub fn lines_say_this()
     ensures handler { line_of None [] (codes "handler") (codes "1A" ∷ []) ≡ Ok (line.Handler 26) }
     ensures object { line_of None [] (codes "object") (codes "m" ∷ []) ≡ Ok (line.Object (codes "m")) }
@@ -50,8 +56,8 @@ pub fn lines_say_this()
         ≡ Ok (line.Callback PostUn (record { edits = []; status = negsuc 15 })) }
 {}
 
-/// Of a line's faults the first is told: its bytes, its length, its first word, how many words there are,
-/// and then its words from left to right.
+/// If a line has several faults, the first is reported, in this order: its bytes, its length, its first word, its
+/// number of words, and then its words from left to right.
 pub fn faults_of_a_line_come_in_order()
     ensures not_ascii { line_of None (200 ∷ replicate 4096 97) (codes "foo") [] ≡ Err NotAscii }
     ensures too_long { line_of None (replicate 4097 97) (codes "foo") [] ≡ Err LineTooLong }
@@ -72,7 +78,8 @@ pub fn faults_of_a_line_come_in_order()
     ensures version { line_of None [] (codes "state") (codes "1" ∷ codes "4294967296" ∷ []) ≡ Err BadNumber }
 {}
 
-/// Behind a status of 0 stand edits, whose numbers stand between colons; behind any other nothing.
+/// A callback has a status. Edits may follow a status of 0, with colons between their parts; nothing may follow
+/// another status.
 pub fn callbacks_are_spelled_with_status_and_edits()
     ensures alloc { edit_of (codes "alloc:1:9:5") ≡ Ok (Alloc (record { obj = 1; id = 9 }) (5 ∷ 0 ∷ 0 ∷ 0 ∷ 0 ∷ 0 ∷ 0 ∷ 0 ∷ [])) }
     ensures free { edit_of (codes "free:1:9") ≡ Ok (Free (record { obj = 1; id = 9 })) }
@@ -93,8 +100,8 @@ pub fn callbacks_are_spelled_with_status_and_edits()
     ensures bad_edit { script_of (codes "0" ∷ codes "freeall:1" ∷ codes "z" ∷ []) ≡ Err BadEdit }
 {}
 
-/// A line is out of place before what it belongs to is open, and those of the image are once a patch is
-/// there.
+/// A line is out of place if what it belongs to isn't open yet. The lines of the image are also out of place after
+/// a patch.
 pub fn lines_have_their_place()
     ensures handler { placed (draft_with (patch_with [] ∷ [])) (line.Handler 1) ≡ Err OutOfPlace }
     ensures object { placed (draft_with (patch_with [] ∷ [])) (line.Object (codes "m")) ≡ Err OutOfPlace }
@@ -107,7 +114,8 @@ pub fn lines_have_their_place()
     ensures no_such_object { placed (draft_with (patch_with [] ∷ [])) (line.Target (codes "m")) ≡ Err UnknownObject }
 {}
 
-/// What may be there once is refused where it is said again: in the patch or the target that is open.
+/// What may be said once is refused the second time. Targets, states and callbacks count only in the patch or
+/// target that is open.
 pub fn once_is_enough()
     ensures handler { placed (draft_with []) (line.Handler 1) ≡ Err Twice }
     ensures object { placed (draft_with []) (line.Object (codes "vmlinux")) ≡ Err Twice }
@@ -125,7 +133,7 @@ pub fn once_is_enough()
         ≡ Ok (record (draft_with []) { objects = record { name = codes "vmlinux"; symbols = f ∷ f ∷ [] } ∷ [] }) }
 {}
 
-/// No limit is exceeded: the last place may be taken, and no further one.
+/// No limit is exceeded: the last free place may be filled, and no more.
 pub fn limits_are_kept()
     ensures objects { placed (draft_of 16 0) (line.Object (codes "c")) ≡ Err TooMany }
     ensures last_object { placed (draft_of 15 0) (line.Object (codes "c"))

@@ -1,9 +1,9 @@
-//! What a line is made of beside numbers: what a plan keeps of it as it is.
+//! The parts of lines that a plan keeps unchanged: names, functions and system states.
 
 use std::marker::Model;
 
-/// A name of an object, a patch, a symbol or a new function, as a word of the text spells it. It is ASCII,
-/// so bytes and text are the same.
+/// The name of an object, a patch, a symbol or a new function, as the text spells it. It is ASCII, so its bytes are
+/// its characters.
 #[derive(Drop)]
 pub struct Name(pub String);
 
@@ -15,14 +15,13 @@ impl Model for Name {
     ghost view = { λ n. string_bytes n.0 };
 }
 
-/// A new function of a patch, as its line has it: which site it is for isn't known before the names are
-/// resolved.
+/// A new function of a patch, as its line has it. Its site isn't known until the names are resolved.
 #[derive(Drop)]
 pub struct PlanFunction {
-    /// The name of the symbol that it replaces, in the object of its target.
+    /// The name of the symbol that the function replaces, in the object of its target.
     pub symbol: String,
-    /// Which of the symbols of that name in the object is meant, from 1. With 0 the name is to be
-    /// unique in the object.
+    /// Which of the symbols of that name in the object is meant, from 1. 0 means that the name must be unique in
+    /// the object.
     pub sympos: u32,
     pub new_name: String,
     pub address: u64,
@@ -34,11 +33,16 @@ impl Model for PlanFunction {
 
     ghost Value = { PlanFunction };
 
-    ghost view = { λ f. record { symbol = string_bytes f.symbol; sympos = f.sympos; new_name = string_bytes f.new_name; address = f.address } };
+    ghost view = { λ f. record {
+      symbol = string_bytes f.symbol;
+      sympos = f.sympos;
+      new_name = string_bytes f.new_name;
+      address = f.address;
+    } };
 }
 
-/// A system state that a patch names (system-state): its id, and the version in which the patch knows it,
-/// by which patches are compared.
+/// A system state that a patch names (system-state): its id, and the version with which the patch knows it.
+/// Versions decide which patches are compatible.
 #[derive(Clone, Copy)]
 pub struct SystemState {
     pub id: u64,

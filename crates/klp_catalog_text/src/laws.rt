@@ -4,8 +4,8 @@ ghost use Rattle.klp_types.specs.Script.{Script};
 ghost use Rattle.klp_catalog_text.specs.Edits.{script_of};
 ghost use Rattle.klp_catalog_text.specs.Spelled.{IsScript, script_words};
 
-/// Each script that a callback may have can be written as words, and no two as the same words: the words of
-/// a script are read as the script. So no script is out of an administrator's reach.
+/// Every script that a callback may have can be written as words, and reading these words returns the script. So
+/// two scripts never have the same words, and an administrator can write any script.
 pub fn scripts_are_read_back()
     ensures { (script : Script) → IsScript script → script_of (script_words script) ≡ Ok script }
 {}

@@ -2,7 +2,9 @@
 
 ghost use Rattle.std.specs.Prelude.{◌≡◌, option_copied};
 ghost use Rattle.klp_catalog_text.specs.Gives.{Gives};
-ghost use Rattle.klp_catalog_text.specs.Lines.{keyword_of, only_name, handler_line, object_line, symbol_line, replace_line, patch_line, target_line, func_line, callback_line, state_line, line_of_words, line_of};
+ghost use Rattle.klp_catalog_text.specs.Lines.{keyword_of, only_name, handler_line, object_line, symbol_line};
+ghost use Rattle.klp_catalog_text.specs.Lines.{replace_line, patch_line, target_line, func_line, callback_line};
+ghost use Rattle.klp_catalog_text.specs.Lines.{state_line, line_of_words, line_of};
 
 use crate::edit::ScriptText;
 use crate::fault::TextFaultKind;
@@ -13,7 +15,7 @@ use klp_types::{MAX_LINE, SymbolText, Which};
 use klp_words::{LineWords, hexadecimal, is_ascii, number32, number64};
 use std::alloc::Global;
 
-/// The word that a line begins with.
+/// The first word of a line, which determines its kind.
 #[derive(Clone, Copy)]
 pub(crate) enum Keyword {
     Handler,
@@ -26,7 +28,7 @@ pub(crate) enum Keyword {
     State,
 }
 
-/// What a line says, wherever it stands.
+/// What a line says, wherever it is in the text.
 #[derive(Drop)]
 pub enum CatalogLine {
     /// The address of the handler.
@@ -41,12 +43,13 @@ pub enum CatalogLine {
     Target(Name),
     /// A new function of the last target.
     Function(PlanFunction),
-    /// A callback of the last target, whose script may have too many edits.
+    /// A callback of the last target. Its script may have too many edits.
     Callback(Which, ScriptText),
     /// A system state that the last patch names.
     State(SystemState),
 }
 
+/// Returns the kind of line that begins with this word. `None` if no line does.
 fn keyword_of(word: &[u8]) -> Option<Keyword>
     ensures { result ≡ keyword_of word.now }
 {
@@ -77,6 +80,7 @@ fn keyword_of(word: &[u8]) -> Option<Keyword>
     }
 }
 
+/// Reads the words of a `handler` line after its first word: an address.
 fn handler_line(words: &mut LineWords<'_>) -> Result<CatalogLine, TextFaultKind>
     ensures { Gives (λ l. l) result (handler_line words.old) }
 {
@@ -89,7 +93,7 @@ fn handler_line(words: &mut LineWords<'_>) -> Result<CatalogLine, TextFaultKind>
     Ok(CatalogLine::Handler(address))
 }
 
-/// The name in a line that has nothing else behind its first word.
+/// Reads the one word of a line that has only a name after its first word.
 fn only_name(alloc: Global, words: &mut LineWords<'_>) -> Result<Name, TextFaultKind>
     ensures { Gives (λ n. n) result (only_name words.old) }
 {
@@ -99,6 +103,7 @@ fn only_name(alloc: Global, words: &mut LineWords<'_>) -> Result<Name, TextFault
     words::name(alloc, name)
 }
 
+/// Reads the words of an `object` line after its first word: a name.
 #[tactic(auto, using(crate::proofs::CountLemmas::object_by))]
 fn object_line(alloc: Global, words: &mut LineWords<'_>) -> Result<CatalogLine, TextFaultKind>
     ensures { Gives (λ l. l) result (object_line words.old) }
@@ -106,6 +111,7 @@ fn object_line(alloc: Global, words: &mut LineWords<'_>) -> Result<CatalogLine, 
     Ok(CatalogLine::Object(only_name(alloc, words)?))
 }
 
+/// Reads the words of a `symbol` line after its first word: a name, an address and a body.
 #[tactic(auto, using(crate::proofs::CountLemmas::symbol_count))]
 fn symbol_line(alloc: Global, words: &mut LineWords<'_>) -> Result<CatalogLine, TextFaultKind>
     ensures { Gives (λ l. l) result (symbol_line words.old) }
@@ -125,7 +131,7 @@ fn symbol_line(alloc: Global, words: &mut LineWords<'_>) -> Result<CatalogLine, 
     }))
 }
 
-/// The rest of a line whose third word is `replace`.
+/// Reads the rest of a `patch` line whose third word is `replace`: nothing may follow.
 fn replace_line(
     alloc: Global,
     name: &[u8],
@@ -139,6 +145,7 @@ fn replace_line(
     Ok(CatalogLine::Patch(words::name(alloc, name)?, true))
 }
 
+/// Reads the words of a `patch` line after its first word: a name, and perhaps `replace`.
 fn patch_line(alloc: Global, words: &mut LineWords<'_>) -> Result<CatalogLine, TextFaultKind>
     ensures { Gives (λ l. l) result (patch_line words.old) }
 {
@@ -152,6 +159,7 @@ fn patch_line(alloc: Global, words: &mut LineWords<'_>) -> Result<CatalogLine, T
     }
 }
 
+/// Reads the words of a `target` line after its first word: the name of an object.
 #[tactic(auto, using(crate::proofs::CountLemmas::target_by))]
 fn target_line(alloc: Global, words: &mut LineWords<'_>) -> Result<CatalogLine, TextFaultKind>
     ensures { Gives (λ l. l) result (target_line words.old) }
@@ -159,6 +167,8 @@ fn target_line(alloc: Global, words: &mut LineWords<'_>) -> Result<CatalogLine, 
     Ok(CatalogLine::Target(only_name(alloc, words)?))
 }
 
+/// Reads the words of a `func` line after its first word: a symbol, a name and an address. `target` is the name of the
+/// open target's object, if a target is open.
 #[tactic(auto, using(crate::proofs::CountLemmas::func_count))]
 fn func_line(
     alloc: Global,
@@ -183,6 +193,7 @@ fn func_line(
     }))
 }
 
+/// Reads the words of a `pre`, `post`, `preun` or `postun` line after its first word: a script.
 fn callback_line(
     alloc: Global,
     which: Which,
@@ -193,14 +204,15 @@ fn callback_line(
     Ok(CatalogLine::Callback(which, edit::script(alloc, words)?))
 }
 
+/// Reads the words of a `state` line after its first word: an id and a version.
 fn state_line(words: &mut LineWords<'_>) -> Result<CatalogLine, TextFaultKind>
     ensures { Gives (λ l. l) result (state_line words.old) }
 {
     let (Some(id), Some(version), None) = (words.next(), words.next(), words.next()) else {
         return Err(TextFaultKind::WrongCount);
     };
-    // A version has 32 bits, as the `version` of the kernel's `klp_state`. One out of range is a `BadNumber`
-    // like one that isn't a number.
+    // A version has 32 bits, as the `version` of the kernel's `klp_state`. A version out of range is a `BadNumber`,
+    // like a word that isn't a number.
     let (Some(id), Some(version)) = (number64(id), number32(version)) else {
         return Err(TextFaultKind::BadNumber);
     };
@@ -208,12 +220,12 @@ fn state_line(words: &mut LineWords<'_>) -> Result<CatalogLine, TextFaultKind>
 }
 
 impl CatalogLine {
-    /// What the line of this text says, whose words are `first` and those in `words`.
+    /// Reads one line. `text` is the whole line, `first` its first word, and `words` the words after it.
     ///
-    /// `target` is the name of the object of the open target, if a target is open. Reads the line
-    /// in time that is linear in its length, and answers the first of its faults in the order of
-    /// [`TextFaultKind`], none of `OutOfPlace`, `UnknownObject`, `Twice`, `TooMany` and `Missing`.
-    /// `NoMemory` may stand in place of any. How many of `words` are left isn't told.
+    /// `target` is the name of the open target's object, if a target is open. The time is linear in the length of
+    /// the line. `Err` has the first of the line's faults, in the order of [`TextFaultKind`]; it is never
+    /// `OutOfPlace`, `UnknownObject`, `Twice`, `TooMany` or `Missing`. `NoMemory` may be reported in place of any
+    /// fault. No contract says how many of `words` are left.
     pub fn read(
         alloc: Global,
         target: Option<&str>,

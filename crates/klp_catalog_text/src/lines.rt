@@ -5,10 +5,10 @@ ghost use Rattle.klp_catalog_text.specs.Lines.{words_of};
 use klp_words::{LineWords, Separators, position_of};
 use std::marker::Model;
 
-/// The lines of a text that are still to be read. They are cut off one by one, so no list of them is kept.
+/// The lines of a text that are still to be read. They are cut off one by one, so no list of them is made.
 ///
-/// A line ends at a line feed, or at the end of the text where bytes are left. A carriage return right
-/// before the line feed isn't a part of the line.
+/// A line ends at a line feed, or at the end of the text if that has bytes left. A carriage return right before the
+/// line feed isn't part of the line.
 #[derive(Drop)]
 pub struct Lines<'a> {
     rest: &'a [u8],
@@ -24,15 +24,15 @@ impl<'a> Model for Lines<'a> {
 }
 
 impl<'a> Lines<'a> {
-    /// All lines of the text, which may be of any length and have any bytes. Nothing is looked at
-    /// yet.
+    /// Starts a walk over all lines of the text. The text may have any length and any bytes; none is read yet.
     pub fn new(text: &'a [u8]) -> Lines<'a>
         ensures { result ≡ lines text.now }
     {
         Lines { rest: text }
     }
 
-    /// The next line, without the bytes that end it, in time that is linear in its length.
+    /// Returns the next line, without the bytes that end it, in time linear in its length. `None` at the end of the
+    /// text.
     pub fn next(&mut self) -> Option<&'a [u8]>
         ensures { MatchOption result (self.old ≡ []) (λ line. self.old ≡ line.now ∷ self.new) }
     {
@@ -50,8 +50,8 @@ impl<'a> Lines<'a> {
     }
 }
 
-/// The line before its line feed, less the carriage return at its end: the line of a text that was written
-/// elsewhere is the same one (docs/DECISIONS.md, "Carriage returns").
+/// Returns the line without a carriage return at its end. So a text that was written on another system means the
+/// same (docs/DECISIONS.md, "Carriage returns").
 fn without_carriage_return(line: &[u8]) -> &[u8]
     ensures { result.now ≡ strip_carriage_return line.now }
 {
@@ -61,14 +61,14 @@ fn without_carriage_return(line: &[u8]) -> &[u8]
     }
 }
 
-/// The words of a line. Spaces and tabs separate them, as in what administrators write by hand.
+/// Returns the words of a line. Spaces and tabs separate them, as in text that people write by hand.
 pub fn words_of(line: &[u8]) -> LineWords<'_>
     ensures { result ≡ words_of line.now }
 {
     LineWords::new(line, Separators::SpacesAndTabs)
 }
 
-/// Whether a word is this one, byte by byte.
+/// Whether two words are equal, byte by byte.
 pub(crate) fn is_word(word: &[u8], other: &[u8]) -> bool
     ensures { result ≡ bytes_eq word.now other.now }
 {
@@ -78,8 +78,8 @@ pub(crate) fn is_word(word: &[u8], other: &[u8]) -> bool
 /// Three words of a line, in their order.
 pub(crate) type ThreeWords<'a> = (&'a [u8], &'a [u8], &'a [u8]);
 
-/// The words of a line that has exactly three of them left. They are asked for all at once, since another
-/// number of them is reported before any word's own fault.
+/// Returns the words that are left if there are exactly three, else `None`. All three are taken at once, since a
+/// wrong number of words is reported before a fault of any word.
 pub(crate) fn three_words<'a>(words: &mut LineWords<'a>) -> Option<ThreeWords<'a>>
     ensures { MatchOption result (length words.old ≢ 3)
         (λ found. words.old ≡ found.0.now ∷ found.1.now ∷ found.2.now ∷ []) }

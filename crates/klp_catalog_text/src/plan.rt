@@ -1,5 +1,6 @@
 ghost use Rattle.std.specs.Prelude.{◌≡◌, ◌<◌, [], length, slice_get, option_map, OnOk, OnErr};
-ghost use Rattle.klp_catalog_text.specs.PlanParts.{with_function, with_target, with_function_in, with_callback, with_callback_in, with_state};
+ghost use Rattle.klp_catalog_text.specs.PlanParts.{with_function, with_target, with_function_in, with_callback};
+ghost use Rattle.klp_catalog_text.specs.PlanParts.{with_callback_in, with_state};
 ghost use Rattle.klp_catalog_text.specs.Draft.{patch_names_of};
 ghost use Rattle.klp_catalog_text.specs.Limits.{AreFew};
 ghost use Rattle.klp_catalog_text.specs.Scripts.{scripts_of};
@@ -11,8 +12,8 @@ use std::alloc::{AllocError, Global};
 use std::marker::Model;
 use std::mem;
 
-/// A callback of a patch for an object (callbacks): here it is a script, and the caller of the catalog
-/// makes callbacks of it.
+/// A callback of a patch for an object (callbacks). In a plan it is only a script; the catalog's caller makes a
+/// callback of it.
 #[derive(Drop)]
 pub struct PlanCallback {
     pub which: Which,
@@ -27,14 +28,13 @@ impl Model for PlanCallback {
     ghost view = { λ c. record { which = c.which; script = c.script } };
 }
 
-/// An object that a patch changes, the new functions in it, and the callbacks for it. The object is a
-/// number, so that no later look-up of its name can fail (docs/DECISIONS.md, "Objects of targets by
-/// number").
+/// An object that a patch changes, with the new functions in it and the callbacks for it. The object is a number,
+/// so that no later look-up of its name can fail (docs/DECISIONS.md, "Objects of targets by number").
 #[derive(Drop)]
 pub struct PlanTarget {
     pub object: ObjId,
     pub functions: Vec<PlanFunction>,
-    /// In the order of the text, each kind at most once, since a kernel's object has one of each.
+    /// The callbacks in the order of the text. Each kind occurs at most once, as in the kernel's `klp_object`.
     pub callbacks: Vec<PlanCallback>,
 }
 
@@ -47,7 +47,7 @@ impl Model for PlanTarget {
 }
 
 impl PlanTarget {
-    /// Adds a function behind the others, so that functions are numbered in the order of the text.
+    /// Appends a function, so that functions are numbered in the order of the text.
     pub(crate) fn push(&mut self, function: PlanFunction) -> Result<(), AllocError>
         ensures ok { OnOk result (self.new ≡ with_function function self.old) }
         ensures err { OnErr result (self.new ≡ self.old) }
@@ -56,8 +56,7 @@ impl PlanTarget {
         Ok(())
     }
 
-    /// Adds a callback behind the others: the order of the text is that in which callbacks are handed to a
-    /// catalog.
+    /// Appends a callback. Callbacks are handed to a catalog in this order, which is that of the text.
     pub(crate) fn push_callback(&mut self, callback: PlanCallback) -> Result<(), AllocError>
         ensures ok { OnOk result (self.new ≡ with_callback callback self.old) }
         ensures err { OnErr result (self.new ≡ self.old) }
@@ -67,12 +66,11 @@ impl PlanTarget {
     }
 }
 
-/// A patch, as the lines behind its own give it. It has no number, which is its place in the plan.
+/// A patch, as its lines describe it. Its number isn't stored, since it is the patch's index in the plan.
 #[derive(Drop)]
 pub struct PlanPatch {
     pub name: String,
-    /// Whether the patch is a cumulative one, which replaces all older ones when its transition is
-    /// complete.
+    /// Whether the patch is cumulative: it replaces all older ones when its transition completes.
     pub replace: bool,
     pub targets: Vec<PlanTarget>,
     /// The system states that the patch names, in the order of the text, each id once.
@@ -85,11 +83,16 @@ impl Model for PlanPatch {
 
     ghost Value = { PlanPatch };
 
-    ghost view = { λ p. record { name = string_bytes p.name; replace = p.replace; targets = p.targets.items; states = p.states.items } };
+    ghost view = { λ p. record {
+      name = string_bytes p.name;
+      replace = p.replace;
+      targets = p.targets.items;
+      states = p.states.items;
+    } };
 }
 
 impl PlanPatch {
-    /// Adds an object without functions behind the others: it is the open target from now on.
+    /// Appends an object without functions, as the open target.
     pub(crate) fn push_target(&mut self, alloc: Global, object: ObjId) -> Result<(), AllocError>
         ensures ok { OnOk result (self.new ≡ with_target (Some object) self.old) }
         ensures err { OnErr result (self.new ≡ self.old) }
@@ -122,7 +125,7 @@ impl PlanPatch {
         self.targets[last].push_callback(callback)
     }
 
-    /// Adds a system state behind the others. It belongs to the patch, and to no target.
+    /// Appends a system state. It belongs to the patch, and to no target.
     pub(crate) fn push_state(&mut self, state: SystemState) -> Result<(), AllocError>
         ensures ok { OnOk result (self.new ≡ with_state state self.old) }
         ensures err { OnErr result (self.new ≡ self.old) }
@@ -132,14 +135,14 @@ impl PlanPatch {
     }
 }
 
-/// What a catalog's text says: the handler, the objects with their symbols, and the patches, in the
-/// order of the text. [`read`](crate::read) makes it.
+/// What a catalog's text says: the handler, the objects with their symbols, and the patches, in the order of the
+/// text. [`read`](crate::read) makes it.
 #[derive(Drop)]
 pub struct Plan {
     pub(crate) handler: u64,
     pub(crate) objects: Vec<ObjectText>,
     pub(crate) patches: Vec<PlanPatch>,
-    /// The names of the patches once more, by which they are found.
+    /// The names of the patches, in a table by which they are found.
     pub(crate) patch_names: Names,
 }
 
@@ -156,16 +159,16 @@ impl Model for Plan {
 }
 
 impl Plan {
-    /// The address that a hooked entry site calls, which has to be in reach of each symbol.
+    /// Returns the address that a hooked entry site calls. It must be in reach of each symbol.
     pub fn handler(&self) -> u64
         ensures { result ≡ self.now.handler }
     {
         self.handler
     }
 
-    /// The script of a callback, by its place over all patches, their objects and their callbacks in the
-    /// order of the text, from 0: so a caller can make one callback after another. Takes a look at each
-    /// object before it.
+    /// Returns the script of a callback. `number` counts the callbacks of all patches, in the order of the text,
+    /// from 0, so that a caller can make one callback after another. `None` if there are fewer. The cost is one
+    /// step for each object before it.
     pub fn script(&self, number: usize) -> Option<&Script>
         ensures { option_map (λ script. script.now) result ≡ slice_get (scripts_of self.now.patches) number }
     {
@@ -181,8 +184,8 @@ impl Plan {
         None
     }
 
-    /// The objects with their symbols, as the image takes them. The plan has none afterwards, since bodies
-    /// aren't copied on the way.
+    /// Moves the objects with their symbols out of the plan, for the image, so that no body is copied. The plan has
+    /// none afterwards.
     pub fn take_objects(&mut self) -> Vec<ObjectText>
         ensures objects { result.items ≡ self.old.objects }
         ensures rest { self.new ≡ record self.old { objects = [] } }
@@ -191,7 +194,8 @@ impl Plan {
         mem::replace(&mut self.objects, Vec::new(alloc))
     }
 
-    /// The patches, and their names by which they are found: the catalog takes both over as they are.
+    /// Takes the plan apart, and returns the patches and the table of their names. The catalog keeps both
+    /// unchanged.
     pub fn into_patches(self) -> (Vec<PlanPatch>, Names)
         ensures patches { result.0.items ≡ self.patches }
         ensures names { result.1 ≡ patch_names_of self.patches }

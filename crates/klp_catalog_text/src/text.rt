@@ -9,13 +9,13 @@ use crate::lines::Lines;
 use crate::plan::Plan;
 use std::alloc::Global;
 
-/// Reads the whole text of a catalog, in time that is linear in its length.
+/// Reads the whole text of a catalog, in time linear in its length.
 ///
-/// A fault is that of the first faulty line. A text without a faulty line that has no handler or no object
-/// is `Missing`, at line 0. `NoMemory` may come in place of any of these, at the line where memory ran out.
+/// `Err` has the first faulty line. If no line is faulty but the text has no handler or no object, the fault is
+/// `Missing` at line 0. `NoMemory` may be reported in place of any of these, at the line where memory ran out.
 pub fn read(alloc: Global, text: &[u8]) -> Result<Plan, TextFault>
     ensures plan { IfOk result (λ plan. plan_of text.now ≡ Ok plan) }
-    // so a plan's targets are objects of the image that its objects make
+    // The catalog relies on this: the targets are objects of the image that is made of the plan's objects.
     ensures targets { IfOk result (λ plan. AreTargetsWithin (length plan.objects) plan.patches) }
     ensures fault { IfErr result (λ fault. IsFaultOf text.now fault.line fault.kind) }
 {
@@ -24,8 +24,8 @@ pub fn read(alloc: Global, text: &[u8]) -> Result<Plan, TextFault>
     Ok(draft.into_plan(handler))
 }
 
-/// Adds all lines of a text to a draft, which is empty yet: only then are they all of its lines. Answers the
-/// handler of the whole, so that the draft's owner has one fault to look at.
+/// Reads all lines of a text into a draft, which must be empty, and returns the handler of the text. A missing
+/// handler or object is a fault here too, so that the caller has only one fault to handle.
 fn read_lines(alloc: Global, draft: &mut Draft, text: &[u8]) -> Result<u64, TextFault>
     requires { draft.old ≡ empty_draft }
     ensures plan { IfOk result (λ handler. plan_of text.now

@@ -1,5 +1,5 @@
-//! The words of a catalog's line, each read by its own rule. A word is checked before it is copied, so that
-//! only want of memory can come behind.
+//! Reads the words of a catalog's line, each by the rule of its kind. A word is checked before it is copied, so
+//! after the check only memory can be wanting.
 
 ghost use Rattle.std.specs.Prelude.{◌≡◌, Some, None, Ok, Err, option_copied};
 ghost use Rattle.klp_words.specs.Words.{spelling_of};
@@ -12,8 +12,8 @@ use hex::FromHexError;
 use klp_words::{Spelling, is_name, is_symbol_name, spelling_of, text};
 use std::alloc::Global;
 
-/// The name of an object, a patch or a new function. No `.` may be in it, because it ends the object's name
-/// in the spelling of a symbol.
+/// Reads the name of an object, a patch or a new function. It may not have a `.`, because a `.` ends the object's
+/// name in the spelling of a symbol.
 pub(crate) fn name(alloc: Global, word: &[u8]) -> Result<Name, TextFaultKind>
     ensures { Gives (λ n. n) result (name_of word.now) }
 {
@@ -23,8 +23,8 @@ pub(crate) fn name(alloc: Global, word: &[u8]) -> Result<Name, TextFaultKind>
     Ok(Name(String::from_str(alloc, text(word))?))
 }
 
-/// The name of a symbol. It may have a `.`, as compilers make them (`f.constprop.0`), and a `$`, but no
-/// comma, which its position is behind.
+/// Reads the name of a symbol. It may have a `.` and a `$`, as names from compilers do (`f.constprop.0`). It may
+/// not have a comma, since a comma separates it from its position.
 pub(crate) fn symbol_name(alloc: Global, word: &[u8]) -> Result<Name, TextFaultKind>
     ensures { Gives (λ n. n) result (symbol_name_of word.now) }
 {
@@ -34,8 +34,8 @@ pub(crate) fn symbol_name(alloc: Global, word: &[u8]) -> Result<Name, TextFaultK
     Ok(Name(String::from_str(alloc, text(word))?))
 }
 
-/// The bytes of a symbol, in hexadecimal digits. Here an odd number of them is a `BadHex`; one that is too
-/// long is found when the line gets its place, and one that is too short by the image (docs/DECISIONS.md,
+/// Reads the bytes of a symbol from hexadecimal digits. An odd number of digits is a `BadHex`. A body that is too
+/// long is found when the line is added to the plan, and one that is too short by the image (docs/DECISIONS.md,
 /// "Bodies of odd or great length").
 pub(crate) fn body(alloc: Global, word: &[u8]) -> Result<Vec<u8>, TextFaultKind>
     ensures { Gives (λ b. b.items) result (body_of word.now) }
@@ -47,8 +47,8 @@ pub(crate) fn body(alloc: Global, word: &[u8]) -> Result<Vec<u8>, TextFaultKind>
     }
 }
 
-/// The symbol of a `func` line. Where a target is open, the symbol is in its object. Whatever is wrong with
-/// its spelling is a `BadSymbol`, since it is one word (docs/DECISIONS.md, "The spelling of a symbol").
+/// Reads the symbol of a `func` line. If a target is open, the symbol must be in its object. Every fault of the
+/// spelling is `BadSymbol`, since it is one word (docs/DECISIONS.md, "The spelling of a symbol").
 pub(crate) fn symbol<'a>(
     target: Option<&str>,
     word: &'a [u8],

@@ -1,4 +1,4 @@
--- Managers of which all is the same but their undo records, and answers that tell of no full journal.
+-- Managers that differ at most in their undo records, and answers without `JournalFull`.
 use Rattle.std.specs.Prelude.{◌≡◌, ◌≢◌, List, [], ◌∷◌}
 use Rattle.klp_model.specs.declared.event.Refusal.TheVariants.{JournalFull}
 use Rattle.klp_core.specs.Journaled.{Journaled, history_in}
@@ -11,7 +11,7 @@ pub record AreAlike (one other : Journaled) : Type 0 where
   pub base : one.base ≡ other.base
   pub events : history_in one.groups ≡ history_in other.groups
 
--- none of these answers tells that the journal is full
+-- none of these answers says that the journal is full
 abbrev pub NoneIsFull : List Answer → Type 0
 NoneIsFull [] = Unit {0}
 NoneIsFull (answer ∷ answers) = (answer.text ≢ refusal_text JournalFull) × NoneIsFull answers

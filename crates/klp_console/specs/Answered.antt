@@ -1,4 +1,4 @@
--- What one line of the console is answered, and what becomes of the manager.
+-- The answer to one line of the console, and the manager after it.
 use Rattle.std.specs.Prelude.{◌≡◌, ℕ, ◌<◌, ◌≤◌, Bool, true, false, List, [], length, ◌⊎◌, is_err, Option, Some, None, Result, Ok, Err}
 use Rattle.klp_model.specs.declared.event.Event.{Event}
 use Rattle.klp_model.specs.declared.event.Reply.{Reply}
@@ -23,21 +23,23 @@ pub record Answer : Type 0 where
   pub text : List ℕ
   pub is_refused : Bool
 
--- a line without words has no answer
+-- the answer to a line without words: no text
 abbrev pub nothing : Answer
 nothing = record { text = []; is_refused = false }
 
+-- the answer to a line that was done and shows nothing more
 abbrev pub done : Answer
 done = record { text = done_text; is_refused = false }
 
+-- the answer to a line that wasn't done, with this text
 abbrev pub refused_with : List ℕ → Answer
 refused_with text = record { text = text; is_refused = true }
 
--- what was to be seen, or why it isn't shown
+-- the answer to a query: what it shows, or why it is refused
 abbrev pub seen : Result (List ℕ) Refusal → Answer
 seen query = record { text = shown_text query; is_refused = is_err query }
 
--- what an event was answered
+-- the answer to an event
 abbrev pub replied : Catalog → Result Reply Refusal → Answer
 replied catalog reply = record { text = answer_text catalog reply; is_refused = is_err reply }
 
@@ -45,7 +47,7 @@ replied catalog reply = record { text = answer_text catalog reply; is_refused = 
 abbrev pub names_in : Journaled → NameResolver
 names_in manager = record { patches = patch_names_of manager.managed.catalog.patches; objects = names_of manager.managed.image.objects }
 
--- the state is the base now, and nothing can be undone any more
+-- the manager after `seal`: its state is its base, and nothing can be undone
 abbrev pub sealed : Journaled → Journaled
 sealed manager = record { managed = manager.managed; base = manager.managed.state; groups = [] }
 
@@ -55,12 +57,12 @@ pub record IsTakenAs (before after : Journaled) (event : Event) (answer : Answer
   pub taken : IsTaken before after event reply
   pub sent : answer ≡ replied after.managed.catalog reply
 
--- the events behind the mark are undone, where there are so many
+-- the events behind the mark are undone, if there are that many
 abbrev pub IsRewoundAs : Journaled → Journaled → ℕ → Answer → Type 0
 IsRewoundAs before after mark answer =
     ((mark ≤ length before.groups) × IsRewound before after mark × (answer ≡ done)) ⊎ ((length before.groups < mark) × (after ≡ before) × (answer ≡ refused_with bad_mark_text))
 
--- what is asked for is done
+-- the manager does what is asked for, with this answer
 abbrev pub IsDone : Journaled → Journaled → Request → Answer → Type 0
 IsDone before after (Take event) answer = IsTakenAs before after event answer
 IsDone before after (ForceNothing patch) answer = (after ≡ before) × (answer ≡ seen (force_nothing before patch))
@@ -68,13 +70,14 @@ IsDone before after (Rewind mark) answer = IsRewoundAs before after mark answer
 IsDone before after Seal answer = (after ≡ sealed before) × (answer ≡ done)
 IsDone before after (Ask query) answer = (after ≡ before) × (answer ≡ seen (query_text before query))
 
--- a line without words and a line that asks for nothing change nothing
+-- a line without words, and a line at fault, change nothing
 abbrev pub IsDoneIf : Journaled → Journaled → Option (Result Request LineFault) → Answer → Type 0
 IsDoneIf before after None answer = (after ≡ before) × (answer ≡ nothing)
 IsDoneIf before after (Some (Err fault)) answer = (after ≡ before) × (answer ≡ refused_with (fault_text fault))
 IsDoneIf before after (Some (Ok request)) answer = IsDone before after request answer
 
--- a line is answered: this is its answer, and this is what it leaves of the manager, whose journal leads to its state again
+-- A line is answered: this is its answer, and `after` is the manager that it leaves. The groups of its journal lead to
+-- its state.
 pub record IsAnswered (before after : Journaled) (line : List ℕ) (answer : Answer) : Type 0 where
   pub done : IsDoneIf before after (request_of (names_in before) line) answer
   pub well_formed : IsWellFormed after

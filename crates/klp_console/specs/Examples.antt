@@ -32,6 +32,7 @@ kernel = record {
 abbrev pub function : List ℕ → ℕ → List ℕ → ℕ → PlanFunction
 function symbol sympos new_name address = record { symbol = symbol; sympos = sympos; new_name = new_name; address = address }
 
+-- a callback that changes nothing and succeeds
 abbrev pub quiet : Which → Callback
 quiet which = record { which = which; script = record { edits = []; status = pos 0 } }
 
@@ -66,5 +67,6 @@ state = record {
   tasks = None ∷ Some (record { state = pos 0; mode = Kernel; frames = [] }) ∷ [];
 }
 
+-- the manager of this kernel in this state
 abbrev pub manager : Journaled
 manager = record { managed = record { image = kernel; catalog = catalog; state = state }; base = state; groups = [] }

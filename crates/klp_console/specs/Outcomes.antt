@@ -1,4 +1,4 @@
--- What became of a line that was answered.
+-- The outcome of a line that was answered.
 use Rattle.std.specs.Prelude.{◌≡◌, Bool, true, false, is_err, Option, Some, None, Result, Ok}
 use Rattle.klp_model.specs.declared.event.Event.{Event}
 use Rattle.klp_model.specs.declared.event.Reply.{Reply}
@@ -19,21 +19,22 @@ is_refusal Refused = true
 is_refusal (Rewound mark) = false
 is_refusal Done = false
 
--- what a line that asks for no event comes to, where it is refused or not
+-- the outcome of a line that asks for no event
 abbrev pub other_outcome : Option (Result Request LineFault) → Bool → Outcome
 other_outcome request true = Refused
 other_outcome (Some (Ok (Rewind mark))) false = Rewound mark
 other_outcome request false = Done
 
--- the manager took the event, and this is its reply or its refusal
+-- the manager took the event, and the outcome has its reply or its refusal
 abbrev pub IsEventOutcome : Journaled → Journaled → Event → Outcome → Type 0
 IsEventOutcome before after event outcome = (reply : Result Reply Refusal) × IsTaken before after event reply × (outcome ≡ Answered event reply)
 
+-- the outcome of a request, by the event that it asks for, if it asks for one
 abbrev pub IsOutcomeOf : Journaled → Journaled → Option (Result Request LineFault) → Option Event → Outcome → Type 0
 IsOutcomeOf before after request (Some event) outcome = IsEventOutcome before after event outcome
 IsOutcomeOf before after request None outcome = outcome ≡ other_outcome request (is_refusal outcome)
 
--- this became of what was asked for: the event with its reply or its refusal; or how many events are left of those undone; or
--- nothing that a state shows
+-- The outcome of a request: the event with its reply or its refusal; or how many events are left after an undo; or
+-- something that no state shows.
 abbrev pub IsOutcome : Journaled → Journaled → Option (Result Request LineFault) → Outcome → Type 0
 IsOutcome before after request outcome = IsOutcomeOf before after request (event_asked request) outcome

@@ -1,11 +1,13 @@
--- How a console line is answered that wasn't done: `error`, the number of an error of Linux with a like meaning (2 is ENOENT, 12 ENOMEM,
--- 16 EBUSY, 22 EINVAL), and the name of the cause. Which number a cause has is our own choice.
+-- The answers to console lines that weren't done: `error`, the number of a Linux error with a similar meaning (2 is
+-- ENOENT, 12 ENOMEM, 16 EBUSY, 22 EINVAL), and the name of the cause. Which number a cause has is this project's own
+-- choice.
 use Rattle.std.specs.Prelude.{ℕ, List, codes}
 use Rattle.klp_model.specs.declared.event.Refusal.{Refusal}
 use Rattle.klp_model.specs.declared.event.Refusal.TheVariants.{NoPatch, Busy, AlreadyThere, Pinned, Incompatible, NoSymbol, NoModule, InUse, NoTask, TaskThere, WrongMode, BadFrame, Full, JournalFull, NotMoving, Exists, NotFound, SameValue}
 use Rattle.klp_console_commands.specs.declared.fault.LineFault.{LineFault}
 use Rattle.klp_console_commands.specs.declared.fault.LineFault.TheVariants.{BadLine, BadValue, Refused}
 
+-- the whole line of each refusal
 abbrev pub refusal_text : Refusal → List ℕ
 refusal_text NoPatch = codes "error 2 NoPatch\n"
 refusal_text NoModule = codes "error 2 NoModule\n"
@@ -26,12 +28,12 @@ refusal_text NotMoving = codes "error 22 NotMoving\n"
 refusal_text Exists = codes "error 22 Exists\n"
 refusal_text SameValue = codes "error 22 SameValue\n"
 
--- a line that asks for nothing
+-- the answer to a line at fault
 abbrev pub fault_text : LineFault → List ℕ
 fault_text BadLine = codes "error 22 BadLine\n"
 fault_text BadValue = codes "error 22 BadValue\n"
 fault_text (Refused refusal) = refusal_text refusal
 
--- there are not so many standing events to go back to
+-- the answer to a `rewind` to more events than the journal has
 abbrev pub bad_mark_text : List ℕ
 bad_mark_text = codes "error 22 BadMark\n"

@@ -1,4 +1,4 @@
--- How a console line is answered whose event was accepted.
+-- The answers to console lines whose event was accepted.
 use Rattle.std.specs.Prelude.{ℕ, true, false, List, [], ◌∷◌, ◌++◌, codes, Option, Some, None, Result, Ok, Err}
 use Rattle.std.specs.Fmt.{decimal, signed_decimal}
 use Rattle.klp_types.specs.declared.version.Version.{Version}
@@ -12,24 +12,26 @@ use Rattle.klp_catalog.specs.Catalog.{Catalog}
 use Rattle.klp_console.specs.Names.{patch_name, object_name}
 use Rattle.klp_console.specs.Refusals.{refusal_text}
 
+-- the answer to a line that was done and has no more to report
 abbrev pub done_text : List ℕ
 done_text = codes "ok\n"
 
--- ` .klp.sym.OBJECT.SYMBOL,POSITION`; a site that isn't there stands in no answer
+-- ` .klp.sym.OBJECT.SYMBOL,POSITION`; no answer has a site that doesn't exist
 abbrev pub original_text : List ObjectNames → Option Named → List ℕ
 original_text names None = []
 original_text names (Some symbol) = codes " .klp.sym." ++ object_name names symbol.object ++ codes "." ++ symbol.name ++ codes "," ++ decimal symbol.position
 
--- a function that a task was inside of, after a space: an original by its symbol and the position from 1, or ` PATCH:INDEX`
+-- a function that a task was inside of, after a space: an original by its symbol and position from 1, or ` PATCH:INDEX`
 abbrev pub frame_text : Catalog → Version → List ℕ
 frame_text catalog (Original site) = original_text catalog.names (symbol_at_site catalog.names site)
 frame_text catalog (New patch function) = codes " " ++ patch_name catalog patch ++ codes ":" ++ decimal function
 
--- outermost first
+-- the functions that a task was inside of, outermost first
 abbrev pub frames_text : Catalog → List Version → List ℕ
 frames_text catalog [] = []
 frames_text catalog (version ∷ versions) = frame_text catalog version ++ frames_text catalog versions
 
+-- the whole line of each reply
 abbrev pub reply_text : Catalog → Reply → List ℕ
 reply_text catalog Done = done_text
 reply_text catalog Started = codes "started\n"
@@ -43,7 +45,7 @@ reply_text catalog (Value value) = codes "value " ++ value_text value ++ codes "
 reply_text catalog (Freed count) = codes "freed " ++ decimal count ++ codes "\n"
 reply_text catalog (Woken frames) = codes "woken" ++ frames_text catalog frames ++ codes "\n"
 
--- what is answered to an event
+-- the answer to an event
 abbrev pub answer_text : Catalog → Result Reply Refusal → List ℕ
 answer_text catalog (Ok reply) = reply_text catalog reply
 answer_text catalog (Err refusal) = refusal_text refusal

@@ -1,4 +1,4 @@
--- A console while it serves: what its lines did so far, and what was said to them.
+-- A console while it serves: what its lines did so far, and which answers were said.
 use Rattle.std.specs.Prelude.{◌≡◌, ℕ, ◌+◌, ◌<◌, ◌≤◌, Bool, true, false, List, [], ◌∷◌, ◌++◌, length, count_by, Result, Ok, Err}
 use Rattle.std.specs.Io.KnownBytes.{Appends}
 use Rattle.klp_core.specs.Journaled.{Journaled}
@@ -25,16 +25,16 @@ pub record Moment : Type 0 where
   pub said : Gathered × Written
   pub marks : List Mark
 
--- a manager, what is served, what is said and written, and the marks
+-- a moment of this manager, these counts, these texts and these marks
 abbrev pub moment_of : Journaled → Served → Gathered → Written → List Mark → Moment
 moment_of manager served gathered written marks = record { manager = manager; served = served; said = (gathered, written); marks = marks }
 
--- an answer of this kind was said, of which the caller knows whether it was a refusal
+-- an answer of this kind was said, and `refused` is whether it was a refusal
 abbrev pub IsSaid : (Answer → Type 0) → Gathered × Written → Gathered × Written → Bool → Type 0
 IsSaid is_answer before after refused = (text : List ℕ) × is_answer (record { text = text; is_refused = refused }) × Says before after text
 
--- lines were answered in order and counted, from a moment on at which nothing was gathered; the front of their answers was written, and the rest is
--- gathered
+-- Lines were answered in order and counted, since a moment at which nothing was gathered. The first bytes of their
+-- answers were written, and the rest is gathered.
 pub record Serves (before after : Moment) (lines : List (List ℕ)) : Type 0 where
   pub answers : List Answer
   pub answered : AreAnswered before.manager after.manager lines answers
@@ -47,7 +47,7 @@ pub record Serves (before after : Moment) (lines : List (List ℕ)) : Type 0 whe
   pub well : IsWell before.said.1 after.said.1
   pub still : after.said.0.has_failed ≡ false
 
--- of answered lines the last ones are gathered, each with its mark, and the answers to those before them are written
+-- of the answered lines the last ones are gathered, each with its mark, and the answers to the lines before are written
 pub record HasMarks (before after : Moment) (lines : List (List ℕ)) (answers : List Answer) (written : ℕ) : Type 0 where
   pub early : List (List ℕ)
   pub held : List (List ℕ)
@@ -60,13 +60,13 @@ pub record HasMarks (before after : Moment) (lines : List (List ℕ)) (answers :
   pub all_written : length (texts_of early_answers) ≤ written
   pub marked : AreMarked after.manager after.manager written (length (texts_of early_answers)) start held held_answers after.marks
 
--- lines are served, perhaps ahead of their answers, and can be taken back as far as they are ahead
+-- lines were done, perhaps ahead of their answers, and those whose answers aren't written can be taken back
 pub record Ahead (before after : Moment) (lines : List (List ℕ)) : Type 0 where
   pub serves : Serves before after lines
   pub has_marks : HasMarks before after lines serves.answers (length serves.gone)
 
--- The sink is to blame for what is missing of these answers: it took the front `gone`, in which those before the last are whole. So it is the last one
--- that was cut off.
+-- The sink is to blame for the missing part of these answers. It took the first bytes, `gone`, which have the answers
+-- before the last one whole. So the last answer is the one that was cut off.
 pub record Stops (before after : Written) (answers : List Answer) : Type 0 where
   pub early : List Answer
   pub last : Answer
@@ -79,20 +79,20 @@ pub record Stops (before after : Written) (answers : List Answer) : Type 0 where
   pub whole : length (texts_of early) ≤ length gone
   pub blame : IsToBlame before after
 
--- an answer was written, all of it, and this became of the line; or the sink is to blame for what is missing of the answer
+-- the whole answer was written, and this is the outcome; or the sink is to blame for the missing part of the answer
 abbrev pub IsSent : Journaled → Journaled → List ℕ → Written → Written → Answer → Result Outcome Failed → Type 0
 IsSent before after line written left answer (Ok outcome) =
     (is_refusal outcome ≡ answer.is_refused) × Appends written.taken left.taken answer.text × IsWell written left
     × IsOutcome before after (request_of (names_in before) line) outcome
 IsSent before after line written left answer (Err failed) = Stops written left (answer ∷ [])
 
--- one line was answered, and its answer told
+-- one line was answered, and its answer was written as far as the result says
 pub record AnswersLine (before after : Journaled) (line : List ℕ) (written left : Written) (result : Result Outcome Failed) : Type 0 where
   pub answer : Answer
   pub answered : IsAnswered before after line answer
   pub sent : IsSent before after line written left answer result
 
--- the sink failed: of these lines those are done up to the one whose answer it cut off, and nothing behind it stands
+-- the sink failed: of these lines those are done up to the one whose answer was cut off, and no later one
 pub record IsCut (before after : Moment) (lines : List (List ℕ)) : Type 0 where
   pub done : List (List ℕ)
   pub later : List (List ℕ)
@@ -102,13 +102,13 @@ pub record IsCut (before after : Moment) (lines : List (List ℕ)) : Type 0 wher
   pub short : are_short done ≡ true
   pub stops : Stops before.said.1 after.said.1 answers
 
--- lines were served, or the sink failed in one of their answers
+-- lines were done ahead, or the sink failed in one of their answers
 abbrev pub Comes : Moment → Moment → List (List ℕ) → Type 0
 Comes before after lines =
     (after.said.0.has_failed ≡ false → Ahead before after lines) × (after.said.0.has_failed ≡ true → IsCut before after lines)
 
--- what became of a piece, cut into lines and a rest that belongs to the next line: all lines were served, or those up to one that is too long, or
--- the sink failed in an answer
+-- What a piece came to, which is cut into lines and a rest that belongs to the next line. Either all lines were done,
+-- or those before one that is too long, or the sink failed in an answer.
 abbrev pub Hears : Moment → Moment → List (List ℕ) → List ℕ → Result Unit ServeFault → Type 0
 Hears before after pieces rest (Ok unit) = (lines : List (List ℕ)) × (pieces ≡ lines ++ rest ∷ []) × Ahead before after lines
 Hears before after pieces rest (Err LineTooLong) =

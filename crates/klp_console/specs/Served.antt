@@ -1,4 +1,4 @@
--- What serving a console comes to.
+-- What serving a console leaves.
 use Rattle.std.specs.Prelude.{◌≡◌, ℕ, ◌+◌, ◌*◌, ◌<◌, ◌≤◌, true, List, [], ◌∷◌, ◌++◌, length, count_by, ◌⊎◌, Result, Ok, Err}
 use Rattle.std.specs.Io.KnownBytes.{Appends, Consumes, IsAtEnd}
 use Rattle.klp_core.specs.Journaled.{Journaled}
@@ -20,12 +20,13 @@ pub record Console : Type 0 where
   pub written : Written
   pub manager : Journaled
 
--- no more reads were made than may be, and each had the whole room: so an input costs no more of them than its source cuts it into
+-- At most the allowed number of reads were made, each into the whole room. So the number of reads depends only on how
+-- the source cuts its input.
 pub record Asks (before after : Supply) : Type 0 where
   pub few : after.reads ≤ before.reads + MAX_READS
   pub whole_room : after.asked + READ_ROOM * before.reads ≡ before.asked + READ_ROOM * after.reads
 
--- these bytes were read, and these lines of theirs were answered; what was withdrawn by them left no trace
+-- these bytes were read, and these lines of them were answered; a patch that was withdrawn by them left no trace
 pub record Reads (before after : Console) (bytes : List ℕ) (lines : List (List ℕ)) (answers : List Answer) : Type 0 where
   pub read : Consumes before.supply.left after.supply.left bytes
   pub asks : Asks before.supply after.supply
@@ -38,7 +39,7 @@ pub record Writes (before after : Console) (answers : List Answer) : Type 0 wher
   pub written : Appends before.written.taken after.written.taken (texts_of answers)
   pub well : IsWell before.written after.written
 
--- the source told its end, no byte of it is left, and all its lines are answered; neither side failed
+-- The source ended with no byte left, and all its lines are answered. Neither side failed.
 pub record IsServed (before after : Console) (served : Served) : Type 0 where
   pub bytes : List ℕ
   pub answers : List Answer
@@ -51,7 +52,8 @@ pub record IsServed (before after : Console) (served : Served) : Type 0 where
   pub lines : served.lines ≡ length (lines_of bytes)
   pub refused : served.refused ≡ count_by (λ (a : Answer). a.is_refused) answers
 
--- a read failed, or as many were made as may be and none was the end; all lines that have a line feed are answered, and the next may still be a line
+-- A read failed, or the allowed number of reads was made and none was the end. All lines that have a line feed are
+-- answered, and the next may still become a line.
 pub record HasReadFailed (before after : Console) : Type 0 where
   pub bytes : List ℕ
   pub lines : List (List ℕ)
@@ -65,7 +67,7 @@ pub record HasReadFailed (before after : Console) : Type 0 where
   pub blame : (after.supply.failures ≡ before.supply.failures + 1)
       ⊎ ((after.supply.failures ≡ before.supply.failures) × (after.supply.reads ≡ before.supply.reads + MAX_READS))
 
--- a line is too long; all lines before it are answered
+-- a line is too long, and all lines before it are answered
 pub record HasLongLine (before after : Console) : Type 0 where
   pub bytes : List ℕ
   pub lines : List (List ℕ)
@@ -78,14 +80,14 @@ pub record HasLongLine (before after : Console) : Type 0 where
   pub writes : Writes before after answers
   pub no_failure : after.supply.failures ≡ before.supply.failures
 
--- each of the lines has a line feed, or the source has ended and they are all
+-- each of these lines has a line feed, or the source has ended and these are all lines
 abbrev pub AreFirst : Console → List (List ℕ) → List ℕ → Type 0
 AreFirst after lines bytes =
     ((next : List ℕ) × (more : List (List ℕ)) × (lines_and_rest bytes ≡ lines ++ next ∷ more)) ⊎ ((lines ≡ lines_of bytes) × (after.supply.has_ended ≡ true))
 
--- A write failed or took nothing. The lines up to the one whose answer it cut off are done, a front of their answers was written, and nothing behind that
--- line stands: so however reads cut the input, the bytes that the sink took tell which lines are done. No read failed: so all that is to be said is
--- written before a read is made, which may fail, and none is made once a write has failed
+-- A write failed or took nothing. The lines up to the one whose answer was cut off are done, and no later one, and the
+-- first bytes of their answers were written. So the bytes that the sink took show which lines are done, however reads
+-- cut the input. No read failed: all answers are written before a read, and no read is made after a failed write.
 pub record HasWriteFailed (before after : Console) : Type 0 where
   pub bytes : List ℕ
   pub lines : List (List ℕ)

@@ -1,6 +1,6 @@
-//! One line is done and answered: what it asks for is read first, so that the manager can be borrowed for
-//! it alone.
-ghost use Rattle.std.specs.Prelude.{◌≡◌, ℕ, ◌+◌, ◌<◌, ◌≤◌, ◌^◌, ◌⊎◌, true, false, cond, List, [], ◌∷◌, ◌++◌, length, is_err};
+//! Doing one line and answering it. What the line asks for is read first, since reading borrows the manager.
+ghost use Rattle.std.specs.Prelude.{◌≡◌, ℕ, ◌+◌, ◌<◌, ◌≤◌, ◌^◌, ◌⊎◌, true, false, cond, List, [], ◌∷◌, ◌++◌, length};
+ghost use Rattle.std.specs.Prelude.{is_err};
 ghost use Rattle.klp_types.specs.declared.limits.TheConstants.{MAX_CONSOLE_LINE};
 ghost use Rattle.klp_console_io.specs.declared.marks.TheConstants.{MARKS_ROOM};
 ghost use Rattle.klp_console_commands.specs.Asked.{asked_with};
@@ -22,7 +22,8 @@ use klp_console_io::{Answers, Failed, Marks, Sink};
 use klp_core::Manager;
 use klp_model::{Event, Refusal, Reply};
 
-/// The events behind the mark are undone. Answers whether there are fewer than it, so that nothing was.
+/// Undoes all events but the first `mark`, and says whether that was done. Returns whether the journal has fewer
+/// events, so that nothing was undone.
 fn rewind<W: Sink>(manager: &mut Manager, mark: u32, answers: &mut Answers, writer: &mut W) -> bool
     requires { answers.old.has_failed ≡ false }
     ensures { IsSaid (IsRewoundAs manager.old manager.new mark) (answers.old, W.written writer.old)
@@ -40,8 +41,8 @@ fn rewind<W: Sink>(manager: &mut Manager, mark: u32, answers: &mut Answers, writ
     }
 }
 
-/// Takes an event, says what it is answered, and tells it. It becomes part of who calls it, so that none of them pays for
-/// a reply that it doesn't look at.
+/// Takes an event, says its reply or refusal, and returns that. It is inlined, so that callers who drop the reply don't
+/// pay for copying it.
 #[inline(always)]
 fn answer_event<W: Sink>(
     manager: &mut Manager,
@@ -60,7 +61,7 @@ fn answer_event<W: Sink>(
     reply
 }
 
-/// Takes an event, and tells what became of it.
+/// Takes an event, says its reply or refusal, and returns the outcome.
 fn take<W: Sink>(
     manager: &mut Manager,
     event: &Event,
@@ -75,9 +76,9 @@ fn take<W: Sink>(
     Outcome::Answered(*event, answer_event(manager, event, answers, writer))
 }
 
-/// Does what a line asks for. Answers whether it was refused, by which the line is counted; what was refused
-/// changed nothing. A line without words is passed over, so that a script may have empty lines, and one that
-/// asks for nothing is refused.
+/// Does what a line asks for and says the answer. Returns whether the line was refused, so that it can be counted; a
+/// refused line changed nothing. A line without words does nothing and has no answer, so that a script may have empty
+/// lines. A line at fault is refused.
 fn done<W: Sink>(
     manager: &mut Manager,
     asked: &Option<Result<Asked, LineFault>>,
@@ -110,7 +111,7 @@ fn done<W: Sink>(
     }
 }
 
-/// Does what a line asks for, and tells what became of it.
+/// Does what a line asks for, says the answer, and returns the outcome of the line.
 fn do_request<W: Sink>(
     manager: &mut Manager,
     asked: &Option<Result<Asked, LineFault>>,
@@ -129,7 +130,7 @@ fn do_request<W: Sink>(
     }
 }
 
-/// Reads what a line asks for, does it and says its answer.
+/// Reads what a line asks for, does it, says the answer, and returns the outcome.
 fn take_line<W: Sink>(
     manager: &mut Manager,
     line: &[u8],
@@ -148,11 +149,11 @@ fn take_line<W: Sink>(
     outcome
 }
 
-/// Answers one line, without its line feed, as `serve` does with each line that it has cut: what it asks for is done by
-/// the same function, and then the answer is written. Answers what became of the line. An `Err` is a sink that failed or
-/// took nothing: the line is done all the same, and the end of its answer is missing.
+/// Does one line, without its line feed, and writes its answer. Returns the outcome of the line. It does the line by
+/// the same function as `serve`. An `Err` means that the sink failed or took nothing: the line is done all the same,
+/// but the end of its answer is missing.
 ///
-/// The line may have any length. It costs as much as its words and what it asks for, and takes no memory.
+/// The line may have any length. The cost is that of its words and of what it asks for. Allocates nothing.
 pub fn answer_line<W: Sink>(
     manager: &mut Manager,
     line: &[u8],
@@ -170,7 +171,7 @@ pub fn answer_line<W: Sink>(
     Ok(outcome)
 }
 
-/// Counts a line.
+/// Counts a line, and whether it was refused.
 fn count(served: &mut Served, is_refused: bool)
     requires room { served.old.lines + 1 < 2 ^ 64 }
     requires few { served.old.refused ≤ served.old.lines }
@@ -184,8 +185,8 @@ fn count(served: &mut Served, is_refused: bool)
     }
 }
 
-/// Does what a line asks for and gathers its answer. Where the sink fails meanwhile, in an answer before it,
-/// the line is taken back, which it can be or nothing is gathered before it.
+/// Does what a line asks for and gathers its answer. The sink may fail meanwhile, in an earlier answer; then the line
+/// is taken back. So the line must be one that can be taken back, unless nothing is gathered before it.
 fn gather<W: Sink>(
     manager: &mut Manager,
     asked: &Option<Result<Asked, LineFault>>,
@@ -203,7 +204,8 @@ fn gather<W: Sink>(
     ensures comes { (before : Moment) (lines : List (List ℕ)) (line : List ℕ)
         → (asked_with asked.now event.now) ≡ request_of (names_in manager.old) line → length line ≤ MAX_CONSOLE_LINE
         → Ahead before (moment_of manager.old served.old answers.old (W.written writer.old) marks.old) lines
-        → Comes before (moment_of manager.new served.new answers.new (W.written writer.new) marks.new) (lines ++ line ∷ []) }
+        → Comes before (moment_of manager.new served.new answers.new (W.written writer.new) marks.new)
+        (lines ++ line ∷ []) }
     ensures few { served.new.refused ≤ served.new.lines }
     ensures lines { served.new.lines ≡ served.old.lines + 1 }
 {
@@ -218,8 +220,8 @@ fn gather<W: Sink>(
     }
 }
 
-/// Answers a line, and counts it. A line that can be taken back is answered ahead: its answer is gathered
-/// behind those before it. Before any other line all that is gathered is written.
+/// Answers a line and counts it. A line that can be taken back is done ahead: its answer is gathered behind the answers
+/// that aren't written yet. Before any other line, all gathered answers are written.
 pub(crate) fn serve_line<W: Sink>(
     manager: &mut Manager,
     line: &[u8],
@@ -234,7 +236,8 @@ pub(crate) fn serve_line<W: Sink>(
     requires short { length line.now ≤ MAX_CONSOLE_LINE }
     ensures comes { (before : Moment) (lines : List (List ℕ))
         → Ahead before (moment_of manager.old served.old answers.old (W.written writer.old) marks.old) lines
-        → Comes before (moment_of manager.new served.new answers.new (W.written writer.new) marks.new) (lines ++ line.now ∷ []) }
+        → Comes before (moment_of manager.new served.new answers.new (W.written writer.new) marks.new)
+        (lines ++ line.now ∷ []) }
     ensures few { served.new.refused ≤ served.new.lines }
     ensures lines { served.new.lines ≤ served.old.lines + 1 }
 {

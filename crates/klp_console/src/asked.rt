@@ -1,5 +1,5 @@
-//! What a line or a word asks for, for those who don't serve it at once. The manager is asked for names
-//! alone, so nothing of its state but these makes a difference.
+//! What a line or a word asks for, for callers that don't do it at once. Of the manager only the names are used, so its
+//! state makes no difference.
 ghost use Rattle.std.specs.Prelude.{◌≡◌};
 ghost use Rattle.klp_console.specs.Asked.{event_of, site_of};
 
@@ -9,9 +9,9 @@ use klp_model::Event;
 use klp_types::Site;
 use klp_words::spelling_of;
 
-/// The event that a line asks for, without its line feed, whether the manager would take it or refuse it.
-/// `None` where the line has no words, asks for something else, or has a name or a task that can't be.
-/// Takes time as reading the line does.
+/// Returns the event that a line asks for, whether the manager would accept or refuse it. `line` has no line feed. None
+/// if the line has no words or is at fault, or if it asks for something else than an event. The cost is that of reading
+/// the line.
 pub fn event_of(line: &[u8], manager: &Manager) -> Option<Event>
     ensures { result ≡ event_of manager.now line.now }
 {
@@ -22,9 +22,9 @@ pub fn event_of(line: &[u8], manager: &Manager) -> Option<Event>
     }
 }
 
-/// The site of the symbol that a word spells. Its object needn't be loaded, since sites keep their numbers
-/// while modules come and go. `None` where the word is no spelling, or picks no symbol. Takes a look-up for
-/// each of its two names.
+/// Returns the site of the symbol that a word spells. Its object needn't be loaded, since sites keep their numbers
+/// while modules are loaded and unloaded. None if the word isn't a spelling, or there is no such symbol. The cost is a
+/// look-up for each of its two names.
 pub fn site_of(symbol: &[u8], manager: &Manager) -> Option<Site>
     ensures { result ≡ site_of manager.now symbol.now }
 {

@@ -1,5 +1,5 @@
-//! Answers are gathered, so lines may be done ahead of what is written. Where a write fails, the events
-//! behind the line whose answer it cut off are taken back by the journal (docs/DECISIONS.md, "Lines ahead of
+//! Taking lines back. Answers are gathered, so lines may be done ahead of the answers that are written. If a write
+//! fails, the journal takes back the events after the line whose answer was cut off (docs/DECISIONS.md, "Lines ahead of
 //! their answers").
 ghost use Rattle.std.specs.Prelude.{◌≡◌, ℕ, ◌-◌, ◌<◌, ◌≤◌, ◌⊎◌, true, false, List, [], ◌∷◌, ◌++◌, length};
 ghost use Rattle.klp_console.specs.Back as back;
@@ -15,9 +15,9 @@ use klp_console_io::{Answers, Mark, Marks, Sink};
 use klp_core::Manager;
 use klp_model::Event;
 
-/// Whether a line may be done ahead of the answers before it. A callback's run can't be taken back, since counts of runs
-/// stay, so the manager is asked whether the event may run one. `seal` and `rewind` take events from the journal, by which
-/// they would be taken back.
+/// Whether a line may be done ahead of the answers before it, so that it can still be taken back. False for an event
+/// that may run a callback, since counts of runs can't be taken back, and for `seal` and `rewind`, which remove events
+/// from the journal.
 pub(crate) fn can_be_taken_back(
     manager: &Manager,
     asked: &Option<Result<Asked, LineFault>>,
@@ -32,20 +32,20 @@ pub(crate) fn can_be_taken_back(
     }
 }
 
-/// Takes back the events behind the line whose answer was cut off, where so many bytes were gathered before
-/// the last line. Where all of these are written, it is the last line's own answer, and that line stays.
+/// Takes back the events after the line whose answer was cut off. `gathered` is how many bytes were gathered before the
+/// last line. If all of these are written, the last line's own answer was cut off, and nothing is taken back.
 pub(crate) fn take_back(manager: &mut Manager, marks: &Marks, answers: &Answers, gathered: usize)
     requires { answers.now.held ≤ gathered }
     ensures { IsTakenBack manager.old manager.new (events_at_cut (gathered - answers.now.held) marks.now) }
 {
     if let Some(events) = marks.events_at_cut(gathered - answers.held()) {
-        // there are as many, since no line behind the mark took any from the journal
+        // the journal has that many, since no line after the mark removed any
         let _ = manager.rewind(events);
     }
 }
 
-/// Marks the line that was answered last. Where all that was gathered before it is written, the marks before
-/// it are forgotten.
+/// Marks the line that was answered last. If all that was gathered before it is written, first drops the marks before
+/// it.
 pub(crate) fn mark_line(marks: &mut Marks, answers: &Answers, events: u32)
     requires { length marks.old < MARKS_ROOM }
     ensures { marks.new ≡ back.marks_on answers.now.held marks.old
@@ -60,8 +60,7 @@ pub(crate) fn mark_line(marks: &mut Marks, answers: &Answers, events: u32)
     });
 }
 
-/// Writes all that is gathered. Where that fails, the lines behind the answer that was cut off are taken
-/// back.
+/// Writes all gathered answers. If that fails, takes back the lines after the one whose answer was cut off.
 pub(crate) fn write_out<W: Sink>(
     manager: &mut Manager,
     answers: &mut Answers,
@@ -72,7 +71,8 @@ pub(crate) fn write_out<W: Sink>(
     ensures comes { (before : Moment) (lines : List (List ℕ)) (served : Served)
         → Ahead before (moment_of manager.old served answers.old (W.written writer.old) marks.old) lines
         → Comes before (moment_of manager.new served answers.new (W.written writer.new) marks.new) lines }
-    ensures empty { answers.new.has_failed ≡ false → (answers.new.bytes ≡ []) × (marks.new ≡ []) × (manager.new ≡ manager.old) }
+    ensures empty { answers.new.has_failed ≡ false → (answers.new.bytes ≡ []) × (marks.new ≡ [])
+        × (manager.new ≡ manager.old) }
 {
     let gathered = answers.hold();
     answers.flush(writer);
@@ -83,8 +83,8 @@ pub(crate) fn write_out<W: Sink>(
     }
 }
 
-/// Writes all that is gathered before a line that can't be taken back, or where there is no room for another
-/// mark. So whenever a line is done that can't be taken back, all answers before it are written.
+/// Writes all gathered answers if the next line can't be taken back, or if there is no room for another mark. So when a
+/// line is done that can't be taken back, all answers before it are written.
 pub(crate) fn make_ready<W: Sink>(
     manager: &mut Manager,
     is_ahead: bool,

@@ -1,4 +1,4 @@
-//! A whole input is served: reads in room of a fixed size, and the end.
+//! Serving a whole input, by reads into room of a fixed size, until the end.
 ghost use Rattle.std.specs.Prelude.{◌≡◌, ◌+◌, ◌<◌, ◌≤◌, ◌^◌, true, false, [], ◌∷◌, ◌++◌, length, IfOk, IfErr};
 ghost use Rattle.klp_types.specs.declared.limits.TheConstants.{MAX_CONSOLE_LINE};
 ghost use Rattle.klp_console_io.specs.Lines.{lines_and_rest};
@@ -15,8 +15,8 @@ use klp_console_io::{Answers, Failed, LineBuffer, Marks, Sink, Source};
 use klp_core::Manager;
 use klp_types::{MAX_READS, READ_ROOM};
 
-/// Hears a piece, and writes all that its lines are answered. One write has the answers of a whole read, so
-/// a file of many lines costs no write a line (docs/DECISIONS.md, "Gathered answers").
+/// Does the lines of a piece, and writes all their answers. One write has the answers of a whole read, so a file of
+/// many lines doesn't cost a write for each line (docs/DECISIONS.md, "Gathered answers").
 fn hear<W: Sink>(
     manager: &mut Manager,
     line: &mut LineBuffer,
@@ -51,8 +51,8 @@ fn hear<W: Sink>(
     heard
 }
 
-/// Answers the last line where no line feed ends it, and writes the answer. An empty one is none, since it
-/// is what is behind the last line feed.
+/// Does the last line, if no line feed ended it, and writes its answer. If no bytes are behind the last line feed,
+/// there is no such line.
 fn end<W: Sink>(
     manager: &mut Manager,
     line: &LineBuffer,
@@ -94,12 +94,12 @@ fn end<W: Sink>(
 
 /// Serves lines from `reader` until it ends, and writes their answers to `writer`.
 ///
-/// A line ends with a line feed, or with the input, and has at most
-/// [`MAX_CONSOLE_LINE`](klp_types::MAX_CONSOLE_LINE) bytes. Each answer is written before the next read, so
-/// that who types sees it at once: it follows from the contract, since any read may be the one that fails
-/// (docs/DECISIONS.md, "Answers before the next read"). A patch that is withdrawn meanwhile leaves no trace,
-/// as after `Manager::run`; a `seal`, or a `rewind` to before a line, ends what can be compared from that
-/// line on. A line costs as much as its words and what it asks for. No memory is taken.
+/// A line ends with a line feed, or with the input, and has at most [`MAX_CONSOLE_LINE`](klp_types::MAX_CONSOLE_LINE)
+/// bytes. Each answer is written before the next read, so that someone who types sees it at once. The contract implies
+/// this, since any read may be the one that fails (docs/DECISIONS.md, "Answers before the next read"). A patch that was
+/// withdrawn leaves no trace, as after `Manager::run`. That holds in comparison with the state before any of the lines,
+/// if no later line is a `seal`, or a `rewind` to before that line. A line costs as much as its words and what it asks
+/// for. Allocates nothing.
 pub fn serve<R: Source, W: Sink>(
     reader: &mut R,
     writer: &mut W,
@@ -150,6 +150,6 @@ pub fn serve<R: Source, W: Sink>(
             return Err(fault);
         }
     }
-    // Not the end: so many reads were made, and an input that never ends has to stop somewhere.
+    // So many reads were made, and none was the end. An input that never ends must be stopped somewhere.
     Err(ServeFault::Read)
 }

@@ -1,9 +1,13 @@
-//! Worked examples of the answers, by computation. A function here does nothing: its contract is the
-//! example, so a definition that comes to something else isn't proved.
+//! Worked examples of answers, proved by computation. A function here does nothing: its contract is the example, and a
+//! definition that gives another text isn't proved.
 ghost use Rattle.std.specs.Prelude.{◌≡◌, negsuc, true, false, [], ◌∷◌, codes, None, Some, Ok, Err};
 ghost use Rattle.klp_types.specs.declared.version.Version.TheVariants.{Original, New};
-ghost use Rattle.klp_model.specs.declared.event.Reply.TheVariants.{Done, Started, Reversed, Pending, Completed, PreFailed, Value, Freed, Woken};
-ghost use Rattle.klp_model.specs.declared.event.Refusal.TheVariants.{NoPatch, Busy, AlreadyThere, Pinned, Incompatible, NoSymbol, NoModule, InUse, NoTask, TaskThere, WrongMode, BadFrame, Full, JournalFull, NotMoving, Exists, NotFound, SameValue};
+ghost use Rattle.klp_model.specs.declared.event.Reply.TheVariants.{Done, Started, Reversed, Pending, Completed};
+ghost use Rattle.klp_model.specs.declared.event.Reply.TheVariants.{PreFailed, Value, Freed, Woken};
+ghost use Rattle.klp_model.specs.declared.event.Refusal.TheVariants.{NoPatch, Busy, AlreadyThere, Pinned, Incompatible};
+ghost use Rattle.klp_model.specs.declared.event.Refusal.TheVariants.{NoSymbol, NoModule, InUse, NoTask, TaskThere};
+ghost use Rattle.klp_model.specs.declared.event.Refusal.TheVariants.{WrongMode, BadFrame, Full, JournalFull, NotMoving};
+ghost use Rattle.klp_model.specs.declared.event.Refusal.TheVariants.{Exists, NotFound, SameValue};
 ghost use Rattle.klp_console_commands.specs.declared.fault.LineFault.TheVariants.{BadLine, BadValue, Refused};
 ghost use Rattle.klp_console_commands.specs.declared.request.Query.TheVariants as query;
 ghost use Rattle.klp_console.specs.Answered.{done, nothing, refused_with, seen, replied};
@@ -12,8 +16,7 @@ ghost use Rattle.klp_console.specs.Replies.{answer_text};
 ghost use Rattle.klp_console.specs.Queries.{functions_text, variable_text, query_text, shown_text, force_nothing};
 ghost use Rattle.klp_console.specs.Examples.{catalog, manager};
 
-/// What an accepted event is answered, by its reply, with the names of patch and object and of the functions
-/// that a task was inside of.
+/// The answers to accepted events, for each reply, with the names of patches, objects, and functions of tasks.
 pub fn replies_are_sent_like_this()
     ensures done { answer_text catalog (Ok Done) ≡ codes "ok\n" }
     ensures started { answer_text catalog (Ok Started) ≡ codes "started\n" }
@@ -31,7 +34,8 @@ pub fn replies_are_sent_like_this()
     ensures refused { answer_text catalog (Err Busy) ≡ codes "error 16 Busy\n" }
 {}
 
-/// What isn't there is 2, want of room 12, what is in use 16, and anything else 22.
+/// The answers to refusals. The number is 2 for something that doesn't exist, 12 for lack of room, 16 for something in
+/// use, and 22 for anything else.
 pub fn refusals_have_these_numbers()
     ensures no_patch { refusal_text NoPatch ≡ codes "error 2 NoPatch\n" }
     ensures no_module { refusal_text NoModule ≡ codes "error 2 NoModule\n" }
@@ -57,7 +61,7 @@ pub fn refusals_have_these_numbers()
     ensures bad_mark { bad_mark_text ≡ codes "error 22 BadMark\n" }
 {}
 
-/// What a look is shown of the files of patches and tasks.
+/// The answers to queries of the files of patches and tasks.
 pub fn files_read_like_this()
     ensures enabled { shown_text (query_text manager (query.Enabled 0)) ≡ codes "1\n" }
     ensures at_rest { shown_text (query_text manager (query.Transition 0)) ≡ codes "0\n" }
@@ -80,7 +84,7 @@ pub fn files_read_like_this()
     ensures variable { variable_text (Some (5 ∷ 0 ∷ 0 ∷ 0 ∷ 0 ∷ 0 ∷ 0 ∷ 0 ∷ [])) ≡ codes "value 5\n" }
 {}
 
-/// What a look is shown of the text, of function stacks, of what a task runs and of how often callbacks ran.
+/// The answers to queries of the text, of function stacks, of what a task runs, and of how often callbacks ran.
 pub fn the_kernel_looks_like_this()
     ensures text { shown_text (query_text manager (query.Text 0))
         ≡ codes "f ffffffff81001000 e8fbefffff90c3\nh ffffffff81002000 e8fbdfffffc3\nd ffffffff81003000 0f1f440000c3\nd ffffffff81004000 0f1f440000c3\n" }
@@ -99,7 +103,7 @@ pub fn the_kernel_looks_like_this()
     ensures not_its_object { shown_text (query_text manager (query.Runs 1 1)) ≡ codes "error 2 NotFound\n" }
 {}
 
-/// A line is counted as refused where it wasn't done, whatever its answer.
+/// A line is counted as refused exactly if it wasn't done.
 pub fn lines_are_refused_where_they_are_not_done()
     ensures done { replied catalog (Ok Started) ≡ record { text = codes "started\n"; is_refused = false } }
     ensures not_done { replied catalog (Err Busy) ≡ record { text = codes "error 16 Busy\n"; is_refused = true } }

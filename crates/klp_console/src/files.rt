@@ -1,5 +1,4 @@
-//! The files of patches and of tasks. The directory of a patch is there while it is installed, as in a
-//! kernel.
+//! The files of patches and of tasks. As in a kernel, a patch has a directory while it is installed.
 ghost use Rattle.std.specs.Prelude.{◌≡◌, ◌==◌, ◌++◌, [], codes, filter, Ok};
 ghost use Rattle.std.specs.Fmt.{decimal};
 ghost use Rattle.std.specs.Result.{result_and, result_unwrap_or};
@@ -10,7 +9,8 @@ ghost use Rattle.klp_console.specs.Names.{object_name};
 ghost use Rattle.klp_catalog.specs.Catalog.{CatalogFunction as FunctionValue};
 ghost use Rattle.klp_catalog.specs.Runs.{objects_at};
 ghost use Rattle.klp_console_commands.specs.declared.request.Query.TheVariants as query;
-ghost use Rattle.klp_console.specs.Queries.{lines_of, switch_text, patch_line, object_line, directory_text, position_text, functions_text, has_object, query_text};
+ghost use Rattle.klp_console.specs.Queries.{lines_of, switch_text, patch_line, object_line, directory_text};
+ghost use Rattle.klp_console.specs.Queries.{position_text, functions_text, has_object, query_text};
 
 use crate::names::{object_name, patch_name, say_name};
 use klp_catalog::{Catalog, CatalogFunction};
@@ -19,21 +19,21 @@ use klp_core::Manager;
 use klp_model::Refusal;
 use klp_types::{ObjId, PatchId, TaskId};
 
-/// Whether a patch is installed, since its files are there only then.
+/// Whether a patch is installed, since it has files only then.
 pub(crate) fn is_installed(manager: &Manager, patch: PatchId) -> bool
     ensures { result ≡ is_installed manager.now.managed.state patch }
 {
     manager.enabled(patch).is_some()
 }
 
-/// Whether a patch changes an object, loaded or not, since its directory is there in both cases.
+/// Whether a patch changes an object, loaded or not, since it has a directory for the object in both cases.
 pub(crate) fn has_object(catalog: &Catalog, patch: PatchId, object: ObjId) -> bool
     ensures { result ≡ has_object catalog.now patch object }
 {
     catalog.place(patch, object).is_some()
 }
 
-/// Says a name alone in its line, as `ls` prints one.
+/// Says a name on its own line, as `ls` prints it.
 fn say_line<W: Sink>(answers: &mut Answers, writer: &mut W, name: &str)
     ensures { Says (answers.old, W.written writer.old) (answers.new, W.written writer.new) (name.now ++ codes "\n") }
 {
@@ -42,8 +42,8 @@ fn say_line<W: Sink>(answers: &mut Answers, writer: &mut W, name: &str)
     answers.say(writer, b"\n");
 }
 
-/// Says 1 for yes and 0 for no, as the kernel's files read.
-fn say_switch<W: Sink>(answers: &mut Answers, writer: &mut W, value: bool)
+/// Says 1 for true and 0 for false, as the kernel's files read.
+fn say_flag<W: Sink>(answers: &mut Answers, writer: &mut W, value: bool)
     ensures { Says (answers.old, W.written writer.old) (answers.new, W.written writer.new) (switch_text value) }
 {
     if value {
@@ -53,7 +53,7 @@ fn say_switch<W: Sink>(answers: &mut Answers, writer: &mut W, value: bool)
     }
 }
 
-/// Says what the `enabled` file of a patch reads, or nothing where the file isn't there.
+/// Says what the `enabled` file of a patch reads. Returns `NotFound`, and says nothing, if the patch isn't installed.
 pub(crate) fn say_enabled<W: Sink>(
     answers: &mut Answers,
     writer: &mut W,
@@ -66,11 +66,12 @@ pub(crate) fn say_enabled<W: Sink>(
 {
     klp_console_io::laws::what_is_said_adds_up();
     let value = manager.enabled(patch).ok_or(Refusal::NotFound)?;
-    say_switch(answers, writer, value);
+    say_flag(answers, writer, value);
     Ok(())
 }
 
-/// Says what the `transition` file of a patch reads, or nothing where the file isn't there.
+/// Says what the `transition` file of a patch reads. Returns `NotFound`, and says nothing, if the patch isn't
+/// installed.
 pub(crate) fn say_transition<W: Sink>(
     answers: &mut Answers,
     writer: &mut W,
@@ -83,11 +84,12 @@ pub(crate) fn say_transition<W: Sink>(
 {
     klp_console_io::laws::what_is_said_adds_up();
     let value = manager.transition(patch).ok_or(Refusal::NotFound)?;
-    say_switch(answers, writer, value);
+    say_flag(answers, writer, value);
     Ok(())
 }
 
-/// Says what the `patch_state` file of a task reads, with its sign, since at rest that is -1.
+/// Says what the `patch_state` file of a task reads: -1 outside of transitions, so it is signed. Returns `NoTask`, and
+/// says nothing, if there is no such task.
 pub(crate) fn say_patch_state<W: Sink>(
     answers: &mut Answers,
     writer: &mut W,
@@ -105,7 +107,7 @@ pub(crate) fn say_patch_state<W: Sink>(
     Ok(())
 }
 
-/// Says the names of patches, each in its line, as a directory lists them.
+/// Says the names of patches, each on its own line, as `ls` lists them.
 fn say_patch_lines<W: Sink>(
     answers: &mut Answers,
     writer: &mut W,
@@ -121,7 +123,7 @@ fn say_patch_lines<W: Sink>(
     }
 }
 
-/// Says the installed patches, oldest first, which is the order in which they were enabled.
+/// Says the names of the installed patches, oldest first: in the order in which they were enabled.
 pub(crate) fn say_patches<W: Sink>(answers: &mut Answers, writer: &mut W, manager: &Manager)
     ensures { Says (answers.old, W.written writer.old) (answers.new, W.written writer.new)
         (lines_of (patch_line manager.now.managed.catalog) (installed_patches manager.now.managed.state)) }
@@ -130,7 +132,7 @@ pub(crate) fn say_patches<W: Sink>(answers: &mut Answers, writer: &mut W, manage
     say_patch_lines(answers, writer, manager.catalog(), patches.as_slice());
 }
 
-/// Says the objects that a patch changes, each in its line, in the order of the text.
+/// Says the names of the objects that a patch changes, each on its own line, in the order of the catalog's text.
 fn say_object_lines<W: Sink>(
     answers: &mut Answers,
     writer: &mut W,
@@ -149,7 +151,7 @@ fn say_object_lines<W: Sink>(
     }
 }
 
-/// Says the files of a patch, and a directory for each object that it changes, loaded or not.
+/// Says the contents of a patch's directory: its files, and a directory for each object that it changes, loaded or not.
 fn say_files<W: Sink>(answers: &mut Answers, writer: &mut W, manager: &Manager, patch: PatchId)
     ensures { Says (answers.old, W.written writer.old) (answers.new, W.written writer.new)
         (directory_text manager.now.managed.catalog patch) }
@@ -159,7 +161,7 @@ fn say_files<W: Sink>(answers: &mut Answers, writer: &mut W, manager: &Manager, 
     say_object_lines(answers, writer, manager, patch);
 }
 
-/// Says what the directory of a patch has, or nothing where the patch isn't installed.
+/// Says the contents of a patch's directory. Returns `NotFound`, and says nothing, if the patch isn't installed.
 pub(crate) fn say_directory<W: Sink>(
     answers: &mut Answers,
     writer: &mut W,
@@ -178,7 +180,7 @@ pub(crate) fn say_directory<W: Sink>(
     Ok(())
 }
 
-/// Says a symbol and which of those of its name it is, with the comma between that a kernel has.
+/// Says a symbol and its position among the symbols of its name, with a comma between, as in the kernel.
 fn say_position<W: Sink>(answers: &mut Answers, writer: &mut W, symbol: &str, position: u64)
     ensures { Says (answers.old, W.written writer.old) (answers.new, W.written writer.new)
         (symbol.now ++ codes "," ++ decimal position ++ codes "\n") }
@@ -190,17 +192,18 @@ fn say_position<W: Sink>(answers: &mut Answers, writer: &mut W, symbol: &str, po
     answers.say(writer, b"\n");
 }
 
-/// Says a function that a patch changes, with its position, as the kernel names its directory.
+/// Says a function that a patch changes, with its position, as the kernel names the function's directory.
 fn say_function<W: Sink>(answers: &mut Answers, writer: &mut W, function: &CatalogFunction)
     ensures { Says (answers.old, W.written writer.old) (answers.new, W.written writer.new)
         (position_text function.now) }
 {
-    // the only symbol of its name is the first, and the kernel's directory has `name,1` for it
+    // position 0 means the only symbol of its name: it is the first, and the kernel's directory is `name,1`
     let position = u64::from(function.sympos().max(1));
     say_position(answers, writer, function.symbol(), position);
 }
 
-/// Says those of the functions that are an object's. A patch's functions are one list, so each is asked.
+/// Says the functions in the list that are in this object, with their positions. The list has all functions of a patch,
+/// so each is looked at.
 fn say_positions<W: Sink>(
     answers: &mut Answers,
     writer: &mut W,
@@ -218,8 +221,8 @@ fn say_positions<W: Sink>(
     }
 }
 
-/// Says the functions that a patch changes in an object, with their positions, or nothing where there is no
-/// such directory.
+/// Says the functions that a patch changes in an object, with their positions. Returns `NotFound`, and says nothing, if
+/// the patch isn't installed or doesn't change the object.
 pub(crate) fn say_functions<W: Sink>(
     answers: &mut Answers,
     writer: &mut W,

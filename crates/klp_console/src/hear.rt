@@ -1,5 +1,5 @@
-//! Pieces of the input are cut into lines, and the lines are answered. It borrows all that it changes, so
-//! that its ways out are cheap to prove (docs/DECISIONS.md, "One way out for an owner").
+//! Cutting pieces of the input into lines, and answering these. The function borrows all that it changes, so that its
+//! ways out are cheap to prove (docs/DECISIONS.md, "One way out for an owner").
 ghost use Rattle.std.specs.Prelude.{◌≡◌, ◌+◌, ◌<◌, ◌≤◌, ◌^◌, false, [], ◌∷◌, ◌++◌, length, IfOk};
 ghost use Rattle.klp_types.specs.declared.limits.TheConstants.{MAX_CONSOLE_LINE};
 ghost use Rattle.klp_console_io.specs.Lines.{lines_and_rest};
@@ -10,7 +10,7 @@ use crate::served::{ServeFault, Served};
 use klp_console_io::{Answers, LineBuffer, Marks, Sink, TooLong};
 use klp_core::Manager;
 
-/// Hears a piece, and answers each line that it ends. After a failure of the sink no further line is done.
+/// Hears a piece, and answers each line that ends in it. After a failure of the sink no further line is done.
 pub(crate) fn hear_lines<W: Sink>(
     manager: &mut Manager,
     line: &mut LineBuffer,
@@ -36,8 +36,8 @@ pub(crate) fn hear_lines<W: Sink>(
     let mut rest = piece;
     while !rest.is_empty() {
         match line.hear(rest) {
-            // The clause finds a long line by the bytes of the source, which standard input doesn't give;
-            // but this is one function for all sources (docs/DECISIONS.md, "Long lines of standard input").
+            // The clause identifies a long line by the bytes of the source, which aren't known for standard input; but
+            // this is one function for all sources (docs/DECISIONS.md, "Long lines of standard input").
             Err(TooLong) => return Err(ServeFault::LineTooLong),
             Ok(None) => return Ok(()),
             Ok(Some(after)) => {
@@ -46,12 +46,12 @@ pub(crate) fn hear_lines<W: Sink>(
                 rest = after;
             }
         }
-        // asked after each line, since nothing behind the answer that was cut off may be done
+        // checked after each line, since no line may be done after the one whose answer was cut off
         if answers.has_failed() {
             return Err(ServeFault::Write);
         }
     }
-    // nothing is left of the piece, and the line has no line feed: the call is made for its contract
+    // nothing is left of the piece, and the line has no line feed; called for its contract
     let _rest = line.bytes();
     Ok(())
 }

@@ -1,13 +1,13 @@
-//! What is proved of what serving comes to. A function here does nothing: its contract is the law.
+//! A law about what serving leaves. A function here does nothing: its contract is the law.
 ghost use Rattle.std.specs.Prelude.{◌≡◌, ℕ, List, Some};
 ghost use mathlib.Core.List.{IsPrefix};
 ghost use Rattle.klp_console.specs.Alike.{AreAlike, NoneIsFull};
 ghost use Rattle.klp_console.specs.Served.{Console, HasWriteFailed};
 
-/// What stands after a failed write is told by the bytes that were written. Two servings of the same lines by one manager,
-/// whose sinks took the same bytes, have done the same lines and leave the same manager, but for its undo records:
-/// however reads cut the input, and whatever was done ahead of its answer. It is said of lines that find room in the
-/// journal, since of the records that an event leaves no more is promised than that they undo it and are few.
+/// The bytes that were written determine which lines are done after a failed write. Take two servings of the same lines
+/// by one manager, whose sinks took the same bytes. They have done the same lines, and leave the same manager except
+/// for its undo records, however reads cut the input and whatever was done ahead of its answer. This holds for lines
+/// that the journal has room for: of an event's records it is only promised that they are few and undo the event.
 pub fn what_stands_is_sent_by_what_was_written()
     ensures { (before after other : Console) (all : List (List ℕ)) (taken : List ℕ)
         → (one : HasWriteFailed before after) → (two : HasWriteFailed before other)

@@ -1,4 +1,4 @@
-//! The names that answers have: what an event answers are numbers, which nobody should have to look up.
+//! The names in answers. Replies have numbers, which nobody should have to look up.
 ghost use Rattle.std.specs.Prelude.{◌≡◌, ◌++◌, codes};
 ghost use Rattle.klp_console_io.specs.Says.{Says};
 ghost use Rattle.klp_console_io.specs.Texts.{address_text};
@@ -9,30 +9,30 @@ use klp_console_io::{Answers, Sink};
 use klp_modules::Modules;
 use klp_types::{ObjId, PatchId};
 
-/// The name of a patch of a catalog. One that isn't there has the empty name, which is never said of a
-/// manager's own. Takes no look-up.
+/// Returns the name of a patch of a catalog. The name is empty if there is no such patch, which never happens for a
+/// manager's own patches. Needs no look-up by name.
 pub(crate) fn patch_name(catalog: &Catalog, patch: PatchId) -> &str
     ensures { result.now ≡ patch_name catalog.now patch }
 {
     catalog.patch_name(patch).unwrap_or("")
 }
 
-/// The name of an object, loaded or not. One that isn't there has the empty name, so that no caller has a
-/// case for it. Takes no look-up.
+/// Returns the name of an object, loaded or not. The name is empty if there is no such object, so that no caller needs
+/// a case for it. Needs no look-up by name.
 pub(crate) fn object_name(modules: &Modules, object: ObjId) -> &str
     ensures { result.now ≡ object_name modules.now.names object }
 {
     modules.object_name(object).unwrap_or("")
 }
 
-/// Says a name as it was spelled. A name is text, and answers are bytes, so it goes by its bytes.
+/// Says a name as it was spelled, byte by byte.
 pub(crate) fn say_name<W: Sink>(answers: &mut Answers, writer: &mut W, name: &str)
     ensures { Says (answers.old, W.written writer.old) (answers.new, W.written writer.new) name.now }
 {
     answers.say(writer, name.as_bytes());
 }
 
-/// Says the name of a patch, that of a new function, and where this begins, in a line of its own.
+/// Says the name of a patch, the name of a new function, and the function's address, on one line.
 fn say_function<W: Sink>(
     answers: &mut Answers,
     writer: &mut W,
@@ -52,9 +52,8 @@ fn say_function<W: Sink>(
     answers.say(writer, b"\n");
 }
 
-/// Says a new function of a patch, by its place over the patch's objects from 0: the patch, the
-/// function's name and where it begins, as 16 hexadecimal digits. Nothing where the patch or the
-/// function isn't there.
+/// Says a new function of a patch: the patch, the function's name, and its address in 16 hexadecimal digits. `number`
+/// counts the patch's functions over its objects from 0. Says nothing if there is no such patch or function.
 pub(crate) fn say_new_function<W: Sink>(
     answers: &mut Answers,
     writer: &mut W,

@@ -1,4 +1,4 @@
-//! What became of a line, for those who tell more of it than its answer.
+//! The outcome of a line, for callers that need more of it than its answer.
 ghost use Rattle.std.specs.Prelude.{◌≡◌};
 ghost use Rattle.klp_console_commands.specs.Asked.{asked_with};
 ghost use Rattle.klp_model.specs.declared.event.Event as events;
@@ -7,16 +7,16 @@ ghost use Rattle.klp_console.specs.Outcomes.{is_refusal, other_outcome};
 use klp_console_commands::{Asked, LineFault};
 use klp_model::{Event, Refusal, Reply};
 
-/// What became of a line.
+/// The outcome of a line: what it did, or that it was refused.
 #[derive(Clone, Copy)]
 pub enum Outcome {
-    /// The event that it asks for was accepted with this reply, or refused for this.
+    /// The line asks for this event, which was accepted with this reply, or refused for this reason.
     Answered(Event, Result<Reply, Refusal>),
-    /// It asks for no event, and was refused: it changed nothing.
+    /// The line asks for no event, and was refused. It changed nothing.
     Refused,
-    /// Events were undone, and so many are left.
+    /// Events were undone, and the journal still has this many.
     Rewound(u32),
-    /// It was done, and is no event: it shows something, seals, or has no words.
+    /// The line was done, and asks for no event: it shows something, seals, or has no words.
     Done,
 }
 
@@ -33,7 +33,7 @@ impl Outcome {
     }
 }
 
-/// What a line comes to that asks for no event, where it was refused or not.
+/// Returns the outcome of a line that asks for no event.
 pub(crate) fn other_outcome(asked: &Option<Result<Asked, LineFault>>, is_refused: bool) -> Outcome
     ensures { (event : events.Event) → result ≡ other_outcome (asked_with asked.now event) is_refused }
 {

@@ -1,5 +1,4 @@
-//! What is asked to be seen: each kind of look goes to its own file, and its refusals are said in one
-//! place.
+//! Answering queries: each kind is said by a function in a file of its own, and refusals are said here.
 ghost use Rattle.std.specs.Prelude.{◌≡◌, [], Ok};
 ghost use Rattle.std.specs.Result.{result_and, result_unwrap_or};
 ghost use Rattle.klp_console_io.specs.Says.{Says};
@@ -19,7 +18,7 @@ use klp_core::Manager;
 use klp_model::Refusal;
 use klp_types::PatchId;
 
-/// Says what a query shows. Says nothing where it is refused, so that the refusal is the whole answer.
+/// Says what a query shows. Returns the refusal, and says nothing, if it is refused; the caller then says the refusal.
 fn show<W: Sink>(
     answers: &mut Answers,
     writer: &mut W,
@@ -58,13 +57,13 @@ fn show<W: Sink>(
     }
 }
 
-/// Says what a query shows, or why it is refused: `NotFound` for a file that isn't there, `NoTask` and
-/// `NoModule` for a task that isn't there and an object that isn't loaded. The refusal is said, and
-/// answered so that it can be counted.
+/// Says what a query shows, or why it is refused: `NotFound` for a file that doesn't exist, `NoTask` for a task that
+/// doesn't exist, and `NoModule` for an object that isn't loaded. A refusal is also returned, so that it can be
+/// counted.
 ///
-/// The files are those of the kernel (livepatch, Sysfs). A switch is 1 or 0, an address 16 hexadecimal
-/// digits, a position is counted from 1, and a count of runs stays at the greatest number. It costs as
-/// much as what it says.
+/// The files are those of the kernel (livepatch, Sysfs). A switch is 1 or 0, an address has 16 hexadecimal digits, a
+/// position counts from 1, and a count of runs stops at the greatest number. The cost grows with the length of the
+/// answer.
 pub(crate) fn say_query<W: Sink>(
     answers: &mut Answers,
     writer: &mut W,
@@ -83,9 +82,8 @@ pub(crate) fn say_query<W: Sink>(
     result
 }
 
-/// Says what is answered to a 0 that is written to the `force` file of a patch: that it is done, though it
-/// does nothing, as in the kernel (`force_store`), or `NotFound` where the patch isn't installed. A refusal
-/// is said, and answered too.
+/// Answers a write of 0 to the `force` file of a patch. Says that it was done, though it does nothing, as in the kernel
+/// (`force_store`). If the patch isn't installed, says `NotFound` and returns it.
 pub(crate) fn say_force_nothing<W: Sink>(
     answers: &mut Answers,
     writer: &mut W,

@@ -1,4 +1,4 @@
-//! How a line is answered that wasn't done: in one line that begins with `error`, so that scripts find it.
+//! The answers to lines that weren't done: one line that begins with `error`, so that scripts find it.
 ghost use Rattle.std.specs.Prelude.{◌≡◌};
 ghost use Rattle.klp_console_io.specs.Says.{Says};
 ghost use Rattle.klp_console.specs.Refusals.{refusal_text, fault_text, bad_mark_text};
@@ -7,8 +7,8 @@ use klp_console_commands::LineFault;
 use klp_console_io::{Answers, Sink};
 use klp_model::Refusal;
 
-/// The whole line of a refusal, with a number for what reads it by machine: that of an error of Linux with
-/// a like meaning (docs/DECISIONS.md, "Error numbers").
+/// Returns the whole line of a refusal. For programs that read it, it has the number of a Linux error with a similar
+/// meaning (docs/DECISIONS.md, "Error numbers").
 fn refusal_line(refusal: Refusal) -> &'static [u8]
     ensures { result.now ≡ refusal_text refusal }
 {
@@ -34,17 +34,16 @@ fn refusal_line(refusal: Refusal) -> &'static [u8]
     }
 }
 
-/// Says why an event was refused, as `error NUMBER NAME`. The number is that of an error of Linux with a
-/// like meaning: 2 is `ENOENT`, 12 `ENOMEM`, 16 `EBUSY` and 22 `EINVAL`. Which number a refusal has is this
-/// project's own choice. Says one text, of at most 22 bytes, so it is gathered in one go.
+/// Says why an event was refused, as `error NUMBER NAME`. The number is that of a Linux error with a similar meaning: 2
+/// is `ENOENT`, 12 `ENOMEM`, 16 `EBUSY` and 22 `EINVAL`. Which number a refusal has is this project's own choice. Says
+/// one text of at most 22 bytes, so it is gathered at once.
 pub(crate) fn say_refusal<W: Sink>(answers: &mut Answers, writer: &mut W, refusal: Refusal)
     ensures { Says (answers.old, W.written writer.old) (answers.new, W.written writer.new) (refusal_text refusal) }
 {
     answers.say(writer, refusal_line(refusal));
 }
 
-/// Says why a line asks for nothing: `error 22 BadLine`, `error 22 BadValue`, or the refusal of a name
-/// that isn't known.
+/// Says why a line asks for nothing: `error 22 BadLine`, `error 22 BadValue`, or the refusal of an unknown name.
 pub(crate) fn say_fault<W: Sink>(answers: &mut Answers, writer: &mut W, fault: &LineFault)
     ensures { Says (answers.old, W.written writer.old) (answers.new, W.written writer.new) (fault_text fault.now) }
 {
@@ -55,7 +54,7 @@ pub(crate) fn say_fault<W: Sink>(answers: &mut Answers, writer: &mut W, fault: &
     }
 }
 
-/// Says that there are not so many events in the journal to go back to, as `error 22 BadMark`.
+/// Says that the journal has fewer events than the mark, as `error 22 BadMark`.
 pub(crate) fn say_bad_mark<W: Sink>(answers: &mut Answers, writer: &mut W)
     ensures { Says (answers.old, W.written writer.old) (answers.new, W.written writer.new) bad_mark_text }
 {

@@ -1,4 +1,4 @@
-//! How an event is answered: in words and names, as a line has them.
+//! The answers to events, in words and names as lines have them.
 ghost use Rattle.std.specs.Prelude.{◌≡◌, ◌++◌, codes};
 ghost use Rattle.std.specs.Fmt.{decimal, signed_decimal};
 ghost use Rattle.klp_modules.specs.Names.{symbol_at_site};
@@ -14,15 +14,14 @@ use klp_model::{Refusal, Reply};
 use klp_modules::Modules;
 use klp_types::{Frames, ObjId, PatchId, Site, Version};
 
-/// Says that a line was done which has no more to report, as `ok`, so that each line with words has an
-/// answer.
+/// Says `ok`: the line was done, and has no more to report. So each line with words has an answer.
 pub(crate) fn say_done<W: Sink>(answers: &mut Answers, writer: &mut W)
     ensures { Says (answers.old, W.written writer.old) (answers.new, W.written writer.new) done_text }
 {
     answers.say(writer, b"ok\n");
 }
 
-/// Says a word, with the space behind it, and a number, in a line of its own.
+/// Says a word, which ends with a space, and a number on one line.
 fn say_number<W: Sink>(answers: &mut Answers, writer: &mut W, word: &[u8], number: u64)
     ensures { Says (answers.old, W.written writer.old) (answers.new, W.written writer.new)
         (word.now ++ decimal number ++ codes "\n") }
@@ -33,8 +32,8 @@ fn say_number<W: Sink>(answers: &mut Answers, writer: &mut W, word: &[u8], numbe
     answers.say(writer, b"\n");
 }
 
-/// Says that the callback of a patch for an object answered a status. It is no error, since the event was
-/// accepted.
+/// Says that the pre-patch callback of a patch for an object returned a status and so refused. It is no error, since
+/// the event was accepted.
 fn say_pre_failed<W: Sink>(
     answers: &mut Answers,
     writer: &mut W,
@@ -56,8 +55,7 @@ fn say_pre_failed<W: Sink>(
     answers.say(writer, b"\n");
 }
 
-/// Says a symbol of an object and its position among those of its name, from 1, in the spelling in which a
-/// line can name it again.
+/// Says a symbol of an object and its position among those of its name, from 1, in a form in which a line can name it.
 fn say_symbol<W: Sink>(
     answers: &mut Answers,
     writer: &mut W,
@@ -77,7 +75,7 @@ fn say_symbol<W: Sink>(
     answers.number(writer, position);
 }
 
-/// Says the original function of a site. Nothing where the site isn't there, as the definition has it.
+/// Says the original function of a site. Says nothing if there is no such site, as in the definition.
 fn say_original<W: Sink>(answers: &mut Answers, writer: &mut W, modules: &Modules, site: Site)
     ensures { Says (answers.old, W.written writer.old) (answers.new, W.written writer.new)
         (original_text modules.now.names (symbol_at_site modules.now.names site)) }
@@ -94,7 +92,8 @@ fn say_original<W: Sink>(answers: &mut Answers, writer: &mut W, modules: &Module
     }
 }
 
-/// Says a new function by its patch and its place in it, since its name needn't be the only one.
+/// Says a new function by its patch and its index among the patch's functions. Its name would not do, since other
+/// functions may have the same name.
 fn say_new<W: Sink>(answers: &mut Answers, writer: &mut W, patch: &str, function: u64)
     ensures { Says (answers.old, W.written writer.old) (answers.new, W.written writer.new)
         (codes " " ++ patch.now ++ codes ":" ++ decimal function) }
@@ -106,7 +105,7 @@ fn say_new<W: Sink>(answers: &mut Answers, writer: &mut W, patch: &str, function
     answers.number(writer, function);
 }
 
-/// Says a function that a task was inside of, in a form in which a line can name it again.
+/// Says a function that a task was inside of, in a form in which a line can name it.
 fn say_frame<W: Sink>(
     answers: &mut Answers,
     writer: &mut W,
@@ -127,7 +126,7 @@ fn say_frame<W: Sink>(
     }
 }
 
-/// Says the functions that a task was inside of, outermost first, in the order in which a line has them.
+/// Says the functions that a task was inside of, outermost first, as a `task sleep` line has them.
 fn say_frames<W: Sink>(
     answers: &mut Answers,
     writer: &mut W,
@@ -146,7 +145,7 @@ fn say_frames<W: Sink>(
     }
 }
 
-/// Says what a task that woke up was inside of, in one line; the word alone where it was inside of nothing.
+/// Says on one line what a task was inside of that woke up: the word alone if it was inside of nothing.
 fn say_woken<W: Sink>(
     answers: &mut Answers,
     writer: &mut W,
@@ -164,12 +163,11 @@ fn say_woken<W: Sink>(
     answers.say(writer, b"\n");
 }
 
-/// Says what was answered to an event: what it did, in the word of its [`Reply`] and the names and numbers
-/// that this has, or why it was refused.
+/// Says the reply to an event, as its word followed by its names and numbers, or says why the event was refused.
 ///
-/// A function that a task was inside of is spelled as a livepatch symbol, with the position from 1
-/// (livepatch module ELF format, livepatch symbols), or as `PATCH:INDEX`, by its place over the patch's
-/// objects from 0. It takes time that is linear in what it says, and no look-up.
+/// A function that a task was inside of is spelled as a livepatch symbol, with the position from 1 (livepatch module
+/// ELF format, livepatch symbols), or as `PATCH:INDEX`, by its place over the patch's objects from 0. The time is
+/// linear in the length of the answer. Needs no look-up by name.
 pub(crate) fn say_answer<W: Sink>(
     answers: &mut Answers,
     writer: &mut W,
@@ -177,7 +175,7 @@ pub(crate) fn say_answer<W: Sink>(
     modules: &Modules,
     answer: &Result<Reply, Refusal>,
 )
-    // a manager's catalog is one over the objects that it manages, so the names agree
+    // a manager's catalog has the names of its objects, so the names agree
     requires { catalog.now.names ≡ modules.now.names }
     ensures { Says (answers.old, W.written writer.old) (answers.new, W.written writer.new)
         (answer_text catalog.now answer.now) }

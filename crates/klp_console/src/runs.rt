@@ -1,5 +1,5 @@
-//! What is shown as values and numbers: shadow variables, runs of callbacks, and how many events are in the
-//! journal.
+//! Queries that are answered with values and numbers: shadow variables, runs of callbacks, and the number of events in
+//! the journal.
 ghost use Rattle.std.specs.Prelude.{◌≡◌, ◌++◌, [], codes, length, Option, Ok};
 ghost use Rattle.std.specs.Fmt.{decimal};
 ghost use Rattle.std.specs.Result.{result_and, result_unwrap_or};
@@ -17,11 +17,10 @@ use klp_core::Manager;
 use klp_model::Refusal;
 use klp_types::{ObjId, PatchId, ShadowKey, Which};
 
-/// The kinds of callbacks, in the order in which their counts are said: that of a patch that comes and
-/// goes.
+/// The kinds of callbacks, in the order in which their counts are said: the order in which a patch runs them.
 const KINDS: [Which; 4] = [Which::Pre, Which::Post, Which::PreUn, Which::PostUn];
 
-/// Says the value of a shadow variable. Where it isn't there that is an answer too, and no refusal.
+/// Says the value of a shadow variable, or `none` if it doesn't exist, which is no refusal.
 pub(crate) fn say_variable<W: Sink>(
     answers: &mut Answers,
     writer: &mut W,
@@ -37,8 +36,7 @@ pub(crate) fn say_variable<W: Sink>(
     }
 }
 
-/// Says how often a callback ran, and a dash where there is none, so that each kind has its place in the
-/// line.
+/// Says how often a callback ran, or a dash if there is no such callback, so that each kind has its place in the line.
 fn say_count<W: Sink>(answers: &mut Answers, writer: &mut W, count: Option<u64>)
     ensures { Says (answers.old, W.written writer.old) (answers.new, W.written writer.new) (count_text count) }
 {
@@ -52,7 +50,7 @@ fn say_count<W: Sink>(answers: &mut Answers, writer: &mut W, count: Option<u64>)
     }
 }
 
-/// Says how often the callbacks of some kinds ran, in the order of these.
+/// Says how often the callbacks of these kinds ran, in this order.
 fn say_counts<W: Sink>(
     answers: &mut Answers,
     writer: &mut W,
@@ -74,7 +72,7 @@ fn say_counts<W: Sink>(
     }
 }
 
-/// Says how often each callback of a patch for an object ran, in one line.
+/// Says on one line how often each callback of a patch for an object ran.
 fn say_all_counts<W: Sink>(
     answers: &mut Answers,
     writer: &mut W,
@@ -91,8 +89,8 @@ fn say_all_counts<W: Sink>(
     answers.say(writer, b"\n");
 }
 
-/// Says how often the callbacks of a patch for an object ran, where the patch changes the object. It
-/// needn't be installed, since counts stay when it goes.
+/// Says how often the callbacks of a patch for an object ran. The patch needn't be installed, since counts stay when it
+/// leaves. Returns `NotFound`, and says nothing, if the patch doesn't change the object.
 pub(crate) fn say_runs<W: Sink>(
     answers: &mut Answers,
     writer: &mut W,
@@ -112,7 +110,7 @@ pub(crate) fn say_runs<W: Sink>(
     Ok(())
 }
 
-/// Says how many accepted events are in the journal, as the number that `rewind` takes.
+/// Says how many accepted events the journal has, the number that `rewind` takes.
 pub(crate) fn say_mark<W: Sink>(answers: &mut Answers, writer: &mut W, manager: &Manager)
     ensures { Says (answers.old, W.written writer.old) (answers.new, W.written writer.new)
         (decimal (length manager.now.groups) ++ codes "\n") }

@@ -1,24 +1,24 @@
-//! What serving comes to: counts where the input ended, and a fault where serving did.
+//! The results of serving: counts if the input ended, and a fault if serving ended before.
 
 use thiserror::Error;
 
-/// How many lines were served, and how many of them were refused: what a caller can know without reading
-/// answers.
+/// How many lines were served, and how many of them were refused. A caller can know these without reading the answers.
 #[derive(Clone, Copy, Default, PartialEq, Eq)]
 pub struct Served {
-    /// All lines, empty ones too, so that the count is the number of the last line.
+    /// All lines, also empty ones, so that the count is the number of the last line.
     pub lines: u64,
-    /// The lines that were answered with an error, so that a script which should have none can be checked.
+    /// The lines that were answered with an error. For a script that should have none, a caller checks that it is 0.
     pub refused: u64,
 }
 
-/// Why serving ended before the input did. The lines before are done, and stay done.
+/// Why serving ended before the input did. The lines that were done stay done. After a failed write the last of them is
+/// the line whose answer was cut off.
 #[derive(Clone, Copy, Debug, PartialEq, Eq, Error)]
 pub enum ServeFault {
     /// A read failed, or [`MAX_READS`](klp_types::MAX_READS) reads were made and none was the end.
     #[error("Read")]
     Read,
-    /// A write failed, or took nothing, after which answers would be lost.
+    /// A write failed or took nothing, so further answers would be lost.
     #[error("Write")]
     Write,
     /// A line is longer than [`MAX_CONSOLE_LINE`](klp_types::MAX_CONSOLE_LINE) bytes. Serving ends,

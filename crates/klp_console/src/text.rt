@@ -14,8 +14,7 @@ use klp_core::{Manager, TextView};
 use klp_model::Refusal;
 use klp_types::{Entry, ObjId, Site, Target, TaskId, Version};
 
-/// Says a symbol's name, address and bytes, in a line of its own. The bytes are those of now, so that one
-/// sees the hook.
+/// Says a symbol's name, address and present bytes on one line. The bytes show a hook.
 fn say_symbol<W: Sink>(answers: &mut Answers, writer: &mut W, name: &str, address: u64, body: &[u8])
     ensures { Says (answers.old, W.written writer.old) (answers.new, W.written writer.new)
         (symbol_text (record { name = name.now; address = address; body = body.now })) }
@@ -29,7 +28,7 @@ fn say_symbol<W: Sink>(answers: &mut Answers, writer: &mut W, name: &str, addres
     answers.say(writer, b"\n");
 }
 
-/// Says the symbols of an object, in the image's order, so that the n-th line is the n-th symbol.
+/// Says the symbols of an object in the image's order, so that the n-th line is the n-th symbol.
 fn say_symbols<W: Sink>(answers: &mut Answers, writer: &mut W, text: &TextView<'_>)
     ensures { Says (answers.old, W.written writer.old) (answers.new, W.written writer.new)
         (lines_of symbol_text text.now) }
@@ -42,7 +41,7 @@ fn say_symbols<W: Sink>(answers: &mut Answers, writer: &mut W, text: &TextView<'
     }
 }
 
-/// Says the text of an object, or nothing where it isn't loaded.
+/// Says the text of an object. Returns `NoModule`, and says nothing, if it isn't loaded.
 pub(crate) fn say_text<W: Sink>(
     answers: &mut Answers,
     writer: &mut W,
@@ -59,7 +58,7 @@ pub(crate) fn say_text<W: Sink>(
     Ok(())
 }
 
-/// Says an entry of a function stack. A nop has no function whose name and address could be said.
+/// Says an entry of a function stack. A nop has no function, so it has neither name nor address.
 fn say_entry<W: Sink>(answers: &mut Answers, writer: &mut W, catalog: &Catalog, entry: &Entry)
     ensures { Says (answers.old, W.written writer.old) (answers.new, W.written writer.new)
         (entry_text catalog.now entry.now) }
@@ -74,7 +73,7 @@ fn say_entry<W: Sink>(answers: &mut Answers, writer: &mut W, catalog: &Catalog, 
     }
 }
 
-/// Says entries of a function stack, each in its line.
+/// Says entries of a function stack, each on its own line.
 fn say_entries<W: Sink>(answers: &mut Answers, writer: &mut W, catalog: &Catalog, entries: &[Entry])
     ensures { Says (answers.old, W.written writer.old) (answers.new, W.written writer.new)
         (lines_of (entry_text catalog.now) entries.now) }
@@ -104,8 +103,7 @@ pub(crate) fn say_stack<W: Sink>(
     }
 }
 
-/// Says a version and where it begins. An original has no name here, since it is that of the site that was
-/// asked for.
+/// Says a version and its address. For an original no name is said, since it is that of the site that was asked for.
 fn say_version<W: Sink>(answers: &mut Answers, writer: &mut W, catalog: &Catalog, target: &Target)
     ensures { Says (answers.old, W.written writer.old) (answers.new, W.written writer.new)
         (version_text catalog.now target.now.version target.now.address) }
@@ -123,7 +121,8 @@ fn say_version<W: Sink>(answers: &mut Answers, writer: &mut W, catalog: &Catalog
     }
 }
 
-/// Says what a task runs at a site. That the task isn't there is refused first, since it is named first.
+/// Says what a task runs at a site. Returns `NoTask` or `NoModule`, and says nothing, if there is no such task or the
+/// site's object isn't loaded. The task is checked first, since it is named first.
 pub(crate) fn say_pick<W: Sink>(
     answers: &mut Answers,
     writer: &mut W,

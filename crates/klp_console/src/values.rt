@@ -1,4 +1,4 @@
-//! The value of a shadow variable, which a query shows and an event answers.
+//! The value of a shadow variable, in the answers to queries and events.
 ghost use Rattle.std.specs.Prelude.{◌++◌, codes};
 ghost use Rattle.klp_words.specs.Words.{value_text};
 ghost use Rattle.klp_console_io.specs.Says.{Says};
@@ -6,8 +6,8 @@ ghost use Rattle.klp_console_io.specs.Says.{Says};
 use klp_console_io::{Answers, Sink};
 use klp_types::ShadowValue;
 
-/// Says a value as a line can give it again: its number where it has eight bytes, as most have, and else an
-/// `x` and its bytes.
+/// Says a value in a form that a console line can have: a number if it has eight bytes, as most have, and else an `x`
+/// and its bytes.
 fn say_value<W: Sink>(answers: &mut Answers, writer: &mut W, value: &ShadowValue)
     ensures { Says (answers.old, W.written writer.old) (answers.new, W.written writer.new) (value_text value.now) }
 {
@@ -21,7 +21,7 @@ fn say_value<W: Sink>(answers: &mut Answers, writer: &mut W, value: &ShadowValue
     }
 }
 
-/// Says a value in a line of its own.
+/// Says a value on a line of its own.
 pub(crate) fn say_value_line<W: Sink>(answers: &mut Answers, writer: &mut W, value: &ShadowValue)
     ensures { Says (answers.old, W.written writer.old) (answers.new, W.written writer.new)
         (codes "value " ++ value_text value.now ++ codes "\n") }

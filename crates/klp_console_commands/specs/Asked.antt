@@ -1,4 +1,4 @@
--- What a line asks for, in two parts: a few bytes, and the event that they may stand for.
+-- What a line asks for, in two parts: a few bytes, and the event that they may mean.
 use Rattle.std.specs.Prelude.{Option, Some, None, Result, Ok, Err}
 use Rattle.klp_model.specs.declared.event.Event.{Event}
 use Rattle.klp_console_commands.specs.declared.fault.LineFault.{LineFault}
@@ -8,7 +8,7 @@ use Rattle.klp_console_commands.specs.declared.request.Query.{Query}
 use Rattle.klp_console_commands.specs.declared.request.Request.{Request}
 use Rattle.klp_console_commands.specs.declared.request.Request.TheVariants.{Take, ForceNothing, Rewind, Seal, Ask}
 
--- the request, where this event stands beside it
+-- the request, if this event is beside it
 abbrev pub request_with : Asked → Event → Request
 request_with asked.Take event = Take event
 request_with (asked.ForceNothing patch) event = ForceNothing patch
@@ -26,7 +26,7 @@ abbrev pub asked_with : Option (Result Asked LineFault) → Event → Option (Re
 asked_with (Some line) event = Some (line_with line event)
 asked_with None event = None
 
--- what is to be shown, or the fault
+-- the request to show something, or the fault
 abbrev pub shown : Result Query LineFault → Result Request LineFault
 shown (Ok look) = Ok (Ask look)
 shown (Err fault) = Err fault

@@ -1,4 +1,4 @@
--- The lines of the console, each as the list of its words.
+-- The lines of the console, each given by its words.
 use Rattle.std.specs.Prelude.{ℕ, ◌==◌, ◌&&◌, not, Bool, true, false, nat_eq, if◌then◌else◌, List, [], ◌∷◌, drop, codes, bytes_eq, Option, Some, None, ok_or, Result, Ok, Err}
 use Rattle.std.specs.List.{starts_with, before_first, after_first}
 use Rattle.klp_model.specs.declared.event.Event.TheVariants as event
@@ -29,16 +29,16 @@ insmod_line names words = only_name words >>= λ object. object_of names object 
 abbrev pub rmmod_line : NameResolver → List (List ℕ) → Result Request LineFault
 rmmod_line names words = only_name words >>= λ object. object_of names object >>= λ o. Ok (Take (event.Going o))
 
--- nothing stands after the first word
+-- a line that has no word behind the first one
 abbrev pub alone : Request → List (List ℕ) → Result Request LineFault
 alone request [] = Ok request
 alone request words = Err BadLine
 
--- 0 or 1
+-- the value of the word 0 or 1
 abbrev pub switch : List ℕ → Result Bool LineFault
 switch value = if bytes_eq value (codes "0") then Ok false else if bytes_eq value (codes "1") then Ok true else Err BadValue
 
--- the value is looked at before the patch
+-- the value is checked before the patch is looked up
 abbrev pub enabled_line : NameResolver → List ℕ → List ℕ → Result Request LineFault
 enabled_line names value patch = switch value >>= λ v. patch_of names patch >>= λ p. Ok (Take (event.SetEnabled p v))
 
@@ -56,7 +56,7 @@ echo_to names value patch file =
     else if bytes_eq file (codes "force") then force_line names value patch
     else Err BadLine
 
--- PATCH/FILE
+-- the file that is written: PATCH/FILE
 abbrev pub echo_file : NameResolver → List ℕ → List ℕ → Result Request LineFault
 echo_file names value file = echo_to names value (before_first (λ b. b == 47) file) (after_first (λ b. b == 47) file)
 
@@ -73,7 +73,7 @@ task_query number file =
     if not (bytes_eq file (codes "patch_state")) then Err BadLine
     else (number_to MAX_TASK_NUMBER number >>= λ n. task_of n >>= λ t. Ok (Ask (look.PatchState t)))
 
--- T/patch_state
+-- the file of a task: T/patch_state
 abbrev pub proc_query : List ℕ → Result Request LineFault
 proc_query file = task_query (before_first (λ b. b == 47) file) (after_first (λ b. b == 47) file)
 
@@ -84,7 +84,7 @@ patch_file_query names patch file =
     else if bytes_eq file (codes "transition") then (patch_of names patch >>= λ p. Ok (Ask (look.Transition p)))
     else Err BadLine
 
--- PATCH/FILE
+-- the file that is read: PATCH/FILE
 abbrev pub patch_query : NameResolver → List ℕ → Result Request LineFault
 patch_query names file = patch_file_query names (before_first (λ b. b == 47) file) (after_first (λ b. b == 47) file)
 
@@ -104,7 +104,7 @@ object_query names patch object =
     then (patch_of names patch >>= λ p. object_of names object >>= λ o. Ok (Ask (look.Object p o)))
     else Err BadLine
 
--- PATCH, or PATCH/OBJECT
+-- the directory of a patch, PATCH, or of an object in it, PATCH/OBJECT
 abbrev pub directory_query : NameResolver → List ℕ → Result Request LineFault
 directory_query names directory =
     if is_console_name directory then (patch_of names directory >>= λ p. Ok (Ask (look.Patch p)))
@@ -116,7 +116,7 @@ list_query names directory =
     else if starts_with nat_eq directory (codes "/sys/kernel/livepatch/") then directory_query names (drop 22 directory)
     else Err BadLine
 
--- ls /sys/kernel/livepatch, and below it
+-- ls of /sys/kernel/livepatch, or of a directory below it
 abbrev pub list_line : NameResolver → List (List ℕ) → Result Request LineFault
 list_line names words = only_word words >>= list_query names
 
@@ -140,7 +140,7 @@ plain_event verb number =
     else if bytes_eq verb (codes "wake") then (task_of number >>= λ t. Ok (Take (event.Wake t)))
     else Err BadLine
 
--- task new T, and so on
+-- a line with no word behind its task: task new T, and so on
 abbrev pub plain_line : List ℕ → ℕ → List (List ℕ) → Result Request LineFault
 plain_line verb number [] = plain_event verb number
 plain_line verb number words = Err BadLine
@@ -151,7 +151,7 @@ verb_line names verb words number =
     else if bytes_eq verb (codes "fork") then fork_line number words
     else plain_line verb number words
 
--- a verb, a task and what the verb needs
+-- the words after task: a verb, a task, and what the verb needs
 abbrev pub task_line : NameResolver → List (List ℕ) → Result Request LineFault
 task_line names (verb ∷ task ∷ words) = number_to MAX_TASK_NUMBER task >>= verb_line names verb words
 task_line names words = Err BadLine
@@ -223,7 +223,7 @@ runs_line names words =
 abbrev pub rewind_line : List (List ℕ) → Result Request LineFault
 rewind_line words = only_word words >>= λ mark. number_to MAX_MARK mark >>= λ k. Ok (Rewind k)
 
--- the word that a line begins with
+-- the keyword that the first word of a line spells
 abbrev pub keyword_of : List ℕ → Option Keyword
 keyword_of word =
     if bytes_eq word (codes "task") then Some keyword.Task
@@ -267,6 +267,6 @@ abbrev pub request_of_words : NameResolver → List (List ℕ) → Option (Resul
 request_of_words names [] = None
 request_of_words names (first ∷ words) = Some (line_of names (keyword_of first) words)
 
--- what a line asks for, or why it asks for nothing; a line without words has no answer
+-- what a line asks for, or its fault; a line without words asks for nothing and has no answer
 abbrev pub request_of : NameResolver → List ℕ → Option (Result Request LineFault)
 request_of names line = request_of_words names (words_of line)

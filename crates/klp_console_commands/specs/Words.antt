@@ -1,4 +1,4 @@
--- The words of a console line, and what a word is by itself.
+-- The words of a console line, and what can be read from a word without names.
 use Rattle.std.specs.Prelude.{ℕ, ◌^◌, ◌==◌, ◌&&◌, not, Bool, nat_lt, nat_le, if◌then◌else◌, List, [], ◌∷◌, length, ok_or, Result, Ok, Err}
 use Rattle.std.specs.List.{list_all}
 use Rattle.klp_types.specs.World.{ShadowValue}
@@ -9,7 +9,7 @@ use Rattle.klp_words.specs.Steps.{◌>>=◌}
 use Rattle.klp_console_commands.specs.declared.fault.LineFault.{LineFault}
 use Rattle.klp_console_commands.specs.declared.fault.LineFault.TheVariants.{BadLine}
 
--- spaces alone separate words: a tab is a byte as any other
+-- only spaces separate words: a tab is a byte like any other
 abbrev pub words_of : List ℕ → List (List ℕ)
 words_of line = words_between (separates Spaces) line
 
@@ -26,6 +26,7 @@ abbrev pub only_word : List (List ℕ) → Result (List ℕ) LineFault
 only_word (word ∷ []) = Ok word
 only_word words = Err BadLine
 
+-- the word, if it may name a patch or an object
 abbrev pub name_of : List ℕ → Result (List ℕ) LineFault
 name_of word = if is_console_name word then Ok word else Err BadLine
 
@@ -38,7 +39,7 @@ abbrev pub two_words : List (List ℕ) → Result (List ℕ × List ℕ) LineFau
 two_words (first ∷ second ∷ []) = Ok (first, second)
 two_words words = Err BadLine
 
--- decimal digits, of a number of 64 bits
+-- the number that decimal digits spell, below 2^64
 abbrev pub number_of : List ℕ → Result ℕ LineFault
 number_of word = ok_or (decimal_of (2 ^ 64) word) BadLine
 
@@ -46,9 +47,10 @@ number_of word = ok_or (decimal_of (2 ^ 64) word) BadLine
 abbrev pub value_of : List ℕ → Result ShadowValue LineFault
 value_of word = ok_or (shadow_value_of word) BadLine
 
+-- the number, if it is at most this one
 abbrev pub at_most : ℕ → ℕ → Result ℕ LineFault
 at_most most number = if nat_le number most then Ok number else Err BadLine
 
--- a number of 64 bits up to this one
+-- the number that decimal digits spell, at most this one
 abbrev pub number_to : ℕ → List ℕ → Result ℕ LineFault
 number_to most word = number_of word >>= at_most most

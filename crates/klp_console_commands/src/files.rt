@@ -1,7 +1,9 @@
-//! The lines that name files, which are those of a kernel, so that its habits work here too.
+//! The lines with paths of files, which are those of a kernel, so that its users find them here too.
 
 ghost use Rattle.std.specs.Prelude.{◌≡◌};
-ghost use Rattle.klp_console_commands.specs.Lines.{switch, enabled_line, force_line, echo_file, echo_line, proc_query, patch_query, cat_file, cat_line, directory_query, list_query, list_line};
+ghost use Rattle.klp_console_commands.specs.Lines.{switch, enabled_line, force_line, echo_file, echo_line, proc_query};
+ghost use Rattle.klp_console_commands.specs.Lines.{patch_query, cat_file, cat_line, directory_query, list_query};
+ghost use Rattle.klp_console_commands.specs.Lines.{list_line};
 ghost use Rattle.klp_model.specs.declared.event.Event.{Event};
 ghost use Rattle.klp_console_commands.specs.Asked.{line_with, shown};
 
@@ -13,18 +15,17 @@ use klp_model::Event;
 use klp_types::MAX_TASK_NUMBER;
 use klp_words::{LineWords, cut};
 
-/// Where the directories of the patches are (livepatch, Sysfs). To list it is to ask for the installed
-/// patches.
+/// The directory that has the patches' directories (livepatch, Sysfs). Listing it shows the installed patches.
 const PATCHES: &[u8] = b"/sys/kernel/livepatch";
 
-/// What the files of a patch begin with, so that what is behind it begins with the patch's name.
+/// The prefix of the paths of patches' files. Behind it comes the patch's name.
 const BELOW_PATCHES: &[u8] = b"/sys/kernel/livepatch/";
 
-/// What the files of a task begin with: the task's number is behind it, as in a kernel's `/proc`.
+/// The prefix of the paths of tasks' files. Behind it comes the task's number, as in a kernel's `/proc`.
 const PROC: &[u8] = b"/proc/";
 
-/// The value that is written to a file: the word `0` or `1`, and no other spelling of these, since it is
-/// compared and not read.
+/// Returns the value of the word `0` or `1`, and `BadValue` for any other word. The word is compared and not read as a
+/// number, so no other spelling of the two is taken.
 fn switch(value: &[u8]) -> Result<bool, LineFault>
     ensures { result ≡ switch value.now }
 {
@@ -37,6 +38,7 @@ fn switch(value: &[u8]) -> Result<bool, LineFault>
     }
 }
 
+/// Reads a write to the `enabled` file of a patch, which asks for the event `SetEnabled`.
 fn enabled_line(
     value: &[u8],
     patch: &[u8],
@@ -50,6 +52,7 @@ fn enabled_line(
     Ok(Asked::Take)
 }
 
+/// Reads a write to the `force` file of a patch. Writing 1 asks for the event `Force`; writing 0 needs no event.
 fn force_line(
     value: &[u8],
     patch: &[u8],
@@ -67,8 +70,7 @@ fn force_line(
     Ok(Asked::Take)
 }
 
-/// What is asked by writing a value to the file of a patch. That it has such a file is looked at before the
-/// value is.
+/// Reads a write of a value to the file of a patch. Whether there is such a file is checked before the value.
 fn echo_file(
     value: &[u8],
     file: &[u8],
@@ -90,8 +92,8 @@ fn echo_file(
     }
 }
 
-/// The words after `echo`: a value, an arrow and a file. There has to be a space on both sides of the
-/// arrow, since only spaces separate words.
+/// Reads the words after `echo`: a value, an arrow and a file. The arrow needs a space on both sides, since only spaces
+/// separate words.
 pub(crate) fn echo_line(
     words: &mut LineWords<'_>,
     names: &NameResolver<'_>,
@@ -112,7 +114,8 @@ pub(crate) fn echo_line(
     }
 }
 
-/// The file of a task: `patch_state`, the only one that has a meaning here.
+/// Reads the path of a task's file, below `/proc/`. The file must be `patch_state`: no other file of a task means
+/// something here.
 fn proc_query(file: &[u8]) -> Result<Query, LineFault>
     ensures { shown result ≡ proc_query file.now }
 {
@@ -124,7 +127,7 @@ fn proc_query(file: &[u8]) -> Result<Query, LineFault>
     Ok(Query::PatchState(task(number)?))
 }
 
-/// The file of a patch: those two that can be read and have a meaning here.
+/// Reads the path of a patch's file that can be read: `enabled` or `transition`.
 fn patch_query(file: &[u8], names: &NameResolver<'_>) -> Result<Query, LineFault>
     ensures { shown result ≡ patch_query names.now file.now }
 {
@@ -141,6 +144,7 @@ fn patch_query(file: &[u8], names: &NameResolver<'_>) -> Result<Query, LineFault
     }
 }
 
+/// Reads the path of a file to be shown: a task's or a patch's.
 fn cat_file(file: &[u8], names: &NameResolver<'_>) -> Result<Query, LineFault>
     ensures { shown result ≡ cat_file names.now file.now }
 {
@@ -153,8 +157,7 @@ fn cat_file(file: &[u8], names: &NameResolver<'_>) -> Result<Query, LineFault>
     }
 }
 
-/// The word after `cat`. There is no name of a file by itself, since files are those below a patch or a
-/// task.
+/// Reads the word after `cat`: the path of a file below a patch or a task.
 pub(crate) fn cat_line(
     words: &mut LineWords<'_>,
     names: &NameResolver<'_>,
@@ -165,7 +168,7 @@ pub(crate) fn cat_line(
     Ok(Asked::Ask(cat_file(file, names)?))
 }
 
-/// The directory of a patch, or of an object in it. A name has no `/`, so the two can't be mixed up.
+/// Reads the directory of a patch, or of an object in it. A name has no `/`, so the two can't be confused.
 fn directory_query(directory: &[u8], names: &NameResolver<'_>) -> Result<Query, LineFault>
     ensures { shown result ≡ directory_query names.now directory.now }
 {
@@ -180,6 +183,7 @@ fn directory_query(directory: &[u8], names: &NameResolver<'_>) -> Result<Query, 
     Ok(Query::Object(patch, names.object(object)?))
 }
 
+/// Reads the path of a directory: that of all patches, of one patch, or of an object in one.
 fn list_query(directory: &[u8], names: &NameResolver<'_>) -> Result<Query, LineFault>
     ensures { shown result ≡ list_query names.now directory.now }
 {
@@ -192,7 +196,7 @@ fn list_query(directory: &[u8], names: &NameResolver<'_>) -> Result<Query, LineF
     }
 }
 
-/// The word after `ls`: the directory of all patches, of one, or of an object in one.
+/// Reads the word after `ls`: the directory of all patches, of one, or of an object in one.
 pub(crate) fn list_line(
     words: &mut LineWords<'_>,
     names: &NameResolver<'_>,

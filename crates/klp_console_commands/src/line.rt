@@ -1,8 +1,9 @@
-//! A line of the console.
+//! Reading a line of the console.
 
 ghost use Rattle.std.specs.Prelude.{◌≡◌};
 ghost use Rattle.klp_console_commands.specs.Names.{names_of};
-ghost use Rattle.klp_console_commands.specs.Lines.{keyword_of, load_line, insmod_line, rmmod_line, alone, text_line, stack_line, pick_line, runs_line, rewind_line, line_of, request_of};
+ghost use Rattle.klp_console_commands.specs.Lines.{keyword_of, load_line, insmod_line, rmmod_line, alone, text_line};
+ghost use Rattle.klp_console_commands.specs.Lines.{stack_line, pick_line, runs_line, rewind_line, line_of, request_of};
 ghost use Rattle.klp_console_commands.specs.Asked.{asked_with, line_with, request_with};
 ghost use Rattle.klp_console_commands.specs.declared.request.Request.TheVariants.{Take};
 ghost use Rattle.klp_model.specs.declared.event.Event.{Event};
@@ -21,7 +22,7 @@ use klp_modules::Modules;
 use klp_types::{MAX_MARK, MAX_TASK_NUMBER};
 use klp_words::{LineWords, Separators, spelling_of};
 
-/// The word that a line begins with.
+/// The first word of a line.
 #[derive(Clone, Copy)]
 pub(crate) enum Keyword {
     Load,
@@ -42,6 +43,7 @@ pub(crate) enum Keyword {
     Seal,
 }
 
+/// Returns the keyword that a word spells, or None. The most frequent ones are compared first.
 fn keyword_of(word: &[u8]) -> Option<Keyword>
     ensures { result ≡ keyword_of word.now }
 {
@@ -82,6 +84,7 @@ fn keyword_of(word: &[u8]) -> Option<Keyword>
     }
 }
 
+/// Reads the rest of `load PATCH`, which asks for the event `Enable`.
 fn load_line(
     words: &mut LineWords<'_>,
     names: &NameResolver<'_>,
@@ -94,6 +97,7 @@ fn load_line(
     Ok(Asked::Take)
 }
 
+/// Reads the rest of `insmod MODULE`, which asks for the event `Coming`.
 fn insmod_line(
     words: &mut LineWords<'_>,
     names: &NameResolver<'_>,
@@ -106,6 +110,7 @@ fn insmod_line(
     Ok(Asked::Take)
 }
 
+/// Reads the rest of `rmmod MODULE`, which asks for the event `Going`.
 fn rmmod_line(
     words: &mut LineWords<'_>,
     names: &NameResolver<'_>,
@@ -118,7 +123,7 @@ fn rmmod_line(
     Ok(Asked::Take)
 }
 
-/// What a line of one word asks for.
+/// Returns what a line asks for whose first word is its only one, or `BadLine` if another word follows.
 fn alone(asked: Asked, words: &mut LineWords<'_>) -> Result<Asked, LineFault>
     ensures { (event : Event) → line_with result event ≡ alone (request_with asked event) words.old }
 {
@@ -126,6 +131,7 @@ fn alone(asked: Asked, words: &mut LineWords<'_>) -> Result<Asked, LineFault>
     Ok(asked)
 }
 
+/// Reads the rest of `poll`, which asks for the event `Poll`.
 fn poll_line(words: &mut LineWords<'_>, event: &mut Event) -> Result<Asked, LineFault>
     ensures { line_with result event.new ≡ alone (Take Poll) words.old }
 {
@@ -134,6 +140,7 @@ fn poll_line(words: &mut LineWords<'_>, event: &mut Event) -> Result<Asked, Line
     Ok(Asked::Take)
 }
 
+/// Reads the rest of `text OBJECT`, which asks to see an object's text.
 fn text_line(words: &mut LineWords<'_>, names: &NameResolver<'_>) -> Result<Asked, LineFault>
     ensures { (event : Event) → line_with result event ≡ text_line names.now words.old }
 {
@@ -141,6 +148,7 @@ fn text_line(words: &mut LineWords<'_>, names: &NameResolver<'_>) -> Result<Aske
     Ok(Asked::Ask(Query::Text(names.object(object)?)))
 }
 
+/// Reads the rest of `stack SYMBOL`, which asks to see a symbol's function stack.
 fn stack_line(words: &mut LineWords<'_>, names: &NameResolver<'_>) -> Result<Asked, LineFault>
     ensures { (event : Event) → line_with result event ≡ stack_line names.now words.old }
 {
@@ -149,6 +157,7 @@ fn stack_line(words: &mut LineWords<'_>, names: &NameResolver<'_>) -> Result<Ask
     Ok(Asked::Ask(Query::Stack(names.site(&spelling)?)))
 }
 
+/// Reads the rest of `pick TASK SYMBOL`, which asks to see what a task runs at a symbol.
 fn pick_line(words: &mut LineWords<'_>, names: &NameResolver<'_>) -> Result<Asked, LineFault>
     ensures { (event : Event) → line_with result event ≡ pick_line names.now words.old }
 {
@@ -159,6 +168,7 @@ fn pick_line(words: &mut LineWords<'_>, names: &NameResolver<'_>) -> Result<Aske
     Ok(Asked::Ask(Query::Pick(task, names.site(&spelling)?)))
 }
 
+/// Reads the rest of `runs PATCH OBJECT`, which asks to see how often callbacks ran.
 fn runs_line(words: &mut LineWords<'_>, names: &NameResolver<'_>) -> Result<Asked, LineFault>
     ensures { (event : Event) → line_with result event ≡ runs_line names.now words.old }
 {
@@ -170,6 +180,7 @@ fn runs_line(words: &mut LineWords<'_>, names: &NameResolver<'_>) -> Result<Aske
     Ok(Asked::Ask(Query::Runs(patch, names.object(object)?)))
 }
 
+/// Reads the rest of `rewind MARK`, which asks to undo all events but the first MARK.
 fn rewind_line(words: &mut LineWords<'_>) -> Result<Asked, LineFault>
     ensures { (event : Event) → line_with result event ≡ rewind_line words.old }
 {
@@ -177,6 +188,7 @@ fn rewind_line(words: &mut LineWords<'_>) -> Result<Asked, LineFault>
     Ok(Asked::Rewind(number_to(MAX_MARK, mark)? as u32))
 }
 
+/// Reads the words after the first one, in the form of the keyword. Without a keyword the line is bad.
 fn line_of(
     keyword: Option<Keyword>,
     words: &mut LineWords<'_>,
@@ -206,10 +218,9 @@ fn line_of(
     }
 }
 
-/// Reads what a line asks for, without its line feed. `None` where it has no words: such a line has no
-/// answer. An event is written to the room that is lent for it, and `Take` stands for it; what any other line
-/// leaves there means nothing. It takes time that is linear in the length of the line, and a look-up for each
-/// name.
+/// Reads what a line asks for. `line` has no line feed. None if the line has no words; such a line has no answer. If
+/// the line asks for an event, the result is `Take`, and the event is written to `event`. For any other line, `event`
+/// afterwards means nothing. The time is linear in the length of the line, with one look-up for each name.
 pub fn read_request(
     line: &[u8],
     catalog: &Catalog,
@@ -218,7 +229,7 @@ pub fn read_request(
 ) -> Option<Result<Asked, LineFault>>
     ensures { asked_with result event.new ≡ request_of (names_of catalog.now modules.now) line.now }
 {
-    // spaces alone separate words, so a tab or a carriage return is a byte of its word, and no name has one
+    // only spaces separate words, so a tab or a carriage return is a byte of its word, and no name has one
     // (docs/DECISIONS.md, "Words and bytes of names")
     let mut words = LineWords::new(line, Separators::Spaces);
     let first = words.next()?;

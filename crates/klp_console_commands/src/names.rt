@@ -1,9 +1,10 @@
-//! What the names of a line mean. A name is looked up only once the line has a shape, since a bad line has
-//! no names.
+//! Looking up the names of a line. This happens only after the shape of the line is checked, since a bad line has no
+//! names.
 
 ghost use Rattle.std.specs.Prelude.{◌≡◌, true, false, MatchOption};
 ghost use Rattle.std.specs.Str.{is_utf8};
-ghost use Rattle.klp_console_commands.specs.Names.{patch_of, object_of, task_of, site_of, new_function_of, version_of, symbol_found};
+ghost use Rattle.klp_console_commands.specs.Names.{patch_of, object_of, task_of, site_of, new_function_of, version_of};
+ghost use Rattle.klp_console_commands.specs.Names.{symbol_found};
 
 use crate::fault::LineFault;
 use crate::words::{is_console_name, number_to};
@@ -15,9 +16,9 @@ use klp_words::{Spelling, cut, is_ascii, spelling_of, text};
 use std::marker::Model;
 use std::str;
 
-/// The names that a line may use: those of a catalog's patches, and of the objects and symbols of a kernel.
-/// The manager isn't among them, so that what a line means doesn't depend on its state (docs/DECISIONS.md,
-/// "Names outside of the manager").
+/// The names that a line may use: those of a catalog's patches, and of the objects and symbols of a kernel. The manager
+/// isn't part of it, so that a line means the same whatever the manager's state (docs/DECISIONS.md, "Names outside of
+/// the manager").
 #[derive(Drop)]
 pub(crate) struct NameResolver<'a> {
     pub(crate) catalog: &'a Catalog,
@@ -32,8 +33,8 @@ impl<'a> Model for NameResolver<'a> {
     ghost view = { λ k. names_of k.catalog.now k.modules.now };
 }
 
-/// The word as text. Names are UTF-8, so a word that isn't is the name of nothing. Most are ASCII, which is told by
-/// sixteen bytes at a time.
+/// Returns the word as text, or None if it isn't UTF-8; names are UTF-8, so such a word names nothing. Most words are
+/// ASCII, which is checked sixteen bytes at a time.
 #[tactic(auto, using(crate::proofs::WordLemmas::is_text, crate::proofs::WordLemmas::no_text, crate::proofs::WordLemmas::ascii, crate::proofs::WordLemmas::ascii_text))]
 fn text_of(word: &[u8]) -> Option<&str>
     ensures { MatchOption result (is_utf8 word.now ≡ false)
@@ -46,6 +47,7 @@ fn text_of(word: &[u8]) -> Option<&str>
 }
 
 impl<'a> NameResolver<'a> {
+    /// Returns the patch of this name, or `NoPatch`.
     pub(crate) fn patch(&self, word: &[u8]) -> Result<PatchId, LineFault>
         ensures { result ≡ patch_of self.now word.now }
     {
@@ -58,6 +60,7 @@ impl<'a> NameResolver<'a> {
         }
     }
 
+    /// Returns the object of this name, loaded or not, or `NoModule`.
     pub(crate) fn object(&self, word: &[u8]) -> Result<ObjId, LineFault>
         ensures { result ≡ object_of self.now word.now }
     {
@@ -70,8 +73,8 @@ impl<'a> NameResolver<'a> {
         }
     }
 
-    /// The symbol of a spelling. Its object needn't be loaded, since sites keep their numbers while modules
-    /// come and go.
+    /// Returns the site of the symbol of a spelling, or `NoModule` or `NoSymbol`. Its object needn't be loaded, since
+    /// sites keep their numbers while modules are loaded and unloaded.
     pub(crate) fn site(&self, spelling: &Spelling<'_>) -> Result<Site, LineFault>
         ensures { result ≡ site_of self.now spelling.now }
     {
@@ -88,8 +91,8 @@ impl<'a> NameResolver<'a> {
         }
     }
 
-    /// The new function that `PATCH:INDEX` spells, whether the patch has it or not: one that isn't there is
-    /// a `BadFrame` of the event, and no fault of the line.
+    /// Returns the new function that `PATCH:INDEX` spells, whether the patch has it or not. If not, the event is
+    /// refused with `BadFrame`; it is no fault of the line.
     fn new_function(&self, word: &[u8]) -> Result<Version, LineFault>
         ensures { result ≡ new_function_of self.now word.now }
     {
@@ -101,8 +104,8 @@ impl<'a> NameResolver<'a> {
         Ok(Version::New(self.patch(patch)?, index))
     }
 
-    /// The function that a frame spells: an original one as a symbol, or a new one as `PATCH:INDEX`. No
-    /// word is both, since a symbol has no `:`.
+    /// Returns the function that a frame spells: a symbol means its original function, `PATCH:INDEX` a new one. No word
+    /// is both, since a symbol has no `:`.
     pub(crate) fn version(&self, word: &[u8]) -> Result<Version, LineFault>
         ensures { result ≡ version_of self.now word.now }
     {
@@ -113,8 +116,8 @@ impl<'a> NameResolver<'a> {
     }
 }
 
-/// The task of a number, whether it is there or not. Up to 65,535 a number that no task can have is refused
-/// here; above, the line is bad.
+/// Returns the task of a number, whether it exists or not, or `NoTask` if no task can have the number. Numbers above
+/// 65,535 never get here: the line is bad then.
 pub(crate) fn task(number: u64) -> Result<TaskId, LineFault>
     ensures { result ≡ task_of number }
 {

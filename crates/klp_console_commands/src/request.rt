@@ -1,27 +1,25 @@
-//! What a line asks for: numbers in place of names, so that the two halves of a console meet in plain
-//! values.
+//! What a line asks for, with numbers in place of names, so that reading a line and doing it share plain values only.
 
 use klp_model::Event;
 use klp_types::{ObjId, PatchId, ShadowKey, Site, TaskId};
 
-/// What a line asks for. It has numbers and no names, so that the manager needs to know none.
+/// What a line asks for. It has numbers and no names, so that the manager needn't know any.
 #[derive(Clone, Copy)]
 pub enum Request {
-    /// To take an event, which may still be refused.
+    /// Take an event. It may still be refused.
     Take(Event),
-    /// To write 0 to the `force` file of a patch, which does nothing. It isn't dropped, since the file may
-    /// not be there.
+    /// Write 0 to the `force` file of a patch, which does nothing. It is a request, since the file may not exist.
     ForceNothing(PatchId),
-    /// To undo all accepted events but the first so many. Whether there are so many the manager knows.
+    /// Undo all accepted events but the first so many. The manager knows whether it has that many.
     Rewind(u32),
-    /// To empty the journal, so that nothing before can be undone any more.
+    /// Empty the journal, so that no earlier event can be undone.
     Seal,
-    /// To see something; nothing changes, so it costs no room in the journal.
+    /// Show something. Nothing changes, so it needs no room in the journal.
     Ask(Query),
 }
 
-/// What a line asks for, in a few bytes: an event stands in room of its own beside it, which has place for the
-/// frames of a sleeper, so that no line pays for moving it (docs/DECISIONS.md, "An event beside its line").
+/// What a line asks for, in a few bytes. An event is kept beside it, in room of its own: an event is large, since it
+/// may have the frames of a sleeper, and so no line pays for moving it (docs/DECISIONS.md, "An event beside its line").
 #[derive(Clone, Copy)]
 pub enum Asked {
     /// [`Request::Take`] of the event beside it.
@@ -36,10 +34,10 @@ pub enum Asked {
     Ask(Query),
 }
 
-/// What a line asks to see. Nothing changes by it, so it is no event, and isn't undone.
+/// What a line asks to see. It changes nothing, so it is no event and can't be undone.
 #[derive(Clone, Copy)]
 pub enum Query {
-    /// What the `enabled` file of a patch reads: 0 as soon as the patch is on its way out.
+    /// What the `enabled` file of a patch reads: 0 from the moment when the patch begins to leave.
     Enabled(PatchId),
     /// What the `transition` file of a patch reads: 1 while it is in transition.
     Transition(PatchId),
@@ -47,20 +45,20 @@ pub enum Query {
     PatchState(TaskId),
     /// The installed patches, oldest first, as the directory of all patches has them.
     Patches,
-    /// What the directory of a patch has: its files, and a directory for each object that it changes.
+    /// The contents of a patch's directory: its files, and a directory for each object that it changes.
     Patch(PatchId),
-    /// What the directory of a patch has for an object: the functions that it changes there.
+    /// The contents of a patch's directory of an object: the functions that it changes there.
     Object(PatchId, ObjId),
-    /// The value of a shadow variable, if it is there.
+    /// The value of a shadow variable, if it exists.
     Variable(ShadowKey),
-    /// The text of an object, which has to be loaded.
+    /// The text of an object. The object must be loaded.
     Text(ObjId),
     /// The function stack of a symbol, newest entry first.
     Stack(Site),
-    /// What a task runs at a symbol, and where that begins.
+    /// What a task runs at a symbol, and the address where that begins.
     Pick(TaskId, Site),
-    /// How often the callbacks of a patch for an object ran, installed or not.
+    /// How often the callbacks of a patch for an object ran. The patch needn't be installed.
     Runs(PatchId, ObjId),
-    /// How many accepted events are in the journal, for a later `rewind`.
+    /// How many accepted events the journal has, for a later `rewind`.
     Mark,
 }

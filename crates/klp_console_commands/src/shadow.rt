@@ -1,7 +1,8 @@
-//! The lines of the shadow variables. Their words are numbers and values, so no name can be unknown here.
+//! The lines of shadow variables. Their words are numbers and values, so no name can be unknown.
 
 ghost use Rattle.std.specs.Prelude.{◌≡◌};
-ghost use Rattle.klp_console_commands.specs.Lines.{key_of, variable_of, alloc_line, get_or_alloc_line, free_line, free_all_line, get_line, shadow_line};
+ghost use Rattle.klp_console_commands.specs.Lines.{key_of, variable_of, alloc_line, get_or_alloc_line, free_line};
+ghost use Rattle.klp_console_commands.specs.Lines.{free_all_line, get_line, shadow_line};
 ghost use Rattle.klp_model.specs.declared.event.Event.{Event};
 ghost use Rattle.klp_console_commands.specs.Asked.{line_with};
 
@@ -12,7 +13,8 @@ use klp_model::Event;
 use klp_types::{ShadowKey, ShadowValue};
 use klp_words::LineWords;
 
-/// The two words that are a key, and nothing behind them: the words are counted before numbers are read.
+/// Reads the last two words as the key of a variable: its parent object and its id. The words are counted before the
+/// numbers are read.
 fn key(words: &mut LineWords<'_>) -> Result<ShadowKey, LineFault>
     ensures { result ≡ key_of words.old }
 {
@@ -22,7 +24,7 @@ fn key(words: &mut LineWords<'_>) -> Result<ShadowKey, LineFault>
     Ok(ShadowKey { obj, id })
 }
 
-/// The three words that are a key and a value, and nothing behind them.
+/// Reads the last three words as a key and a value.
 fn variable(words: &mut LineWords<'_>) -> Result<(ShadowKey, ShadowValue), LineFault>
     ensures { result ≡ variable_of words.old }
 {
@@ -35,6 +37,7 @@ fn variable(words: &mut LineWords<'_>) -> Result<(ShadowKey, ShadowValue), LineF
     Ok((ShadowKey { obj, id }, value(bytes)?))
 }
 
+/// Reads the rest of `shadow alloc OBJ ID VALUE`, which asks for the event `ShadowAlloc`.
 fn alloc_line(words: &mut LineWords<'_>, event: &mut Event) -> Result<Asked, LineFault>
     ensures { line_with result event.new ≡ alloc_line words.old }
 {
@@ -43,6 +46,7 @@ fn alloc_line(words: &mut LineWords<'_>, event: &mut Event) -> Result<Asked, Lin
     Ok(Asked::Take)
 }
 
+/// Reads the rest of `shadow getalloc OBJ ID VALUE`, which asks for the event `ShadowGetOrAlloc`.
 fn get_or_alloc_line(words: &mut LineWords<'_>, event: &mut Event) -> Result<Asked, LineFault>
     ensures { line_with result event.new ≡ get_or_alloc_line words.old }
 {
@@ -51,6 +55,7 @@ fn get_or_alloc_line(words: &mut LineWords<'_>, event: &mut Event) -> Result<Ask
     Ok(Asked::Take)
 }
 
+/// Reads the rest of `shadow free OBJ ID`, which asks for the event `ShadowFree`.
 fn free_line(words: &mut LineWords<'_>, event: &mut Event) -> Result<Asked, LineFault>
     ensures { line_with result event.new ≡ free_line words.old }
 {
@@ -58,6 +63,7 @@ fn free_line(words: &mut LineWords<'_>, event: &mut Event) -> Result<Asked, Line
     Ok(Asked::Take)
 }
 
+/// Reads the rest of `shadow freeall ID`, which asks for the event `ShadowFreeAll`.
 fn free_all_line(words: &mut LineWords<'_>, event: &mut Event) -> Result<Asked, LineFault>
     ensures { line_with result event.new ≡ free_all_line words.old }
 {
@@ -66,14 +72,15 @@ fn free_all_line(words: &mut LineWords<'_>, event: &mut Event) -> Result<Asked, 
     Ok(Asked::Take)
 }
 
+/// Reads the rest of `shadow get OBJ ID`, which asks to see a variable.
 fn get_line(words: &mut LineWords<'_>) -> Result<Asked, LineFault>
     ensures { (event : Event) → line_with result event ≡ get_line words.old }
 {
     Ok(Asked::Ask(Query::Variable(key(words)?)))
 }
 
-/// The words after `shadow`: a verb, and numbers. A key is two of them, since it has a parent object and an
-/// id. Behind the key a value may stand.
+/// Reads the words after `shadow`: a verb and what it needs. A key is two numbers, the parent object's and the id. A
+/// value may follow the key.
 pub(crate) fn shadow_line(words: &mut LineWords<'_>, event: &mut Event) -> Result<Asked, LineFault>
     ensures { line_with result event.new ≡ shadow_line words.old }
 {

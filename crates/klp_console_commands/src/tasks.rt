@@ -1,4 +1,4 @@
-//! The lines of what tasks do, which in a kernel nobody types: here they are in place of its scheduler.
+//! The lines of what tasks do. In a kernel nobody types these: here they replace its scheduler.
 
 ghost use Rattle.std.specs.Prelude.{◌≡◌, ◌≤◌, length};
 ghost use Rattle.klp_console_commands.specs.Words.{words_of};
@@ -14,7 +14,8 @@ use klp_model::Event;
 use klp_types::{Frames, MAX_FRAMES, MAX_INDEX, MAX_TASK_NUMBER};
 use klp_words::{LineWords, cut, spelling_of};
 
-/// Whether a word spells a function that a task may be inside of, known or not: shapes come before names.
+/// Whether a word spells a function that a task may be inside of. The function needn't exist: shapes are checked before
+/// names.
 fn is_frame(word: &[u8]) -> bool
     ensures { result ≡ is_frame word.now }
 {
@@ -25,9 +26,8 @@ fn is_frame(word: &[u8]) -> bool
     is_console_name(patch) && number_to(MAX_INDEX, index).is_ok()
 }
 
-/// Whether each word spells a function, and there are no more than a task can be inside of. The words are
-/// read once more for their names, so that no list of half-read frames is kept (docs/DECISIONS.md, "Frames
-/// read twice").
+/// Whether each word spells a function, and there are at most as many as a task can be inside of. The words are read
+/// again later for their names, so that no list of half-read frames is kept (docs/DECISIONS.md, "Frames read twice").
 fn are_frames(words: &LineWords<'_>) -> bool
     ensures { result ≡ are_frames words.now }
 {
@@ -42,8 +42,8 @@ fn are_frames(words: &LineWords<'_>) -> bool
     true
 }
 
-/// The functions that the words spell, of which there aren't too many: so each finds its place, and the
-/// answer of `push` is dropped.
+/// Returns the functions that the words spell, or the fault of the first name that can't be found. The caller has
+/// checked that there are at most `MAX_FRAMES` words. So each `push` succeeds, and its result is dropped.
 fn frames(words: &LineWords<'_>, names: &NameResolver<'_>) -> Result<Frames, LineFault>
     requires { length words.now ≤ MAX_FRAMES }
     ensures { result ≡ versions_of names.now words.now }
@@ -56,8 +56,8 @@ fn frames(words: &LineWords<'_>, names: &NameResolver<'_>) -> Result<Frames, Lin
     Ok(frames)
 }
 
-/// The words after the task that falls asleep: the functions that it is inside of, innermost last. There
-/// may be none.
+/// Reads the words after `task sleep TASK`: the functions that the task is inside of, innermost last. There may be
+/// none.
 fn sleep_line(
     number: u64,
     words: &mut LineWords<'_>,
@@ -74,7 +74,8 @@ fn sleep_line(
     Ok(Asked::Take)
 }
 
-/// The word after the task that forks: the one that it makes. Its shape is looked at before either task.
+/// Reads the word after `task fork TASK`: the number of the new task. Its shape is checked before either task is looked
+/// up.
 fn fork_line(number: u64, words: &mut LineWords<'_>, event: &mut Event) -> Result<Asked, LineFault>
     ensures { line_with result event.new ≡ fork_line number words.old }
 {
@@ -85,8 +86,7 @@ fn fork_line(number: u64, words: &mut LineWords<'_>, event: &mut Event) -> Resul
     Ok(Asked::Take)
 }
 
-/// What a task does, where the verb needs no more words. An unknown verb is a bad line, whatever its task
-/// is.
+/// Sets the event of a verb that needs no more words than the task. An unknown verb is a bad line, whatever the task.
 fn plain_event(verb: &[u8], number: u64, event: &mut Event) -> Result<Asked, LineFault>
     ensures { line_with result event.new ≡ plain_event verb.now number }
 {
@@ -106,6 +106,7 @@ fn plain_event(verb: &[u8], number: u64, event: &mut Event) -> Result<Asked, Lin
     Ok(Asked::Take)
 }
 
+/// Reads the rest of a `task` line whose verb needs no word but the task.
 fn plain_line(
     verb: &[u8],
     number: u64,
@@ -118,8 +119,8 @@ fn plain_line(
     plain_event(verb, number, event)
 }
 
-/// The words after `task`: a verb, a task and what the verb needs. The task's number is read before the
-/// verb is known, since every verb has one.
+/// Reads the words after `task`: a verb, a task, and what the verb needs. The task's number is read before the verb is
+/// known, since every verb has one.
 pub(crate) fn task_line(
     words: &mut LineWords<'_>,
     names: &NameResolver<'_>,

@@ -1,14 +1,16 @@
-//! The words of a line, and what a word is by itself, which needs no names.
+//! The words of a line, and what can be read from a word without names.
 
-ghost use Rattle.std.specs.Prelude.{◌≡◌, ℕ, ◌≤◌, true, false, List, ◌∷◌, [], length, drop, nat_eq, bytes_eq, Ok, Err, IfOk, MatchOption, MatchResult};
+ghost use Rattle.std.specs.Prelude.{◌≡◌, ℕ, ◌≤◌, true, false, List, ◌∷◌, [], length, drop, nat_eq, bytes_eq, Ok, Err};
+ghost use Rattle.std.specs.Prelude.{IfOk, MatchOption, MatchResult};
 ghost use Rattle.std.specs.List.{starts_with};
-ghost use Rattle.klp_console_commands.specs.Words.{is_console_name, only_word, only_name, two_words, number_of, value_of, number_to};
+ghost use Rattle.klp_console_commands.specs.Words.{is_console_name, only_word, only_name, two_words, number_of};
+ghost use Rattle.klp_console_commands.specs.Words.{value_of, number_to};
 
 use crate::fault::LineFault;
 use klp_types::ShadowValue;
 use klp_words::{LineWords, number64, shadow_value};
 
-/// The next word, or `BadLine` where there is none: a line with too few words matches no form.
+/// Returns the next word, or `BadLine` if there is none: a line with too few words matches no form.
 pub(crate) fn word<'a>(words: &mut LineWords<'a>) -> Result<&'a [u8], LineFault>
     ensures { MatchResult result (λ word. words.old ≡ word.now ∷ words.new)
         (λ fault. (fault ≡ LineFault.BadLine) × (words.old ≡ [])) }
@@ -16,7 +18,7 @@ pub(crate) fn word<'a>(words: &mut LineWords<'a>) -> Result<&'a [u8], LineFault>
     words.next().ok_or(LineFault::BadLine)
 }
 
-/// `BadLine` where a word is left: a line with too many words matches no form either.
+/// Returns `BadLine` if a word is left: a line with too many words matches no form.
 pub(crate) fn end(words: &mut LineWords<'_>) -> Result<(), LineFault>
     ensures { MatchResult result (λ _. words.old ≡ [])
         (λ fault. (fault ≡ LineFault.BadLine) × (word : List ℕ) × (rest : List (List ℕ)) × (words.old ≡ word ∷ rest)) }
@@ -27,9 +29,10 @@ pub(crate) fn end(words: &mut LineWords<'_>) -> Result<(), LineFault>
     }
 }
 
-/// The one word that is left, or `BadLine` where there is none or another one behind it.
+/// Returns the one word that is left, or `BadLine` if there are none or several.
 pub(crate) fn only_word<'a>(words: &mut LineWords<'a>) -> Result<&'a [u8], LineFault>
-    ensures { MatchResult result (λ word. only_word words.old ≡ Ok word.now) (λ fault. only_word words.old ≡ Err fault) }
+    ensures { MatchResult result (λ word. only_word words.old ≡ Ok word.now)
+        (λ fault. only_word words.old ≡ Err fault) }
 {
     let (Some(word), None) = (words.next(), words.next()) else {
         return Err(LineFault::BadLine);
@@ -37,9 +40,10 @@ pub(crate) fn only_word<'a>(words: &mut LineWords<'a>) -> Result<&'a [u8], LineF
     Ok(word)
 }
 
-/// The one word that is left, which may name a patch or an object.
+/// Returns the one word that is left, if it may name a patch or an object. Else returns `BadLine`.
 pub(crate) fn only_name<'a>(words: &mut LineWords<'a>) -> Result<&'a [u8], LineFault>
-    ensures { MatchResult result (λ word. only_name words.old ≡ Ok word.now) (λ fault. only_name words.old ≡ Err fault) }
+    ensures { MatchResult result (λ word. only_name words.old ≡ Ok word.now)
+        (λ fault. only_name words.old ≡ Err fault) }
 {
     let word = only_word(words)?;
     if is_console_name(word) {
@@ -49,7 +53,7 @@ pub(crate) fn only_name<'a>(words: &mut LineWords<'a>) -> Result<&'a [u8], LineF
     }
 }
 
-/// The two words that are left.
+/// Returns the two words that are left, or `BadLine` if there aren't exactly two.
 pub(crate) fn two_words<'a>(words: &mut LineWords<'a>) -> Result<(&'a [u8], &'a [u8]), LineFault>
     ensures { MatchResult result (λ found. two_words words.old ≡ Ok (found.0.now, found.1.now))
         (λ fault. two_words words.old ≡ Err fault) }
@@ -60,22 +64,22 @@ pub(crate) fn two_words<'a>(words: &mut LineWords<'a>) -> Result<(&'a [u8], &'a 
     Ok((first, second))
 }
 
-/// Whether a word is this one, byte by byte.
+/// Whether the two words have the same bytes.
 pub(crate) fn is_word(word: &[u8], other: &[u8]) -> bool
     ensures { result ≡ bytes_eq word.now other.now }
 {
     word == other
 }
 
-/// Whether the word may name a patch or an object: it has neither `/` nor `:`, which separate names.
-/// Whether there is such a name isn't asked.
+/// Whether the word may name a patch or an object: it isn't empty and has neither `/` nor `:`, which separate names.
+/// The name needn't exist.
 pub(crate) fn is_console_name(word: &[u8]) -> bool
     ensures { result ≡ is_console_name word.now }
 {
     !word.is_empty() && word.iter().all(|b| *b != b'/' && *b != b':')
 }
 
-/// The rest of the word after this prefix, if it has the prefix. The rest may be empty.
+/// Returns the rest of the word behind this prefix, or None if the word doesn't begin with it. The rest may be empty.
 pub(crate) fn after_prefix<'a>(word: &'a [u8], prefix: &[u8]) -> Option<&'a [u8]>
     ensures { MatchOption result (starts_with nat_eq word.now prefix.now ≡ false)
         (λ rest. (starts_with nat_eq word.now prefix.now ≡ true) × (rest.now ≡ drop (length prefix.now) word.now)) }
@@ -83,21 +87,23 @@ pub(crate) fn after_prefix<'a>(word: &'a [u8], prefix: &[u8]) -> Option<&'a [u8]
     word.strip_prefix(prefix)
 }
 
-/// A decimal number of 64 bits, as in a catalog's text: one out of range matches no form.
+/// Returns the decimal number of 64 bits that the word spells, as in a catalog's text, or `BadLine`.
 pub(crate) fn number(word: &[u8]) -> Result<u64, LineFault>
     ensures { result ≡ number_of word.now }
 {
     number64(word).ok_or(LineFault::BadLine)
 }
 
-/// The value of a shadow variable, as in a catalog's text: one of too many bytes matches no form.
+/// Returns the value of a shadow variable that the word spells, as in a catalog's text, or `BadLine` if it spells none
+/// or one of too many bytes.
 pub(crate) fn value(word: &[u8]) -> Result<ShadowValue, LineFault>
     ensures { result ≡ value_of word.now }
 {
     shadow_value(word).ok_or(LineFault::BadLine)
 }
 
-/// A decimal number up to `most`, so that it fits into what an event has for it.
+/// Returns the decimal number that the word spells, or `BadLine` if it spells none, or one above `most`, which wouldn't
+/// fit into an event.
 pub(crate) fn number_to(most: u64, word: &[u8]) -> Result<u64, LineFault>
     ensures number { result ≡ number_to most word.now }
     ensures limit { IfOk result (λ number. number ≤ most) }

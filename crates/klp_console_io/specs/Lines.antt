@@ -1,4 +1,4 @@
--- The lines in what was heard.
+-- The lines in the bytes that were heard.
 use Rattle.std.specs.Prelude.{ℕ, ◌==◌, Bool, List}
 use Rattle.std.specs.List.{slice_split}
 
@@ -6,6 +6,6 @@ use Rattle.std.specs.List.{slice_split}
 abbrev pub is_line_feed : ℕ → Bool
 is_line_feed b = b == 10
 
--- what stands between line feeds: the finished lines in order, and last the one that no line feed has ended yet
+-- the bytes between line feeds: the finished lines in order, and last the line that no line feed has ended yet
 abbrev pub lines_and_rest : List ℕ → List (List ℕ)
 lines_and_rest bytes = slice_split is_line_feed bytes

@@ -1,5 +1,5 @@
-//! What is said: gathered first, and written where the room is full, since a write for each word would be a
-//! call of the kernel each.
+//! Texts on their way to a sink. They are gathered first, and written when the room is full: a write for each word
+//! would be a call of the kernel for each.
 ghost use Rattle.std.specs.Prelude.{◌≡◌, ℕ, ◌+◌, ◌<◌, ◌≤◌, ◌⊎◌, false, List, [], length, OnOk, IfErr};
 ghost use Rattle.std.specs.Fmt.{decimal, signed_decimal};
 ghost use Rattle.std.specs.Io.KnownBytes.{Appends};
@@ -13,17 +13,18 @@ use itoa::Buffer;
 use klp_types::ANSWER_ROOM;
 use std::marker::Model;
 
-/// How many bytes are turned into digits at a time, so that their room is small however long a body is.
+/// How many bytes are turned into hexadecimal digits at a time. So the room for digits is small, however long a body
+/// is.
 const PIECE: usize = 32;
 
-/// What was said and isn't written yet. What is said goes to the same sink each time, which is handed in
-/// again and not kept, so that a console may lend it out.
+/// The texts that were said and aren't written yet. All texts go to the same sink, which is passed to each call and not
+/// kept here, so that a console may lend it to others in between.
 #[derive(Drop)]
 pub struct Answers {
     bytes: ArrayVec<u8, ANSWER_ROOM>,
-    /// How many of the first bytes were gathered when they were last held, and aren't written yet.
+    /// How many of the first bytes are held: they were gathered at the last call of `hold`, and aren't written yet.
     held: usize,
-    /// Whether the sink has failed. It is kept here, so that whoever says ten words needs to ask once
+    /// Whether the sink has failed. It is kept here, so that a caller who says ten words needs to ask only once
     /// (docs/DECISIONS.md, "A failed sink").
     has_failed: bool,
 }
@@ -40,8 +41,8 @@ impl Model for Answers {
     ghost invariant = { λ a. a.held ≤ length a.bytes.items };
 }
 
-/// Writes all bytes, in as many writes as it takes. A write that takes none is a failure, since to try
-/// again might never end. Then it answers how many bytes were taken before.
+/// Writes all bytes, in as many writes as it takes. A write that takes no byte is a failure, since retrying might never
+/// end. After a failure, returns how many bytes were taken before it.
 fn write_all<W: Sink>(writer: &mut W, bytes: &[u8]) -> Result<(), usize>
     ensures ok { OnOk result
         (Appends (W.written writer.old).taken (W.written writer.new).taken bytes.now
@@ -65,7 +66,7 @@ fn write_all<W: Sink>(writer: &mut W, bytes: &[u8]) -> Result<(), usize>
     Ok(())
 }
 
-/// The digits of a piece, in room for those of the longest, which is lent so that nothing is allocated.
+/// Returns the hexadecimal digits of a piece, written into `digits`, so that nothing is allocated.
 fn in_hex<'a>(piece: &[u8], digits: &'a mut [u8; 2 * PIECE]) -> &'a [u8]
     requires { length piece.now ≤ PIECE }
     ensures { result.now ≡ encode_lower piece.now }
@@ -77,7 +78,7 @@ fn in_hex<'a>(piece: &[u8], digits: &'a mut [u8; 2 * PIECE]) -> &'a [u8]
 }
 
 impl Answers {
-    /// Nothing is said yet, and no sink is known: it comes with the first call.
+    /// Makes answers with nothing said yet. The sink is passed to each call.
     pub fn new() -> Answers
         ensures { result ≡ record { bytes = []; held = 0; has_failed = false } }
     {
@@ -88,23 +89,23 @@ impl Answers {
         }
     }
 
-    /// Whether the sink has failed. From then on nothing is said: what is lost is the end of all answers,
-    /// and no piece in between.
+    /// Whether the sink has failed. From then on nothing is said, so the lost bytes are the end of all answers, and
+    /// none in between.
     pub fn has_failed(&self) -> bool
         ensures { result ≡ self.now.has_failed }
     {
         self.has_failed
     }
 
-    /// How many bytes are gathered.
+    /// Returns how many bytes are gathered.
     pub fn len(&self) -> usize
         ensures { result ≡ length self.now.bytes }
     {
         self.bytes.len()
     }
 
-    /// Holds what is gathered now, and answers how many bytes that is: `held` tells from then on how many
-    /// of them aren't written.
+    /// Marks all bytes that are gathered now as held, and returns their number. From then on `held` returns how many of
+    /// them aren't written yet.
     pub fn hold(&mut self) -> usize
         ensures held { self.new ≡ record self.old { held = length self.old.bytes } }
         ensures result { result ≡ length self.old.bytes }
@@ -113,15 +114,15 @@ impl Answers {
         self.held
     }
 
-    /// How many of the bytes that were held aren't written: none once all of them are. After a failure it
-    /// tells where the sink stopped.
+    /// Returns how many of the held bytes aren't written: 0 once all of them are. After a failure it shows where the
+    /// sink stopped.
     pub fn held(&self) -> usize
         ensures { result ≡ self.now.held }
     {
         self.held
     }
 
-    /// Writes all that was gathered. After a failure it does nothing, so it may be called without asking.
+    /// Writes all gathered bytes. Does nothing after a failure, so callers needn't ask first.
     #[tactic(auto, unfolding(crate::specs::Says::Speaks))]
     pub fn flush<W: Sink>(&mut self, writer: &mut W)
         ensures says { Says (self.old, W.written writer.old) (self.new, W.written writer.new) [] }
@@ -142,8 +143,7 @@ impl Answers {
         }
     }
 
-    /// Writes what was gathered, where there is no room behind it, so that texts are written in their
-    /// order.
+    /// Writes the gathered bytes if there is no room for `len` more behind them. So texts are written in their order.
     #[tactic(auto, unfolding(crate::specs::Says::Speaks))]
     fn make_room<W: Sink>(&mut self, writer: &mut W, len: usize)
         ensures says { Says (self.old, W.written writer.old) (self.new, W.written writer.new) [] }
@@ -155,8 +155,8 @@ impl Answers {
         }
     }
 
-    /// Says a text for which there is room, or before which nothing is gathered: a longer one is written at
-    /// once, since it would never fit.
+    /// Says a text. It must fit behind the gathered bytes, or nothing may be gathered. A text that is longer than the
+    /// whole room is written at once.
     #[tactic(auto, unfolding(crate::specs::Says::Speaks))]
     fn take<W: Sink>(&mut self, writer: &mut W, text: &[u8])
         requires { (length self.old.bytes + length text.now ≤ ANSWER_ROOM) ⊎
@@ -168,8 +168,8 @@ impl Answers {
         }
     }
 
-    /// Says a text: it is gathered, and what was gathered is written first where there is no room for both.
-    /// A text that is longer than the room is written at once, so any length may be said.
+    /// Says a text: gathers it, and first writes the gathered bytes if there is no room for both. A text that is longer
+    /// than the room is written at once, so a text may have any length. Does nothing after a failure of the sink.
     pub fn say<W: Sink>(&mut self, writer: &mut W, text: &[u8])
         ensures { Says (self.old, W.written writer.old) (self.new, W.written writer.new) text.now }
     {
@@ -177,14 +177,14 @@ impl Answers {
         self.take(writer, text);
     }
 
-    /// Says a number in decimal digits, without zeros in front.
+    /// Says a number in decimal digits, without leading zeros.
     pub fn number<W: Sink>(&mut self, writer: &mut W, number: u64)
         ensures { Says (self.old, W.written writer.old) (self.new, W.written writer.new) (decimal number) }
     {
         self.say(writer, Buffer::new().format(number).as_bytes());
     }
 
-    /// Says a number in decimal digits, behind a minus where it is below zero.
+    /// Says a number in decimal digits, with a minus in front if it is negative.
     pub fn signed<W: Sink>(&mut self, writer: &mut W, value: i64)
         ensures { Says (self.old, W.written writer.old) (self.new, W.written writer.new) (signed_decimal value) }
     {
@@ -204,8 +204,7 @@ impl Answers {
         }
     }
 
-    /// Says an address as 16 lower-case hexadecimal digits, zeros in front among them, so that addresses
-    /// align.
+    /// Says an address as 16 lower-case hexadecimal digits with leading zeros, so that addresses align.
     pub fn address<W: Sink>(&mut self, writer: &mut W, address: u64)
         ensures { Says (self.old, W.written writer.old) (self.new, W.written writer.new) (address_text address) }
     {

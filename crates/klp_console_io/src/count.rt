@@ -1,12 +1,12 @@
-//! Counts for contracts alone: no code reads them, so they cost nothing.
+//! Counts for contracts alone. No code reads them, so they cost nothing.
 ghost use Rattle.std.specs.Prelude.{◌≡◌, ◌+◌, ◌≤◌};
 
 use std::marker::Model;
 use std::sync::ledger::{Blank, Book, Ledger, Share};
 
-/// A whole number that has no greatest value, for contracts alone: it takes no bytes, and nothing is done
-/// where it grows. A number of 64 bits would have an end, at which no clause could say one more
-/// (docs/DECISIONS.md, "Counts in a ledger"). What it counts is in the book beside it.
+/// A whole number without a greatest value, for contracts alone. It takes no bytes, and increasing it does nothing at
+/// run time. A number of 64 bits would have a greatest value, at which no clause could say "one more"
+/// (docs/DECISIONS.md, "Counts in a ledger"). What is counted is in the ledger's book beside it.
 #[derive(Drop)]
 pub struct Count<L: Ledger> {
     share: Share<L>,
@@ -23,7 +23,7 @@ impl<L: Ledger> Model for Count<L> {
 }
 
 impl<L: Ledger> Count<L> {
-    /// So many more. The book is handed in, since the counts of a stream share it.
+    /// Adds `more` to the count. The book is passed in, since all counts of a stream share one.
     pub fn add(&mut self, book: &mut Book<L>, more: usize)
         ensures { self.new ≡ self.old + more }
     {
@@ -31,8 +31,8 @@ impl<L: Ledger> Count<L> {
     }
 }
 
-/// Two counts in one book, both at 0: those of a sink. Whoever makes a stream hands in one blank for all of
-/// its counts.
+/// Makes two counts in one book, both 0: those of a sink. Whoever makes a stream passes one blank for all of its
+/// counts.
 pub fn two_counts<L: Ledger>(blank: Blank) -> (Book<L>, Count<L>, Count<L>)
     requires name { blank.name ≡ L.name }
     requires parts { blank.parts ≡ L.parts }
@@ -45,7 +45,7 @@ pub fn two_counts<L: Ledger>(blank: Blank) -> (Book<L>, Count<L>, Count<L>)
     (book, Count { share }, Count { share: other })
 }
 
-/// Three counts in one book, all at 0: those of a source.
+/// Makes three counts in one book, all 0: those of a source.
 pub fn three_counts<L: Ledger>(blank: Blank) -> (Book<L>, Count<L>, Count<L>, Count<L>)
     requires name { blank.name ≡ L.name }
     requires parts { blank.parts ≡ L.parts }

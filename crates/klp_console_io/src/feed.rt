@@ -8,13 +8,13 @@ use crate::source::Source;
 use std::marker::Model;
 use std::sync::ledger::{Blank, Book, Ledger};
 
-/// Bytes in memory, of which one read gives so many at most, so that an input can be cut as finely as one
-/// wants. One read may fail, by its number. A feed ends only where no byte is left.
+/// Bytes in memory as a source. One read returns at most `most` of them, so that an input can be cut as finely as one
+/// wants. One read, chosen by its number, may fail. A feed ends only when no byte is left.
 #[derive(Drop)]
 pub struct Feed<'a, L: Ledger> {
     left: &'a [u8],
     most: usize,
-    /// How many reads come before the one that fails. None fails where there is no number.
+    /// How many reads come before the one that fails. None if no read fails.
     fails_in: Option<u32>,
     has_ended: bool,
     book: Book<L>,
@@ -29,22 +29,37 @@ impl<'a, L: Ledger> Model for Feed<'a, L> {
 
     ghost Value = { Fed };
 
-    ghost view = { λ f. record { left = f.left.now; most = f.most; fails_in = f.fails_in; has_ended = f.has_ended; failures = f.failures; reads = f.reads; asked = f.asked } };
+    ghost view = { λ f. record {
+      left = f.left.now;
+      most = f.most;
+      fails_in = f.fails_in;
+      has_ended = f.has_ended;
+      failures = f.failures;
+      reads = f.reads;
+      asked = f.asked;
+    } };
 
     ghost invariant = { λ f. 0 < f.most };
 }
 
 impl<'a, L: Ledger> Feed<'a, L> {
-    /// Feeds `bytes`, at most `most` of them in one read, which isn't 0, or the feed would end at once. The
-    /// read of the number `fails_at` fails, counted from 0. The blank is for the three counts, and has three
-    /// parts.
+    /// Feeds `bytes`, at most `most` of them in one read. `most` must not be 0, or the feed would end at once. The read
+    /// with the number `fails_at` fails, counted from 0. The blank is for the three counts, and has three parts.
     pub fn new(bytes: &'a [u8], most: usize, fails_at: Option<u32>, blank: Blank) -> Self
         requires most { 0 < most }
         requires name { blank.name ≡ L.name }
         requires parts { blank.parts ≡ L.parts }
         requires three { 3 ≤ blank.parts }
         ensures { result
-            ≡ record { left = bytes.now; most = most; fails_in = fails_at; has_ended = false; failures = 0; reads = 0; asked = 0 } }
+            ≡ record {
+              left = bytes.now;
+              most = most;
+              fails_in = fails_at;
+              has_ended = false;
+              failures = 0;
+              reads = 0;
+              asked = 0;
+            } }
     {
         let (book, failures, reads, asked) = three_counts(blank);
         Feed {
@@ -59,7 +74,7 @@ impl<'a, L: Ledger> Feed<'a, L> {
         }
     }
 
-    /// The bytes that are still to be read: a test sees by them how far serving came.
+    /// Returns the bytes that are still to be read. By them a test sees how much was read.
     pub fn left(&self) -> &'a [u8]
         ensures { result.now ≡ self.now.left }
     {
@@ -74,8 +89,8 @@ impl<'a, L: Ledger> Source for Feed<'a, L> {
 
     ghost supply = { supply_of };
 
-    /// Gives as many bytes as it may, as there are and as there is room for, unless it is the read that
-    /// fails, which gives none. A read into no room is no end.
+    /// Reads as many bytes as `most`, the bytes left and the room allow. The read that is to fail returns none. A read
+    /// into no room doesn't count as the end.
     fn read(&mut self, buf: &mut [u8]) -> Result<usize, Failed>
         ensures ok { IfOk result (λ n. Gives (supply_of self.old) (supply_of self.new) buf.new n) }
         ensures err { OnErr result (Fails (supply_of self.old) (supply_of self.new) buf.new) }

@@ -1,5 +1,4 @@
-//! What is proved of lines, of saying and of what is said. A function here does nothing: its contract is
-//! the law.
+//! Laws about lines, about saying, and about what is said. A function here does nothing: its contract is the law.
 ghost use Rattle.std.specs.Prelude.{◌≡◌, ℕ, List, [], ◌∷◌, ◌++◌, length};
 ghost use Rattle.klp_console_io.specs.Gathered.{Gathered};
 ghost use Rattle.klp_console_io.specs.Lines.{lines_and_rest};
@@ -7,23 +6,22 @@ ghost use Rattle.klp_console_io.specs.Says.{Says};
 ghost use Rattle.klp_console_io.specs.Texts.{address_text};
 ghost use Rattle.klp_console_io.specs.Written.{Written};
 
-/// What is heard next leaves the finished lines as they are, and goes on with the one that isn't finished.
-/// Where nothing was heard, there is one such line, and it is empty. So an input has the same lines however
-/// reads cut it.
+/// Bytes that are heard next leave the finished lines as they are, and continue the unfinished one. With no bytes heard
+/// there is one unfinished line, which is empty. So an input has the same lines however reads cut it.
 pub fn lines_add_up()
     ensures next { (a b : List ℕ) (done : List (List ℕ)) (rest : List ℕ) → lines_and_rest a ≡ done ++ rest ∷ []
         → lines_and_rest (a ++ b) ≡ done ++ lines_and_rest (rest ++ b) }
     ensures none { lines_and_rest [] ≡ [] ∷ [] }
 {}
 
-/// Texts that are said one after the other are one text that is said, and where nothing happens the empty
-/// text is said: so whoever says ten words has one fact to prove.
+/// Texts that are said one after the other are one text that is said, and doing nothing says the empty text. So a
+/// caller who says ten words has one fact to prove.
 pub fn what_is_said_adds_up()
     ensures adds_up { (a b c : Gathered × Written) (t u : List ℕ) → Says a b t → Says b c u → Says a c (t ++ u) }
     ensures nothing { (a : Gathered × Written) → Says a a [] }
 {}
 
-/// An address has 16 digits, whatever it is: the definition of its text pads it.
+/// An address has 16 digits whatever it is, since the definition of its text pads it.
 pub fn addresses_have_16_digits()
     ensures { (n : ℕ) → length (address_text n) ≡ 16 }
 {}

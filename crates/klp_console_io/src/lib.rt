@@ -1,33 +1,30 @@
-//! What a console reads and writes: bytes from a source, lines out of them, and answers to a sink.
+//! Input and output of a console: bytes from a source, lines made of them, and answers to a sink.
 //!
-//! **In.** A [`Source`] gives bytes. A read into room gives a front of the bytes left, and none only at
-//! their end. A line may be cut across reads: a [`LineBuffer`] gathers its bytes in room of a fixed size,
-//! and takes no memory. Its model is its bytes, at most 256 and no line feed among them. What was heard
-//! piece by piece has the lines of all its bytes together (`laws::lines_add_up`). [`LineBuffer::hear`] takes a
-//! piece up to its first line feed and hands back the rest: the lines of both together are this line and
-//! those of the rest; or, without a line feed, this one, which goes on. It is an `Err` exactly where that
-//! first line is longer than 256 bytes, finished or not, and then nothing changes. What comes next leaves
-//! finished lines as they are (`specs/Lines`). [`LineBuffer::whole_line`] lends a line from the piece itself, where
-//! nothing of it was heard before and the piece finishes it.
+//! **In.** A [`Source`] gives bytes. A read into room returns the first of the bytes left, and no byte only at their
+//! end. A line may be cut across reads: a [`LineBuffer`] gathers its bytes in room of a fixed size, and allocates
+//! nothing. To contracts it is its bytes, at most 256 and without a line feed. Bytes that are heard piece by piece have
+//! the same lines as all of them together (`laws::lines_add_up`). [`LineBuffer::hear`] takes a piece up to its first
+//! line feed and returns the rest. Buffer and piece together have the lines of the finished line and of the rest;
+//! without a line feed they are one line, which continues. It returns `Err` exactly if that first line is longer than
+//! 256 bytes, finished or not, and then nothing changes. Later bytes leave finished lines as they are (`specs/Lines`).
+//! [`LineBuffer::whole_line`] borrows a line from the piece itself, if none of it was heard before and the piece
+//! finishes it.
 //!
-//! **Out.** [`Answers`] are gathered in room of a fixed size, and written to a [`Sink`], which takes a front
-//! of what it is given. Whoever writes to them need not ask after each word whether it was taken: a failure
-//! of the sink is kept, and after it nothing more is gathered or written. What was said so far is one text
-//! (`laws::what_is_said_adds_up`). Each call promises one fact, `Says` (`specs/Says`, `Written`): the sink took
-//! a front of what was gathered and of the text, and the rest, at most 4,096 bytes, is gathered; or the
-//! sink failed or took nothing once, and the rest, a byte at least, is lost. After a failure nothing
-//! changes. After `flush` nothing is gathered, unless the sink failed. Numbers, bytes and addresses have
-//! the texts of `specs/Texts`; an address has 16 digits. What was gathered when it was last held is told
-//! apart from what comes behind it, so after a failure it is known how much of it was written, and by the
-//! [`Marks`] of lines which of them has the answer that was cut off (`specs/Marks`).
+//! **Out.** [`Answers`] are gathered in room of a fixed size, and written to a [`Sink`], which takes the first of the
+//! bytes that it is given. A caller needn't ask after each word whether it was taken: a failure of the sink is kept,
+//! and after it nothing is gathered or written. All that was said so far is one text (`laws::what_is_said_adds_up`).
+//! Each call promises one fact, `Says` (`specs/Says`, `Written`). Either the sink took the first bytes of what was
+//! gathered and of the text, and the rest, at most 4,096 bytes, is gathered; or the sink failed once or took nothing
+//! once, and the rest, at least one byte, is lost. After a failure nothing changes. After `flush` nothing is gathered,
+//! unless the sink failed. Numbers, bytes and addresses have the texts of `specs/Texts`; an address has 16 digits.
+//! Answers know how many of the held bytes were written. So after a failure, the [`Marks`] of lines show whose answer
+//! was cut off (`specs/Marks`).
 //!
-//! A failed call of a source or a sink gives or takes nothing. Contracts count reads into room, the bytes
-//! that were asked for, calls that failed, and writes that took nothing, and with them say who is to blame
-//! where a console stops (`Gives`,
-//! `Fails` in `specs/Supply`): the counts take no bytes, since they are there for contracts alone.
-//! [`OverRead`] and [`OverWrite`] are readers and writers of std, by what std says of their bytes; [`Feed`]
-//! and [`Taken`] are bytes in memory (`specs/Fed`, `Held`), cut as finely as is asked, with one call that
-//! fails.
+//! A failed call of a source or a sink gives or takes nothing. Contracts count reads into room, bytes that were asked
+//! for, calls that failed, and writes that took nothing. With these counts they say who is to blame if a console stops
+//! (`Gives`, `Fails` in `specs/Supply`). The counts take no bytes, since they exist in contracts alone. [`OverRead`]
+//! and [`OverWrite`] are readers and writers of std, with the bytes that std's contracts say. [`Feed`] and [`Taken`]
+//! are bytes in memory (`specs/Fed`, `Held`), cut as finely as one wants, with one call that fails.
 #![tactic(auto)]
 
 mod answers;

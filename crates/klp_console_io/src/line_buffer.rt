@@ -1,5 +1,6 @@
-//! A line that is heard in pieces, as reads have no regard for lines.
-ghost use Rattle.std.specs.Prelude.{◌≡◌, ℕ, ◌<◌, ◌≤◌, ◌⊎◌, position, List, [], ◌∷◌, ◌++◌, length, IfOk, IfSome, IfNone, OnOk, OnErr};
+//! One line that is heard in pieces, since reads cut an input anywhere.
+ghost use Rattle.std.specs.Prelude.{◌≡◌, ℕ, ◌<◌, ◌≤◌, ◌⊎◌, position, List, [], ◌∷◌, ◌++◌, length, IfOk, IfSome, IfNone};
+ghost use Rattle.std.specs.Prelude.{OnOk, OnErr};
 ghost use Rattle.klp_console_io.specs.Lines.{is_line_feed, lines_and_rest};
 
 use arrayvec::ArrayVec;
@@ -7,13 +8,12 @@ use klp_types::MAX_CONSOLE_LINE;
 use klp_words::position_of;
 use std::marker::Model;
 
-/// That a line is longer than [`MAX_CONSOLE_LINE`]. There is no more to report, since the line isn't kept.
+/// The error that a line is longer than [`MAX_CONSOLE_LINE`]. It has no more to report, since the line isn't kept.
 #[derive(Clone, Copy)]
 pub struct TooLong;
 
-/// The bytes of one line, as far as they were heard: contracts see them as a list. A line feed ends the
-/// line and is no byte of it. It has room for [`MAX_CONSOLE_LINE`] bytes in itself, since serving takes no
-/// memory.
+/// The bytes of one line that were heard so far. Contracts see them as a list. A line feed ends the line and is no byte
+/// of it. The room for [`MAX_CONSOLE_LINE`] bytes is part of the buffer, since serving allocates nothing.
 #[derive(Drop)]
 pub struct LineBuffer {
     bytes: ArrayVec<u8, MAX_CONSOLE_LINE>,
@@ -31,15 +31,15 @@ impl Model for LineBuffer {
     ghost invariant = { λ l. lines_and_rest l.bytes.items ≡ l.bytes.items ∷ [] };
 }
 
-/// Where the first line feed is, from 0; nothing where the piece is in one line.
+/// Returns the place of the first line feed, counted from 0, or None if the piece has none.
 fn line_feed(bytes: &[u8]) -> Option<usize>
     ensures { result ≡ position is_line_feed bytes.now }
 {
     position_of(bytes, b'\n')
 }
 
-/// What is before the first line feed, and what is after it, where there is one. A piece that ends with it
-/// has an empty rest, which isn't the same as none: the line is finished.
+/// Returns the bytes before the first line feed, and those behind it. The latter are None if the piece has no line
+/// feed; they are empty if the piece ends with one, and then the line is finished.
 fn cut(piece: &[u8]) -> (&[u8], Option<&[u8]>)
     ensures front { lines_and_rest result.0.now ≡ result.0.now ∷ [] }
     ensures whole { IfNone result.1 (result.0.now ≡ piece.now) }
@@ -53,7 +53,7 @@ fn cut(piece: &[u8]) -> (&[u8], Option<&[u8]>)
 }
 
 impl LineBuffer {
-    /// Nothing is heard of the line yet: its next byte is the first.
+    /// Makes a buffer in which nothing of a line was heard.
     pub fn new() -> LineBuffer
         ensures { result ≡ [] }
     {
@@ -62,7 +62,7 @@ impl LineBuffer {
         }
     }
 
-    /// The bytes of the line as far as they were heard, none of which is a line feed.
+    /// Returns the bytes of the line that were heard so far. None of them is a line feed.
     pub fn bytes(&self) -> &[u8]
         ensures bytes { result.now ≡ self.now }
         ensures limit { length result.now ≤ MAX_CONSOLE_LINE }
@@ -71,19 +71,20 @@ impl LineBuffer {
         self.bytes.as_slice()
     }
 
-    /// Forgets the line, so that the next one can be heard in the same room.
+    /// Drops the line, so that the next one can be heard in the same room.
     pub fn clear(&mut self)
         ensures { self.new ≡ [] }
     {
         self.bytes.clear();
     }
 
-    /// The first line of a piece, without its line feed, and what comes after it. Both are lent from the piece, so a
-    /// line that comes whole in one read isn't copied. `None` where bytes of the line were heard before, where the
-    /// piece has no line feed, and where the line is longer than [`MAX_CONSOLE_LINE`]: `hear` tells these apart.
+    /// Returns the first line of a piece, without its line feed, and the bytes behind it. Both are borrowed from the
+    /// piece, so a line that arrives whole in one read isn't copied. None if bytes of the line were heard before, if
+    /// the piece has no line feed, or if the line is longer than [`MAX_CONSOLE_LINE`]: `hear` tells these cases apart.
     pub fn whole_line<'a>(&self, piece: &'a [u8]) -> Option<(&'a [u8], &'a [u8])>
         ensures begins { IfSome result (λ _. self.now ≡ []) }
-        ensures finished { IfSome result (λ found. lines_and_rest piece.now ≡ found.0.now ∷ lines_and_rest found.1.now) }
+        ensures finished { IfSome result
+            (λ found. lines_and_rest piece.now ≡ found.0.now ∷ lines_and_rest found.1.now) }
         ensures shorter { IfSome result (λ found. length found.1.now < length piece.now) }
         ensures limit { IfSome result (λ found. length found.0.now ≤ MAX_CONSOLE_LINE) }
         ensures none { IfNone result ((0 < length self.now) ⊎ (lines_and_rest piece.now ≡ piece.now ∷ [])
@@ -103,11 +104,11 @@ impl LineBuffer {
 
     /// Hears a piece up to its first line feed.
     ///
-    /// `Ok(Some(rest))`: the line is finished, and `rest` is what comes after its line feed. `Ok(None)`:
-    /// the piece has no line feed, and all of it belongs to the line. `Err`: the line is longer than
-    /// [`MAX_CONSOLE_LINE`], whether it has ended or not, and stays as it was before the piece.
+    /// `Ok(Some(rest))`: the line is finished, and `rest` is what comes behind its line feed. `Ok(None)`: the piece has
+    /// no line feed, and all of it belongs to the line. `Err`: the line is longer than [`MAX_CONSOLE_LINE`], finished
+    /// or not, and the buffer is as it was before the piece.
     ///
-    /// Looks at the piece up to its first line feed, and copies that much in one go.
+    /// Looks at the piece up to its first line feed, and copies that part at once.
     pub fn hear<'a>(&mut self, piece: &'a [u8]) -> Result<Option<&'a [u8]>, TooLong>
         ensures finished { IfOk result (λ heard. IfSome heard (λ rest.
             lines_and_rest (self.old ++ piece.now) ≡ self.new ∷ lines_and_rest rest.now)) }
@@ -117,7 +118,7 @@ impl LineBuffer {
             (λ heard. IfNone heard (lines_and_rest (self.old ++ piece.now) ≡ self.new ∷ [])) }
         ensures heard { IfOk result (λ heard. IfNone heard (self.new ≡ self.old ++ piece.now)) }
 
-        // so it is an error exactly where the first line is too long, be it finished or not
+        // so it is an error exactly if the first line is too long, finished or not
         ensures limit { OnOk result (length self.new ≤ MAX_CONSOLE_LINE) }
         ensures too_long { OnErr result ((long : List ℕ) × (more : List (List ℕ))
             × (lines_and_rest (self.old ++ piece.now) ≡ long ∷ more) × (MAX_CONSOLE_LINE < length long)) }

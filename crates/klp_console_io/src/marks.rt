@@ -1,20 +1,20 @@
-//! Where the answers to gathered lines end, so that a failed write tells which of them it cut off.
+//! Where the answers to gathered lines end. By this one knows, after a failed write, which of them was cut off.
 ghost use Rattle.std.specs.Prelude.{◌≡◌, ◌<◌, ◌≤◌, IsTrue, ◌↔◌, List, [], ◌∷◌, ◌++◌, length};
 ghost use Rattle.klp_console_io.specs.Marks.{events_at_cut};
 
 use arrayvec::ArrayVec;
 use std::marker::Model;
 
-/// How many lines may be gathered. The shortest answer that an event has is three bytes, `ok` and its line
-/// feed, so few inputs fill it before their answers fill the room of these.
+/// How many lines may be gathered. The shortest answer to an event is three bytes, `ok` and its line feed. So only an
+/// input with many short answers fills the room for marks before that for answers.
 pub const MARKS_ROOM: usize = 512;
 
 /// A line whose answer is gathered.
 #[derive(Clone, Copy, Default, PartialEq, Eq)]
 pub struct Mark {
-    /// How many bytes were gathered when the line was answered: its answer ends there.
+    /// How many bytes were gathered when the line was answered. The line's answer ends there.
     pub end: usize,
-    /// How many events stood when the line was done, so that those behind it can be taken back.
+    /// How many events the journal had when the line was done, so that later ones can be taken back.
     pub events: u32,
 }
 
@@ -34,7 +34,7 @@ impl Model for Marks {
 }
 
 impl Marks {
-    /// No line is gathered.
+    /// Makes marks without a line.
     pub fn new() -> Marks
         ensures { result ≡ [] }
     {
@@ -43,7 +43,7 @@ impl Marks {
         }
     }
 
-    /// Whether there is no room for another mark, so that what is gathered has to be written first.
+    /// Whether there is no room for another mark, so that the gathered answers must be written first.
     pub fn is_full(&self) -> bool
         ensures full { IsTrue result ↔ (length self.now ≡ MARKS_ROOM) }
         ensures limit { length self.now ≤ MARKS_ROOM }
@@ -51,7 +51,7 @@ impl Marks {
         self.marks.is_full()
     }
 
-    /// Forgets all marks: their answers are written, so nothing will be taken back to them.
+    /// Drops all marks. Their answers are written, so no event before them will be taken back.
     pub fn clear(&mut self)
         ensures { self.new ≡ [] }
     {
@@ -66,9 +66,9 @@ impl Marks {
         self.marks.push(mark);
     }
 
-    /// How many events stood after the line whose answer is cut off, where so many bytes of what was
-    /// gathered were written; none where all these answers are written. It is the first whose answer ends
-    /// behind them.
+    /// Finds the line whose answer was cut off, if only `written` of the gathered bytes were written: the first one
+    /// whose answer ends behind these bytes. Returns how many events the journal had once that line was done. None if
+    /// all these answers were written.
     pub fn events_at_cut(&self, written: usize) -> Option<u32>
         ensures { result ≡ events_at_cut written self.now }
     {

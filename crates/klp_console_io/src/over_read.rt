@@ -1,4 +1,4 @@
-//! A reader of std as a source: the standard input of the program, and readers in tests.
+//! A reader of std as a source: the standard input of the program, or readers in tests.
 ghost use Rattle.std.specs.Prelude.{◌≡◌, ◌≤◌, false};
 
 use crate::count::{Count, three_counts};
@@ -8,8 +8,8 @@ use std::io::Read;
 use std::marker::Model;
 use std::sync::ledger::{Blank, Book, Ledger};
 
-/// A reader of std. Contracts know what it has left where they know it of the reader: of a slice they do,
-/// of standard input they don't.
+/// A reader of std as a source. Contracts know the bytes that it has left if they know them of the reader: they do for
+/// a slice, and don't for standard input.
 #[derive(Drop)]
 pub struct OverRead<R: Read, L: Ledger> {
     reader: R,
@@ -25,7 +25,13 @@ impl<R: Read, L: Ledger> Model for OverRead<R, L> {
 
     ghost Value = { Supply };
 
-    ghost view = { λ o. record { left = R.remaining o.reader; has_ended = o.has_ended; failures = o.failures; reads = o.reads; asked = o.asked } };
+    ghost view = { λ o. record {
+      left = R.remaining o.reader;
+      has_ended = o.has_ended;
+      failures = o.failures;
+      reads = o.reads;
+      asked = o.asked;
+    } };
 }
 
 impl<R: Read, L: Ledger> OverRead<R, L> {
@@ -47,7 +53,7 @@ impl<R: Read, L: Ledger> OverRead<R, L> {
         }
     }
 
-    /// The reader again, with what it has left, so that its owner may go on.
+    /// Returns the reader with what it has left, so that its owner may read on.
     pub fn into_inner(self) -> R
         ensures { R.remaining result ≡ self.left }
     {
@@ -78,8 +84,8 @@ impl<R: Read, L: Ledger> Source for OverRead<R, L> {
                 }
                 Ok(count)
             }
-            // That this was a failure of the reader no clause says, since std's readers count none
-            // (docs/DECISIONS.md, "Failures of std").
+            // No clause says that this was a failure of the reader, since std's readers count none (docs/DECISIONS.md,
+            // "Failures of std").
             Err(_) => {
                 self.reads.add(&mut self.book, 1);
                 self.failures.add(&mut self.book, 1);

@@ -1,4 +1,4 @@
-//! A writer of std as a sink: the standard output of the program, and writers in tests.
+//! A writer of std as a sink: the standard output of the program, or writers in tests.
 ghost use Rattle.std.specs.Prelude.{◌≡◌, ◌≤◌};
 
 use crate::count::{Count, two_counts};
@@ -7,8 +7,8 @@ use std::io::Write;
 use std::marker::Model;
 use std::sync::ledger::{Blank, Book, Ledger};
 
-/// A writer of std. Contracts know what it took where they know it of the writer: of a list they do, of
-/// standard output they don't.
+/// A writer of std as a sink. Contracts know the bytes that it took if they know them of the writer: they do for a
+/// list, and don't for standard output.
 #[derive(Drop)]
 pub struct OverWrite<W: Write, L: Ledger> {
     writer: W,
@@ -42,7 +42,7 @@ impl<W: Write, L: Ledger> OverWrite<W, L> {
         }
     }
 
-    /// The writer again, with what it took, so that its owner can look at that.
+    /// Returns the writer with what it took, so that its owner can look at that.
     pub fn into_inner(self) -> W
         ensures { W.contents result ≡ self.taken }
     {

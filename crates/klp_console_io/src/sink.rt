@@ -1,20 +1,19 @@
-//! What answers are written to. It is a trait of its own beside std's `Write`, since its contract counts
-//! what fails.
+//! A sink for answers. It is a trait of its own and not std's `Write`, since its contract counts failures.
 ghost use Rattle.std.specs.Prelude.{◌≡◌, ◌+◌, ◌<◌, ◌≤◌, length, take, IfOk, OnErr};
 ghost use Rattle.std.specs.Io.KnownBytes.{Appends, Keeps};
 ghost use Rattle.klp_console_io.specs.Written.{Written};
 
-/// That a write failed. What went wrong isn't said, since the console can only stop.
+/// The error that a read or a write failed. It doesn't say why, since the console can only stop.
 #[derive(Clone, Copy)]
 pub struct Failed;
 
-/// What takes bytes, perhaps fewer than it is given, as a pipe does.
+/// Takes bytes, perhaps fewer than it is given, as a pipe does.
 pub trait Sink {
-    /// What was written to it so far, where that is known, and what went wrong.
+    /// The bytes written to it so far, if they are known, and what went wrong.
     ghost written: { Self → Written };
 
-    /// Writes some bytes from the front of `bytes`, and answers how many. None of some is a stall,
-    /// an empty write is none, and an `Err` is a failure, which takes nothing.
+    /// Writes some of the first bytes of `bytes`, and returns how many. Taking no byte is a stall, unless `bytes` is
+    /// empty. An `Err` is a failure, which takes no byte.
     fn write(&mut self, bytes: &[u8]) -> Result<usize, Failed>
         ensures bound { IfOk result (λ n. n ≤ length bytes.now) }
         ensures ok { IfOk result (λ n. Appends (written self.old).taken (written self.new).taken (take n bytes.now)

@@ -1,4 +1,4 @@
-//! Room in memory as a sink, so that tests can see what was written, and let writes fail.
+//! Room in memory as a sink, so that tests can see what was written, and can let writes fail.
 ghost use Rattle.std.specs.Prelude.{◌≡◌, ◌+◌, ◌<◌, ◌≤◌, ◌↔◌, [], length, take, Some, IsErr, IfOk, OnErr};
 
 use crate::count::{Count, two_counts};
@@ -8,14 +8,14 @@ use arrayvec::ArrayVec;
 use std::marker::Model;
 use std::sync::ledger::{Blank, Book, Ledger};
 
-/// Room in memory, into which one write puts so many bytes at most. One write may fail, by its number.
-/// Where no room is left a write takes nothing, which is how a sink stalls. The room is in the type, so
-/// that a test can hand it around (docs/DECISIONS.md, "The room of `Taken`").
+/// Room in memory as a sink. One write takes at most `most` bytes, and one write, chosen by its number, may fail. When
+/// the room is full, a write takes no byte, so the sink stalls. The size of the room is in the type, so that a test can
+/// pass the sink around (docs/DECISIONS.md, "The room of `Taken`").
 #[derive(Drop)]
 pub struct Taken<const ROOM: usize, L: Ledger> {
     bytes: ArrayVec<u8, ROOM>,
     most: usize,
-    /// How many writes come before the one that fails. None fails where there is no number.
+    /// How many writes come before the one that fails. None if no write fails.
     fails_in: Option<u32>,
     book: Book<L>,
     failures: Count<L>,
@@ -28,13 +28,19 @@ impl<const ROOM: usize, L: Ledger> Model for Taken<ROOM, L> {
 
     ghost Value = { Held };
 
-    ghost view = { λ t. record { bytes = t.bytes.items; most = t.most; fails_in = t.fails_in; failures = t.failures; stalls = t.stalls } };
+    ghost view = { λ t. record {
+      bytes = t.bytes.items;
+      most = t.most;
+      fails_in = t.fails_in;
+      failures = t.failures;
+      stalls = t.stalls;
+    } };
 
     ghost invariant = { λ t. 0 < t.most };
 }
 
 impl<const ROOM: usize, L: Ledger> Taken<ROOM, L> {
-    /// Room for `ROOM` bytes, into which one write puts `most` at most. The write of the number `fails_at`
+    /// Makes room for `ROOM` bytes, of which one write takes at most `most`. The write with the number `fails_at`
     /// fails, counted from 0. The blank is for the two counts, and has two parts.
     pub fn new(most: usize, fails_at: Option<u32>, blank: Blank) -> Self
         requires most { 0 < most }
@@ -54,7 +60,7 @@ impl<const ROOM: usize, L: Ledger> Taken<ROOM, L> {
         }
     }
 
-    /// The bytes taken so far, of all writes together, so that cutting makes no difference to a test.
+    /// Returns the bytes taken so far, of all writes together.
     pub fn bytes(&self) -> &[u8]
         ensures { result.now ≡ self.now.bytes }
     {
@@ -69,8 +75,7 @@ impl<const ROOM: usize, L: Ledger> Sink for Taken<ROOM, L> {
 
     ghost written = { written_of };
 
-    /// Takes as many bytes as it may, as there are and as there is room for, unless it is the write that
-    /// fails, which takes none.
+    /// Takes as many of the bytes as `most` and the room allow. The write that is to fail takes none.
     fn write(&mut self, bytes: &[u8]) -> Result<usize, Failed>
         ensures bound { IfOk result (λ n. n ≤ length bytes.now) }
         ensures ok { IfOk result

@@ -16,7 +16,7 @@ use Rattle.klp_model.specs.Blocked.{is_version, blocked, is_held, switched, lags
 use Rattle.klp_model.specs.State.{State}
 use Rattle.klp_model.specs.Task.{Tasks, is_mode, is_at, at_target, in_state}
 use Rattle.klp_core.specs.declared.holders.Lag.{Lag}
-use Rattle.klp_core.specs.Holders.{blocked_by, held_in, lag_by, lag_at, holders, is_left}
+use Rattle.klp_core.specs.Holders.{blocked_by, innermost_blocked_in, lag_by, lag_at, holders, is_left}
 
 -- tests that agree tell the same lags
 
@@ -43,7 +43,7 @@ found_any test (version ∷ versions) = elim (test version) as (λ b. is_some (c
   | false ↦ found_any test versions
 ]
 
-held_any : (test : Version → Bool) (frames : List Version) → is_some (held_in test frames) ≡ list_any test frames
+held_any : (test : Version → Bool) (frames : List Version) → is_some (innermost_blocked_in test frames) ≡ list_any test frames
 held_any test frames = found_any test (reverse frames) ∙ sym (list_any-IsPermutation test frames (reverse frames) (IsPermutation-reverse frames))
 
 at_own : (target : Bool) → is_at target (at_target target) ≡ true
@@ -68,10 +68,10 @@ stays_at target task false there = ap not there
 
 left_task : (versions : List Version) (target : Bool) (task : Task) (own : Bool) → is_at target task.state ≡ own
     → not (is_at target (switched versions target task).state)
-    ≡ is_left (if own then None else Some (lag_by task.mode (held_in (λ version. list_any (is_version version) versions) task.frames)))
+    ≡ is_left (if own then None else Some (lag_by task.mode (innermost_blocked_in (λ version. list_any (is_version version) versions) task.frames)))
 left_task versions target task true there = stays_at target task (is_mode task.mode Asleep && not (is_held versions task.frames)) there
 left_task versions target task false behind =
-    left_by target task task.mode (held_in (λ version. list_any (is_version version) versions) task.frames) (is_held versions task.frames) behind
+    left_by target task task.mode (innermost_blocked_in (λ version. list_any (is_version version) versions) task.frames) (is_held versions task.frames) behind
     (held_any (λ version. list_any (is_version version) versions) task.frames)
 
 left_row : (versions : List Version) (move : Transition) (row : Option Task)

@@ -1,4 +1,4 @@
--- What a manager is booted with.
+-- What a manager needs to boot.
 use Rattle.std.specs.Prelude.{◌≡◌, ℕ, ◌⊎◌, List, map, length}
 use Rattle.klp_types.specs.Image.{Object, Image}
 use Rattle.klp_modules.specs.Names.{ObjectNames, ModuleTable, names_of}
@@ -10,21 +10,21 @@ use Rattle.klp_core.specs.declared.fault.BootFault.TheVariants.{Mismatch, NoMemo
 abbrev pub symbol_counts : List Object → List ℕ
 symbol_counts objects = map (λ (o : Object). length o.symbols) objects
 
--- the same of objects that are told by their names
+-- how many symbols each object has, by the table of names
 abbrev pub name_counts : List ObjectNames → List ℕ
 name_counts names = map (λ (o : ObjectNames). length o.symbols) names
 
--- image, modules and catalog have the same objects as far as numbers of symbols tell
+-- image, modules and catalog have the same number of objects, and of symbols in each
 pub record IsMatch (image : Image) (modules : ModuleTable) (catalog : Catalog) : Type 0 where
   pub modules_match : name_counts modules.names ≡ symbol_counts image.objects
   pub catalog_matches : name_counts catalog.names ≡ symbol_counts image.objects
 
--- the modules have the image's names in order, and so had the modules that the catalog was assembled over
+-- The modules have the image's names, in the same order, and the catalog was assembled over the same names.
 pub record AreNamed (image : Image) (modules : ModuleTable) (catalog : Catalog) : Type 0 where
   pub modules_named : modules.names ≡ names_of image.objects
   pub catalog_named : catalog.names ≡ names_of image.objects
 
--- they don't match, or they match and memory ran out
+-- the three don't match, or they match and memory ran out
 abbrev pub IsFaultOf : Image → ModuleTable → Catalog → BootFault → Type 0
 IsFaultOf image modules catalog fault =
     ((IsMatch image modules catalog → ⊥) × (fault ≡ Mismatch)) ⊎ (IsMatch image modules catalog × (fault ≡ NoMemory))

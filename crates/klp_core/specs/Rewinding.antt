@@ -4,8 +4,8 @@ use Rattle.klp_model.specs.Legal.{state_after_history}
 use Rattle.klp_manager_state.specs.Managed.{setting_of}
 use Rattle.klp_core.specs.Journaled.{Journaled, history_in}
 
--- the first so many events stand, and the state is the one that they lead to from the base. Image and catalog stay, and with the
--- catalog the counts of callbacks: none has run
+-- The first `mark` events are left, and the state is the one that they lead to from the base. The image stays, and so
+-- does the catalog with its counts of callbacks, since none has run.
 pub record IsRewound (before after : Journaled) (mark : ℕ) : Type 0 where
   pub groups : after.groups ≡ take mark before.groups
   pub base : after.base ≡ before.base

@@ -1,4 +1,4 @@
--- What events answer where the journal has room for them or not, and what they leave.
+-- The answers to events, whether the journal has room or not, and what events leave.
 use Rattle.std.specs.Prelude.{◌≡◌, ℕ, Bool, true, false, List, [], ◌∷◌, ◌++◌, map, count_by, is_ok, is_err, Some, Result, Ok, Err, IfOk, OnErr}
 use Rattle.klp_types.specs.Setting.{Setting}
 use Rattle.klp_model.specs.declared.event.Event.{Event}
@@ -15,25 +15,25 @@ use Rattle.klp_core.specs.Events.{after_events}
 use Rattle.klp_manager_state.specs.Rows.{undone_if_effective}
 use Rattle.klp_core.specs.Journaled.{Journaled, IsSmall, rows_of}
 
--- an event that nothing refuses finds the journal full
+-- the answer `JournalFull` in place of a reply, if the journal has no room; a refusal stays
 abbrev pub unless_full : Bool → Result Reply Refusal → Result Reply Refusal
 unless_full room (Err refusal) = Err refusal
 unless_full true (Ok reply) = Ok reply
 unless_full false (Ok reply) = Err JournalFull
 
--- the answer to an event: the machine's refusal comes first, then the journal's
+-- the answer to an event: the refusal of the step itself takes precedence over that of the journal
 abbrev pub answer_in : Setting → State → List Group → Event → Result Reply Refusal
 answer_in setting state groups event = unless_full (has_room groups) (answer setting state event)
 
--- a small group that an event leaves at a state. Its records, put back newest first, give the rows before the event, and each of them, in its turn,
--- tells a row that is another one afterwards: none is without effect
+-- A small group that an event leaves at a state. Its records, put back newest first, give the rows before the event,
+-- and each of them has an effect at its turn.
 pub record IsLoggedAs (setting : Setting) (state : State) (group : Group) (event : Event) (reply : Reply) : Type 0 where
   pub event_is : group.event ≡ event
   pub reply_is : group.reply ≡ reply
   pub small : IsSmall group
   pub effective : undone_if_effective (rows_of setting (next setting state event)) group.rows ≡ Some (rows_of setting state)
 
--- an accepted event is appended to the journal as one group, and leaves what the machine says; the base stays
+-- an accepted event is appended to the journal as one group, and leaves what the model says; the base stays
 pub record Appends (before after : Journaled) (event : Event) (reply : Reply) : Type 0 where
   pub group : Group
   pub logged : IsLoggedAs (setting_of before.managed) before.managed.state group event reply
@@ -41,19 +41,19 @@ pub record Appends (before after : Journaled) (event : Event) (reply : Reply) : 
   pub left : after.managed ≡ after_event before.managed event
   pub base : after.base ≡ before.base
 
--- an event was taken: this is its answer, and this is what it left. A refusal leaves everything
+-- An event was taken, with this answer, and left this. A refusal changes nothing.
 pub record IsTaken (before after : Journaled) (event : Event) (result : Result Reply Refusal) : Type 0 where
   pub answered : result ≡ answer_in (setting_of before.managed) before.managed.state before.groups event
   pub accepted : IfOk result (λ reply. Appends before after event reply)
   pub refused : OnErr result (after ≡ before)
 
--- the reply to an event has neither the frames of a task nor the value of a variable
+-- whether the reply to an event has neither the frames of a task nor the value of a variable
 abbrev pub is_brief : Event → Bool
 is_brief (Wake task) = false
 is_brief (ShadowGetOrAlloc key value) = false
 is_brief other = true
 
--- what became of an event: the group that it left, or why it was refused
+-- the outcome of an event: the group that it left, or why it was refused
 abbrev pub Outcome : Type 0
 Outcome = Result Group Refusal
 
@@ -66,7 +66,7 @@ abbrev pub IsOutcome : Setting → State → List Group → Event → Outcome �
 IsOutcome setting state groups event (Ok group) = (answer_in setting state groups event ≡ Ok group.reply) × IsLoggedAs setting state group event group.reply
 IsOutcome setting state groups event (Err refusal) = answer_in setting state groups event ≡ Err refusal
 
--- each event in its turn, where the journal has these groups before the first
+-- the outcomes of events taken one after another, if the journal has these groups before the first
 abbrev pub AreOutcomes : Setting → State → List Group → List Event → List Outcome → Type 0
 AreOutcomes setting state groups [] [] = Unit {0}
 AreOutcomes setting state groups (event ∷ events) (Ok group ∷ outcomes) =
@@ -75,7 +75,7 @@ AreOutcomes setting state groups (event ∷ events) (Err refusal ∷ outcomes) =
     IsOutcome setting state groups event (Err refusal) × AreOutcomes setting state groups events outcomes
 AreOutcomes setting state groups events outcomes = ⊥
 
--- events were taken in order: the accepted ones are appended in order, and lead to the state; so many were accepted, and so many refused
+-- Events were taken in order, and the accepted ones appended; `counts` are how many were accepted and how many refused.
 pub record AreTaken (before after : Journaled) (events : List Event) (counts : ℕ × ℕ) : Type 0 where
   pub outcomes : List Outcome
   pub each : AreOutcomes (setting_of before.managed) before.managed.state before.groups events outcomes

@@ -8,6 +8,6 @@ abbrev pub or_none : Option (List Symbol) → List Symbol
 or_none None = []
 or_none (Some symbols) = symbols
 
--- the symbols of an object of an image, with the bytes that stand in the text
+-- the symbols of an object of an image, with the bytes that the text has
 abbrev pub symbols_at : TextImage → ℕ → List Symbol
 symbols_at text object = or_none (text_where text.image (is_hooked_at text) object)

@@ -15,14 +15,14 @@ use klp_text::Image;
 use klp_types::ObjId;
 use std::alloc::Global;
 
-// Whether the three have the same number of symbols for each object. Behind the last object of the image,
-// the others have none either. Nothing else is compared, since the caller knows the names
-// (docs/DECISIONS.md, "Image, modules and catalog as they came"). It borrows, and so its two ways out cost
-// nothing (docs/DECISIONS.md, "One way out for an owner").
+// Whether image, modules and catalog have the same number of symbols for each object. The loop goes one past the last
+// object of the image: there the other two must have none either. Nothing else is compared, since the caller knows that
+// the names are the same (docs/DECISIONS.md, "Image, modules and catalog as they came"). Borrows the three, so that its
+// two ways out drop nothing (docs/DECISIONS.md, "One way out for an owner").
 fn is_match(image: &Image, modules: &Modules, catalog: &Catalog) -> bool
     ensures matches { IsTrue result → IsMatch image.now.image modules.now catalog.now }
     ensures differs { result ≡ false → IsMatch image.now.image modules.now catalog.now → ⊥ }
-    // what every image has, so that numbers of objects have 8 bits
+    // every image is within limits, so that numbers of objects have 8 bits
     ensures limits { IsWithinLimits image.now.image.objects }
 {
     let objects = image.objects();
@@ -36,8 +36,9 @@ fn is_match(image: &Image, modules: &Modules, catalog: &Catalog) -> bool
     true
 }
 
-/// The state and the journal of a manager when it opens, where the three match. The image and the modules go into the
-/// state as they are. The journal is made before the state, which is so deep that to drop it costs more than all else.
+/// Makes the state and the journal of a manager that has just opened, or returns `Mismatch` if the three don't match,
+/// or `NoMemory`. Moves image and modules into the state. The journal is made before the state, since the state is so
+/// deep that dropping it would cost more than all else.
 pub(crate) fn parts_over(
     alloc: Global,
     image: Image,

@@ -1,11 +1,12 @@
-//! Which tasks hold a transition up (what the kernel's `klp_try_switch_task` answers for each task).
+//! The tasks that lag behind a transition, and which of them block it (what the kernel's `klp_try_switch_task` finds
+//! out for each task).
 ghost use Rattle.std.specs.Prelude.{◌≡◌, map};
 ghost use Rattle.klp_model.specs.Blocked.{blocked};
 ghost use Rattle.klp_model.specs.Task.{task_at};
 ghost use Rattle.klp_manager_state.specs.Invariant.{Invariant};
 ghost use Rattle.klp_manager_state.specs.Managed.{setting_of, setting_in, state_in};
 ghost use Rattle.klp_tasks.specs.Members.{has, IsSetOf};
-ghost use Rattle.klp_core.specs.Holders.{blocked_now, is_blocked, held_in, lag_of, lag_at, holders};
+ghost use Rattle.klp_core.specs.Holders.{blocked_now, is_blocked, innermost_blocked_in, lag_of, lag_at, holders};
 
 use crate::manager::Manager;
 use klp_catalog::Catalog;
@@ -14,18 +15,18 @@ use klp_patch::block;
 use klp_tasks::{Tasks, VersionSet, target_state};
 use klp_types::{MAX_PATCHES, MAX_SITES, MAX_TASKS, Mode, Task, TaskId, Transition, Version};
 
-/// Why a task isn't at the target of the transition that goes on.
+/// Why a task isn't at the target of the current transition.
 #[derive(Clone, Copy, PartialEq, Eq)]
 pub enum Lag {
-    /// It sleeps inside of this version, which is blocked, and so holds the transition up: no poll switches
-    /// it. Where it is inside of several such versions, this is the innermost.
+    /// The task sleeps inside of this version, which is blocked, and so blocks the transition: no poll switches the
+    /// task. If it is inside of several blocked versions, this is the innermost.
     Holds(Version),
-    /// Nothing keeps it: a sleeper is switched by the next poll, and any other task when it next leaves the
-    /// kernel.
+    /// Nothing blocks the task, which is in this mode: the next poll switches a sleeper, and any other task switches
+    /// when it next leaves the kernel.
     Waits(Mode),
 }
 
-/// What a transition blocks, as a poll finds it.
+/// Returns the versions that a transition blocks, by the same function that a poll calls.
 fn blocked(state: &ManagerState, catalog: &Catalog, moving: Transition) -> VersionSet
     requires { Invariant state.now catalog.now }
     ensures { IsSetOf result (blocked (setting_in state.now catalog.now) (state_in state.now catalog.now) moving) }
@@ -39,7 +40,7 @@ fn blocked(state: &ManagerState, catalog: &Catalog, moving: Transition) -> Versi
     blocked
 }
 
-/// What is blocked now: nothing where nothing moves.
+/// Returns the versions that are blocked now: none without a transition.
 fn blocked_now(state: &ManagerState, catalog: &Catalog) -> VersionSet
     requires { Invariant state.now catalog.now }
     ensures { IsSetOf result (blocked_now (setting_in state.now catalog.now) (state_in state.now catalog.now)) }
@@ -50,9 +51,9 @@ fn blocked_now(state: &ManagerState, catalog: &Catalog) -> VersionSet
     }
 }
 
-/// The innermost of these frames that is in the set.
-fn held_in(frames: &[Version], blocked: &VersionSet) -> Option<Version>
-    ensures { result ≡ held_in (has blocked.now) frames.now }
+/// Returns the innermost of these frames that is in the set, or None. Frames are outermost first.
+fn innermost_blocked_in(frames: &[Version], blocked: &VersionSet) -> Option<Version>
+    ensures { result ≡ innermost_blocked_in (has blocked.now) frames.now }
 {
     let mut from_inside = frames.iter().rev();
     from_inside
@@ -60,17 +61,20 @@ fn held_in(frames: &[Version], blocked: &VersionSet) -> Option<Version>
         .copied()
 }
 
-/// How a task lags that isn't at the target.
+/// Returns why a task lags. The task must not be at the target.
 fn lag_of(task: &Task, blocked: &VersionSet) -> Lag
     ensures { result ≡ lag_of (has blocked.now) task.now }
 {
-    match (task.mode, held_in(task.frames.as_slice(), blocked)) {
+    match (
+        task.mode,
+        innermost_blocked_in(task.frames.as_slice(), blocked),
+    ) {
         (Mode::Asleep, Some(version)) => Lag::Holds(version),
         (mode, _) => Lag::Waits(mode),
     }
 }
 
-/// How a task lags, if it does.
+/// Returns why a task lags, or None if it is at the target, if it doesn't exist, or if there is no transition.
 fn lag_at(
     tasks: &Tasks,
     task: TaskId,
@@ -89,7 +93,7 @@ fn lag_at(
     Some(lag_of(task, blocked))
 }
 
-/// The same for each number, in order.
+/// Returns for each task number why the task lags, or None.
 fn lags(
     tasks: &Tasks,
     moving: &Option<Transition>,
@@ -97,7 +101,7 @@ fn lags(
 ) -> [Option<Lag>; MAX_TASKS]
     ensures { result ≡ map (lag_at (has blocked.now) moving.now) tasks.now }
 {
-    // there is a row for each number: the call is made for its contract
+    // called for its contract: there is a row for each number
     let _rows = tasks.get(TaskId(0));
     let mut lags = [None; MAX_TASKS];
     for number in 0..MAX_TASKS {
@@ -107,21 +111,20 @@ fn lags(
 }
 
 impl Manager {
-    /// Whether the transition that goes on blocks a version, so that no task that sleeps inside of it is
-    /// switched. Where nothing moves none is blocked. Each call makes the set of all that is blocked, as a
-    /// poll does.
+    /// Whether the current transition blocks a version, so that no task that sleeps inside of it is switched. False
+    /// without a transition. Each call computes the set of blocked versions, as a poll does.
     pub fn blocks(&self, version: Version) -> bool
         ensures { result ≡ is_blocked (setting_of self.now.managed) self.now.managed.state version }
     {
         blocked_now(&self.state, &self.catalog).contains(version)
     }
 
-    /// The tasks that aren't at the target of the transition that goes on, by their numbers: those that hold
-    /// it up, each with the version that it sleeps inside of, and those that wait, each with where it is.
-    /// `None` for a task that is at the target, and for a number without one: so all are `None` where nothing
-    /// moves. A poll goes by the same (`laws::a_poll_tells_how_many_are_left`).
+    /// Returns, by task number, the tasks that aren't at the target of the current transition. A task that blocks the
+    /// transition comes with the version that it sleeps inside of, a task that waits with its mode. None for a task
+    /// that is at the target, and for a number without a task. Without a transition all are None. A poll decides in the
+    /// same way (`laws::a_poll_tells_how_many_are_left`).
     ///
-    /// It costs as much as a poll that switches nobody, and takes no memory.
+    /// The cost is that of a poll that switches nobody. No memory is allocated.
     pub fn holders(&self) -> [Option<Lag>; MAX_TASKS]
         ensures { result ≡ holders (setting_of self.now.managed) self.now.managed.state }
     {

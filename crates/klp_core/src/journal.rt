@@ -1,5 +1,5 @@
-//! Accepted events are appended to the journal, and taken back. Both are here, since each has to leave the
-//! journal and the state in step.
+//! Appending accepted events to the journal, and taking them back. Each changes journal and state together, so both are
+//! in this file.
 ghost use Rattle.std.specs.Prelude.{◌≡◌, ◌-◌, ◌<◌, ◌≤◌, ◌++◌, ◌∷◌, [], true, false, length, take, Err, IfOk, IfErr};
 ghost use Rattle.klp_types.specs.declared.limits.TheConstants.{MAX_RECORDS};
 ghost use Rattle.klp_text.specs.TextImage.{site_count};
@@ -17,15 +17,16 @@ use klp_model::{Event, Refusal, Reply};
 use std::marker::Model;
 use std::snapshot::Snapshot;
 
-/// Appends an accepted event with its reply and all that it logged, which stays where it is (docs/DECISIONS.md, "Which
-/// records an event leaves").
+/// Appends an accepted event with its reply and its records. The records stay in the log where they are, and count as
+/// kept from then on (docs/DECISIONS.md, "Which records an event leaves").
 #[inline(always)]
 fn append(state: &mut ManagerState, journal: &mut Journal, event: &Event, reply: &Reply)
     requires all { counted journal.old ≡ length state.old.log.older }
     requires room { has_room (groups_in state.old journal.old) ≡ true }
     requires few { state.old.log.room ≡ MAX_RECORDS }
     ensures appended { groups_in state.new journal.new
-        ≡ groups_in state.old journal.old ++ record { event = event.now; reply = reply.now; rows = state.old.log.logged } ∷ [] }
+        ≡ groups_in state.old journal.old
+        ++ record { event = event.now; reply = reply.now; rows = state.old.log.logged } ∷ [] }
     ensures kept { Keeps state.new.log journal.new }
     ensures state { state.new ≡ record state.old {
       log = record state.old.log { logged = []; older = state.old.log.older ++ state.old.log.logged };
@@ -38,13 +39,13 @@ fn append(state: &mut ManagerState, journal: &mut Journal, event: &Event, reply:
     journal.append(event, reply, &mut state.log);
 }
 
-/// A reply that nobody asks for: contracts alone know it, so that it takes no memory.
+/// A reply that the caller doesn't need. Only contracts know it, so it takes no memory.
 #[derive(Drop)]
-pub struct Unasked {
+pub struct DroppedReply {
     reply: Snapshot<Reply>,
 }
 
-impl Model for Unasked {
+impl Model for DroppedReply {
     ghost use Rattle.klp_model.specs.declared.event.Reply.{Reply};
 
     ghost Value = { Reply };
@@ -52,9 +53,9 @@ impl Model for Unasked {
     ghost view = { λ u. u.reply.value };
 }
 
-/// Why the event is refused where the journal has no room for another: it refuses what nothing else does. This is asked
-/// first, so that the usual way costs one comparison: a full journal alone has to know why else the event would be
-/// refused (docs/DECISIONS.md, "Room in the journal").
+/// Refuses the event if the journal has no room for another: with the refusal that the event would get anyway, or else
+/// with `JournalFull`. This is checked first, so that the usual way costs one comparison, and only a full journal has
+/// to find out whether the event would be refused anyway (docs/DECISIONS.md, "Room in the journal").
 #[inline(always)]
 fn ask_for_room(
     state: &ManagerState,
@@ -73,8 +74,8 @@ fn ask_for_room(
     Ok(())
 }
 
-/// Takes an event, and appends it where it is accepted. A journal without room refuses what nothing else
-/// does.
+/// Takes an event, and appends it if it is accepted. A journal without room refuses with `JournalFull` an event that
+/// nothing else refuses.
 pub(crate) fn take_and_append(
     state: &mut ManagerState,
     catalog: &mut Catalog,
@@ -94,13 +95,13 @@ pub(crate) fn take_and_append(
     append_long(state, catalog, journal, event)
 }
 
-/// The same of an event whose reply nobody asks for.
-pub(crate) fn take_unasked(
+/// Like [`take_and_append`], for a caller that needs no reply.
+pub(crate) fn take_without_reply(
     state: &mut ManagerState,
     catalog: &mut Catalog,
     journal: &mut Journal,
     event: &Event,
-) -> Result<Unasked, Refusal>
+) -> Result<DroppedReply, Refusal>
     requires { AreInStep state.old catalog.old journal.old }
     ensures kept { AreInStep state.new catalog.new journal.new }
     ensures taken { IsTaken (journaled_of state.old catalog.old (groups_in state.old journal.old))
@@ -109,17 +110,17 @@ pub(crate) fn take_unasked(
     ask_for_room(state, catalog, journal, event)?;
     if is_brief(event) {
         let brief = append_brief(state, catalog, journal, event)?;
-        return Ok(Unasked {
+        return Ok(DroppedReply {
             reply: Snapshot::of(&brief.reply()),
         });
     }
     let reply = append_long(state, catalog, journal, event)?;
-    Ok(Unasked {
+    Ok(DroppedReply {
         reply: Snapshot::of(&reply),
     })
 }
 
-/// The same of an event that is answered in brief, by a journal with room.
+/// Takes an event that has a brief reply, and appends it if it is accepted. The journal must have room.
 fn append_brief(
     state: &mut ManagerState,
     catalog: &mut Catalog,
@@ -138,8 +139,9 @@ fn append_brief(
     Ok(brief)
 }
 
-/// The same of an event whose reply has frames or a value. It is a function of its own, since one clears all its room for
-/// replies when it begins, which a brief event needs none of.
+/// Takes an event whose reply has frames or a value, and appends it if it is accepted. The journal must have room. This
+/// is a separate function, since a function that may hold such a reply clears the room for it on entry, and brief
+/// events need none.
 fn append_long(
     state: &mut ManagerState,
     catalog: &mut Catalog,
@@ -158,7 +160,7 @@ fn append_long(
     Ok(reply)
 }
 
-/// Takes the newest event back: it is taken out of the journal, and then its rows are put back, newest first.
+/// Takes the newest event back: takes its group out of the journal, and then puts its records back, newest first.
 fn take_newest_back(state: &mut ManagerState, catalog: &Catalog, journal: &mut Journal)
     requires kept { AreInStep state.old catalog.now journal.old }
     requires some { 0 < length (groups_in state.old journal.old) }
@@ -173,8 +175,7 @@ fn take_newest_back(state: &mut ManagerState, catalog: &Catalog, journal: &mut J
     state.undo();
 }
 
-/// Takes all events behind the first so many back, newest first, so that each is undone in the state that
-/// it led to.
+/// Takes back all events but the first `mark`, newest first, so that each is undone in the state that it led to.
 pub(crate) fn rewind_to(
     state: &mut ManagerState,
     catalog: &Catalog,

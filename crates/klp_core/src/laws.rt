@@ -1,4 +1,4 @@
-//! What is proved of what a manager keeps. A function here does nothing: its contract is the law.
+//! Laws about what a manager keeps. A function here does nothing: its contract is the law.
 ghost use Rattle.std.specs.Prelude.{◌≡◌, ◌↔◌, true, false, is_ok, Some, Err, List, [], ◌∷◌, ◌++◌, count_by};
 ghost use Rattle.klp_types.specs.Setting.{Setting};
 ghost use Rattle.klp_types.specs.declared.version.Transition.{Transition};
@@ -21,9 +21,9 @@ ghost use Rattle.klp_core.specs.Withdrawal.{GoesOn, LeavesNoTrace};
 
 use klp_model::round_trip::{gone_at_the_end, only_shadow_events_outside};
 
-/// Each function of a patch that names a site is in the object of that site, where the catalog was assembled over the
-/// names of the image, as `Manager::catalog` promises of every manager. The laws of what tasks run (`klp_model`) ask
-/// for it, since nothing else gives it (docs/DECISIONS.md, "The object of a function").
+/// Each function of a patch that names a site is in the object of that site. The catalog must have the image's names,
+/// as `Manager::catalog` promises of every manager. The laws of what tasks run (`klp_model`) need this, and nothing
+/// else gives it (docs/DECISIONS.md, "The object of a function").
 pub fn functions_are_in_their_objects()
     ensures { (managed : Managed) → managed.catalog.names ≡ names_of managed.image.objects
         → IsInPlace (setting_of managed) }
@@ -31,9 +31,9 @@ pub fn functions_are_in_their_objects()
     klp_catalog::laws::sites_lie_in_their_objects();
 }
 
-/// A patch that is gone again has left no trace between two managers, whatever calls were made between
-/// them: it is enough that the later one goes on from the earlier one, in the same setting. What was taken
-/// back meanwhile, and how often callbacks ran, makes no difference.
+/// Let a later manager go on from an earlier one in the same setting. Then a patch that isn't installed in the later
+/// one has left no trace between them, whatever calls were made in between. Events that were taken back, and counts of
+/// runs, make no difference.
 pub fn what_is_withdrawn_leaves_no_trace()
     ensures { (earlier later : Journaled) → IsWellFormed earlier → IsWellFormed later → GoesOn earlier later
         → setting_of later.managed ≡ setting_of earlier.managed → LeavesNoTrace earlier later }
@@ -42,15 +42,15 @@ pub fn what_is_withdrawn_leaves_no_trace()
     only_shadow_events_outside();
 }
 
-/// No callback runs at an event for which `may_run_some` is false: so it changes no count of runs, and a rewind of it
-/// gives all back.
+/// An event for which `may_run_some` is false runs no callback. So it changes no count of runs, and a rewind of it
+/// restores everything.
 pub fn what_may_not_run_does_not()
     ensures { (setting : Setting) (state : State) (event : Event) → may_run_some setting state event ≡ false
         → callbacks_of setting state event ≡ [] }
 {}
 
-/// What one more event leaves behind others is what all of them leave: so a call that takes them one by one
-/// can tell what its whole list comes to.
+/// Taking a list of events and then one more leaves the same as taking the longer list. So a call that takes events one
+/// by one can have a clause over its whole list.
 pub fn events_go_on_where_they_end()
     ensures { (managed : Managed) (events : List Event) (event : Event)
         → after_event (after_events managed events) event ≡ after_events managed (events ++ event ∷ []) }
@@ -58,15 +58,16 @@ pub fn events_go_on_where_they_end()
     klp_catalog::laws::runs_add_up();
 }
 
-/// A poll that doesn't complete the transition answers how many tasks lag then, and these are known before it: those
-/// that hold the transition up, and those that wait awake. So what holds a task is what a poll goes by.
+/// A poll that doesn't complete the transition replies with the number of tasks that still lag. `holders` gives the
+/// same number before the poll: the tasks that block the transition, and those that wait awake. So `holders` and a poll
+/// agree on what keeps a task.
 pub fn a_poll_tells_how_many_are_left()
     ensures { (setting : Setting) (state : State) (move : Transition) → state.moving ≡ Some move
         → pending setting state move ≡ count_by is_left (holders setting state) }
 {}
 
-/// The journal is told as full exactly where it has no room and nothing else refuses the event: no rule of the
-/// events refuses one so.
+/// An event is refused with `JournalFull` exactly if the journal has no room and nothing else refuses the event. No
+/// rule of the events themselves gives `JournalFull`.
 pub fn the_journal_alone_is_full()
     ensures { (setting : Setting) (state : State) (groups : List Group) (event : Event)
         → (answer_in setting state groups event ≡ Err JournalFull)

@@ -1,5 +1,5 @@
-//! What one that owns a manager without naming it asks of it. Manager owns boxes, and a struct that owns one by
-//! name can't be stated with a bound of its own beside; this trait is what stands in between.
+//! A trait for the calls of a manager, for owners that don't name the type. A manager owns boxes, and a struct that
+//! owns one by name can't have a bound of its own besides; so such structs own a `Machine`.
 ghost use Rattle.std.specs.Prelude.{◌≡◌, ◌<◌, ◌≤◌, length, option_map, option_and_then, slice_get, IfOk, IfErr};
 ghost use Rattle.klp_types.specs.declared.limits.TheConstants.{MAX_GROUPS, MAX_SITES};
 ghost use Rattle.klp_types.specs.declared.task.Task.{Task as AnyTask};
@@ -23,23 +23,23 @@ use klp_types::{ObjId, PatchId, Site, SiteRow, TaskId};
 pub trait Machine {
     ghost use Rattle.klp_core.specs.Journaled.{Journaled};
 
-    /// What contracts see of it.
+    /// The machine as contracts see it.
     ghost journaled: { Self → Journaled };
 
-    /// [`Manager::apply`].
+    /// Takes one event, as [`Manager::apply`] does.
     fn apply(&mut self, event: Event) -> Result<Reply, Refusal>
         requires room { length (journaled self.old).groups ≤ MAX_GROUPS }
         ensures taken { IsTaken (journaled self.old) (journaled self.new) event result }
         ensures setting { setting_of (journaled self.new).managed ≡ setting_of (journaled self.old).managed }
         ensures well_formed { IsWellFormed (journaled self.new) };
 
-    /// [`Manager::mark`].
+    /// Returns how many accepted events the journal has, as [`Manager::mark`] does.
     fn mark(&self) -> u32
         ensures mark { result ≡ length (journaled self.now).groups }
         ensures limit { result ≤ MAX_GROUPS }
         ensures well_formed { IsWellFormed (journaled self.now) };
 
-    /// [`Manager::rewind`].
+    /// Takes back all events but the first `mark`, as [`Manager::rewind`] does.
     fn rewind(&mut self, mark: u32) -> Result<(), BadMark>
         requires room { length (journaled self.old).groups ≤ MAX_GROUPS }
         ensures rewound { IfOk result (λ _. IsRewound (journaled self.old) (journaled self.new) mark) }
@@ -47,44 +47,45 @@ pub trait Machine {
         ensures setting { setting_of (journaled self.new).managed ≡ setting_of (journaled self.old).managed }
         ensures well_formed { IsWellFormed (journaled self.new) };
 
-    /// [`Manager::sites`].
+    /// Returns how many sites the image has, as [`Manager::sites`] does.
     fn sites(&self) -> usize
         ensures count { result ≡ site_count (journaled self.now).managed.image }
         ensures limit { result ≤ MAX_SITES };
 
-    /// [`Manager::row`].
+    /// Returns the two newest entries of a site with their addresses, as [`Manager::row`] does.
     fn row(&self, site: Site) -> Option<SiteRow>
         ensures { result ≡ row_of (setting_of (journaled self.now).managed)
             (journaled self.now).managed.state site };
 
-    /// [`Manager::patch_state`].
+    /// Returns the patch state of a task, as [`Manager::patch_state`] does.
     fn patch_state(&self, task: TaskId) -> Option<i8>
         ensures { result ≡ option_map (λ (t : AnyTask). t.state)
             (task_at (journaled self.now).managed.state.tasks task) };
 
-    /// [`Manager::in_transition`].
+    /// Returns the patch in transition, or None, as [`Manager::in_transition`] does.
     fn in_transition(&self) -> Option<PatchId>
         ensures { result ≡ moving_patch (journaled self.now).managed.state.moving };
 
-    /// Whether a patch is a cumulative one, which replaces all older ones; one that isn't there isn't.
+    /// Whether a patch is cumulative, so that it replaces all older ones. False for a patch that the catalog doesn't
+    /// have.
     fn is_cumulative(&self, patch: PatchId) -> bool
         ensures { result ≡ replaces (setting_of (journaled self.now).managed) patch };
 
-    /// [`Manager::functions`].
+    /// Returns how many functions a patch has, as [`Manager::functions`] does.
     fn functions(&self, patch: PatchId) -> usize
         ensures { result ≡ length (functions_of (setting_of (journaled self.now).managed) patch) };
 
-    /// [`Manager::site_of`].
+    /// Returns the site that a patch's function replaces, as [`Manager::site_of`] does.
     fn site_of(&self, patch: PatchId, number: usize) -> Option<Site>
         ensures { result ≡ option_and_then (λ (f : Function). f.site) (slice_get
             (functions_of (setting_of (journaled self.now).managed) patch) number) };
 
-    /// [`Manager::first_site`].
+    /// Returns the site of an object's first symbol, as [`Manager::first_site`] does.
     fn first_site(&self, object: ObjId) -> usize
         ensures site { result ≡ first_site (journaled self.now).managed.image.objects object }
         ensures limit { result ≤ MAX_SITES };
 
-    /// [`Manager::sites_in`].
+    /// Returns how many sites an object has, as [`Manager::sites_in`] does.
     fn sites_in(&self, object: ObjId) -> usize
         ensures count { result ≡ sites_in (journaled self.now).managed.image.objects object }
         ensures limit { result ≤ MAX_SITES };

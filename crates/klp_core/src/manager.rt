@@ -15,7 +15,7 @@ ghost use Rattle.klp_core.specs.Withdrawal.{LeavesNoTrace};
 
 use crate::boot::parts_over;
 use crate::fault::{BadMark, BootFault};
-use crate::journal::{Unasked, rewind_to, take_and_append, take_unasked};
+use crate::journal::{DroppedReply, rewind_to, take_and_append, take_without_reply};
 use crate::laws::what_is_withdrawn_leaves_no_trace;
 use klp_catalog::Catalog;
 use klp_journal::Journal;
@@ -26,11 +26,10 @@ use klp_text::Image;
 use std::alloc::Global;
 use std::marker::Model;
 
-/// The live patching manager: the image with its text, the catalog with its patches, which of them are
-/// installed and in transition, the tasks, the shadow variables, and a journal of the events that were
-/// accepted, by which they can be taken back. Contracts see the image, the catalog and the state; the
-/// setting of the definitions is computed from these, so it can't disagree with them (docs/DECISIONS.md,
-/// "The model of a manager").
+/// The live patching manager. It has the image with its text, the catalog with its patches, which of these are
+/// installed and in transition, the tasks, the shadow variables, and a journal of the accepted events, by which they
+/// can be taken back. Contracts see the image, the catalog and the state, and compute the setting of the definitions
+/// from these, so that it can't disagree with them (docs/DECISIONS.md, "The model of a manager").
 #[derive(Drop)]
 pub struct Manager {
     pub(crate) state: ManagerState,
@@ -55,13 +54,12 @@ impl Model for Manager {
 }
 
 impl Manager {
-    /// Boots a manager over an image, its modules and a catalog, all as they were made: `vmlinux` alone is
-    /// loaded, nothing is installed, there is no task and no shadow variable, and no event to take back.
-    /// The three are kept as they come. All room that events need is taken here, so no later call can fail
-    /// for want of memory (docs/DECISIONS.md, "Memory after boot").
+    /// Boots a manager over an image, its modules and a catalog, all as they were made. Then `vmlinux` alone is loaded,
+    /// no patch is installed, and there are no tasks, no shadow variables and no event to take back. Allocates all
+    /// memory that events need, so no later call can fail for want of memory (docs/DECISIONS.md, "Memory after boot").
     ///
-    /// They don't match where they differ in how many objects there are or in how many symbols one of them
-    /// has; that their names are the same too is the caller's to know. The three are dropped on a fault.
+    /// Returns `Mismatch` if the three don't have the same number of objects, or of symbols in each. That their names
+    /// are the same is for the caller to know. The three are dropped on a fault.
     pub fn boot(
         alloc: Global,
         image: Image,
@@ -91,26 +89,27 @@ impl Manager {
         })
     }
 
-    /// Takes one event: one atomic step. It costs as much as the functions and callbacks of its own
-    /// patch and the tasks that it looks at, or as a change of the shadow variables. A module that comes
-    /// or goes costs as much as what installed patches have for it. A cumulative patch looks at every site,
-    /// when its transition starts and when it ends, and takes all older patches out.
+    /// Takes one event, as one atomic step. The cost grows with the functions and callbacks of the event's patch and
+    /// the tasks that it looks at, or with a change of the shadow variables. Loading or unloading a module costs as
+    /// much as what the installed patches have for it. A cumulative patch looks at every site, when its transition
+    /// starts and when it completes, and takes out all older patches.
     ///
-    /// An accepted event is appended to the journal, at the cost of the rows that it changed. Where the
-    /// journal has no room for another event, one that nothing else refuses is refused.
+    /// An accepted event is appended to the journal, at the cost of the rows that it changed. If the journal has no
+    /// room for another event, an event that nothing else refuses is refused with `JournalFull`.
     pub fn apply(&mut self, event: Event) -> Result<Reply, Refusal>
         ensures taken { IsTaken self.old self.new event result }
         ensures counts { IfOk result
             (λ reply. AreCounted self.old.managed.catalog self.new.managed.catalog
             (callbacks_of (setting_of self.old.managed) self.old.managed.state event)) }
-        // runs of callbacks change no more than their counts, so what is proved of a setting goes on
+        // callbacks that run change only their counts, so what is proved of the setting still holds
         ensures setting { setting_of self.new.managed ≡ setting_of self.old.managed }
         ensures well_formed { IsWellFormed self.new }
     {
         self.apply_lent(&event)
     }
 
-    /// The same of an event that is lent, and so not copied, though it has room for the frames of a sleeper.
+    /// Like [`Manager::apply`], for an event that is borrowed. This saves copying the event, which is large, since it
+    /// has room for the frames of a sleeper.
     #[inline(always)]
     pub fn apply_lent(&mut self, event: &Event) -> Result<Reply, Refusal>
         ensures taken { IsTaken self.old self.new event.now result }
@@ -124,9 +123,9 @@ impl Manager {
         take_and_append(&mut self.state, &mut self.catalog, &mut self.journal, event)
     }
 
-    /// The same of an event whose reply nobody asks for: none is made, and it is known to contracts alone.
+    /// Like [`Manager::apply`], for a caller that needs no reply. No reply is made then, and only contracts know it.
     #[inline(always)]
-    pub fn apply_unasked(&mut self, event: &Event) -> Result<Unasked, Refusal>
+    pub fn apply_without_reply(&mut self, event: &Event) -> Result<DroppedReply, Refusal>
         ensures taken { IsTaken self.old self.new event.now result }
         ensures counts { IfOk result
             (λ reply. AreCounted self.old.managed.catalog self.new.managed.catalog
@@ -135,12 +134,11 @@ impl Manager {
         ensures well_formed { IsWellFormed self.new }
     {
         klp_catalog::laws::counts_grow_by_runs();
-        take_unasked(&mut self.state, &mut self.catalog, &mut self.journal, event)
+        take_without_reply(&mut self.state, &mut self.catalog, &mut self.journal, event)
     }
 
-    /// Takes events in order, and answers how many of them were accepted and how many refused. A refused
-    /// event leaves everything as it was, and the next one is taken. It is more than a loop over `apply`,
-    /// since its clauses are of the whole list.
+    /// Takes events in order. Returns how many were accepted and how many refused. A refused event changes nothing, and
+    /// the next one is taken. A loop over `apply` would not have the clauses over the whole list.
     pub fn run(&mut self, events: &[Event]) -> (u64, u64)
         ensures taken { AreTaken self.old self.new events.now result }
         ensures withdrawn { LeavesNoTrace self.old self.new }
@@ -154,7 +152,7 @@ impl Manager {
         let mut accepted = 0;
         let mut refused = 0;
         for event in events {
-            match self.apply_unasked(event) {
+            match self.apply_without_reply(event) {
                 Ok(_) => accepted += 1,
                 Err(_) => refused += 1,
             }
@@ -162,8 +160,8 @@ impl Manager {
         (accepted, refused)
     }
 
-    /// How many accepted events are in the journal: those since the manager was booted or sealed that
-    /// weren't taken back. It is what `rewind` is given to come back to this state. The cost is constant.
+    /// Returns how many accepted events the journal has: those since the manager was booted or sealed that weren't
+    /// taken back. Passed to `rewind`, it brings this state back. The cost is constant.
     pub fn mark(&self) -> u32
         ensures mark { result ≡ length self.now.groups }
         ensures limit { result ≤ MAX_GROUPS }
@@ -172,10 +170,10 @@ impl Manager {
         self.journal.mark()
     }
 
-    /// Takes all events back but for the first so many, newest first: text, hooks, function stacks, system
-    /// states, shadow variables and tasks are again what they were when those had been accepted. No
-    /// callback runs, since what callbacks did is rows like all else, and their counts stay. It costs as
-    /// much as the rows that it puts back.
+    /// Takes back all events but the first `mark`, newest first. Text, hooks, function stacks, system states, shadow
+    /// variables and tasks are then as they were after those `mark` events. No callback runs, since what callbacks did
+    /// is in rows like all else, and the counts of their runs stay. The cost grows with the number of rows that are put
+    /// back. Returns `BadMark` if the journal has fewer than `mark` events.
     pub fn rewind(&mut self, mark: u32) -> Result<(), BadMark>
         ensures rewound { IfOk result (λ _. (mark ≤ length self.old.groups) × IsRewound self.old self.new mark) }
         ensures bad_mark { IfErr result (λ _. length self.old.groups < mark) }
@@ -190,9 +188,8 @@ impl Manager {
         Ok(())
     }
 
-    /// Empties the journal: no event can be taken back any more, and what is now is what events are taken
-    /// back to. It is the way on where the journal is full. It costs at most as much as the records that
-    /// are let go.
+    /// Empties the journal, so that no earlier event can be taken back, and the present state is the base. Use it to go
+    /// on when the journal is full. The cost is at most that of the records that are dropped.
     pub fn seal(&mut self)
         ensures sealed { self.new ≡ record { managed = self.old.managed; base = self.old.managed.state; groups = [] } }
         ensures well_formed { IsWellFormed self.new }
@@ -200,8 +197,8 @@ impl Manager {
         self.journal.clear(&mut self.state.log);
     }
 
-    /// How many more records the journal has room for, at a constant cost. An event needs as many as one
-    /// event may log, whatever it changes.
+    /// Returns how many more records the journal has room for. The cost is constant. Any event needs room for as many
+    /// records as one event may log, however few it will log.
     pub fn records_free(&self) -> u32
         ensures value { result ≡ records_free self.now.groups }
         ensures limit { records_in self.now.groups ≤ MAX_JOURNAL_RECORDS }

@@ -1,6 +1,6 @@
-//! What a manager shows of its state. Each answer is by one definition of the state, and no call changes
-//! anything.
-ghost use Rattle.std.specs.Prelude.{◌≡◌, ◌≤◌, ◌==◌, ◌&&◌, length, None, Some, is_some, option_map, option_and_then, if◌then◌else◌};
+//! What a manager shows of its state. Each answer is a definition applied to the state, and no call changes anything.
+ghost use Rattle.std.specs.Prelude.{◌≡◌, ◌≤◌, ◌==◌, ◌&&◌, length, None, Some, is_some, option_map, option_and_then};
+ghost use Rattle.std.specs.Prelude.{if◌then◌else◌};
 ghost use Rattle.std.specs.List.{list_any};
 ghost use Rattle.klp_types.specs.declared.task.Task.{Task as AnyTask};
 ghost use Rattle.klp_types.specs.declared.limits.TheConstants.{MAX_TASKS};
@@ -33,8 +33,8 @@ use klp_types::{
 };
 
 impl Manager {
-    /// The text of an object, as a processor would run it: `None` where the object isn't loaded. It is
-    /// lent, since a text may have 64 KiB.
+    /// Returns the text of an object as a processor would run it, or None if the object isn't loaded. The text is
+    /// borrowed, since it may have 64 KiB.
     pub fn text(&self, object: ObjId) -> Option<TextView<'_>>
         ensures { result ≡ text_of (setting_of self.now.managed) self.now.managed.state object }
     {
@@ -45,23 +45,24 @@ impl Manager {
         }
     }
 
-    /// The function stack of a site, newest first; empty where its object isn't loaded, and where there is
-    /// no such site. The entries of an object that isn't loaded are gone, so the two are one case.
+    /// Returns the function stack of a site, newest entry first. It is empty if there is no such site, and also if the
+    /// site's object isn't loaded, since such an object has no entries.
     pub fn stack(&self, site: Site) -> ArrayVec<Entry, MAX_PATCHES>
         ensures { result.items ≡ entries_of (setting_of self.now.managed) self.now.managed.state site }
     {
         self.state.sites.stacks().entries(site)
     }
 
-    /// The installed patches, oldest first, as a copy, so that one may go over them while events are taken.
+    /// Returns a copy of the list of installed patches, oldest first, so that one can go over it while events are
+    /// taken.
     pub fn installed(&self) -> ArrayVec<PatchId, MAX_PATCHES>
         ensures { result.items ≡ installed_patches self.now.managed.state }
     {
         self.state.world.installed_list()
     }
 
-    /// What the `enabled` file of a patch reads: no for one that moves out, as soon as it does. `None`
-    /// where the patch isn't installed, since the file isn't there then.
+    /// Returns what the `enabled` file of a patch reads: false from the moment when the patch begins to leave. None if
+    /// the patch isn't installed, since it has no such file then.
     pub fn enabled(&self, patch: PatchId) -> Option<bool>
         ensures { result ≡ (if is_installed self.now.managed.state patch then Some
             (enabled_value self.now.managed.state patch) else None) }
@@ -72,7 +73,7 @@ impl Manager {
         Some(self.state.enabled_value(patch))
     }
 
-    /// Whether the patch is in transition, as its `transition` file reads. `None` where it isn't installed.
+    /// Whether the patch is in transition, as its `transition` file reads. None if the patch isn't installed.
     pub fn transition(&self, patch: PatchId) -> Option<bool>
         ensures { result ≡ (if is_installed self.now.managed.state patch then Some
             (moves self.now.managed.state.moving patch) else None) }
@@ -86,7 +87,8 @@ impl Manager {
         }
     }
 
-    /// The state of a task, -1 where nothing moves, if the task is there (`/proc/<pid>/patch_state`).
+    /// Returns the patch state of a task, -1 without a transition (`/proc/<pid>/patch_state`). None if there is no such
+    /// task.
     pub fn patch_state(&self, task: TaskId) -> Option<i8>
         ensures { result ≡ option_map (λ (t : AnyTask). t.state) (task_at self.now.managed.state.tasks task) }
     {
@@ -94,7 +96,7 @@ impl Manager {
         Some(row.state.number())
     }
 
-    /// Where a task is, in user space, in the kernel or asleep, if it is there.
+    /// Returns the mode of a task: in user space, in the kernel, or asleep. None if there is no such task.
     pub fn mode(&self, task: TaskId) -> Option<Mode>
         ensures mode { result ≡ option_map (λ (t : AnyTask). t.mode) (task_at self.now.managed.state.tasks task) }
         ensures rows { length self.now.managed.state.tasks ≡ MAX_TASKS }
@@ -103,8 +105,8 @@ impl Manager {
         Some(row.mode)
     }
 
-    /// What a task is inside of, outermost first: the frames of one that sleeps. Any other has none, since what it runs
-    /// isn't known, and a number without a task has none either.
+    /// Returns the versions that a sleeping task is inside of, outermost first. Empty for any other task, since what it
+    /// runs isn't known, and for a number without a task.
     pub fn frames(&self, task: TaskId) -> Frames
         ensures { result ≡ frames_of (task_at self.now.managed.state.tasks task) }
     {
@@ -114,22 +116,22 @@ impl Manager {
         }
     }
 
-    /// The patch in transition with its target, where one moves.
+    /// Returns the patch in transition with its target, or None.
     pub fn moving(&self) -> Option<Transition>
         ensures { result ≡ self.now.managed.state.moving }
     {
         self.state.moving
     }
 
-    /// The object that a version lies in: that of its site, or that of the function of a patch. `None` where
-    /// image or catalog don't have the version.
+    /// Returns the object that a version is in: the object of its site, or of the patch's function. None if neither the
+    /// image nor the catalog has the version.
     pub fn object_of(&self, version: Version) -> Option<ObjId>
         ensures { result ≡ object_of_version (setting_of self.now.managed) version }
     {
         self.state.object_of(&self.catalog, version)
     }
 
-    /// The value of a shadow variable, if it is there (`klp_shadow_get`). To look at it is no event, as
+    /// Returns the value of a shadow variable, or None if it doesn't exist (`klp_shadow_get`). This is no event, since
     /// nothing changes.
     pub fn shadow_get(&self, key: ShadowKey) -> Option<ShadowValue>
         ensures { result ≡ variable self.now.managed.state.world key }
@@ -137,11 +139,11 @@ impl Manager {
         self.state.world.get(key)
     }
 
-    /// The value of a system state of an installed patch. `None` where the patch isn't installed or doesn't
-    /// name the state: a kernel gives no data then either (`klp_get_state`).
+    /// Returns the value of a system state of an installed patch. None if the patch isn't installed or doesn't name the
+    /// state, as a kernel returns no data then (`klp_get_state`).
     pub fn state_of(&self, patch: PatchId, id: u64) -> Option<u64>
         ensures value { result ≡ state_value self.now.managed.state.world patch id }
-        // exactly the states that the catalog gives installed patches are there
+        // exactly the states exist that the catalog gives installed patches
         ensures there { is_some result
             ≡ (is_installed self.now.managed.state patch
             && list_any (λ own. own == id) (state_ids (setting_of self.now.managed) patch)) }
@@ -150,8 +152,8 @@ impl Manager {
         self.state.world.value(patch, id)
     }
 
-    /// How often a callback ran: that of a patch for an object, of a kind. `None` where the patch has none.
-    /// The greatest number stays, and `rewind` leaves the count, since what ran did run.
+    /// Returns how often a callback of a patch ran, by its object and its kind, or None if the patch has no such
+    /// callback. The count stops at the greatest number of 64 bits. `rewind` leaves it, since those runs did happen.
     pub fn callback_runs(&self, patch: PatchId, object: ObjId, which: Which) -> Option<u64>
         ensures runs { result ≡ callback_runs self.now.managed.catalog patch object which }
         ensures there { is_some result
@@ -161,9 +163,10 @@ impl Manager {
         self.catalog.callback_runs(patch, object, which)
     }
 
-    /// Whether an event may run a callback, were it taken now: nothing refuses it, and one of the callbacks is there that
-    /// it might run. One that may run none runs none (`laws::what_may_not_run_does_not`). It costs as much as the objects
-    /// of the event's patch, or of installed patches for a module, and where a callback is there as much as to refuse it.
+    /// Whether an event taken now might run a callback: nothing refuses it, and one of the callbacks that it might run
+    /// exists. If this is false, it runs none (`laws::what_may_not_run_does_not`). The cost grows with the objects of
+    /// the event's patch, or of all installed patches for a module. If such a callback exists, the event is also
+    /// checked for refusals.
     pub fn may_run(&self, event: &Event) -> bool
         ensures { result ≡ may_run_some (setting_of self.now.managed) self.now.managed.state event.now }
     {
@@ -171,8 +174,8 @@ impl Manager {
             && refused(&self.state, &self.catalog, event).is_none()
     }
 
-    /// The catalog that the manager was booted with. Its callbacks have run since, so their counts are
-    /// those of now. It is lent for reading, since a callback that ran without an event couldn't be undone.
+    /// Returns the catalog that the manager was booted with, with the present counts of runs. It is borrowed for
+    /// reading only, since a callback that ran outside of an event couldn't be undone.
     pub fn catalog(&self) -> &Catalog
         ensures catalog { result.now ≡ self.now.managed.catalog }
         // so its sites are those of the image
@@ -181,8 +184,8 @@ impl Manager {
         &self.catalog
     }
 
-    /// The names of the image's objects and symbols, and which objects are loaded: what a line's names are
-    /// resolved by.
+    /// Returns the names of the image's objects and symbols, and which objects are loaded. The names in console lines
+    /// are resolved with it.
     pub fn modules(&self) -> &Modules
         ensures { result.now
             ≡ record { names = names_of self.now.managed.image.objects; loaded = self.now.managed.state.loaded } }

@@ -1,5 +1,4 @@
-//! What a call at a hooked site needs to know, and what a task runs there (the kernel's
-//! `klp_ftrace_handler`).
+//! What a call at a hooked site needs to know, and which version a task runs there (the kernel's `klp_ftrace_handler`).
 ghost use Rattle.std.specs.Prelude.{◌≡◌, ◌≤◌, option_map, option_and_then, length, slice_get, unwrap_or};
 ghost use Rattle.std.specs.Option.{option_to_list};
 ghost use Rattle.klp_types.specs.declared.limits.TheConstants.{MAX_SITES};
@@ -22,7 +21,8 @@ use klp_types::{
     Version,
 };
 
-/// The patch in transition, without its target: a call passes over its entry by the task's state alone.
+/// Returns the patch in transition without its target. A call needs only the patch: whether it passes over the patch's
+/// entry depends on the task's state.
 fn patch_of(moving: Option<Transition>) -> Option<PatchId>
     ensures { result ≡ moving_patch moving }
 {
@@ -32,7 +32,7 @@ fn patch_of(moving: Option<Transition>) -> Option<PatchId>
     }
 }
 
-/// How many symbols an object of an image has.
+/// Returns how many symbols an object of an image has, 0 if there is no such object.
 fn symbols_of(image: &Image, object: ObjId) -> usize
     ensures count { result ≡ sites_in image.now.image.objects object }
     ensures limit { result ≤ MAX_SITES }
@@ -41,7 +41,7 @@ fn symbols_of(image: &Image, object: ObjId) -> usize
     usize::from(image.symbols(object).unwrap_or(0))
 }
 
-/// The site of an object's first symbol, which is behind those of all objects before it.
+/// Returns the site of an object's first symbol, which comes right after the sites of all objects before it.
 fn first_site_of(image: &Image, object: ObjId) -> usize
     ensures site { result ≡ first_site image.now.image.objects object }
     ensures limit { result ≤ MAX_SITES }
@@ -55,7 +55,7 @@ fn first_site_of(image: &Image, object: ObjId) -> usize
 }
 
 impl Manager {
-    /// How many sites the image has, loaded or not: one for each symbol.
+    /// Returns how many sites the image has, loaded or not: one for each symbol.
     pub fn sites(&self) -> usize
         ensures count { result ≡ site_count self.now.managed.image }
         ensures limit { result ≤ MAX_SITES }
@@ -63,8 +63,8 @@ impl Manager {
         self.state.sites.sites()
     }
 
-    /// The two newest entries of a site with their addresses: what a handler would have at hand, so that no
-    /// call walks over the stack. `None` where the site isn't one of a loaded object.
+    /// Returns the two newest entries of a site with their addresses: what a handler would have at hand, so that a call
+    /// doesn't walk over the stack. None if the site isn't one of a loaded object.
     pub fn row(&self, site: Site) -> Option<SiteRow>
         ensures { result ≡ row_of (setting_of self.now.managed) self.now.managed.state site }
     {
@@ -80,22 +80,22 @@ impl Manager {
         })
     }
 
-    /// The patch in transition, if there is one: the rows of its functions' sites say so.
+    /// Returns the patch in transition, or None.
     pub fn in_transition(&self) -> Option<PatchId>
         ensures { result ≡ moving_patch self.now.managed.state.moving }
     {
         patch_of(self.state.moving)
     }
 
-    /// How many functions a patch has, over all of its objects; none where there is no such patch.
+    /// Returns how many functions a patch has, over all of its objects. 0 if there is no such patch.
     pub fn functions(&self, patch: PatchId) -> usize
         ensures { result ≡ length (functions_of (setting_of self.now.managed) patch) }
     {
         self.catalog.functions(patch).len()
     }
 
-    /// The site that a patch's function stands in for, by the function's number over all objects. `None`
-    /// where its object has no such symbol, or the patch no such function.
+    /// Returns the site that a patch's function replaces. `number` counts the patch's functions over all of its
+    /// objects. None if the object has no such symbol, or the patch no such function.
     pub fn site_of(&self, patch: PatchId, number: usize) -> Option<Site>
         ensures { result ≡ option_and_then (λ (f : Function). f.site) (slice_get
             (functions_of (setting_of self.now.managed) patch) number) }
@@ -103,8 +103,8 @@ impl Manager {
         self.catalog.functions(patch).get(number)?.site()
     }
 
-    /// The site of an object's first symbol; those of its other symbols stand behind it in their order. It costs a look at
-    /// each object before it.
+    /// Returns the site of an object's first symbol; its other symbols follow in their order. The cost grows with the
+    /// number of objects before it.
     pub fn first_site(&self, object: ObjId) -> usize
         ensures site { result ≡ first_site self.now.managed.image.objects object }
         ensures limit { result ≤ MAX_SITES }
@@ -112,7 +112,7 @@ impl Manager {
         first_site_of(self.state.sites.image(), object)
     }
 
-    /// How many sites an object has, loaded or not: one for each symbol. One that isn't there has none.
+    /// Returns how many sites an object has, loaded or not: one for each symbol. 0 if there is no such object.
     pub fn sites_in(&self, object: ObjId) -> usize
         ensures count { result ≡ sites_in self.now.managed.image.objects object }
         ensures limit { result ≤ MAX_SITES }
@@ -120,12 +120,12 @@ impl Manager {
         symbols_of(self.state.sites.image(), object)
     }
 
-    /// What a task runs when it calls a site's function: the version and where it begins. `None` where the
-    /// task isn't there, or the site isn't one of a loaded object, since nothing can be called there.
+    /// Returns what a task runs when it calls a site's function: the version and the address where it begins. None if
+    /// there is no such task, or if the site isn't one of a loaded object, since nothing can be called there.
     pub fn pick(&self, task: TaskId, site: Site) -> Option<Target>
         ensures { result ≡ pick (setting_of self.now.managed) self.now.managed.state task site }
     {
-        klp_stack::laws::the_word_is_enough();
+        klp_stack::laws::two_newest_entries_decide();
         let state = self.patch_state(task)?;
         if !self.is_site_loaded(site) {
             return None;
@@ -135,7 +135,7 @@ impl Manager {
         Some(Target { version, address })
     }
 
-    /// Whether a site is one of a loaded object. A site that isn't there is in no object, so it isn't.
+    /// Whether a site belongs to a loaded object. False for a site that doesn't exist.
     fn is_site_loaded(&self, site: Site) -> bool
         ensures { result ≡ is_site_loaded (setting_of self.now.managed) self.now.managed.state site }
     {
@@ -145,7 +145,7 @@ impl Manager {
         }
     }
 
-    /// The two newest entries of a site, and whether the newest one's patch moves.
+    /// Returns the two newest entries of a site, and whether the patch of the newest is in transition.
     fn word(&self, site: Site) -> SiteWord
         ensures { result ≡ word_of (moving_patch self.now.managed.state.moving) (entries_of
             (setting_of self.now.managed) self.now.managed.state site) }
@@ -154,8 +154,8 @@ impl Manager {
         self.state.sites.stacks().word(site, moving)
     }
 
-    /// Where a version begins, if there is such a version: an original behind its entry site, so that it
-    /// doesn't call the handler again.
+    /// Returns the address where a version begins, or None if there is no such version. An original begins behind its
+    /// entry site, so that running it doesn't call the handler again.
     fn begins_at(&self, version: &Version) -> Option<u64>
         ensures { result ≡ address_of (setting_of self.now.managed) version.now }
     {
@@ -173,7 +173,8 @@ impl Manager {
         }
     }
 
-    /// Where a version begins, and 0 where there is none, which no row of a loaded site has.
+    /// Returns the address where a version begins, or 0 if there is no such version. The row of a loaded site has only
+    /// versions that exist.
     fn address(&self, version: Version) -> u64
         ensures { result ≡ unwrap_or (address_of (setting_of self.now.managed) version) 0 }
     {

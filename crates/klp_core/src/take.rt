@@ -11,11 +11,12 @@ use klp_manager_state::{BriefReply, ManagerState};
 use klp_model::{Event, Refusal, Reply};
 use klp_patch_events::{
     coming, coming_refusal, enable, enable_refusal, force, force_refusal, going, going_refusal,
-    poll, poll_refusal, set_enabled, set_refusal,
+    poll, poll_refusal, set_enabled, set_enabled_refusal,
 };
 use klp_task_shadow_events::{shadow, tasks};
 
-/// Whether the reply to an event has neither the frames of a task nor the value of a variable, as most have none.
+/// Whether the reply to an event has neither the frames of a task nor the value of a variable. Most replies have
+/// neither.
 #[inline(always)]
 pub(crate) fn is_brief(event: &Event) -> bool
     ensures { result ≡ is_brief event.now }
@@ -26,7 +27,8 @@ pub(crate) fn is_brief(event: &Event) -> bool
     }
 }
 
-/// Each event that is answered in brief goes to its own step. It is lent, since one has room for the frames of a sleeper.
+/// Takes an event that has a brief reply, by passing it to its own step. The event is borrowed, since it is large: it
+/// has room for the frames of a sleeper.
 pub(crate) fn take_brief(
     state: &mut ManagerState,
     catalog: &mut Catalog,
@@ -58,7 +60,7 @@ pub(crate) fn take_brief(
     }
 }
 
-/// The same of each event whose reply has frames or a value.
+/// Takes an event whose reply has frames or a value, by passing it to its own step.
 pub(crate) fn take_long(
     state: &mut ManagerState,
     catalog: &mut Catalog,
@@ -79,15 +81,15 @@ pub(crate) fn take_long(
     }
 }
 
-/// Why each event is refused, the journal aside, without taking it. To remove shadow variables is never
-/// refused.
+/// Returns why an event would be refused, the journal aside, or None, without taking it. Removals of shadow variables
+/// are never refused.
 pub(crate) fn refused(state: &ManagerState, catalog: &Catalog, event: &Event) -> Option<Refusal>
     requires { Invariant state.now catalog.now }
     ensures { result ≡ refused_in state.now catalog.now event.now }
 {
     match *event {
         Event::Enable(patch) => enable_refusal(state, catalog, patch),
-        Event::SetEnabled(patch, value) => set_refusal(state, catalog, patch, value),
+        Event::SetEnabled(patch, value) => set_enabled_refusal(state, catalog, patch, value),
         Event::Force(patch) => force_refusal(state, catalog, patch),
         Event::Poll => poll_refusal(state, catalog),
         Event::Coming(object) => coming_refusal(state, catalog, object),

@@ -5,8 +5,8 @@ use klp_text::Image;
 use klp_types::ObjId;
 use std::marker::Model;
 
-/// The text of one loaded object, lent by the manager: its symbols in order, each with the bytes that a
-/// processor would run. No event can be taken while it is lent, so the bytes are of one moment.
+/// The text of one loaded object, borrowed from the manager: its symbols in order, each with the bytes that a processor
+/// would run. No event can be taken while it is borrowed, so all bytes are of one moment.
 #[derive(Drop)]
 pub struct TextView<'a> {
     image: &'a Image,
@@ -29,6 +29,7 @@ impl<'a> TextView<'a> {
     ghost use Rattle.std.specs.Prelude.{true, false, slice_index_or};
     ghost use Rattle.klp_core.specs.View.{symbols_at};
 
+    /// Makes the view of an object's text. The object must be loaded.
     pub(crate) fn new(image: &'a Image, object: ObjId) -> TextView<'a>
         requires { slice_index_or image.now.loaded object false ≡ true }
         ensures { result ≡ symbols_at image.now object }
@@ -36,8 +37,8 @@ impl<'a> TextView<'a> {
         TextView { image, object }
     }
 
-    /// How many symbols the object has, in 16 bits as the image counts them (docs/DECISIONS.md, "Symbols of
-    /// a `TextView`").
+    /// Returns how many symbols the object has, in the 16 bits in which the image counts them (docs/DECISIONS.md,
+    /// "Symbols of a `TextView`").
     pub fn len(&self) -> u16
         ensures { result ≡ length self.now }
     {
@@ -47,8 +48,8 @@ impl<'a> TextView<'a> {
         }
     }
 
-    /// A symbol, counted from 0: its name, its address and its bytes. By its number, since several may have
-    /// one name.
+    /// Returns a symbol's name, address and bytes, or None. `number` counts from 0: symbols aren't looked up by name,
+    /// since several may have one name.
     pub fn get(&self, number: u16) -> Option<(&str, u64, &[u8])>
         ensures name { option_map (λ found. found.0.now) result
             ≡ option_map (λ (s : Symbol). s.name) (slice_get self.now number) }

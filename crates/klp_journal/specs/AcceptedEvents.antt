@@ -1,7 +1,7 @@
--- How events are stored: what they are is known to contracts alone.
+-- How events are stored. Only contracts know which events they are.
 use Rattle.klp_journal.specs.declared.journal.StoredEvent.{StoredEvent}
 use Rattle.klp_journal.specs.Journal.{Accepted}
 
--- what an event is stored as
+-- the event that is stored so
 abbrev pub accepted_of : StoredEvent → Accepted
 accepted_of logged = record { event = logged.event.value; reply = logged.reply.value; count = logged.count }

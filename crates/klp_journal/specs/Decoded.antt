@@ -1,4 +1,5 @@
--- Words read backwards. Of words that are no record's these definitions say something as well, but nothing relies on that.
+-- Words read backwards. These definitions also give a result for words that aren't a record's, but nothing relies
+-- on that.
 use Rattle.std.specs.Prelude.{ℕ, zero, suc, ◌-◌, ◌/◌, ◌%◌, ◌==◌, nat_lt, ℤ, pos, negsuc, List, length, map, take, drop, get_or, Option, Some, None, if◌then◌else◌}
 use Rattle.std.specs.List.{flat_map}
 use Rattle.std.specs.Int.{w64, to_le_bytes}
@@ -12,22 +13,22 @@ use Rattle.klp_types.specs.declared.record.Place.{Place}
 use Rattle.klp_types.specs.declared.record.Record.{Record}
 use Rattle.klp_types.specs.declared.record.Record.TheVariants.{TaskRow, NoTaskRow, ShadowVariable, NoShadowVariable, StateValue, StateRow, LoadedFlag, InstalledPatch, StackEntry, HookFlag, Moving, NothingMoving, PinnedFlag}
 
--- the state of a task
+-- the patch state of a word
 abbrev pub state_of : ℕ → ℤ
 state_of zero = negsuc 0
 state_of (suc n) = pos n
 
--- the mode of a task
+-- the mode of a word
 abbrev pub mode_of : ℕ → Mode
 mode_of zero = User
 mode_of (suc zero) = Kernel
 mode_of (suc (suc n)) = Asleep
 
--- a frame
+-- the frame of a word
 abbrev pub frame_of : ℕ → Version
 frame_of word = if nat_lt word 65536 then Original word else New (word / 65536 - 1) (word % 65536)
 
--- a task: its state, its mode and its frames
+-- a task, from the word of its state and mode, and the words of its frames
 abbrev pub task_of : ℕ → List ℕ → Task
 task_of word frames = record { state = state_of (word % 4); mode = mode_of (word / 4); frames = map frame_of frames }
 
@@ -40,11 +41,11 @@ abbrev pub func_of : ℕ → Option ℕ
 func_of zero = None
 func_of (suc func) = Some func
 
--- the word at this place
+-- the word at this index
 abbrev pub word_at : List ℕ → ℕ → ℕ
 word_at body place = get_or body place 0
 
--- a number that a row has, where the words are more than those before it
+-- the number after the first `count` words, or None if there are no more words
 abbrev pub number_behind : ℕ → List ℕ → Option ℕ
 number_behind count body = if length body == count then None else Some (word_at body count)
 
@@ -58,7 +59,7 @@ abbrev pub variable_record : List ℕ → Record
 variable_record body =
     if length body == 2 then NoShadowVariable (record { obj = word_at body 0; id = word_at body 1 }) else ShadowVariable (record { obj = word_at body 0; id = word_at body 1 }) (take (word_at body 2) (bytes_in (drop 3 body)))
 
--- where an entry was and what it did, where it was there
+-- the place and the function that an entry had, or None if it didn't exist
 abbrev pub place_behind : List ℕ → Option Place
 place_behind body =
     if length body == 2 then None else Some (record { index = word_at body 2; func = func_of (word_at body 3) })
@@ -68,7 +69,7 @@ abbrev pub moving_record : List ℕ → Record
 moving_record body =
     if length body == 0 then NothingMoving else Moving (record { patch = word_at body 0; target = word_at body 1 == 1 })
 
--- the record of a kind with these words before its tag
+-- the record of this kind with these words before its tag
 unfoldable pub record_of : ℕ → List ℕ → Record
 record_of kind body =
     if kind == KIND_TASK then task_record body

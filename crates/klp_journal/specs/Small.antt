@@ -5,7 +5,7 @@ use Rattle.klp_types.specs.declared.record.Record.TheVariants.{TaskRow, StackEnt
 use Rattle.klp_journal.specs.declared.small.SmallRecord.{SmallRecord}
 use Rattle.klp_journal.specs.declared.small.SmallRecord.TheVariants.{Entry, Hook, Resting}
 
--- the record that it is
+-- the record that a small one stands for
 abbrev pub row_of : SmallRecord → Record
 row_of (Entry site patch was) = StackEntry site patch was
 row_of (Hook site was) = HookFlag site was

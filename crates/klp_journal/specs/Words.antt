@@ -1,4 +1,4 @@
--- Undo records as words: what a record says of its row, and behind it a tag with its kind and how many words that took.
+-- Undo records as words: what a record says of its row, and after it a tag with its kind and its number of words.
 use Rattle.std.specs.Prelude.{◌≡◌, ℕ, zero, suc, ◌+◌, ◌*◌, ◌/◌, ◌^◌, ◌<◌, ◌≤◌, ℤ, pos, negsuc, Bool, List, [], ◌∷◌, ◌++◌, length, map, take, drop, Option, Some, None, IfSome, if◌then◌else◌}
 use Rattle.std.specs.List.{All, flat_map}
 use Rattle.std.specs.Int.{w64, from_le_bytes}
@@ -18,46 +18,47 @@ use Rattle.klp_types.specs.PatchStates.{IsPatchState}
 abbrev pub flag_word : Bool → ℕ
 flag_word flag = if flag then 1 else 0
 
--- how far a task is: 0 for -1, 1 for 0 and 2 for 1
+-- the word of a patch state: 0 for -1, 1 for 0 and 2 for 1
 abbrev pub state_word : ℤ → ℕ
 state_word (pos n) = suc n
 state_word (negsuc n) = 0
 
--- where a task is
+-- the word of a mode
 abbrev pub mode_word : Mode → ℕ
 mode_word User = 0
 mode_word Kernel = 1
 mode_word Asleep = 2
 
--- how far a task is, and where
+-- the word of a task's patch state and mode
 abbrev pub task_word : Task → ℕ
 task_word task = state_word task.state + 4 * mode_word task.mode
 
--- a frame: an original by its site, and above all sites a new function by its patch and its place there
+-- the word of a frame: an original is its site's number; a new function is above all sites, by its patch and its
+-- number there
 abbrev pub frame_word : Version → ℕ
 frame_word (Original site) = site
 frame_word (New patch func) = 65536 * (patch + 1) + func
 
--- so many words of bytes, eight to a word, the lowest first
+-- this many words of bytes, eight bytes to a word, the lowest byte first
 abbrev pub byte_words : ℕ → List ℕ → List ℕ
 byte_words zero bytes = []
 byte_words (suc more) bytes = from_le_bytes w64 (take 8 bytes) ∷ byte_words more (drop 8 bytes)
 
--- the bytes of a value, as many words as they begin, the last one filled with zeros
+-- the bytes of a value, in as many words as they need; the last word is filled up with zeros
 abbrev pub bytes_as_words : List ℕ → List ℕ
 bytes_as_words bytes = byte_words ((length bytes + 7) / 8) (padded 64 0 bytes)
 
--- what an entry does: 0 for a nop, else the function + 1
+-- what an entry does: 0 for a nop, else the function plus 1
 abbrev pub func_word : Option ℕ → ℕ
 func_word None = 0
 func_word (Some func) = suc func
 
--- the number that a row has, where it is there
+-- the word of a number, if there is one
 abbrev pub number_words : Option ℕ → List ℕ
 number_words None = []
 number_words (Some number) = number ∷ []
 
--- where an entry was and what it did, where it was there
+-- the place and the function that an entry had, if it existed
 abbrev pub place_words : Option Place → List ℕ
 place_words None = []
 place_words (Some place) = place.index ∷ func_word place.func ∷ []
@@ -78,7 +79,7 @@ words_before_tag (Moving was) = was.patch ∷ flag_word was.target ∷ []
 words_before_tag NothingMoving = []
 words_before_tag (PinnedFlag patch was) = patch ∷ flag_word was ∷ []
 
--- a row that wasn't there has the kind that it has when it is there
+-- the kind of a record; it is the same whether the row existed or not
 abbrev pub kind_of : Record → ℕ
 kind_of (TaskRow task was) = KIND_TASK
 kind_of (NoTaskRow task) = KIND_TASK
@@ -94,25 +95,25 @@ kind_of (Moving was) = KIND_TRANSITION
 kind_of NothingMoving = KIND_TRANSITION
 kind_of (PinnedFlag patch was) = KIND_PINNED
 
--- a record: its words, and then the tag, from which it is read backwards
+-- the words of a record: what it says, and then the tag, from which it is read backwards
 abbrev pub words_of : Record → List ℕ
 words_of row = words_before_tag row ++ (kind_of row + 256 * length (words_before_tag row)) ∷ []
 
--- records one behind another, oldest first
+-- the words of records one after another, oldest first
 abbrev pub words_of_all : List Record → List ℕ
 words_of_all rows = flat_map words_of rows
 
--- a number of a row, where it is there, is below the limit
+-- the number, if there is one, is below the limit
 abbrev pub IsBelow : ℕ → Option ℕ → Type 0
 IsBelow limit None = Unit {0}
 IsBelow limit (Some number) = number < limit
 
--- the numbers of a frame are of their types
+-- the numbers of a frame are in the ranges of their types
 abbrev pub IsFrame : Version → Type 0
 IsFrame (Original site) = site < 65536
 IsFrame (New patch func) = (patch < 256) × (func < 65536)
 
--- a task has a state that there is, and at most 32 frames
+-- a task has a possible patch state, and at most 32 frames
 abbrev pub IsTask : Task → Type 0
 IsTask task = IsPatchState task.state × (length task.frames ≤ 32) × All IsFrame task.frames
 
@@ -120,7 +121,7 @@ IsTask task = IsPatchState task.state × (length task.frames ≤ 32) × All IsFr
 abbrev pub IsValue : List ℕ → Type 0
 IsValue bytes = (length bytes ≤ 64) × All (λ b. b < 256) bytes
 
--- the numbers of an entry's place are of their types
+-- the numbers of an entry's place are in the ranges of their types
 abbrev pub IsPlace : Place → Type 0
 IsPlace place = (place.index < 256) × IsBelow 65536 place.func
 
@@ -140,30 +141,30 @@ IsRecord (Moving was) = was.patch < 256
 IsRecord NothingMoving = Unit {0}
 IsRecord (PinnedFlag patch was) = patch < 256
 
--- the state that a word says
+-- the patch state that has this word
 abbrev pub IsStateOf : ℕ → ℤ → Type 0
 IsStateOf word state = (state_word state ≡ word) × IsPatchState state
 
--- the frame that a word is
+-- the frame that has this word
 abbrev pub IsFrameOf : ℕ → Version → Type 0
 IsFrameOf word frame = (frame_word frame ≡ word) × IsFrame frame
 
--- the frames that words are
+-- the frames that have these words
 abbrev pub AreFramesOf : List ℕ → List Version → Type 0
 AreFramesOf words frames = (map frame_word frames ≡ words) × (length frames ≤ 32) × All IsFrame frames
 
--- the task that a word says, with these frames
+-- the task that has this word for its state and mode, and these words of frames
 abbrev pub IsTaskOf : ℕ → List ℕ → Task → Type 0
 IsTaskOf word frames task = (task_word task ≡ word) × (map frame_word task.frames ≡ frames) × IsTask task
 
--- the place that words are
+-- the place that has these words
 abbrev pub IsPlaceOf : List ℕ → Place → Type 0
 IsPlaceOf words place = (place_words (Some place) ≡ words) × IsPlace place
 
--- the value of so many bytes that words are
+-- the value of `count` bytes that has these words
 abbrev pub IsValueOf : ℕ → List ℕ → List ℕ → Type 0
 IsValueOf count words bytes = (length bytes ≡ count) × (bytes_as_words bytes ≡ words) × IsValue bytes
 
--- the record is one of this kind, and these are its words before the tag
+-- the record is of this kind, and has these words before its tag
 abbrev pub IsBody : ℕ → List ℕ → Record → Type 0
 IsBody kind words row = (kind_of row ≡ kind) × (words_before_tag row ≡ words) × IsRecord row

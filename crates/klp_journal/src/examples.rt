@@ -1,19 +1,19 @@
-//! Worked examples of the words of records, by computation. A function here does nothing: its contract is the
-//! example, so a definition that comes to something else isn't proved.
+//! Worked examples of the words of records. A function here does nothing: its contract is the example, and it is
+//! proved by computing the definition.
 ghost use Rattle.std.specs.Prelude.{◌≡◌, ℕ, negsuc, true, List, [], ◌∷◌, ◌++◌};
 ghost use Rattle.klp_types.specs.declared.task.Mode.TheVariants.{Kernel};
 ghost use Rattle.klp_types.specs.declared.record.Record.{Record};
 ghost use Rattle.klp_types.specs.declared.record.Record.TheVariants.{TaskRow, NoTaskRow, Moving};
 ghost use Rattle.klp_journal.specs.Words.{words_of, IsRecord};
 
-/// Words of records: a tag is a record's kind, and 256 for each word before it.
+/// The words of three records. The last word is the tag: the record's kind, plus 256 for each word before it.
 pub fn words_are_counted_by_their_tags()
     ensures no_task { words_of (NoTaskRow 1) ≡ 1 ∷ 257 ∷ [] }
     ensures task { words_of (TaskRow 1 (record { state = negsuc 0; mode = Kernel; frames = [] })) ≡ 1 ∷ 4 ∷ 513 ∷ [] }
     ensures moving { words_of (Moving (record { patch = 0; target = true })) ≡ 0 ∷ 1 ∷ 521 ∷ [] }
 {}
 
-/// A list ends with no record where its tag is one and its words aren't.
+/// A list may end with a valid tag and still not end with a record, if the words before the tag are wrong.
 pub fn words_of_no_record_end_with_none()
     ensures { (older : List ℕ) (row : Record) → IsRecord row → 5 ∷ 513 ∷ [] ≡ older ++ words_of row → ⊥ }
 {}

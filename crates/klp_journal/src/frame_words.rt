@@ -1,20 +1,21 @@
-//! The frames of a task as words, for a table of tasks that keeps them. A frame's word is put together from its parts, and
-//! a task that sleeps through a transition is logged when it starts, when the task is switched, and when it ends: so its
-//! words are made once, when it falls asleep, and then copied and compared as they are.
+//! The frames of a task as words, for a table of tasks that stores them. Making a frame's word takes a few steps,
+//! and a task that sleeps through a transition is logged three times: when the transition starts, when the task is
+//! switched, and when the transition ends. So the words are made once, when the task falls asleep, and then only
+//! copied and compared.
 ghost use Rattle.std.specs.Prelude.{◌≡◌, ◌≤◌, [], length, map};
 ghost use Rattle.std.specs.List.{All};
 ghost use Rattle.klp_journal.specs.Words.{frame_word, IsFrame};
 
-use crate::write::write_frames;
+use crate::write_words::write_frames;
 use klp_types::{Frames, MAX_FRAMES};
 use std::marker::Model;
 
-/// The words of a task's frames, outermost first, as its record has them.
+/// The words of a task's frames, outermost first, as in the task's record.
 #[derive(Clone, Drop)]
 pub struct FrameWords {
-    /// The words of the frames, and behind them words that mean nothing.
+    /// The words of the frames. The words after them mean nothing.
     words: [u64; MAX_FRAMES],
-    /// How many of the words are those of frames.
+    /// How many of the words are of frames.
     count: usize,
 }
 
@@ -28,11 +29,12 @@ impl Model for FrameWords {
 
     ghost view = { λ f. map frame_of (take f.count f.words) };
 
-    ghost invariant = { λ f. (f.count ≤ 32) × AreFramesOf (take f.count f.words) (map frame_of (take f.count f.words)) };
+    ghost invariant = { λ f. (f.count ≤ 32) × AreFramesOf (take f.count f.words)
+        (map frame_of (take f.count f.words)) };
 }
 
 impl FrameWords {
-    /// No frames.
+    /// Creates the words of no frames.
     pub fn new() -> Self
         ensures { result ≡ [] }
     {
@@ -42,7 +44,7 @@ impl FrameWords {
         }
     }
 
-    /// They are these frames from now on. The cost is that of these frames: none, where there are none.
+    /// Replaces the words by those of these frames. The cost is one step for each frame.
     pub fn set(&mut self, frames: &Frames)
         ensures { self.new ≡ frames.now }
     {
@@ -50,7 +52,7 @@ impl FrameWords {
         write_frames(frames.as_slice(), &mut self.words, 0);
     }
 
-    /// They are none from now on. The cost is constant.
+    /// Replaces the words by none, at a constant cost.
     #[inline(always)]
     pub fn clear(&mut self)
         ensures { self.new ≡ [] }
@@ -58,7 +60,7 @@ impl FrameWords {
         self.count = 0;
     }
 
-    /// The words themselves, without those that mean nothing.
+    /// Returns the words of the frames, without those that mean nothing.
     #[inline(always)]
     pub(crate) fn as_words(&self) -> &[u64]
         ensures words { result.now ≡ map frame_word self.now }

@@ -9,9 +9,9 @@ use std::alloc::{AllocError, Global};
 use std::marker::Model;
 use std::snapshot::Snapshot;
 
-/// An accepted event, with how many records it left: these are the last ones when it is the newest. Nothing
-/// that runs asks which event it was and what was answered, so both are known to contracts alone: a snapshot
-/// takes no memory (docs/DECISIONS.md, "Events in the journal").
+/// An accepted event, with the number of its records. While it is the newest event, its records are the last ones.
+/// No code asks for the event or its reply at run time, so they are snapshots, which only contracts read and which
+/// take no memory (docs/DECISIONS.md, "Events in the journal").
 #[derive(Drop)]
 struct StoredEvent {
     event: Snapshot<Event>,
@@ -19,12 +19,12 @@ struct StoredEvent {
     count: usize,
 }
 
-/// The accepted events, oldest first. Their records stand where they were logged, in a list of the caller's, which is
-/// handed to each call; with it, each event is a group: its reply, and a record of each row that it changed.
+/// The accepted events, oldest first. Their records stay in a list of the caller's, where they were logged, and
+/// each call is given that list. Events and records together make groups: an event, its reply, and a record of each
+/// row that it changed.
 ///
-/// All room is taken by [`Journal::new`]: for [`MAX_GROUPS`] events. The list has room for
-/// [`MAX_JOURNAL_RECORDS`] records that they have together. To reopen the newest event, and to put its records
-/// back, newest first, undoes it.
+/// [`Journal::new`] takes all room, for [`MAX_GROUPS`] events. The list has room for [`MAX_JOURNAL_RECORDS`]
+/// records of all events together. To undo the newest event, reopen it and put its records back, newest first.
 #[derive(Drop)]
 pub struct Journal {
     events: Vec<StoredEvent>,
@@ -46,8 +46,8 @@ impl Model for Journal {
 }
 
 impl Journal {
-    /// No events, with all the room that there will be, since no event takes memory. An error is want of
-    /// memory.
+    /// Creates a journal without events, and takes all its room, since no event takes memory. `Err` if memory is
+    /// refused.
     pub fn new(alloc: Global) -> Result<Self, AllocError>
         ensures { IfOk result (λ journal. journal ≡ []) }
     {
@@ -56,7 +56,7 @@ impl Journal {
         })
     }
 
-    /// How many events there are, at a constant cost. It is the mark to which a later `rewind` goes back.
+    /// Returns how many events there are, at a constant cost. This is the mark to which a later `rewind` goes back.
     pub fn mark(&self) -> u32
         ensures value { result ≡ length self.now }
         ensures groups { (rows : List Record) → length (groups_of self.now rows) ≡ result }
@@ -65,7 +65,7 @@ impl Journal {
         self.events.len() as u32
     }
 
-    /// How many more records there is room for, at a constant cost, whichever events they are of.
+    /// Returns how many more records the journal has room for, whichever events they are of. The cost is constant.
     pub fn records_free(&self, log: &Records) -> u32
         requires { Keeps log.now self.now }
         ensures value { result ≡ records_free (groups_of self.now log.now.older) }
@@ -74,9 +74,8 @@ impl Journal {
         (MAX_JOURNAL_RECORDS - log.older()) as u32
     }
 
-    /// Whether one more event can be appended, whatever it changes: a group is free, and [`MAX_RECORDS`]
-    /// records, as no event logs more. What the event logs isn't known before it is taken. The cost is
-    /// constant.
+    /// Whether any one more event fits: one more group, and [`MAX_RECORDS`] records, the most that an event logs.
+    /// How many it will log isn't known before it is taken. The cost is constant.
     pub fn has_room(&self, log: &Records) -> bool
         requires { Keeps log.now self.now }
         ensures { result ≡ has_room (groups_of self.now log.now.older) }
@@ -84,8 +83,8 @@ impl Journal {
         self.events.len() < MAX_GROUPS && MAX_RECORDS <= MAX_JOURNAL_RECORDS - log.older()
     }
 
-    /// Appends an accepted event as the newest, with the records of the rows that it changed in the order
-    /// in which they were logged. They stay where they were logged, so the cost is constant.
+    /// Appends an accepted event as the newest. Its records are those in the log, in the order in which they were
+    /// logged. They aren't moved, so the cost is constant.
     pub fn append(&mut self, event: &Event, reply: &Reply, log: &mut Records)
         requires all { counted self.old ≡ length log.old.older }
         requires room { has_room (groups_of self.old log.old.older) ≡ true }
@@ -104,8 +103,8 @@ impl Journal {
         });
     }
 
-    /// Takes the newest event out, and makes its records those of an event that is under way, so that they can be put
-    /// back; nothing where there is no event. It doesn't undo it. The cost is constant.
+    /// Removes the newest event, and makes its records those of the current event, so that the caller can put them
+    /// back. Nothing happens if there is no event. This alone undoes nothing. The cost is constant.
     pub fn reopen(&mut self, log: &mut Records)
         requires kept { Keeps log.old self.old }
         requires few { (older : List Group) (newest : Group) → groups_of self.old log.old.older ≡ older ++ newest ∷ []
@@ -123,8 +122,8 @@ impl Journal {
         log.reopen(newest.count);
     }
 
-    /// Takes all events out with their records, and keeps the room, so the next ones find it. The cost is at most that
-    /// of the events.
+    /// Removes all events and their records, but keeps the room for the next ones. The cost is at most one step for
+    /// each event.
     pub fn clear(&mut self, log: &mut Records)
         ensures events { self.new ≡ [] }
         ensures log { log.new ≡ record log.old { logged = []; older = [] } }

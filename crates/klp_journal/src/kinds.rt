@@ -1,25 +1,25 @@
-//! The kinds of record, and the tag that a record's words end with.
+//! The kinds of record, and the tag at the end of a record's words.
 ghost use Rattle.std.specs.Prelude.{◌≡◌, ◌+◌, ◌*◌, ◌<◌, ◌≤◌};
 
-/// A task, and whether it was there.
+/// A task, and whether it existed.
 pub const KIND_TASK: u64 = 1;
 
-/// A shadow variable, and whether it was there.
+/// A shadow variable, and whether it existed.
 pub const KIND_VARIABLE: u64 = 2;
 
 /// The value of a system state.
 pub const KIND_STATE_VALUE: u64 = 3;
 
-/// A system state of a patch, and whether it was there.
+/// A system state of a patch, and whether it existed.
 pub const KIND_STATE: u64 = 4;
 
 /// Whether an object was loaded.
 pub const KIND_LOADED: u64 = 5;
 
-/// An installed patch, and whether it was one.
+/// A patch, and whether it was installed.
 pub const KIND_INSTALLED: u64 = 6;
 
-/// An entry of a function stack, and whether it was there.
+/// An entry of a function stack, and whether it existed.
 pub const KIND_ENTRY: u64 = 7;
 
 /// Whether a site was hooked.
@@ -31,10 +31,10 @@ pub const KIND_TRANSITION: u64 = 9;
 /// Whether a patch was pinned.
 pub const KIND_PINNED: u64 = 10;
 
-/// What a tag has for each word before it: so kinds are below it.
+/// A tag has this much for each word of the record. Kinds are below it.
 pub const TAG_OF_A_WORD: u64 = 256;
 
-/// The tag of a record of this kind with so many words before it.
+/// Returns the tag of a record of this kind with `count` words before the tag.
 #[inline(always)]
 pub(crate) fn tag(kind: u64, count: u64) -> u64
     requires kind { kind < 256 }

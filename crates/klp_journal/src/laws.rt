@@ -3,24 +3,24 @@ ghost use Rattle.std.specs.Prelude.{◌≡◌, ℕ, ◌+◌, ◌≤◌, List, []
 ghost use Rattle.klp_types.specs.declared.record.Record.{Record};
 ghost use Rattle.klp_journal.specs.Words.{words_of, IsRecord};
 
-use crate::read::read_back;
-use crate::write::write_record;
+use crate::read_words::read_back;
+use crate::write_words::write_record;
 use klp_types::Record;
 
-/// No record's words are the last of another's: so where a list ends with a record, it is one record alone, and
-/// what is before it is as it was before it was written.
+/// No record's words are the end of another record's words. So the last record of a list can be read in only one
+/// way, and removing it leaves the words that were there before it was written.
 pub fn records_are_read_from_their_ends()
     ensures { (a b : Record) (front : List ℕ) → IsRecord a → IsRecord b → words_of a ≡ front ++ words_of b
         → (front ≡ []) × (a ≡ b) }
 {}
 
-/// A record has at most 36 words with its tag, so that room for records is room for their words.
+/// A record has at most 36 words with its tag. So room for records can be counted in words.
 pub fn records_have_few_words()
     ensures { (row : Record) → IsRecord row → length (words_of row) ≤ 36 }
 {}
 
-/// A record that is written behind words is read back from their end, and the words before it are as they were: writes it,
-/// and takes it out again.
+/// A record that is written after words is read back from their end, and the words before it don't change. The
+/// function writes the record and takes it out again.
 pub fn what_is_written_is_read_back(row: &Record, words: &mut Vec<u64>) -> Option<Record>
     requires { vec_len words.old + 36 ≤ vec_capacity words.old }
     ensures row { result ≡ Some row.now }

@@ -1,4 +1,6 @@
-ghost use Rattle.std.specs.Prelude.{◌≡◌, ◌+◌, ◌-◌, ◌<◌, ◌≤◌, [], ◌∷◌, ◌++◌, length, map, take, drop, slice_get, Some, IfOk, IfSome, IfNone};
+//! The list of records. `write_words` has how a record is written as words.
+ghost use Rattle.std.specs.Prelude.{◌≡◌, ◌+◌, ◌-◌, ◌<◌, ◌≤◌, [], ◌∷◌, ◌++◌, length, map, take, drop, slice_get, Some};
+ghost use Rattle.std.specs.Prelude.{IfOk, IfSome, IfNone};
 ghost use Rattle.klp_types.specs.declared.limits.TheConstants.{MAX_JOURNAL_RECORDS};
 ghost use Rattle.klp_types.specs.declared.record.Record.TheVariants.{TaskRow};
 ghost use Rattle.klp_types.specs.declared.task.Task.{Task as AnyTask};
@@ -14,19 +16,19 @@ use klp_types::{MAX_JOURNAL_RECORDS, Record, Task, TaskId};
 use std::alloc::{AllocError, Global};
 use std::marker::Model;
 
-/// Records in the order in which they were logged, in one list whose room is taken when it is made: those of earlier
-/// events, up to [`MAX_JOURNAL_RECORDS`], and behind them those of the event that is under way. So nothing is copied
-/// when the event is over: its records are kept where they stand.
+/// Records in the order in which they were logged, in one list whose room is taken when it is made. First are those
+/// of earlier events, at most [`MAX_JOURNAL_RECORDS`], and after them those of the current event. So nothing is
+/// copied when an event is over: its records stay where they are.
 ///
-/// To log takes no memory, since no event may fail half done. What undoes a change takes them newest first,
-/// so that each row finds the rows around it as they were when it was logged.
+/// Logging takes no memory, since no event may fail half way. To undo a change, its records are taken newest first,
+/// so that each row is restored among the rows that were around it when it was logged.
 #[derive(Drop)]
 pub struct Records {
     all: StoredRecords,
-    /// How many of them are of earlier events: the others are those of the event that is under way, and are not counted
-    /// beside all, so that to log one counts once.
+    /// How many of the records are of earlier events. The rest are the current event's; they have no count of their
+    /// own, so that logging a record changes only one count.
     older: usize,
-    /// How many an event may log.
+    /// How many records one event may log.
     room: usize,
 }
 
@@ -43,13 +45,14 @@ impl Model for Records {
       older = take r.older r.all.rows;
     } };
 
-    ghost invariant = { λ r. (r.older ≤ length r.all.rows) × (length r.all.rows - r.older ≤ r.room) × (r.older ≤ MAX_JOURNAL_RECORDS)
+    ghost invariant = { λ r. (r.older ≤ length r.all.rows) × (length r.all.rows - r.older ≤ r.room)
+        × (r.older ≤ MAX_JOURNAL_RECORDS)
         × (r.all.room ≡ MAX_JOURNAL_RECORDS + r.room) };
 }
 
 impl Records {
-    /// An empty list with room for [`MAX_JOURNAL_RECORDS`] records of earlier events and `room` of one event, whatever
-    /// they say, which never grows. An error is want of memory.
+    /// Creates an empty list with room for [`MAX_JOURNAL_RECORDS`] records of earlier events and `room` records of
+    /// the current one. It never grows, whatever the records are. `Err` if memory is refused.
     pub fn new(alloc: Global, room: usize) -> Result<Self, AllocError>
         ensures { IfOk result (λ records. records ≡ record { logged = []; room = room; older = [] }) }
     {
@@ -61,14 +64,14 @@ impl Records {
         })
     }
 
-    /// How many more records the event may log. Every change asks for its room before it begins.
+    /// Returns how many more records the current event may log. Every change checks this before it begins.
     pub fn spare(&self) -> usize
         ensures { result ≡ spare_of self.now }
     {
         self.room - self.logged()
     }
 
-    /// How many records the event has logged.
+    /// Returns how many records the current event has logged.
     pub fn logged(&self) -> usize
         ensures value { result ≡ length self.now.logged }
         ensures limit { result ≤ self.now.room }
@@ -76,7 +79,7 @@ impl Records {
         self.all.count() - self.older
     }
 
-    /// How many records there are of earlier events.
+    /// Returns how many records there are of earlier events.
     pub fn older(&self) -> usize
         ensures value { result ≡ length self.now.older }
         ensures limit { result ≤ MAX_JOURNAL_RECORDS }
@@ -93,8 +96,8 @@ impl Records {
         self.all.note(row);
     }
 
-    /// Logs a task as it is. It is lent and not copied, since its row has room for all the frames that it might have, and
-    /// the words of its frames are those that the table of tasks keeps.
+    /// Logs a task before it changes. The task is lent and not copied, since a `Task` is large: it has room for the
+    /// most frames that there can be. The words of its frames come from the table of tasks, which stores them.
     #[inline(always)]
     pub fn note_task(&mut self, task: TaskId, was: &Task, frames: &FrameWords)
         requires room { 0 < spare_of self.old }
@@ -104,7 +107,8 @@ impl Records {
         self.all.note_task(task, was, frames);
     }
 
-    /// Takes the newest record of the event out, if it has one: undoing takes them newest first.
+    /// Removes and returns the newest record of the current event. `None` if it has none. Undo takes records out
+    /// newest first.
     pub fn take_newest(&mut self) -> Option<Record>
         ensures newest { IfSome result
             (λ newest. self.old ≡ record self.new { logged = self.new.logged ++ newest ∷ [] }) }
@@ -117,8 +121,9 @@ impl Records {
         self.all.take_newest()
     }
 
-    /// Takes the newest record of the event out in a form of a few bytes, where it can be, as those of the kinds that are
-    /// most can. `None` takes nothing out and says nothing of the newest record: then `take_newest` takes it.
+    /// Removes and returns the newest record of the current event, in a form of a few bytes. The records that
+    /// events log most have such a form. `None` removes nothing, and doesn't say that there is no record:
+    /// `take_newest` has to be tried then.
     #[inline(always)]
     pub fn take_small(&mut self) -> Option<SmallRecord>
         ensures newest { IfSome result
@@ -131,8 +136,9 @@ impl Records {
         self.all.take_small()
     }
 
-    /// The same, in the form that the record of a task has without its frames, where these are still those of the task, by
-    /// the tasks as they are and the words of their frames: so those of a switched sleeper needn't be read and handed on.
+    /// Removes and returns the newest record of the current event without its frames, if it is of a task whose
+    /// frames are the same now. `tasks` are the tasks now, and `frames` the words of their frames. So the frames of
+    /// a switched sleeper needn't be read. `None` removes nothing, and doesn't say that there is no such record.
     #[inline(always)]
     pub fn take_switched(
         &mut self,
@@ -152,7 +158,7 @@ impl Records {
         self.all.take_switched(tasks, frames)
     }
 
-    /// Lets go what the event has logged. The cost is that of these records: none, where it has logged nothing.
+    /// Drops the records of the current event. The cost is one step for each of them.
     pub fn clear(&mut self)
         ensures { self.new ≡ record self.old { logged = [] } }
     {
@@ -161,8 +167,8 @@ impl Records {
         }
     }
 
-    /// The event is over: what it has logged is kept behind what earlier ones have, where it stands. The cost is
-    /// constant.
+    /// Ends the current event: its records are now the newest of those of earlier events. They stay where they are,
+    /// so the cost is constant.
     pub fn keep(&mut self)
         requires { length self.old.older + length self.old.logged ≤ MAX_JOURNAL_RECORDS }
         ensures { self.new ≡ record self.old { logged = []; older = self.old.older ++ self.old.logged } }
@@ -170,8 +176,8 @@ impl Records {
         self.older = self.all.count();
     }
 
-    /// The newest so many records that are kept are again those of the event that is under way, which has logged
-    /// nothing, so that they can be taken out. The cost is constant.
+    /// Makes the newest `count` records of earlier events those of the current event, which must have logged
+    /// nothing. So they can be taken out. The cost is constant.
     pub fn reopen(&mut self, count: usize)
         requires none { self.old.logged ≡ [] }
         requires few { count ≤ self.old.room }
@@ -184,7 +190,7 @@ impl Records {
         self.older -= count;
     }
 
-    /// Lets all go, also what is kept. The room stays, and the cost is constant.
+    /// Drops all records, also those of earlier events. The room stays, and the cost is constant.
     pub fn clear_all(&mut self)
         ensures { self.new ≡ record self.old { logged = []; older = [] } }
     {

@@ -1,4 +1,4 @@
-//! The kinds of record that events log most, as undoing takes them.
+//! The kinds of record that events log most, in a form that undo can take at a low cost.
 ghost use Rattle.std.specs.Prelude.{◌≡◌, ℕ, List, ◌++◌, length, IfSome};
 ghost use Rattle.klp_journal.specs.declared.kinds.TheConstants.{KIND_TASK, KIND_ENTRY, KIND_HOOK};
 ghost use Rattle.klp_journal.specs.Words.{words_of, IsRecord};
@@ -7,11 +7,11 @@ ghost use Rattle.klp_journal.specs.Stored.{EndWithRecord, AreOfKind};
 ghost use Rattle.klp_journal.specs.Small.{row_of};
 
 use crate::kinds::{KIND_ENTRY, KIND_HOOK, KIND_TASK, TAG_OF_A_WORD};
-use crate::read::{func_of, mode_of, state_of};
+use crate::read_words::{func_of, mode_of, state_of};
 use klp_types::{Mode, PatchId, PatchState, Place, Site, TaskId};
 
-/// A record of one of the kinds that events log most. It is small: a [`Record`](klp_types::Record) has room for a whole
-/// task, and to hand that on costs more than to put an entry back.
+/// A record of one of the kinds that events log most. It is small. A [`Record`](klp_types::Record) has room for a
+/// whole task, and passing that on costs more than putting an entry back.
 #[derive(Clone, Copy)]
 pub enum SmallRecord {
     /// The entry of a patch on the function stack of a site, or that it had none there.
@@ -25,7 +25,7 @@ pub enum SmallRecord {
         site: Site,
         was: bool,
     },
-    /// A task that was there, inside of nothing.
+    /// A task that existed and was inside of nothing.
     Resting {
         task: TaskId,
         state: PatchState,
@@ -33,18 +33,21 @@ pub enum SmallRecord {
     },
 }
 
-/// The tags of these kinds. Each has the kind, and how many words are before it: so it tells whether an entry was there,
-/// and a task with two words is inside of nothing.
+/// The tags of these records, each with its kind and its number of words. A task with two words is inside of
+/// nothing.
 const RESTING: u64 = KIND_TASK + TAG_OF_A_WORD * 2;
 
+/// The tag of an entry that didn't exist.
 const NO_ENTRY: u64 = KIND_ENTRY + TAG_OF_A_WORD * 2;
 
+/// The tag of an entry that existed, with its place.
 const ENTRY: u64 = KIND_ENTRY + TAG_OF_A_WORD * 4;
 
+/// The tag of a site's hook.
 const HOOK: u64 = KIND_HOOK + TAG_OF_A_WORD * 2;
 
-/// The last record of these words, if it is of one of the small kinds, and how many words it has with its tag. The words
-/// are known to be those of records, so the tag alone is looked at.
+/// Returns the last record of these words, and how many words it has with its tag. `None` if it is of another kind.
+/// The words are known to end with a record, so only the tag is checked.
 #[inline(always)]
 pub(crate) fn small(words: &[u64]) -> Option<(SmallRecord, usize)>
     requires { EndWithRecord words.now }
@@ -62,7 +65,7 @@ pub(crate) fn small(words: &[u64]) -> Option<(SmallRecord, usize)>
     Some((record, 3))
 }
 
-/// What the words before the tag say, of each of these kinds.
+/// Reads a record of a site's hook from the words before its tag.
 #[inline(always)]
 fn hook(body: &[u64]) -> SmallRecord
     requires { AreOfKind KIND_HOOK body.now }
@@ -74,6 +77,7 @@ fn hook(body: &[u64]) -> SmallRecord
     }
 }
 
+/// Reads a record of a task inside of nothing from the words before its tag.
 #[inline(always)]
 fn resting(body: &[u64]) -> SmallRecord
     requires kind { AreOfKind KIND_TASK body.now }
@@ -87,6 +91,7 @@ fn resting(body: &[u64]) -> SmallRecord
     }
 }
 
+/// Reads a record of an entry that didn't exist from the words before its tag.
 #[inline(always)]
 fn no_entry(body: &[u64]) -> SmallRecord
     requires kind { AreOfKind KIND_ENTRY body.now }
@@ -100,6 +105,7 @@ fn no_entry(body: &[u64]) -> SmallRecord
     }
 }
 
+/// Reads a record of an entry that existed from the words before its tag.
 #[inline(always)]
 fn entry(body: &[u64]) -> SmallRecord
     requires kind { AreOfKind KIND_ENTRY body.now }

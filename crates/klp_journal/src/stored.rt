@@ -1,15 +1,16 @@
-//! Records as words in one list, one behind another.
-ghost use Rattle.std.specs.Prelude.{◌≡◌, ◌+◌, ◌-◌, ◌*◌, ◌<◌, ◌≤◌, [], ◌∷◌, ◌++◌, length, map, take, slice_get, Some, IfOk, IfSome, IfNone, vec_len, vec_capacity};
+//! Records as words in one list, one record after another.
+ghost use Rattle.std.specs.Prelude.{◌≡◌, ◌+◌, ◌-◌, ◌*◌, ◌<◌, ◌≤◌, [], ◌∷◌, ◌++◌, length, map, take, slice_get, Some};
+ghost use Rattle.std.specs.Prelude.{IfOk, IfSome, IfNone, vec_len, vec_capacity};
 ghost use Rattle.klp_types.specs.declared.record.Record.TheVariants.{TaskRow};
 ghost use Rattle.klp_types.specs.declared.task.Task.{Task as AnyTask};
 ghost use Rattle.klp_journal.specs.Small.{row_of};
 ghost use Rattle.klp_types.specs.Frames.{frames_of};
 
 use crate::frame_words::FrameWords;
-use crate::read::read_back;
+use crate::read_words::read_back;
 use crate::small::{SmallRecord, small};
 use crate::switched::{SwitchedTask, switched};
-use crate::write::{copy_task, write_record};
+use crate::write_words::{copy_task, write_record};
 use klp_types::{MAX_RECORD_WORDS, Record, Task, TaskId};
 use std::alloc::{AllocError, Global};
 use std::marker::Model;
@@ -23,7 +24,7 @@ pub(crate) struct StoredRecords {
     room: usize,
 }
 
-/// Takes the last so many words off.
+/// Removes the last `count` words.
 #[inline(always)]
 fn shorten(words: &mut Vec<u64>, count: usize)
     requires { count ≤ vec_len words.old }
@@ -46,7 +47,8 @@ impl Model for StoredRecords {
 }
 
 impl StoredRecords {
-    /// An empty list with room for so many records, whatever they say, which never grows. An error is want of memory.
+    /// Creates an empty list with room for `room` records. It never grows, whatever the records are. `Err` if
+    /// memory is refused.
     pub(crate) fn new(alloc: Global, room: usize) -> Result<Self, AllocError>
         ensures { IfOk result (λ records. records ≡ record { rows = []; room = room }) }
     {
@@ -58,6 +60,7 @@ impl StoredRecords {
         })
     }
 
+    /// Returns how many records there are.
     pub(crate) fn count(&self) -> usize
         ensures value { result ≡ length self.now.rows }
         ensures limit { result ≤ self.now.room }
@@ -65,6 +68,7 @@ impl StoredRecords {
         self.count
     }
 
+    /// Appends a record.
     #[inline(always)]
     pub(crate) fn note(&mut self, row: Record)
         requires { length self.old.rows < self.old.room }
@@ -74,6 +78,7 @@ impl StoredRecords {
         self.count += 1;
     }
 
+    /// Appends the record of a task, whose frames have these words.
     #[inline(always)]
     pub(crate) fn note_task(&mut self, task: TaskId, was: &Task, frames: &FrameWords)
         requires room { length self.old.rows < self.old.room }
@@ -84,7 +89,7 @@ impl StoredRecords {
         copy_task(task, was, frames, &mut self.words);
     }
 
-    /// Takes the newest record out, if there is one.
+    /// Removes and returns the newest record. `None` if there is none.
     pub(crate) fn take_newest(&mut self) -> Option<Record>
         ensures newest { IfSome result
             (λ newest. self.old ≡ record self.new { rows = self.new.rows ++ newest ∷ [] }) }
@@ -99,7 +104,8 @@ impl StoredRecords {
         Some(row)
     }
 
-    /// Takes the newest record out as a small one, where it can be. Where it can't, nothing is taken out.
+    /// Removes and returns the newest record as a small one. `None`, with nothing removed, if it isn't of a small
+    /// kind.
     #[inline(always)]
     pub(crate) fn take_small(&mut self) -> Option<SmallRecord>
         requires { 0 < length self.old.rows }
@@ -115,8 +121,8 @@ impl StoredRecords {
         Some(newest)
     }
 
-    /// Takes the newest record out without the frames that it has, where these can be told to be those of its task now.
-    /// Where they can't, nothing is taken out.
+    /// Removes and returns the newest record without its frames, if it is of a task whose frames are the same now.
+    /// `None`, with nothing removed, if it isn't.
     #[inline(always)]
     pub(crate) fn take_switched(
         &mut self,
@@ -139,6 +145,7 @@ impl StoredRecords {
         Some(was)
     }
 
+    /// Removes all records, and keeps the room.
     pub(crate) fn clear(&mut self)
         ensures { self.new ≡ record self.old { rows = [] } }
     {

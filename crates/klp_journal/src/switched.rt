@@ -1,5 +1,5 @@
-//! A task of which the state or the mode alone changed, as undoing takes it. Its frames are still what its record says, so
-//! none has to be read and handed on.
+//! A task whose patch state or mode alone changed, in a form that undo can take at a low cost. Its frames are the
+//! same as in its record, so none has to be read.
 ghost use Rattle.std.specs.Prelude.{◌≡◌, ◌≤◌, true, ℕ, List, ◌++◌, length, map, slice_get, Some, IfSome};
 ghost use Rattle.klp_types.specs.declared.record.Record.TheVariants.{TaskRow};
 ghost use Rattle.klp_types.specs.declared.task.Task.{Task as AnyTask};
@@ -11,10 +11,10 @@ ghost use Rattle.klp_types.specs.Frames.{frames_of};
 
 use crate::frame_words::FrameWords;
 use crate::kinds::{KIND_TASK, TAG_OF_A_WORD};
-use crate::read::{mode_of, state_of};
+use crate::read_words::{mode_of, state_of};
 use klp_types::{Mode, PatchState, Task, TaskId};
 
-/// How far a task was, and where.
+/// A task, with the patch state and the mode that it had.
 #[derive(Clone, Copy)]
 pub struct SwitchedTask {
     pub task: TaskId,
@@ -22,8 +22,8 @@ pub struct SwitchedTask {
     pub mode: Mode,
 }
 
-/// Whether words are the same. They nearly always are, so all are looked at, with no test in between: then several are
-/// compared at once.
+/// Whether the words are the same. They nearly always are, so it compares all of them without a test in between,
+/// which lets the processor compare several at once.
 fn are_same(words: &[u64], others: &[u64]) -> bool
     requires { length words.now ≡ length others.now }
     ensures { result ≡ true → words.now ≡ others.now }
@@ -35,7 +35,7 @@ fn are_same(words: &[u64], others: &[u64]) -> bool
     differing == 0
 }
 
-/// Whether words are those of frames which a table keeps.
+/// Whether the words are those of the frames that a table stores.
 #[inline(always)]
 fn are_kept(words: &[u64], own: &FrameWords) -> bool
     ensures { result ≡ true → map frame_of words.now ≡ own.now }
@@ -44,8 +44,8 @@ fn are_kept(words: &[u64], own: &FrameWords) -> bool
     words.len() == own.len() && are_same(words, own)
 }
 
-/// How far a task was and where, by the words before the tag, where it was inside of what it is inside of now: where the
-/// words of its frames are those that its table keeps.
+/// Reads a task's record from the words before its tag, without the frames. `None` if the task doesn't exist now,
+/// or if its frames aren't those of the record.
 #[inline(always)]
 fn switched_body(
     body: &[u64],
@@ -72,8 +72,9 @@ fn switched_body(
     })
 }
 
-/// A task of which the state or the mode alone changed, by the tasks as they are now, if the last record of these words is
-/// that of one, and how many words that has with its tag. The words are known to be those of records.
+/// Returns the task of the last record of these words, and how many words that has with its tag. `None` if the
+/// record is of another kind, if the task doesn't exist now, or if its frames aren't those of the record. The words
+/// are known to end with a record.
 #[inline(always)]
 pub(crate) fn switched(
     words: &[u64],
@@ -83,8 +84,12 @@ pub(crate) fn switched(
     requires record { EndWithRecord words.now }
     requires frames { frames.now ≡ map frames_of tasks.now }
     ensures { IfSome result (λ found. (now : AnyTask) × ((slice_get tasks.now found.0.task ≡ Some (Some now))
-        × ((older : List ℕ) × ((words.now ≡ older ++ words_of (TaskRow found.0.task (record now { state = found.0.state; mode = found.0.mode })))
-        × (found.1 ≡ length (words_of (TaskRow found.0.task (record now { state = found.0.state; mode = found.0.mode }))))
+        × ((older : List ℕ) × ((words.now ≡ older
+        ++ words_of (TaskRow found.0.task (record now { state = found.0.state; mode = found.0.mode })))
+        × (found.1 ≡ length (words_of (TaskRow found.0.task (record now {
+          state = found.0.state;
+          mode = found.0.mode;
+        }))))
         × IsRecord (TaskRow found.0.task (record now { state = found.0.state; mode = found.0.mode })))))) }
 {
     let last = words.len() - 1;

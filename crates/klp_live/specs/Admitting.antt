@@ -1,4 +1,4 @@
--- What the book keeps, and what becomes of an event.
+-- What the book keeps, and what it does with an event.
 use Rattle.std.specs.Prelude.{◌≡◌, ◌≢◌, ◌+◌, false, List, [], ◌∷◌, ◌++◌, length, Ok, Err}
 use Rattle.std.specs.List.{All}
 use mathlib.Core.List.{IsPrefix}
@@ -22,25 +22,25 @@ use Rattle.klp_live.specs.Seats.{Knows, ReceiptValue}
 use Rattle.klp_live.specs.declared.refusal.LiveRefusal.{LiveRefusal}
 use Rattle.klp_live.specs.declared.refusal.LiveRefusal.TheVariants.{Refused, NoMemory}
 
--- a book, as contracts see it: its list, and its manager
+-- a book, as contracts see it: its history and its manager
 pub record Booked : Type 0 where
   pub list : History
   pub manager : Journaled
 
--- the manager's base is the list's, and its groups are the list's events and replies
+-- the manager has the base of the history, and its groups have the events and replies of the history
 pub record IsManagerOf (setting : Setting) (base : State) (manager : Journaled) (list : History) : Type 0 where
   pub setting_is : setting_of manager.managed ≡ setting
   pub base_is : manager.base ≡ base
   pub groups : history_in manager.groups ≡ list
 
--- what is published is the table of the list, and nothing waits
+-- the table of the history is published, and nothing waits to be published
 pub record IsShown (setting : Setting) (base : State) (book : Book) (board : OnBoard) (list : History) : Type 0 where
   pub table : IsTable setting base board.value
   pub list_is : board.value.seen.log ≡ list
   pub book_is : board.value.seen.book ≡ book
   pub done : board.pending ≡ []
 
--- accepted: one row was appended and published, with the next number
+-- an event was accepted: one row was appended and published, with the next number
 pub record IsAdmitted (setting : Setting) (base : State) (event : Event) (old new : Booked) (before after : Knows) (receipt : ReceiptValue) : Type 0 where
   pub legal : IsLegal setting base new.list
   pub answered : answer setting (state_after_history setting base old.list) event ≡ Ok receipt.reply
@@ -53,8 +53,8 @@ pub record IsAdmitted (setting : Setting) (base : State) (event : Event) (old ne
   pub knows : after.list ≡ new.list
   pub counts : after.accepted ≡ before.accepted + 1
 
--- the machine would accept the event, and there is no room in a journal of these events: some records, as many as events leave at most,
--- would fill it
+-- The model accepts the event, but a journal of this history may have no room: some records, as many as its events
+-- leave at most, would fill it.
 pub record FindsNoRoom (setting : Setting) (base : State) (list : History) (event : Event) : Type 0 where
   pub reply : Reply
   pub accepted : answer setting (state_after_history setting base list) event ≡ Ok reply
@@ -63,7 +63,7 @@ pub record FindsNoRoom (setting : Setting) (base : State) (list : History) (even
   pub small : All IsSmall groups
   pub full : has_room groups ≡ false
 
--- refused: nothing has changed but that the seat knows the list
+-- an event was refused: nothing has changed except that the seat knows the history
 pub record IsTurnedAway (setting : Setting) (base : State) (event : Event) (old new : Booked) (before after : Knows) (refusal : Refusal) : Type 0 where
   pub legal : IsLegal setting base new.list
   pub taken : IsTaken old.manager new.manager event (Err refusal)
@@ -74,8 +74,8 @@ pub record IsTurnedAway (setting : Setting) (base : State) (event : Event) (old 
   pub knows : after.list ≡ old.list
   pub counts : after.accepted ≡ before.accepted
 
--- taken back, since there was no memory to publish it: the manager accepted the event, and its callbacks ran once, so their counts
--- have grown; nothing else has changed
+-- An event was taken back, since there was no memory to publish it. The manager had accepted it, and its callbacks ran
+-- once, so their counts have grown. Nothing else has changed.
 pub record IsTakenBack (setting : Setting) (base : State) (event : Event) (old new : Booked) (before after : Knows) : Type 0 where
   pub legal : IsLegal setting base new.list
   pub reply : Reply
@@ -89,6 +89,7 @@ pub record IsTakenBack (setting : Setting) (base : State) (event : Event) (old n
   pub knew : IsPrefix before.list old.list
   pub knows : after ≡ before
 
+-- what becomes of an event that isn't admitted: the manager refused it, or there was no memory to publish it
 abbrev pub IsRefused : Setting → State → Event → Booked → Booked → Knows → Knows → LiveRefusal → Type 0
 IsRefused setting base event old new before after (Refused refusal) = IsTurnedAway setting base event old new before after refusal
 IsRefused setting base event old new before after NoMemory = IsTakenBack setting base event old new before after

@@ -1,4 +1,4 @@
--- What a pass is told when it submits an event, and what a start comes to when it is closed.
+-- What a pass knows after it submitted an event, and what a start leaves when it is closed.
 use Rattle.std.specs.Prelude.{◌≡◌, ◌≢◌, ◌+◌, List, [], ◌∷◌, ◌++◌, length, Result, Ok, Err}
 use Rattle.std.specs.List.{All, sum_by}
 use mathlib.Core.List.{IsPrefix}
@@ -15,8 +15,8 @@ use Rattle.klp_live.specs.Seats.{Knows, ReceiptValue}
 use Rattle.klp_live.specs.declared.refusal.LiveRefusal.{LiveRefusal}
 use Rattle.klp_live.specs.declared.refusal.LiveRefusal.TheVariants.{Refused, NoMemory}
 
--- the event was taken: it stands last in the list that is known then, behind all that was known before, and was answered as the machine
--- does in the state before it
+-- The event was accepted: its row is the last of the history that the seat knows now, behind all that the seat knew
+-- before. The reply is that of the model in the state before the event.
 pub record IsSubmitted (setting : Setting) (base : State) (event : Event) (before after : Knows) (receipt : ReceiptValue) : Type 0 where
   pub legal : IsLegal setting base after.list
   pub older : History
@@ -28,7 +28,7 @@ pub record IsSubmitted (setting : Setting) (base : State) (event : Event) (befor
   pub receipt_list : receipt.list ≡ after.list
   pub counts : after.accepted ≡ before.accepted + 1
 
--- the event was refused: the list that refused it is known then, and begins with all that was known before
+-- the event was refused in the history that the seat knows now, which begins with all that the seat knew before
 pub record IsTurnedBack (setting : Setting) (base : State) (event : Event) (before after : Knows) (refusal : Refusal) : Type 0 where
   pub legal : IsLegal setting base after.list
   pub knew : IsPrefix before.list after.list
@@ -36,13 +36,13 @@ pub record IsTurnedBack (setting : Setting) (base : State) (event : Event) (befo
   pub full : refusal ≡ JournalFull → FindsNoRoom setting base after.list event
   pub counts : after.accepted ≡ before.accepted
 
--- what was submitted came to this
+-- the outcome of a submitted event
 abbrev pub IsOutcome : Setting → State → Event → Knows → Knows → Result ReceiptValue LiveRefusal → Type 0
 IsOutcome setting base event before after (Ok receipt) = IsSubmitted setting base event before after receipt
 IsOutcome setting base event before after (Err (Refused refusal)) = IsTurnedBack setting base event before after refusal
 IsOutcome setting base event before after (Err NoMemory) = after ≡ before
 
--- what all seats know begins what stands in the manager, and as many events stand as the seats were told of
+-- all that seats know is a beginning of the manager's history, which has as many events as the seats had accepted
 pub record IsClosed (setting : Setting) (base : State) (manager : Journaled) (seats : List Knows) : Type 0 where
   pub list : History
   pub legal : IsLegal setting base list

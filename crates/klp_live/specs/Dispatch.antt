@@ -15,17 +15,19 @@ use Rattle.klp_live.specs.declared.table.Change.{Change}
 use Rattle.klp_live.specs.declared.table.Change.TheVariants.{Same, Task as OfTask, Moved, All}
 use Rattle.klp_live.specs.Listed.{with_rows}
 
+-- the row of a site in a table
 abbrev pub row_at : Table → ℕ → Option SiteRow
 row_at table site = slice_index_or table.rows site None
 
+-- the patch state of a task in a table
 abbrev pub state_at : Table → ℕ → Option ℤ
 state_at table task = slice_index_or table.states task None
 
--- the state of a task, if it is there
+-- the patch state of a task, if it exists
 abbrev pub own_state : State → ℕ → Option ℤ
 own_state state task = option_map (λ (t : Task). t.state) (task_at state.tasks task)
 
--- the table has the row of each site of a loaded object, and the state of each task
+-- the table has the row of each site of a loaded object, and the patch state of each task
 pub record IsDispatch (setting : Setting) (state : State) (table : Table) : Type 0 where
   pub height : length table.rows ≡ 256
   pub width : length table.states ≡ 64
@@ -46,7 +48,7 @@ rows_in (OfTask task state) = 0
 rows_in (Moved moved) = length moved.value.rows.items
 rows_in (All all) = MAX_SITES
 
--- the one task that an event may change, where it changes nothing else
+-- the task of an event that changes the state of one task and nothing else of a table
 abbrev pub task_of : Event → Option ℕ
 task_of (NewTask task) = Some task
 task_of (Fork parent child) = Some child
@@ -57,7 +59,7 @@ task_of (Sleep task frames) = Some task
 task_of (Wake task) = Some task
 task_of other = None
 
--- the event of shadow variables, of which a table shows nothing
+-- whether the event is about shadow variables; a table shows none of them
 abbrev pub is_of_variables : Event → Bool
 is_of_variables (ShadowAlloc key value) = true
 is_of_variables (ShadowGetOrAlloc key value) = true
@@ -65,16 +67,17 @@ is_of_variables (ShadowFree key) = true
 is_of_variables (ShadowFreeAll id) = true
 is_of_variables other = false
 
--- a change that makes the table of this state, whatever the table was
+-- the change makes the table of this state, whatever the table was before
 abbrev pub Makes : Setting → State → Change → Type 0
 Makes setting state change = (table : Table) → IsDispatch setting state (changed table change)
 
--- a change that makes the table of this state of that of the state before the event, where this patch was in transition before it
+-- The change makes the table of this state out of that of any state before the event, if `moving` was in transition
+-- then.
 abbrev pub LeadsOn : Setting → State → Option ℕ → Event → Change → Type 0
 LeadsOn setting state moving event change =
     (before : State) (table : Table) → moving_patch before.moving ≡ moving → state ≡ next setting before event → IsDispatch setting before table
     → IsDispatch setting state (changed table change)
 
--- a change that makes of the table of this state that of the state after the event
+-- the change makes the table of the state after the event out of that of this state
 abbrev pub IsStep : Setting → State → Event → Change → Type 0
 IsStep setting state event change = (table : Table) → IsDispatch setting state table → IsDispatch setting (next setting state event) (changed table change)

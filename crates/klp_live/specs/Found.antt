@@ -11,14 +11,16 @@ use Rattle.klp_model.specs.Entries.{is_site_loaded, entries_of}
 use Rattle.klp_live.specs.declared.target.EnterFault.{EnterFault}
 use Rattle.klp_live.specs.declared.target.EnterFault.TheVariants.{NoSite, NoTask}
 
+-- a version with its address
 abbrev pub begun : Setting → Version → Target
 begun setting version = record { version = version; address = unwrap_or (address_of setting version) 0 }
 
+-- what a call runs, if its site is one of a loaded object and its task exists
 abbrev pub entered_if : Setting → State → ℕ → Bool → Option Task → Result Target EnterFault
 entered_if setting state site false own = Err NoSite
 entered_if setting state site true None = Err NoTask
 entered_if setting state site true (Some task) = Ok (begun setting (newest_version site (entries_for state.moving task.state (entries_of setting state site))))
 
--- the version that the machine picks for the task at the site
+-- what the model picks for the task at the site
 abbrev pub entered : Setting → State → ℕ → ℕ → Result Target EnterFault
 entered setting state task site = entered_if setting state site (is_site_loaded setting state site) (task_at state.tasks task)

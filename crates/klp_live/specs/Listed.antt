@@ -6,7 +6,7 @@ use Rattle.klp_types.specs.Setting.{Setting}
 use Rattle.klp_model.specs.State.{State}
 use Rattle.klp_model.specs.Rows.{row_of}
 
--- a site with the row that it has now, if its object is loaded
+-- a site with its present row, none if the site's object isn't loaded
 abbrev pub NewRow : Type 0
 NewRow = ℕ × Option SiteRow
 
@@ -15,15 +15,16 @@ abbrev pub AreRowsOf : Setting → State → List NewRow → Type 0
 AreRowsOf setting state [] = Unit {0}
 AreRowsOf setting state (first ∷ rest) = (first.1 ≡ row_of setting state first.0) × AreRowsOf setting state rest
 
+-- whether the list has a row of this site
 abbrev pub is_listed : ℕ → List NewRow → Bool
 is_listed site rows = list_any (λ (r : NewRow). r.0 == site) rows
 
--- all rows, with these set one after the other
+-- all rows, after these are set one after the other
 abbrev pub with_rows : List (Option SiteRow) → List NewRow → List (Option SiteRow)
 with_rows rows [] = rows
 with_rows rows (first ∷ rest) = with_rows (slice_set rows first.0 first.1) rest
 
--- the row of a site, if there is one
+-- the row of a site as a list, empty without a site
 abbrev pub new_row : Setting → State → Option ℕ → List NewRow
 new_row setting state None = []
 new_row setting state (Some site) = (site, row_of setting state site) ∷ []

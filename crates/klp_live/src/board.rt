@@ -1,4 +1,4 @@
-//! The board: where the book publishes.
+//! The board: the place where the book publishes its table, for readers without a lock.
 ghost use Rattle.std.specs.Prelude.{◌≡◌, [], ◌∷◌, ◌++◌, drop, None, Some, MatchBool};
 ghost use Rattle.left_right.specs.Sides.{view};
 ghost use Rattle.klp_live.specs.Shown.{with_news, Follows, RuleIs, known_of};
@@ -12,20 +12,22 @@ use left_right::writer::Writer;
 use std::marker::Model;
 use std::sync::Wait;
 
-/// The end that publishes.
+/// The end of the board that publishes.
 pub type Changes<S> = Writer<Published, Option<News>, View, S>;
 
-/// The end that reads.
+/// The end of the board that reads. Each seat has one.
 pub type Place<S> = Reader<Published, View, S>;
 
-/// Appends what is to be published, and waits until there is memory: room was kept for it, so it doesn't wait.
+/// Appends what is to be published next. Would wait until there is memory, but callers have kept room before, so it
+/// doesn't wait.
 pub fn push<S: Start + Protocol<Published, View>, W: Wait>(
     rt: &W,
     changes: &mut Changes<S>,
     news: Option<News>,
 )
     ensures desk { changes.new.desk ≡ changes.old.desk }
-    ensures pending { drop changes.new.behind changes.new.log.items ≡ drop changes.old.behind changes.old.log.items ++ news ∷ [] }
+    ensures pending { drop changes.new.behind changes.new.log.items ≡ drop changes.old.behind changes.old.log.items
+        ++ news ∷ [] }
 {
     let mut news = news;
     for _ in rt.forever() {
@@ -37,7 +39,7 @@ pub fn push<S: Start + Protocol<Published, View>, W: Wait>(
     unreachable!()
 }
 
-/// Publishes one row, for which room was kept.
+/// Publishes one row. The caller has kept room for it.
 pub fn announce<S: Start + Protocol<Published, View>, W: Wait>(
     rt: &W,
     changes: Changes<S>,
@@ -45,7 +47,8 @@ pub fn announce<S: Start + Protocol<Published, View>, W: Wait>(
 ) -> Changes<S>
     requires rule { RuleIs S.holds S.first S.setting S.base S.book }
     requires room { drop changes.behind changes.log.items ≡ None ∷ [] }
-    requires follows { Follows S.setting S.base changes.desk.shown.value (with_news changes.desk.shown.value (Some news)) }
+    requires follows { Follows S.setting S.base changes.desk.shown.value
+        (with_news changes.desk.shown.value (Some news)) }
     ensures shown { result.desk.shown.value ≡ with_news changes.desk.shown.value (Some news) }
     ensures pending { drop result.behind result.log.items ≡ [] }
     ensures known { view result.desk.place ≡ record { known = known_of result.desk.shown.value ∷ [] } }
@@ -55,8 +58,8 @@ pub fn announce<S: Start + Protocol<Published, View>, W: Wait>(
     changes.publish_as::<Sees, W>(rt).0
 }
 
-/// Where the book publishes. The end that publishes waits for its readers when it goes, so the handle for that is kept
-/// beside it: what lies under a lock has to go by itself.
+/// The publishing end of the board. When it is dropped it must wait for its readers, so it keeps the handle for
+/// waiting: a value under a lock is dropped without arguments.
 pub struct Board<S: Start + Protocol<Published, View>, R: Wait + Drop> {
     changes: Changes<S>,
     rt: R,
@@ -76,18 +79,24 @@ impl<S: Start + Protocol<Published, View>, R: Wait + Drop> Model for Board<S, R>
 
     ghost Value = { OnBoard };
 
-    ghost view = { λ b. record { value = b.changes.desk.shown.value; pending = drop b.changes.behind b.changes.log.items } };
+    ghost view = { λ b. record {
+      value = b.changes.desk.shown.value;
+      pending = drop b.changes.behind b.changes.log.items;
+    } };
 }
 
 impl<S: Start + Protocol<Published, View>, R: Wait + Drop> Board<S, R> {
-    /// The board of this end, which waits by the handle when it goes.
+    /// Makes a board of the publishing end. `rt` is the handle for waiting when the board is dropped.
     pub fn over(changes: Changes<S>, rt: R) -> Board<S, R>
-        ensures { result ≡ record { value = changes.desk.shown.value; pending = drop changes.behind changes.log.items } }
+        ensures { result ≡ record {
+          value = changes.desk.shown.value;
+          pending = drop changes.behind changes.log.items;
+        } }
     {
         Board { changes, rt }
     }
 
-    /// Keeps room for one row, and says whether there was memory.
+    /// Keeps room for one row. Returns whether there was memory for it.
     pub fn reserve(&mut self) -> bool
         requires { self.old.pending ≡ [] }
         ensures { MatchBool result (self.new ≡ record self.old { pending = None ∷ [] }) (self.new ≡ self.old) }
@@ -95,7 +104,7 @@ impl<S: Start + Protocol<Published, View>, R: Wait + Drop> Board<S, R> {
         self.changes.append(None).is_ok()
     }
 
-    /// Publishes one row, for which room was kept.
+    /// Publishes one row. The caller has kept room for it.
     pub fn announce<W: Wait>(&mut self, rt: &W, news: News)
         requires rule { RuleIs S.holds S.first S.setting S.base S.book }
         requires room { self.old.pending ≡ None ∷ [] }

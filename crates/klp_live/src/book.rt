@@ -25,8 +25,9 @@ use std::alloc::Global;
 use std::marker::Model;
 use std::sync::Wait;
 
-/// The manager with its history and what is published of it. Who has it alone can have events accepted, so it
-/// belongs under a lock, or in one thread. When it goes it waits, by the handle that it keeps, until no seat reads.
+/// The manager with its history and the table that it publishes. Whoever owns the book or has locked it is the only one
+/// who can have events accepted, so it belongs under a lock or in one thread. When it is dropped it waits until no seat
+/// reads, by the handle that it keeps.
 #[derive(Drop)]
 pub struct Book<S: Start + Protocol<Published, View>, M: Machine + Drop, R: Wait + Drop> {
     pub(crate) machine: M,
@@ -49,7 +50,7 @@ impl<S: Start + Protocol<Published, View>, M: Machine + Drop, R: Wait + Drop> Mo
 }
 
 impl<S: Start + Protocol<Published, View>, M: Machine + Drop, R: Wait + Drop> Book<S, M, R> {
-    /// How many events were accepted since the book was opened.
+    /// Returns how many events were accepted since the book was opened.
     pub fn rows(&self) -> u64
         ensures rows { result ≡ length self.now.list }
         ensures legal { IsLegal S.setting S.base self.now.list }
@@ -57,7 +58,8 @@ impl<S: Start + Protocol<Published, View>, M: Machine + Drop, R: Wait + Drop> Bo
         self.publisher.front().len()
     }
 
-    /// The manager, for looks: only `admit` changes it, so that what it is and what is published are one.
+    /// Returns the manager, for reading only. Only `admit` changes it, so that manager and published table stay in
+    /// step.
     pub fn machine(&self) -> &M
         ensures machine { M.journaled result.now ≡ self.now.manager }
         ensures kept { IsManagerOf S.setting S.base self.now.manager self.now.list }
@@ -65,9 +67,10 @@ impl<S: Start + Protocol<Published, View>, M: Machine + Drop, R: Wait + Drop> Bo
         &self.machine
     }
 
-    /// Takes an event for a seat, appends its row and publishes it. It costs what the manager's `apply` costs and
-    /// what the event changes of the table, twice, since there are two tables; it waits until no reader is left in
-    /// the older one. Where there is no memory to publish it, the event is taken back by its own undo records.
+    /// Takes an event for a seat, appends its row to the history and publishes it. Waits until no reader is left in the
+    /// older of the two tables. The cost is that of the manager's `apply`, and twice that of the event's changes of a
+    /// table. If there is no memory to publish the event, it is taken back by its own undo records and refused with
+    /// `NoMemory`.
     pub fn admit<W: Wait>(
         &mut self,
         rt: &W,
@@ -108,7 +111,7 @@ impl<S: Start + Protocol<Published, View>, M: Machine + Drop, R: Wait + Drop> Bo
     }
 }
 
-/// Has the machine take an event.
+/// Lets the machine take an event. Calls `mark` for its contract.
 fn accept<M: Machine>(machine: &mut M, event: Event) -> Result<Reply, Refusal>
     ensures taken { IsTaken (M.journaled machine.old) (M.journaled machine.new) event result }
     ensures setting { setting_of (M.journaled machine.new).managed ≡ setting_of (M.journaled machine.old).managed }
@@ -117,7 +120,7 @@ fn accept<M: Machine>(machine: &mut M, event: Event) -> Result<Reply, Refusal>
     machine.apply(event)
 }
 
-/// Publishes the row of an event that was just taken, where there is memory for what it changes of the table.
+/// Publishes the row of an event that was just taken. Returns None if there is no memory for that.
 fn publish<S: Start + Protocol<Published, View>, M: Machine, R: Wait + Drop, W: Wait>(
     rt: &W,
     alloc: Global,
@@ -136,7 +139,8 @@ fn publish<S: Start + Protocol<Published, View>, M: Machine, R: Wait + Drop, W: 
     requires moving { moving ≡ moving_patch (state_after_history S.setting S.base publisher.old).moving }
     ensures { MatchOption result
         ((publisher.new ≡ publisher.old) × (seat.new ≡ seat.old))
-        (λ receipt. IsPublished S.setting S.base (event.now, reply.now) publisher.old publisher.new seat.old seat.new receipt) }
+        (λ receipt. IsPublished S.setting S.base (event.now, reply.now) publisher.old publisher.new seat.old seat.new
+        receipt) }
 {
     let Ok(change) = change_after(alloc, machine, event, moving) else {
         return None;
@@ -147,7 +151,7 @@ fn publish<S: Start + Protocol<Published, View>, M: Machine, R: Wait + Drop, W: 
     publisher.publish(rt, seat, event, reply, kept, change)
 }
 
-/// Takes back what was taken since this mark.
+/// Takes back all events since this mark.
 fn take_back<M: Machine>(machine: &mut M, mark: u32)
     requires { mark ≤ length (M.journaled machine.old).groups }
     ensures { IsRewound (M.journaled machine.old) (M.journaled machine.new) mark }

@@ -1,5 +1,6 @@
-//! The table of a manager, and what an event changes of it.
-ghost use Rattle.std.specs.Prelude.{◌≡◌, ℕ, ◌<◌, ◌≤◌, ◌++◌, true, false, Some, None, length, slice_index_or, vec_len, vec_capacity, ◌+◌, IfOk, IfSome, Option, Ok};
+//! Making the table of a manager, and what an event changes in it.
+ghost use Rattle.std.specs.Prelude.{◌≡◌, ℕ, ◌<◌, ◌≤◌, ◌++◌, true, false, Some, None, length, slice_index_or, vec_len};
+ghost use Rattle.std.specs.Prelude.{vec_capacity, ◌+◌, IfOk, IfSome, Option, Ok};
 ghost use Rattle.klp_types.specs.declared.limits.TheConstants.{MAX_SITES, MAX_TASKS};
 ghost use Rattle.klp_types.specs.Entries.{patches_site};
 ghost use Rattle.klp_types.specs.Setting.{functions_of};
@@ -7,9 +8,11 @@ ghost use Rattle.klp_model.specs.Rows.{row_of, moving_patch};
 ghost use Rattle.klp_model.specs.Run.{next};
 ghost use Rattle.klp_manager_state.specs.Managed.{setting_of};
 ghost use Rattle.klp_core.specs.Sites.{sites_in};
-ghost use Rattle.klp_live.specs.Dispatch.{IsDispatch, own_state, changed, Makes, LeadsOn, is_of_variables, rows_in, task_of as task_in};
+ghost use Rattle.klp_live.specs.Dispatch.{IsDispatch, own_state, changed, Makes, LeadsOn, is_of_variables, rows_in};
+ghost use Rattle.klp_live.specs.Dispatch.{task_of as task_in};
 ghost use Rattle.klp_live.specs.Listed.{AreRowsOf, is_listed, new_row, with_rows};
-ghost use Rattle.klp_live.specs.Touched.{is_inside, patch_moved as patch_moved_by, module_moved as module_moved_by, rows_touched};
+ghost use Rattle.klp_live.specs.Touched.{is_inside, patch_moved as patch_moved_by, module_moved as module_moved_by};
+ghost use Rattle.klp_live.specs.Touched.{rows_touched};
 
 use crate::table::{Change, Moved, NewRow, Table};
 use klp_core::Machine;
@@ -18,7 +21,7 @@ use klp_model::laws::states_stay_allowed;
 use klp_types::{MAX_SITES, MAX_TASKS, ObjId, PatchId, Site, SiteRow, TaskId};
 use std::alloc::{AllocError, Global};
 
-/// Sets these rows, one after the other.
+/// Sets these rows in the table, one after the other.
 fn put_rows(table: &mut [Option<SiteRow>; MAX_SITES], rows: &[NewRow])
     ensures { table.new ≡ with_rows table.old rows.now }
 {
@@ -32,7 +35,7 @@ fn put_rows(table: &mut [Option<SiteRow>; MAX_SITES], rows: &[NewRow])
 }
 
 impl Change {
-    /// Makes the change.
+    /// Applies the change to a table.
     pub fn make(&self, table: &mut Table)
         ensures { table.new ≡ changed table.old self.now }
     {
@@ -53,6 +56,7 @@ impl Change {
     }
 }
 
+/// Sets each of these rows to the machine's row of that site.
 fn fill_rows<M: Machine>(rows: &mut [Option<SiteRow>; MAX_SITES], machine: &M)
     ensures count { length rows.new ≡ MAX_SITES }
     ensures rows { let managed = (M.journaled machine.now).managed in
@@ -64,6 +68,7 @@ fn fill_rows<M: Machine>(rows: &mut [Option<SiteRow>; MAX_SITES], machine: &M)
     }
 }
 
+/// Sets each of these states to the machine's patch state of that task.
 fn fill_states<M: Machine>(states: &mut [Option<i8>; MAX_TASKS], machine: &M)
     ensures count { length states.new ≡ MAX_TASKS }
     ensures states { (task : ℕ) → task < MAX_TASKS
@@ -75,7 +80,7 @@ fn fill_states<M: Machine>(states: &mut [Option<i8>; MAX_TASKS], machine: &M)
 }
 
 impl Table {
-    /// A table with no site and no task.
+    /// Makes a table without sites and tasks.
     pub fn empty() -> Table {
         Table {
             rows: [None; MAX_SITES],
@@ -83,7 +88,7 @@ impl Table {
         }
     }
 
-    /// Makes it the table of the manager, at the cost of a look at every site.
+    /// Fills the table with the rows and patch states of the machine's present state. Looks at every site.
     pub fn fill<M: Machine>(&mut self, machine: &M)
         ensures { let managed = (M.journaled machine.now).managed in
             IsDispatch (setting_of managed) managed.state self.new }
@@ -96,7 +101,8 @@ impl Table {
     }
 }
 
-/// The whole table, at the cost of a look at every site.
+/// Returns a change to the whole table of the machine's present state. Looks at every site. An error means that memory
+/// ran out.
 pub fn change_of<M: Machine>(alloc: Global, machine: &M) -> Result<Change, AllocError>
     ensures made { let managed = (M.journaled machine.now).managed in
         IfOk result (λ change. Makes (setting_of managed) managed.state change) }
@@ -107,7 +113,8 @@ pub fn change_of<M: Machine>(alloc: Global, machine: &M) -> Result<Change, Alloc
     Ok(Change::All(all))
 }
 
-/// The one task that an event may change, where it changes nothing else.
+/// Returns the task of an event that may change the state of one task and nothing else of a table. None for other
+/// events.
 fn task_of(event: &Event) -> Option<TaskId>
     ensures { result ≡ task_in event.now }
 {
@@ -123,7 +130,7 @@ fn task_of(event: &Event) -> Option<TaskId>
     }
 }
 
-/// Whether an event is about shadow variables, of which a table shows nothing.
+/// Whether an event is about shadow variables. A table shows none of them.
 fn is_of_variables(event: &Event) -> bool
     ensures { result ≡ is_of_variables event.now }
 {
@@ -136,7 +143,8 @@ fn is_of_variables(event: &Event) -> bool
     }
 }
 
-/// The patch that an event moves, where this one was in transition before it.
+/// Returns the patch whose entries or transition an event changes. `moving` is the patch that was in transition before
+/// it.
 fn patch_moved(event: &Event, moving: Option<PatchId>) -> Option<PatchId>
     ensures { result ≡ patch_moved_by moving event.now }
 {
@@ -147,7 +155,7 @@ fn patch_moved(event: &Event, moving: Option<PatchId>) -> Option<PatchId>
     }
 }
 
-/// The module that an event loads or unloads. No patch moves with it.
+/// Returns the module that an event loads or unloads. Such an event changes no patch's transition.
 fn module_moved(event: &Event) -> Option<ObjId>
     ensures module { result ≡ module_moved_by event.now }
     ensures patch { IfSome result (λ _. (moving : Option ℕ) → patch_moved_by moving event.now ≡ None) }
@@ -158,7 +166,7 @@ fn module_moved(event: &Event) -> Option<ObjId>
     }
 }
 
-/// Adds the row of a site, if there is one, where there is room for it.
+/// Appends the present row of a site to the list, which must have room. Does nothing without a site.
 fn add_row<M: Machine>(machine: &M, site: Option<Site>, rows: &mut Vec<NewRow>)
     requires room { vec_len rows.old < vec_capacity rows.old }
     ensures rows { let managed = (M.journaled machine.now).managed in
@@ -171,7 +179,7 @@ fn add_row<M: Machine>(machine: &M, site: Option<Site>, rows: &mut Vec<NewRow>)
     }
 }
 
-/// The rows of the sites that a patch has functions for.
+/// Returns the present rows of the sites that a patch has functions for.
 fn rows_of<M: Machine>(
     alloc: Global,
     machine: &M,
@@ -193,7 +201,7 @@ fn rows_of<M: Machine>(
     Ok(rows)
 }
 
-/// The rows of the sites of an object.
+/// Returns the present rows of the sites of an object.
 fn rows_inside<M: Machine>(
     alloc: Global,
     machine: &M,
@@ -217,7 +225,7 @@ fn rows_inside<M: Machine>(
     Ok(rows)
 }
 
-/// These rows, with the states of all tasks.
+/// Returns these rows together with the present patch states of all tasks, as one change.
 fn moved<M: Machine>(
     alloc: Global,
     machine: &M,
@@ -236,7 +244,8 @@ fn moved<M: Machine>(
     Ok(moved)
 }
 
-/// What an event that was just taken changes, which is neither of one task nor of variables.
+/// Returns what an event that was just taken changed in the table. The event must be one of patches or modules, and not
+/// of one task or of variables. `moving` is the patch that was in transition before it.
 fn change_of_patches<M: Machine>(
     alloc: Global,
     machine: &M,
@@ -263,8 +272,8 @@ fn change_of_patches<M: Machine>(
     }
 }
 
-/// What an event that was just taken changes of the table that was there before it, where this patch was
-/// in transition then. It costs as much as the event's own sites, and the tasks where it may change all.
+/// Returns what an event that was just taken changed in the table. `moving` is the patch that was in transition before
+/// it. The cost grows with the event's own sites, and with all tasks if the event may change all of them.
 pub fn change_after<M: Machine>(
     alloc: Global,
     machine: &M,

@@ -1,5 +1,5 @@
-//! What happened since a start: one history for all threads, which only grows. It exists in contracts
-//! alone; what runs is its length.
+//! What happened since a start: one history for all threads, which only grows. Its rows exist in contracts alone. At
+//! run time there is only its length.
 ghost use Rattle.std.specs.Prelude.{◌≡◌, ◌+◌, ◌==◌, ◌<◌, ◌≤◌, ◌^◌, ◌++◌, ◌∷◌, [], length, MatchBool, Ok};
 ghost use mathlib.Core.List.{IsPrefix};
 ghost use Rattle.klp_model.specs.Legal.{IsLegal, state_after_history};
@@ -14,7 +14,8 @@ use std::marker::{Brand, Model, PhantomData};
 use std::sync::Wait;
 use std::sync::ledger::Ledger;
 
-/// Which start it is: its history, and what it was started over. It has as many seats as its ledger has parts.
+/// Names a start in contracts: its history, and the setting and state that it began with. It has as many seats as its
+/// ledger has parts.
 pub trait Start: Ledger {
     ghost use Rattle.logbook.specs.Pages.{Book};
     ghost use Rattle.klp_types.specs.Setting.{Setting};
@@ -38,7 +39,7 @@ impl Start for Brand {
     ghost base = { opening_state (record { image = record { handler = 0; objects = [] }; patches = [] }) };
 }
 
-/// An empty history, which no start has yet.
+/// An empty history that doesn't belong to a start yet.
 #[derive(Drop)]
 pub struct Opened {
     pub(crate) head: Word<Accepted, u64, Law>,
@@ -48,7 +49,7 @@ pub struct Opened {
 }
 
 impl Opened {
-    /// An empty history. It takes no memory.
+    /// Makes an empty history. Allocates nothing.
     pub fn new() -> Opened {
         let (seen, mut first, _second) = Seen::open(Fresh::alone(), 0, 0);
         Opened {
@@ -57,7 +58,8 @@ impl Opened {
         }
     }
 
-    /// The word under a name, and the front that has seen nothing.
+    /// Gives the history to the start `S`. Returns the word that counts its rows, and a front that has seen none of
+    /// them.
     pub fn named<S: Start>(self) -> (Head<S>, Front<S>)
         requires { self.seen.book ≡ S.book }
         ensures { result.1 ≡ [] }
@@ -77,7 +79,7 @@ impl Opened {
     }
 }
 
-/// The word that only the book has: who adds to the history has it.
+/// The word that counts the rows of a history. Only the book has it, so only the book can add rows.
 #[derive(Drop)]
 pub struct Head<S: Start> {
     pub(crate) word: Word<Accepted, u64, Law>,
@@ -85,7 +87,7 @@ pub struct Head<S: Start> {
     ghost head_is: { word ≡ head_of S.book },
 }
 
-/// A beginning of the history that was seen.
+/// A beginning of the history that someone has seen.
 #[derive(Drop)]
 pub struct Front<S: Start> {
     pub(crate) rows: u64,
@@ -101,11 +103,12 @@ impl<S: Start> Model for Front<S> {
 
     ghost view = { λ f. f.seen.log };
 
-    ghost invariant = { λ f. (f.rows ≡ length f.seen.log) × (f.seen.book ≡ S.book) × IsLegal S.setting S.base f.seen.log };
+    ghost invariant = { λ f. (f.rows ≡ length f.seen.log) × (f.seen.book ≡ S.book)
+        × IsLegal S.setting S.base f.seen.log };
 }
 
 impl<S: Start> Front<S> {
-    /// How many rows it has.
+    /// Returns how many rows it has.
     pub fn len(&self) -> u64
         ensures length { result ≡ length self.now }
         ensures legal { IsLegal S.setting S.base self.now }
@@ -113,7 +116,7 @@ impl<S: Start> Front<S> {
         self.rows
     }
 
-    /// A copy, which takes no memory.
+    /// Returns a copy. Allocates nothing.
     pub fn again(&self) -> Front<S>
         ensures { result ≡ self.now }
     {
@@ -124,7 +127,8 @@ impl<S: Start> Front<S> {
         }
     }
 
-    /// Whether it has all that another one has, by their lengths: of one history the shorter begins the longer.
+    /// Whether this front has all rows that `other` has. Comparing lengths is enough: of two fronts of one history the
+    /// shorter begins the longer.
     pub fn covers(&self, other: &Front<S>) -> bool
         ensures test { MatchBool result (length other.now ≤ length self.now) (length self.now < length other.now) }
         ensures begins { MatchBool result (IsPrefix other.now self.now) (IsPrefix self.now other.now) }
@@ -134,7 +138,8 @@ impl<S: Start> Front<S> {
         other.rows <= self.rows
     }
 
-    /// Adds a row to all that was seen, and says whether it did. It did not where the history is longer.
+    /// Adds a row behind all that this front has seen. Returns false, and adds nothing, if the history has more rows
+    /// than that.
     pub fn add(&mut self, head: &Head<S>, row: Accepted) -> bool
         requires room { length self.old < 2 ^ 62 }
         requires legal { answer S.setting (state_after_history S.setting S.base self.old) row.0 ≡ Ok row.1 }
@@ -143,7 +148,7 @@ impl<S: Start> Front<S> {
         self.add_answered(head, &row.0, &row.1)
     }
 
-    /// Adds the row of an event that was answered so, as [`Front::add`] does: what runs has no use for the row.
+    /// Adds the row of an event with this reply, as [`Front::add`] does. At run time no row is needed, so none is made.
     pub(crate) fn add_answered(&mut self, head: &Head<S>, event: &Event, reply: &Reply) -> bool
         requires room { length self.old < 2 ^ 62 }
         requires legal { answer S.setting (state_after_history S.setting S.base self.old) event.now ≡ Ok reply.now }
@@ -169,8 +174,8 @@ impl<S: Start> Front<S> {
     }
 }
 
-/// Never returns. It stands where two structures would have to disagree, as a history that is longer than the
-/// book that alone adds to it: that they agree is more than their contracts say.
+/// Never returns. Called if two structures disagree that always agree, such as a history that is longer than what its
+/// only writer knows. That they agree is more than their contracts say.
 fn stop<W: Wait>(rt: &W)
     ensures { ⊥ }
 {
@@ -178,7 +183,7 @@ fn stop<W: Wait>(rt: &W)
     unreachable!()
 }
 
-/// One front has all that the other has: returns only then.
+/// Returns only if the front `all` has all rows that `other` has.
 pub fn must_cover<S: Start, W: Wait>(rt: &W, all: &Front<S>, other: &Front<S>)
     ensures { IsPrefix other.now all.now }
 {
@@ -187,7 +192,8 @@ pub fn must_cover<S: Start, W: Wait>(rt: &W, all: &Front<S>, other: &Front<S>)
     }
 }
 
-/// The front with one more row: returns only where the history had no other.
+/// Returns the front with the row of this event and reply added. Never returns if the history has more rows than the
+/// front.
 pub fn extended<S: Start, W: Wait>(
     rt: &W,
     head: &Head<S>,

@@ -1,4 +1,4 @@
-//! What a receipt keeps of its row.
+//! The row that a receipt keeps.
 ghost use Rattle.std.specs.Prelude.{◌≡◌, IfOk};
 ghost use Rattle.klp_live.specs.Kept.{event_kept, reply_kept};
 
@@ -7,7 +7,7 @@ use klp_model::{Event, Reply};
 use klp_types::TaskId;
 use std::alloc::{AllocError, Global};
 
-/// An event of a task that has no frames, as [`Event`] has it.
+/// An event of a task, without frames. The variants mean those of [`Event`].
 #[derive(Clone, Copy)]
 pub enum TaskEvent {
     New(TaskId),
@@ -17,18 +17,18 @@ pub enum TaskEvent {
     ExitToUser(TaskId),
 }
 
-/// A row, in a few bytes where it is one of those that tasks have most: an event and a reply have room for the
-/// frames of a task each, and a receipt is handed on from step to step.
+/// A row in a small form if it is one of the most frequent task events. A whole event and a whole reply each have room
+/// for the frames of a task, and receipts are passed from step to step.
 #[derive(Drop)]
 pub enum Kept {
-    /// The event was done.
+    /// An event with the reply `Done`.
     OfTask(TaskEvent),
-    /// Any row.
+    /// Any row, in a box.
     Whole(Box<Accepted>),
 }
 
 impl Kept {
-    /// Keeps the row of an event that was answered so.
+    /// Keeps the row of an event with this reply. An error means that memory ran out.
     pub(crate) fn of(alloc: Global, event: &Event, reply: &Reply) -> Result<Kept, AllocError>
         ensures event { IfOk result (λ kept. event_kept kept ≡ event.now) }
         ensures reply { IfOk result (λ kept. reply_kept kept ≡ reply.now) }
@@ -44,7 +44,7 @@ impl Kept {
         Ok(Kept::OfTask(event))
     }
 
-    /// The event.
+    /// Returns the event.
     pub(crate) fn event(&self) -> Event
         ensures { result ≡ event_kept self.now }
     {
@@ -58,7 +58,7 @@ impl Kept {
         }
     }
 
-    /// What the event was answered.
+    /// Returns the reply.
     pub(crate) fn reply(&self) -> Reply
         ensures { result ≡ reply_kept self.now }
     {

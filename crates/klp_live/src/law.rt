@@ -8,7 +8,7 @@ use std::snapshot::Snapshot;
 /// An accepted event with its reply.
 pub type Accepted = (Event, Reply);
 
-/// A row in contracts alone: what runs copies neither its event nor its reply.
+/// A row that exists in contracts alone: at run time neither its event nor its reply is copied.
 #[derive(Drop)]
 pub struct StoredEvent {
     pub event: Snapshot<Event>,
@@ -16,7 +16,7 @@ pub struct StoredEvent {
 }
 
 impl StoredEvent {
-    /// That the event was answered so.
+    /// Makes the row of an event with this reply.
     pub fn of(event: &Event, reply: &Reply) -> StoredEvent
         ensures event { result.event.value ≡ event.now }
         ensures reply { result.reply.value ≡ reply.now }
@@ -28,7 +28,7 @@ impl StoredEvent {
     }
 }
 
-/// The rule of the history: its word is its length.
+/// The rule that the logbook keeps for the history: its word is the number of rows.
 pub struct Law;
 
 impl Rule<Accepted, u64> for Law {
@@ -49,7 +49,7 @@ impl Rule<Accepted, u64> for Law {
     ghost moves = { λ ask before after answer. Unit {0} };
 }
 
-/// Callers trade nothing.
+/// Callers gain and give nothing by a step.
 pub struct Nothing;
 
 impl Gain<Accepted, u64> for Nothing {
@@ -58,7 +58,7 @@ impl Gain<Accepted, u64> for Nothing {
     ghost after = { λ names about answer. ftrue };
 }
 
-/// A step that adds a row.
+/// The step that adds a row.
 pub struct Add;
 
 impl Play<Accepted, u64> for Add {
@@ -67,7 +67,7 @@ impl Play<Accepted, u64> for Add {
     ghost then = { Adds };
 }
 
-/// What a step asks for: the row.
+/// A step asks for the row that it adds.
 impl Plain<StoredEvent, Accepted, u64> for Add {
     ghost use Rattle.std.specs.Prelude.{None};
 

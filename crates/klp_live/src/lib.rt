@@ -1,13 +1,13 @@
 //! The book: a manager that task threads share, and what it publishes to them.
 //!
 //! [`Book::pair`] opens a book over a manager, with a seat for each thread. [`Book::admit`] takes an event for a seat
-//! (`specs/Admitting`), and [`Seat::enter`] finds what a call of a task runs, without a lock (`specs/Passing`). The
-//! model of a book has what always holds of it: its manager's journal is the list of what was accepted, and what is
-//! published is the dispatch table (`specs/Dispatch`) of that list (`specs/Shown`).
+//! (`specs/Admitting`). [`Seat::enter`] finds, without a lock, what a call of a task runs (`specs/Passing`). Every book
+//! keeps two promises: its manager's journal is the list of accepted events, and the published table is the dispatch
+//! table (`specs/Dispatch`) after that list (`specs/Shown`).
 //!
-//! `history` has the list, `kept` a row as a receipt has it, `publisher`, `published`, `rules` and `board` how a table is
-//! published, `change` what an event changes of one, `target` what a call finds in one. docs/THREADS.md has all of it in
-//! words.
+//! `history` has the list, and `kept` a row as a receipt keeps it. `publisher`, `published`, `rules` and `board`
+//! publish a table, `change` computes what an event changes in it, and `target` what a call finds in it.
+//! docs/THREADS.md explains all of it.
 #![tactic(auto)]
 
 mod board;

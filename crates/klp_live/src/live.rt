@@ -1,4 +1,4 @@
-//! A start: the book under its one lock, and its seats, with which tasks that run submit events and enter functions.
+//! A start: the book under its one lock, and its seats. With these, running tasks submit events and enter functions.
 ghost use Rattle.std.specs.Prelude.{◌≡◌, ◌≢◌, ◌<◌, ◌≤◌, [], length, MatchResult, IfOk, IfErr, vec_len};
 ghost use Rattle.std.specs.List.{All, sum_by};
 ghost use mathlib.Core.List.{IsPrefix};
@@ -24,8 +24,8 @@ use std::marker::PhantomData;
 use std::sync::ledger::{Blank, Share};
 use std::sync::{Mutex, Wait};
 
-/// How many seats a start has: as many as its ledger has parts. It has nothing of the ledger itself, since what has can't
-/// speak of the number.
+/// How many seats a start has: as many as its ledger has parts. Kept apart from the ledger: a struct that owns the
+/// ledger can't mention the number.
 #[derive(Drop)]
 struct Places<S: Start> {
     count: usize,
@@ -34,18 +34,18 @@ struct Places<S: Start> {
     ghost some: { 0 < count },
 }
 
-/// The book under the one lock that submitting an event takes. To enter a function takes none.
+/// The book under the one lock. Submitting an event takes the lock, and entering a function doesn't.
 #[derive(Drop)]
 pub struct Live<S: Start + Protocol<Published, View>, M: Machine + Drop, R: Wait + Drop> {
     book: Mutex<Book<S, M, R>>,
     places: Places<S>,
 }
 
-/// That no task has this number.
+/// The error that there can't be a task with this number.
 #[derive(Clone, Copy, Debug)]
 pub struct BadTask;
 
-/// Seats are missing, so a start can't be closed: it and the seats are handed back.
+/// The error that a start can't be closed, since seats are missing. Hands the start and the seats back.
 #[derive(Drop)]
 pub struct CloseFault<S: Start + Protocol<Published, View>, M: Machine + Drop, R: Wait + Drop> {
     pub live: Live<S, M, R>,
@@ -65,7 +65,8 @@ fn submit<S: Start + Protocol<Published, View>, M: Machine + Drop, R: Wait + Dro
     book.admit(rt, alloc, seat, event)
 }
 
-/// The share of a seat, once it was seen that the list has all that the seat knows.
+/// Returns the seat's share of the count of accepted events. First makes sure that `all` has all rows that the seat
+/// knows.
 fn share_of<S: Start + Protocol<Published, View>, W: Wait>(
     rt: &W,
     all: &Front<S>,
@@ -84,7 +85,7 @@ fn share_of<S: Start + Protocol<Published, View>, W: Wait>(
     share
 }
 
-/// The shares of all seats, of which there is one at least.
+/// Merges the shares of all seats into one. There is at least one seat.
 fn shares_of<S: Start + Protocol<Published, View>, W: Wait>(
     rt: &W,
     all: &Front<S>,
@@ -106,7 +107,8 @@ fn shares_of<S: Start + Protocol<Published, View>, W: Wait>(
 }
 
 impl<S: Start + Protocol<Published, View>, M: Machine + Drop, R: Wait + Drop> Live<S, M, R> {
-    /// Starts over a manager: its table is published, and the seats are handed out.
+    /// Starts over a manager: publishes its table, and hands out the seats. On a fault, returns the manager as it was
+    /// passed in.
     pub fn start(
         rt: R,
         alloc: Global,
@@ -140,8 +142,8 @@ impl<S: Start + Protocol<Published, View>, M: Machine + Drop, R: Wait + Drop> Li
         }
     }
 
-    /// A task takes a seat. The number is looked at, and not whether there is such a task: one that is to come may have
-    /// its pass before.
+    /// Gives a task a seat, and returns its pass. Returns the seat and `BadTask` if the number is too large. Doesn't
+    /// check that the task exists: a task may have its pass before it begins.
     pub fn attach(&self, seat: Seat<S>, task: TaskId) -> Result<TaskPass<S>, (Seat<S>, BadTask)>
         ensures { MatchResult result
             (λ pass. (pass ≡ record { task = task; knows = seat }) × (task < MAX_TASKS))
@@ -153,7 +155,7 @@ impl<S: Start + Protocol<Published, View>, M: Machine + Drop, R: Wait + Drop> Li
         Ok(TaskPass::new(seat, task))
     }
 
-    /// Takes the lock, and admits an event for a pass: any pass may submit any event.
+    /// Takes the lock, and admits an event for a seat. Any pass may submit any event.
     pub(crate) fn admit<W: Wait>(
         &self,
         rt: &W,
@@ -167,7 +169,7 @@ impl<S: Start + Protocol<Published, View>, M: Machine + Drop, R: Wait + Drop> Li
         submit(&mut *book, rt, alloc, seat, event)
     }
 
-    /// Ends the start and gives the manager back, where all seats are handed in.
+    /// Ends the start and returns the manager. Returns `CloseFault` if seats are missing.
     pub fn close<W: Wait>(self, rt: &W, seats: Vec<Seat<S>>) -> Result<M, CloseFault<S, M, R>>
         ensures missing { IfErr result (λ fault. (fault.seats ≡ seats) × (vec_len seats ≢ S.parts)) }
         ensures closed { IfOk result (λ machine. (vec_len seats ≡ S.parts)
@@ -184,8 +186,8 @@ impl<S: Start + Protocol<Published, View>, M: Machine + Drop, R: Wait + Drop> Li
     }
 }
 
-/// Ends a book and gives its manager back. All seats are handed in, so their accepted events are as many as the history
-/// has.
+/// Ends a book and returns its manager. All seats are handed in, so the numbers of their accepted events add up to the
+/// length of the history.
 fn closed<S: Start + Protocol<Published, View>, M: Machine + Drop, R: Wait + Drop, W: Wait>(
     rt: &W,
     book: Book<S, M, R>,

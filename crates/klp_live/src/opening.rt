@@ -1,4 +1,4 @@
-//! The opening of a start: the book with its seats.
+//! Opening a start: the book with its seats.
 ghost use Rattle.std.specs.Prelude.{◌≡◌, ◌<◌, ◌≤◌, ◌^◌, ◌+◌, [], ◌∷◌, drop, length, IfOk, IfErr, vec_len};
 ghost use Rattle.std.specs.List.{All};
 ghost use Rattle.left_right.specs.Sides.{view};
@@ -26,21 +26,21 @@ use std::alloc::{AllocError, Global};
 use std::sync::Wait;
 use std::sync::ledger::{Blank, Share};
 
-/// Why there is no start: memory was refused, or a place for a reader.
+/// Why a start failed: memory ran out, or `left_right` had no place for another reader.
 #[derive(Clone, Copy, Debug)]
 pub enum StartCause {
     NoMemory,
     NoPlace,
 }
 
-/// The manager as it was handed in, and why it wasn't started.
+/// The manager that was passed in, and why it wasn't started.
 #[derive(Drop)]
 pub struct StartFault<M> {
     pub manager: M,
     pub cause: StartCause,
 }
 
-/// The table of no row.
+/// Returns this table as the published table of a history without rows.
 fn first_of(table: &Table, seen: &Seen<Accepted, u64, Law>) -> Published
     ensures { result ≡ record { table = table.now; rows = 0; seen = seen.now } }
 {
@@ -51,7 +51,7 @@ fn first_of(table: &Table, seen: &Seen<Accepted, u64, Law>) -> Published
     }
 }
 
-/// The table that a change makes, whatever it was before.
+/// Returns the table that a change makes, which must not depend on the table before.
 fn table_by<S: Start>(change: Change) -> Table
     requires { Makes S.setting S.base change }
     ensures { IsDispatch S.setting S.base result }
@@ -73,7 +73,7 @@ fn known<S: Start + Protocol<Published, View>, W: Wait>(rt: &W, changes: Changes
     changes.publish_as::<Sees, W>(rt).0
 }
 
-/// Publishes the table of the empty history.
+/// Makes the board, and publishes the table of the empty history on it. An error means that memory ran out.
 fn changes<S: Start + Protocol<Published, View>, W: Wait>(
     rt: &W,
     alloc: Global,
@@ -86,7 +86,8 @@ fn changes<S: Start + Protocol<Published, View>, W: Wait>(
     requires empty { seen.now.log ≡ [] }
     requires book { seen.now.book ≡ S.book }
     requires places { (0 < places) × (places ≤ 64) }
-    ensures { IfOk result (λ w. IsEmptyBoard S.setting S.base S.book w.desk.shown.value (drop w.behind w.log.items) (view w.desk.place)) }
+    ensures { IfOk result (λ w. IsEmptyBoard S.setting S.base S.book w.desk.shown.value (drop w.behind w.log.items)
+        (view w.desk.place)) }
 {
     let table = table_by::<S>(change);
     let first = first_of(&table, seen);
@@ -95,8 +96,8 @@ fn changes<S: Start + Protocol<Published, View>, W: Wait>(
     Ok(known::<S, W>(rt, writer))
 }
 
-/// A seat with a reader of its own, which knows this history and has this share of the count. An error is a reader that
-/// `left_right` refuses.
+/// Makes a seat with a reader of its own, which knows this history and has this share of the count. It is an error if
+/// `left_right` refuses the reader.
 fn seat<S: Start + Protocol<Published, View>>(
     changes: &mut Changes<S>,
     front: &Front<S>,
@@ -119,7 +120,7 @@ fn seat<S: Start + Protocol<Published, View>>(
     })
 }
 
-/// All seats, each with one part of the share.
+/// Makes all seats, each with one part of the share.
 fn seats<S: Start + Protocol<Published, View>>(
     alloc: Global,
     changes: &mut Changes<S>,
@@ -130,7 +131,8 @@ fn seats<S: Start + Protocol<Published, View>>(
     requires rule { RuleIs S.holds S.first S.setting S.base S.book }
     requires known { IsOne S.book (view changes.old.desk.place) }
     requires share { (share.parts ≡ places) × (share.amount ≡ 0) }
-    ensures seats { IfOk result (λ seats. (vec_len seats ≡ places) × All (λ seat. seat ≡ record { list = front.now; accepted = 0 }) seats.items) }
+    ensures seats { IfOk result (λ seats. (vec_len seats ≡ places) × All
+        (λ seat. seat ≡ record { list = front.now; accepted = 0 }) seats.items) }
     ensures shown { changes.new.desk.shown ≡ changes.old.desk.shown }
     ensures pending { drop changes.new.behind changes.new.log.items ≡ drop changes.old.behind changes.old.log.items }
 {
@@ -149,9 +151,9 @@ fn seats<S: Start + Protocol<Published, View>>(
 }
 
 impl<S: Start + Protocol<Published, View>, M: Machine + Drop, R: Wait + Drop> Book<S, M, R> {
-    /// Opens a book over a manager whose journal is empty: publishes its table, at the cost of a look at every
-    /// site, and gives out the seats. `blank` and `opened` are what the start is named by. The faults are want of
-    /// memory, and a place that `left_right` refuses; the manager comes back as it was handed in.
+    /// Opens a book over a manager whose journal is empty: publishes its table and makes the seats. Looks at every
+    /// site. `blank` and `opened` become the ledger and the history of the start. If memory runs out, or `left_right`
+    /// has no place for a reader, the manager is returned as it was passed in.
     pub fn pair(
         rt: R,
         alloc: Global,
@@ -204,7 +206,7 @@ impl<S: Start + Protocol<Published, View>, M: Machine + Drop, R: Wait + Drop> Bo
         }
     }
 
-    /// Ends the book, and gives back the manager as it is. It waits until no seat reads.
+    /// Ends the book and returns its manager. Waits until no seat reads.
     pub fn end(self) -> M
         ensures machine { M.journaled result ≡ self.manager }
         ensures kept { IsManagerOf S.setting S.base self.manager self.list }

@@ -1,4 +1,4 @@
-//! What a thread that runs a task does.
+//! What a thread calls that runs a task.
 ghost use Rattle.std.specs.Prelude.{◌≡◌, length, ◌⊎◌, Err, IfSome};
 ghost use mathlib.Core.List.{IsPrefix};
 ghost use Rattle.klp_model.specs.Legal.{IsLegal};
@@ -23,7 +23,7 @@ use std::alloc::Global;
 use std::marker::{Model, PhantomData};
 use std::sync::Wait;
 
-/// What a read of a start tells.
+/// The outcome of a read, as contracts know it.
 pub struct Reads<S: Start> {
     of: PhantomData<S>,
 }
@@ -34,14 +34,14 @@ impl<S: Start> Outcome<Published, View> for Reads<S> {
     ghost then = { λ v x y w. IsRead S.setting S.base v x y w };
 }
 
-/// An answer, and the rows that it is by.
+/// An answer, with the history that it is based on.
 #[derive(Drop)]
 pub struct Answer<S: Start> {
     found: Result<Target, EnterFault>,
     front: Front<S>,
 }
 
-/// Reads the table once.
+/// Reads the published table once, and returns the reader with the answer. No answer if the book has ended.
 fn look<S: Start + Protocol<Published, View>>(
     reader: Place<S>,
     task: TaskId,
@@ -66,7 +66,7 @@ fn look<S: Start + Protocol<Published, View>>(
     }
 }
 
-/// The rows of a table.
+/// Returns the history of a published table.
 fn front_of<S: Start>(shown: &Published) -> Front<S>
     requires table { IsTable S.setting S.base shown.now }
     requires book { shown.now.seen.book ≡ S.book }
@@ -79,7 +79,8 @@ fn front_of<S: Start>(shown: &Published) -> Front<S>
     }
 }
 
-/// Takes an answer that isn't older than what is known, and knows its rows then.
+/// Returns an answer that isn't older than what the front knows, and lets the front know the answer's history. Returns
+/// `NoTable` for an older one.
 fn adopt<S: Start>(front: &mut Front<S>, answer: Answer<S>) -> Result<Target, EnterFault>
     ensures { ((result ≡ Err EnterFault.NoTable) × (front.new ≡ front.old))
         ⊎ ((result ≡ answer.found) × (front.new ≡ answer.front) × IsPrefix front.old front.new) }
@@ -92,8 +93,8 @@ fn adopt<S: Start>(front: &mut Front<S>, answer: Answer<S>) -> Result<Target, En
 }
 
 impl<S: Start + Protocol<Published, View>> Seat<S> {
-    /// What a call of the task at the site runs, by the table that is published: two looks and the steps of
-    /// `left_right`, without a lock or memory, and it never waits. The seat then knows the rows of that table.
+    /// Returns what a call of the task at the site runs, by the published table. The seat then knows the history of
+    /// that table. The cost is two lookups and the steps of `left_right`. Takes no lock and no memory, and never waits.
     pub fn enter(&mut self, task: TaskId, site: Site) -> Result<Target, EnterFault>
         ensures { IsEntered S.setting S.base task site self.old self.new result }
     {
@@ -107,7 +108,8 @@ impl<S: Start + Protocol<Published, View>> Seat<S> {
     }
 }
 
-/// A task that runs, with the seat by which its thread knows what happened. It is one task's, so an entry needs no number.
+/// A running task with its seat, by which the task's thread knows what happened. A pass is for one task, so `enter`
+/// needs no task number.
 #[derive(Drop)]
 pub struct TaskPass<S: Start + Protocol<Published, View>> {
     task: TaskId,
@@ -123,20 +125,21 @@ impl<S: Start + Protocol<Published, View>> Model for TaskPass<S> {
 }
 
 impl<S: Start + Protocol<Published, View>> TaskPass<S> {
+    /// Makes the pass of a task with this seat.
     pub(crate) fn new(seat: Seat<S>, task: TaskId) -> TaskPass<S>
         ensures { result ≡ record { task = task; knows = seat } }
     {
         TaskPass { task, seat }
     }
 
-    /// The task that has the pass.
+    /// Returns the task that has the pass.
     pub fn task(&self) -> TaskId
         ensures { result ≡ self.now.task }
     {
         self.task
     }
 
-    /// How many rows of the book it knows of, as its seat does.
+    /// Returns how many rows of the history the pass knows.
     pub fn rows(&self) -> u64
         ensures rows { result ≡ length self.now.knows.list }
         ensures legal { IsLegal S.setting S.base self.now.knows.list }
@@ -144,7 +147,7 @@ impl<S: Start + Protocol<Published, View>> TaskPass<S> {
         self.seat.rows()
     }
 
-    /// Gives the seat back: it still knows what the pass knew, and another task may take it.
+    /// Gives the seat back. It still knows what the pass knew, and another task may take it.
     pub fn detach(self) -> Seat<S>
         ensures { result ≡ self.knows }
     {
@@ -152,8 +155,8 @@ impl<S: Start + Protocol<Published, View>> TaskPass<S> {
         seat
     }
 
-    /// Submits an event under the lock, and so may wait. Afterwards the pass knows of its own event, or of the list that
-    /// refused it.
+    /// Submits an event. Takes the lock, and so may wait. Afterwards the pass knows the history up to its own event, or
+    /// the history in which the event was refused.
     pub fn submit<M: Machine + Drop, R: Wait + Drop, W: Wait>(
         &mut self,
         rt: &W,
@@ -167,7 +170,7 @@ impl<S: Start + Protocol<Published, View>> TaskPass<S> {
         live.admit(rt, alloc, &mut self.seat, event)
     }
 
-    /// Hears of the event of a receipt: each later `enter` of this pass sees it, and all before it.
+    /// Learns of the event of a receipt: each later `enter` of this pass sees it, and all events before it.
     pub fn hear(&mut self, receipt: &Receipt<S>)
         ensures own { IsPrefix self.old.knows.list self.new.knows.list }
         ensures heard { IsPrefix receipt.now.list self.new.knows.list }
@@ -179,8 +182,8 @@ impl<S: Start + Protocol<Published, View>> TaskPass<S> {
         self.seat.hear(receipt)
     }
 
-    /// What a call of the task at the site runs, by one published table that has all that the pass knows. It takes no
-    /// lock and no memory, and doesn't wait.
+    /// Returns what a call of the task at the site runs, by one published table that has all that the pass knows. Takes
+    /// no lock and no memory, and doesn't wait.
     pub fn enter(&mut self, site: Site) -> Result<Target, EnterFault>
         ensures entered { IsEntered S.setting S.base self.old.task site self.old.knows self.new.knows result }
         ensures task { self.new.task ≡ self.old.task }

@@ -1,4 +1,4 @@
-//! The publisher: the history of what was accepted, and the board that shows its table.
+//! The publisher: the history of accepted events, and the board that shows the table after it.
 ghost use Rattle.std.specs.Prelude.{◌≡◌, ◌<◌, ◌≤◌, ◌^◌, ◌++◌, ◌∷◌, [], length, Ok, MatchBool, MatchOption};
 ghost use mathlib.Core.List.{IsPrefix};
 ghost use Rattle.klp_model.specs.Legal.{IsLegal, state_after_history};
@@ -23,7 +23,7 @@ use std::marker::Model;
 use std::sync::Wait;
 use std::sync::ledger::{Book as Ledger, Share};
 
-/// The history, which nobody else can add to, with what is published of it and how many events all seats had accepted.
+/// The history with its board, and with the number of accepted events of all seats. Nobody else can add to the history.
 #[derive(Drop)]
 pub struct Publisher<S: Start + Protocol<Published, View>, R: Wait + Drop> {
     pub(crate) board: Board<S, R>,
@@ -47,7 +47,7 @@ impl<S: Start + Protocol<Published, View>, R: Wait + Drop> Model for Publisher<S
         × RuleIs S.holds S.first S.setting S.base S.book };
 }
 
-/// The row that was just added, with what it changes.
+/// Makes the news to publish: the last row of this history, with its changes of the table.
 fn news<S: Start>(change: Change, front: &Front<S>) -> News
     ensures change { result.change ≡ change }
     ensures rows { result.rows ≡ length front.now }
@@ -61,7 +61,7 @@ fn news<S: Start>(change: Change, front: &Front<S>) -> News
     }
 }
 
-/// Appends a row and shows it, where there is room for it, and says whether it did.
+/// Appends a row to the history and publishes it. Returns false, and changes nothing, if there is no memory for that.
 fn append<S: Start + Protocol<Published, View>, R: Wait + Drop, W: Wait>(
     rt: &W,
     board: &mut Board<S, R>,
@@ -89,7 +89,7 @@ fn append<S: Start + Protocol<Published, View>, R: Wait + Drop, W: Wait>(
 }
 
 impl<S: Start + Protocol<Published, View>, R: Wait + Drop> Publisher<S, R> {
-    /// The publisher of a history that the board shows.
+    /// Makes the publisher of a history that the board shows.
     pub fn new(
         board: Board<S, R>,
         head: Head<S>,
@@ -109,29 +109,29 @@ impl<S: Start + Protocol<Published, View>, R: Wait + Drop> Publisher<S, R> {
         }
     }
 
-    /// The history.
+    /// Returns the history.
     pub fn front(&self) -> &Front<S>
         ensures front { result.now ≡ self.now }
     {
         &self.front
     }
 
-    /// The seat knows a beginning of the history: returns only then.
+    /// Returns only if the seat knows a beginning of the history.
     pub fn must_cover<W: Wait>(&self, rt: &W, seat: &Seat<S>)
         ensures { IsPrefix seat.now.list self.now }
     {
         must_cover(rt, &self.front, &seat.front);
     }
 
-    /// The seat then knows all of the history.
+    /// Lets the seat know all of the history.
     pub fn catch_up(&self, seat: &mut Seat<S>)
         ensures { seat.new ≡ record { list = self.now; accepted = seat.old.accepted } }
     {
         seat.front = self.front.again();
     }
 
-    /// Appends the row of an event that was accepted, publishes it, and counts it for the seat, which is told of it.
-    /// Where there is no memory for that, nothing has changed.
+    /// Appends the row of an event that was accepted, publishes it, and counts it for the seat, which then knows it.
+    /// Returns None, and changes nothing, if there is no memory for that.
     pub fn publish<W: Wait>(
         &mut self,
         rt: &W,
@@ -146,12 +146,13 @@ impl<S: Start + Protocol<Published, View>, R: Wait + Drop> Publisher<S, R> {
         requires change { IsStep S.setting (state_after_history S.setting S.base self.old) event.now change }
         requires event { event_kept kept ≡ event.now }
         requires reply { reply_kept kept ≡ reply.now }
-        // no more is published than the event may change
+        // at most the rows are published that the event may change
         requires few { rows_in change
             ≤ rows_touched S.setting (moving_patch (state_after_history S.setting S.base self.old).moving) event.now }
         ensures { MatchOption result
             ((self.new ≡ self.old) × (seat.new ≡ seat.old))
-            (λ receipt. IsPublished S.setting S.base (event.now, reply.now) self.old self.new seat.old seat.new receipt) }
+            (λ receipt. IsPublished S.setting S.base (event.now, reply.now) self.old self.new seat.old seat.new
+            receipt) }
     {
         if !append(
             rt,
@@ -169,7 +170,8 @@ impl<S: Start + Protocol<Published, View>, R: Wait + Drop> Publisher<S, R> {
         Some(Receipt::new(kept, self.front.again()))
     }
 
-    /// Once all shares are in one, it is seen that they come to as many events as the history has.
+    /// Makes sure that `all`, into which the shares of all seats were merged, counts as many events as the history has.
+    /// Changes neither.
     pub fn audit(&mut self, all: &mut Share<S>)
         requires { all.old.parts ≡ S.parts }
         ensures history { self.new ≡ self.old }

@@ -14,7 +14,7 @@ use klp_model::{Event, Reply};
 use std::marker::Model;
 use std::sync::ledger::Share;
 
-/// A place of a start: what it knows, and how many of its events were accepted.
+/// A thread's place in a start: the beginning of the history that it knows, and how many of its events were accepted.
 #[derive(Drop)]
 pub struct Seat<S: Start + Protocol<Published, View>> {
     pub(crate) reader: Place<S>,
@@ -32,11 +32,13 @@ impl<S: Start + Protocol<Published, View>> Model for Seat<S> {
 
     ghost view = { λ k. record { list = k.front; accepted = k.share.amount } };
 
-    ghost invariant = { λ k. (k.share.parts ≡ 1) × IsOne S.book (seen_by k.reader.place) × RuleIs S.holds S.first S.setting S.base S.book };
+    ghost invariant = { λ k. (k.share.parts ≡ 1) × IsOne S.book (seen_by k.reader.place)
+        × RuleIs S.holds S.first S.setting S.base S.book };
 }
 
 impl<S: Start + Protocol<Published, View>> Seat<S> {
-    /// How many rows of the book it knows of: those of its last receipt, or of the last table that it read.
+    /// Returns how many rows of the history the seat knows: those of its last receipt, or of the last table that it
+    /// read.
     pub fn rows(&self) -> u64
         ensures rows { result ≡ length self.now.list }
         ensures legal { IsLegal S.setting S.base self.now.list }
@@ -44,8 +46,8 @@ impl<S: Start + Protocol<Published, View>> Seat<S> {
         self.front.len()
     }
 
-    /// Learns of the event of a receipt, and so of all before it: what the seat knows afterwards is the longer
-    /// of its own list and the receipt's.
+    /// Learns of the event of a receipt and of all before it. Afterwards the seat knows the longer one of its own
+    /// history and the receipt's.
     pub fn hear(&mut self, receipt: &Receipt<S>)
         ensures own { IsPrefix self.old.list self.new.list }
         ensures heard { IsPrefix receipt.now.list self.new.list }
@@ -60,7 +62,7 @@ impl<S: Start + Protocol<Published, View>> Seat<S> {
     }
 }
 
-/// An accepted event, its reply and its number.
+/// An accepted event with its reply and its number.
 #[derive(Drop)]
 pub struct Receipt<S: Start> {
     pub(crate) number: u64,
@@ -75,16 +77,26 @@ impl<S: Start> Model for Receipt<S> {
 
     ghost Value = { ReceiptValue };
 
-    ghost view = { λ r. record { number = r.number; event = event_kept r.kept; reply = reply_kept r.kept; list = r.front } };
+    ghost view = { λ r. record {
+      number = r.number;
+      event = event_kept r.kept;
+      reply = reply_kept r.kept;
+      list = r.front;
+    } };
 
     ghost invariant = { λ r. (r.number ≡ length r.front) × IsLast r.front (event_kept r.kept) (reply_kept r.kept) };
 }
 
 impl<S: Start> Receipt<S> {
-    /// The receipt of the last row.
+    /// Makes the receipt of the last row of this history. `kept` must have that row.
     pub(crate) fn new(kept: Kept, front: Front<S>) -> Receipt<S>
         requires { IsLast front (event_kept kept) (reply_kept kept) }
-        ensures { result ≡ record { number = length front; event = event_kept kept; reply = reply_kept kept; list = front } }
+        ensures { result ≡ record {
+          number = length front;
+          event = event_kept kept;
+          reply = reply_kept kept;
+          list = front;
+        } }
     {
         Receipt {
             number: front.len(),
@@ -93,7 +105,7 @@ impl<S: Start> Receipt<S> {
         }
     }
 
-    /// The number of its row, counted from 1.
+    /// Returns the number of the event's row in the history, counted from 1.
     pub fn number(&self) -> u64
         ensures number { result ≡ self.now.number }
         ensures last { self.now.number ≡ length self.now.list }
@@ -103,7 +115,7 @@ impl<S: Start> Receipt<S> {
         self.number
     }
 
-    /// The event that was accepted.
+    /// Returns the event that was accepted.
     pub fn event(&self) -> Event
         ensures event { result ≡ self.now.event }
         ensures last { IsLast self.now.list self.now.event self.now.reply }
@@ -111,7 +123,7 @@ impl<S: Start> Receipt<S> {
         self.kept.event()
     }
 
-    /// What the event was answered.
+    /// Returns the reply to the event.
     pub fn reply(&self) -> Reply
         ensures { result ≡ self.now.reply }
     {

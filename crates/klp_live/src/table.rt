@@ -1,7 +1,7 @@
 //! The dispatch table: what a call of a hooked function needs.
 use klp_types::{MAX_SITES, MAX_TASKS, Site, SiteRow, TaskId};
 
-/// For each site of a loaded object its two newest entries, and for each task its state.
+/// For each site of a loaded object its two newest entries, and for each task its patch state.
 #[derive(Clone, Copy)]
 pub struct Table {
     pub rows: [Option<SiteRow>; MAX_SITES],
@@ -11,24 +11,25 @@ pub struct Table {
 /// A site, and the row that it has now.
 pub type NewRow = (Site, Option<SiteRow>);
 
-/// What moves with a patch or a module: the rows of the sites that a patch has functions for, or of those that lie in a
-/// module, and the states of all tasks.
+/// What an event of a patch or a module changes: the rows of the patch's or the module's sites, and the patch states of
+/// all tasks.
 #[derive(Drop)]
 pub struct Moved {
     pub rows: Vec<NewRow>,
     pub states: [Option<i8>; MAX_TASKS],
 }
 
-/// What an event changes of a table. It is as small as the event: a whole table is published for a
-/// cumulative patch alone, since any site may be one of those that it replaces functions of.
+/// What an event changes in a table. Its size is that of the event: only for a cumulative patch the whole table is
+/// published, since that patch may replace functions at any site.
 #[derive(Drop)]
 pub enum Change {
     /// Nothing.
     Same,
-    /// One task has this state now, or is gone.
+    /// One task has this patch state now, or has ended.
     Task(TaskId, Option<i8>),
-    /// Some rows, and all tasks. It is boxed, since most changes are of one task and are handed on from step to step.
+    /// Some rows, and the patch states of all tasks. It is boxed, since most changes are of one task, and changes are
+    /// passed from step to step.
     Moved(Box<Moved>),
-    /// Anything.
+    /// The whole table.
     All(Box<Table>),
 }

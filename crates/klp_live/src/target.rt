@@ -12,19 +12,18 @@ ghost use Rattle.klp_live.specs.declared.table.Table.{Table as AnyTable};
 use crate::table::Table;
 use klp_types::{Site, SiteRow, Target, TaskId, Version};
 
-/// Why a call finds nothing. They are looked at in this order, but for the last.
+/// Why a call finds nothing. `NoSite` is checked before `NoTask`.
 #[derive(Clone, Copy, Debug)]
 pub enum EnterFault {
     /// There is no such site, or its object isn't loaded.
     NoSite,
     /// There is no such task.
     NoTask,
-    /// There was nothing to read, since the book has ended, or it was older than what the seat knows, which no
-    /// proof rules out.
+    /// The book has ended, or the table was older than what the seat knows. No proof rules the latter out.
     NoTable,
 }
 
-/// The version that a task of this state runs, with its address.
+/// Returns the version that a task of this patch state runs, with its address.
 fn chosen(site: Site, row: &SiteRow, state: i8) -> Target
     ensures { result ≡ target_by site row.now state }
 {
@@ -35,7 +34,7 @@ fn chosen(site: Site, row: &SiteRow, state: i8) -> Target
     }
 }
 
-/// What a task runs at a site, by a table: two looks, whatever is installed.
+/// Returns what a task runs at a site, by a table. Two lookups, whatever is installed.
 pub fn target_of(table: &Table, task: TaskId, site: Site) -> Result<Target, EnterFault>
     ensures { result ≡ found table.now task site }
 {
@@ -50,13 +49,13 @@ pub fn target_of(table: &Table, task: TaskId, site: Site) -> Result<Target, Ente
     Ok(chosen(site, row, state))
 }
 
-/// The table of a state answers what is found by the state itself.
+/// A call finds the same in the table of a state as by the state itself.
 pub fn tables_answer_what_the_machine_picks()
     ensures { (setting : Setting) (state : State) (table : AnyTable) (task site : ℕ)
         → IsDispatch setting state table → found table task site ≡ entered setting state task site }
 {}
 
-/// A call finds a target exactly where the machine picks one, and it finds that one.
+/// A call finds a target exactly if the machine picks one, and it is the same.
 pub fn what_is_entered_is_what_is_picked()
     ensures { (setting : Setting) (state : State) (task site : ℕ)
         → result_ok (entered setting state task site) ≡ pick setting state task site }

@@ -22,13 +22,13 @@ use Rattle.klp_live_bodies.specs.declared.step.Step.TheVariants.{Submit, Call, R
 use Rattle.klp_live_bodies.specs.declared.step.What.{What}
 use Rattle.klp_live_bodies.specs.declared.step.What.TheVariants.{Receipt, Refused, Entered, NoEntry, Returned, Deep}
 
--- the versions that a task is inside of, innermost last: those that it entered and hasn't returned from
+-- the versions that a task is inside of after a step, innermost last: those that it entered and hasn't returned from
 abbrev pub frames_after : List Version → What → List Version
 frames_after frames (Entered target) = frames ++ target.version ∷ []
 frames_after frames Returned = take (length frames - 1) frames
 frames_after frames other = frames
 
--- one where an event was accepted
+-- 1 if the step was an accepted event, else 0
 abbrev pub taken_by : What → ℕ
 taken_by (Receipt accepted) = 1
 taken_by other = 0
@@ -39,50 +39,54 @@ submits (Submit event) = true
 submits Nap = true
 submits other = false
 
--- the event was accepted: it stands last in what is known then, with its reply and its number, behind all that was known before
+-- The event was accepted: its row is the last of the known history, with its reply and number, behind all known before.
 pub record IsReceipt (before : ℕ) (seen : History) (event : Event) (accepted : Accepted) : Type 0 where
   pub event_is : accepted.event ≡ event
   pub number : accepted.number ≡ length seen
   pub later : before < accepted.number
   pub well_formed : IsLast seen event accepted.reply
 
--- what the machine answers in the state that the list leads to; or the machine would accept it, and a journal of the list has no room
+-- The refusal is the model's in the state of this history; or the model would accept the event, but a journal of this
+-- history may have no room.
 pub record IsRefusal (setting : Setting) (base : State) (seen : History) (event : Event) (refusal : Refusal) : Type 0 where
   pub answers : refusal ≢ JournalFull → answer setting (state_after_history setting base seen) event ≡ Err refusal
   pub full : refusal ≡ JournalFull → FindsNoRoom setting base seen event
 
+-- what submitting an event comes to: a receipt or a refusal
 abbrev pub IsSubmission : Setting → State → ℕ → History → Event → What → Type 0
 IsSubmission setting base before seen event (Receipt accepted) = IsReceipt before seen event accepted
 IsSubmission setting base before seen event (Refused refusal) = IsRefusal setting base seen event refusal
 IsSubmission setting base before seen event other = ⊥
 
--- a version was entered: there was room for it, and it is what the machine picks in the state that the list leads to
+-- a version was entered: there was a free frame, and the version is the model's pick in the state of this history
 pub record IsEntry (setting : Setting) (base : State) (task : ℕ) (frames : List Version) (seen : History) (site : ℕ) (target : Target) : Type 0 where
   pub room : length frames < MAX_FRAMES
   pub answers : entered setting (state_after_history setting base seen) task site ≡ Ok target
 
--- nothing was entered, as the machine says too; or there was no table, and nothing new is known
+-- nothing was entered, as the model says too; or there was no table, and nothing new is known
 pub record IsNoEntry (setting : Setting) (base : State) (task : ℕ) (before : ℕ) (frames : List Version) (seen : History) (site : ℕ) (fault : EnterFault) : Type 0 where
   pub room : length frames < MAX_FRAMES
   pub answers : fault ≢ NoTable → entered setting (state_after_history setting base seen) task site ≡ Err fault
   pub unread : fault ≡ NoTable → length seen ≡ before
 
--- the task is inside of as many versions as are kept of one, so nothing was entered
+-- the task is inside of as many versions as can be kept, so nothing was entered
 pub record IsDeep (before : ℕ) (frames : List Version) (seen : History) : Type 0 where
   pub full : length frames ≡ MAX_FRAMES
   pub same : length seen ≡ before
 
+-- what a call comes to: a version is entered, or none is
 abbrev pub IsCall : Setting → State → ℕ → ℕ → List Version → History → ℕ → What → Type 0
 IsCall setting base task before frames seen site (Entered target) = IsEntry setting base task frames seen site target
 IsCall setting base task before frames seen site (NoEntry fault) = IsNoEntry setting base task before frames seen site fault
 IsCall setting base task before frames seen site Deep = IsDeep before frames seen
 IsCall setting base task before frames seen site other = ⊥
 
+-- a return, which makes no event known
 abbrev pub IsReturn : ℕ → History → What → Type 0
 IsReturn before seen Returned = length seen ≡ before
 IsReturn before seen other = ⊥
 
--- what a step of a task came to, where so many events were known before it, and these are known after it
+-- what a step came to; `before` events were known before it, and `seen` is the history known after it
 abbrev pub CameTo : Setting → State → ℕ → ℕ → List Version → History → Step → What → Type 0
 CameTo setting base task before frames seen (Submit event) what = IsSubmission setting base before seen event what
 CameTo setting base task before frames seen Nap what = IsSubmission setting base before seen (Sleep task frames) what

@@ -23,7 +23,7 @@ impl<S: Start + Protocol<Published, View>, G: Gate + Drop> TaskBody<S, G> {
     ghost use Rattle.klp_live_bodies.specs.declared.step.Outcome.{Outcome as AnyOutcome};
     ghost use Rattle.klp_live_bodies.specs.Running.{Ends};
 
-    /// The body of the task that has this pass.
+    /// Makes the body of the task that has this pass.
     pub fn new(pass: TaskPass<S>, gate: G) -> TaskBody<S, G>
         ensures pass { result.pass ≡ pass }
         ensures gate { result.gate ≡ gate }
@@ -31,7 +31,7 @@ impl<S: Start + Protocol<Published, View>, G: Gate + Drop> TaskBody<S, G> {
         TaskBody { pass, gate }
     }
 
-    /// The pass of a body that doesn't run.
+    /// Returns the pass of a body that hasn't run.
     pub(crate) fn into_pass(self) -> TaskPass<S>
         ensures { result ≡ self.pass }
     {
@@ -39,9 +39,9 @@ impl<S: Start + Protocol<Published, View>, G: Gate + Drop> TaskBody<S, G> {
         pass
     }
 
-    /// Does the steps, one after the other, each once the gate lets the task in, and puts what each comes to behind what
-    /// is on `out`. It may wait wherever it submits an event. Where it stops before the last step, the outcomes of the
-    /// steps that are done are on `out`.
+    /// Does the steps one after the other, each once the gate lets the task in. Appends the outcome of each to `out`.
+    /// Submitting an event may wait. If the body stops before the last step, `out` has the outcomes of the steps that
+    /// were done.
     pub fn run<M: Machine + Drop, R: Wait + Drop, W: Wait>(
         self,
         rt: &W,

@@ -7,11 +7,11 @@ use klp_live::{Published, Start, TaskPass, View};
 pub enum BodyCause {
     /// The gate was asked 1,000,000 times before a step, and didn't let the task in.
     Held,
-    /// There was no memory, for the outcomes of all steps or to admit an event, which changed nothing then.
+    /// There was no memory for the outcomes of all steps, or to admit an event; that event changed nothing.
     NoMemory,
 }
 
-/// A body that has stopped before a step: its pass, which knows what it knew there, and why.
+/// A body that stopped before a step: its pass, as it was then, and why.
 #[derive(Drop)]
 pub struct BodyFault<S: Start + Protocol<Published, View>> {
     pub pass: TaskPass<S>,

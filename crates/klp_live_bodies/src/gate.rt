@@ -1,11 +1,12 @@
-//! What holds a task up before a step.
+//! Holding a task up before a step.
 use klp_types::TaskId;
 
-/// Asked before each step of a task, until it lets the task in. Steps count from 0.
+/// Decides when a task may take its next step. It is asked before each step until it lets the task in. Steps count from
+/// 0.
 pub trait Gate {
     ghost use Rattle.std.specs.Prelude.{ℕ, Bool};
 
-    /// Which answers it may give a task before a step. A gate that says nothing of it may give any.
+    /// Which answers it may give to a task before a step. Without a definition it may give any.
     ghost answers: { Self → ℕ → ℕ → Bool → Type 0 } = { λ _ _ _ _. Unit {0} };
 
     /// Whether the task may take this step now.

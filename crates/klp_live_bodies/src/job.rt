@@ -1,4 +1,4 @@
-//! Jobs: bodies with their steps, as they go to a thread and come back.
+//! Jobs: bodies with their steps, as they are passed to a thread and back.
 ghost use Rattle.std.specs.Prelude.{◌≡◌, ◌<◌, ◌^◌, ◌||◌, true, is_some, vec_len};
 
 use crate::body::TaskBody;
@@ -9,14 +9,14 @@ use crossbeam_utils::rule::Protocol;
 use klp_live::{Published, Start, TaskPass, View};
 use std::alloc::Global;
 
-/// A body with its steps, and what came of them once it has run.
+/// A body with its steps, and with their outcomes once it has run.
 #[derive(Drop)]
 pub struct Job<S: Start + Protocol<Published, View>, G: Gate + Drop> {
     pub(crate) steps: Vec<Step>,
     pub(crate) outcomes: Vec<Outcome>,
-    /// Until it runs.
+    /// The body, until it runs.
     pub(crate) body: Option<TaskBody<S, G>>,
-    /// Since it has run.
+    /// How the body ended, once it has run.
     pub(crate) ended: Option<Result<TaskPass<S>, BodyFault<S>>>,
     ghost few: { vec_len steps < 2 ^ 32 },
     ghost there: { (is_some body || is_some ended) ≡ true },
@@ -26,7 +26,7 @@ impl<S: Start + Protocol<Published, View>, G: Gate + Drop> Job<S, G> {
     ghost use Rattle.std.specs.Prelude.{[], Some, None, Ok, MatchOption};
     ghost use Rattle.klp_live_bodies.specs.Jobs.{body_of, steps_of, ended_of, outcomes_of};
 
-    /// A job that hasn't run. It takes no memory: the outcomes take it when it runs.
+    /// Makes a job that hasn't run. Allocates nothing: the outcomes are allocated when it runs.
     pub fn new(alloc: Global, body: TaskBody<S, G>, steps: Vec<Step>) -> Job<S, G>
         requires { vec_len steps < 2 ^ 32 }
         ensures body { body_of result ≡ Some body }
@@ -42,7 +42,8 @@ impl<S: Start + Protocol<Published, View>, G: Gate + Drop> Job<S, G> {
         }
     }
 
-    /// How its body has ended, with what its steps came to; of a job that hasn't run the pass, and no outcome.
+    /// Returns how its body ended, and the outcomes of its steps. For a job that hasn't run, returns its pass and no
+    /// outcomes.
     pub fn end(self) -> (Result<TaskPass<S>, BodyFault<S>>, Vec<Outcome>)
         ensures outcomes { result.1.items ≡ outcomes_of self }
         ensures ended { MatchOption (ended_of self)

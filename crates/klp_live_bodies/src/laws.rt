@@ -1,5 +1,5 @@
-//! What the outcomes of a body say of the list that its task knows in the end. Each law is the contract of a function
-//! that does nothing.
+//! Laws about what the outcomes of a body say of the history that its task knows in the end. A function here does
+//! nothing: its contract is the law.
 ghost use Rattle.std.specs.Prelude.{◌≡◌, ℕ, ◌<◌, ◌≤◌, List, length, take, slice_get, Some};
 ghost use Rattle.klp_types.specs.declared.version.Version.{Version};
 ghost use Rattle.klp_types.specs.Setting.{Setting};
@@ -12,8 +12,9 @@ ghost use Rattle.klp_live_bodies.specs.declared.step.Step.{Step};
 ghost use Rattle.klp_live_bodies.specs.declared.step.What.TheVariants.{Receipt};
 ghost use Rattle.klp_live_bodies.specs.Running.{AreDone};
 
-/// What is known never falls, and is never less than at the start or more than in the end. The number of a receipt is
-/// above all that was known before, and its event stands there with its reply.
+/// The number of known events in the outcomes never falls, and stays between the numbers known at the start and in the
+/// end. The number of a receipt is greater than all numbers before it. At that number the history has the receipt's
+/// event and reply.
 pub fn outcomes_are_reported_in_order()
     ensures within { (setting : Setting) (base : State) (task : ℕ) (list : History) (before : ℕ) (frames : List Version)
         (steps : List Step) (outcomes : List Outcome) (place : ℕ) (outcome : Outcome)
@@ -23,7 +24,8 @@ pub fn outcomes_are_reported_in_order()
         (steps : List Step) (outcomes : List Outcome) (place behind : ℕ) (earlier later : Outcome)
         → AreDone setting base task list before frames steps outcomes → slice_get outcomes place ≡ Some earlier
         → slice_get outcomes behind ≡ Some later → place < behind → earlier.known ≤ later.known }
-    ensures receipts { (setting : Setting) (base : State) (task : ℕ) (list : History) (before : ℕ) (frames : List Version)
+    ensures receipts { (setting : Setting) (base : State) (task : ℕ) (list : History) (before : ℕ)
+        (frames : List Version)
         (steps : List Step) (outcomes : List Outcome) (place : ℕ) (outcome : Outcome) (accepted : Accepted)
         → AreDone setting base task list before frames steps outcomes → slice_get outcomes place ≡ Some outcome
         → outcome.what ≡ Receipt accepted

@@ -1,7 +1,7 @@
-//! Bodies of task threads: lists of steps, each done by one task over a start that threads share.
+//! Bodies of task threads: lists of steps, each list done by one task over a start that threads share.
 //!
-//! A [`TaskBody`] does its steps one after the other, each once its [`Gate`] lets the task in, and tells what each came to
-//! (`specs/Steps`, `specs/Running`). [`run_two`] runs two [`Job`]s at once. docs/THREADS.md has it in words.
+//! A [`TaskBody`] does its steps one after the other, each once its [`Gate`] lets the task in, and reports the outcome
+//! of each (`specs/Steps`, `specs/Running`). [`run_two`] runs two [`Job`]s at once. docs/THREADS.md explains it.
 #![tactic(auto)]
 
 mod body;

@@ -1,5 +1,6 @@
-//! How the steps of a body are done.
-ghost use Rattle.std.specs.Prelude.{◌≡◌, ◌+◌, ◌<◌, ◌≤◌, ◌^◌, ◌++◌, ◌∷◌, [], true, false, List, length, IfSome, IfNone, MatchBool, MatchResult, slice_get, Some, Ok, Err, vec_len, vec_capacity};
+//! Doing the steps of a body.
+ghost use Rattle.std.specs.Prelude.{◌≡◌, ◌+◌, ◌<◌, ◌≤◌, ◌^◌, ◌++◌, ◌∷◌, [], true, false, List, length, IfSome, IfNone};
+ghost use Rattle.std.specs.Prelude.{MatchBool, MatchResult, slice_get, Some, Ok, Err, vec_len, vec_capacity};
 ghost use mathlib.Core.List.{IsPrefix};
 ghost use Rattle.klp_types.specs.declared.limits.TheConstants.{MAX_FRAMES};
 ghost use Rattle.klp_model.specs.Legal.{IsLegal};
@@ -21,8 +22,8 @@ use std::sync::Wait;
 /// How often a gate is asked before one step.
 const TRIES: u32 = 1_000_000;
 
-/// Asks the gate until it lets the task in, so many times at most.
-fn is_let_in<G: Gate>(gate: &G, task: TaskId, step: u32) -> bool
+/// Asks the gate until it lets the task in, at most `TRIES` times. Returns its last answer.
+fn waits_for_gate<G: Gate>(gate: &G, task: TaskId, step: u32) -> bool
     ensures { G.answers gate.now task step result }
 {
     for _try in 1..TRIES {
@@ -33,7 +34,7 @@ fn is_let_in<G: Gate>(gate: &G, task: TaskId, step: u32) -> bool
     gate.before(task, step)
 }
 
-/// Submits an event of a step, unless memory is refused.
+/// Submits an event and returns what it came to, or None if there was no memory.
 fn submitted<S: Start + Protocol<Published, View>, M: Machine + Drop, R: Wait + Drop, W: Wait>(
     rt: &W,
     alloc: Global,
@@ -42,7 +43,8 @@ fn submitted<S: Start + Protocol<Published, View>, M: Machine + Drop, R: Wait + 
     event: Event,
 ) -> Option<What>
     ensures learns { IfSome result (λ what. Learns pass.old pass.new what) }
-    ensures came { IfSome result (λ what. IsSubmission S.setting S.base (length pass.old.knows.list) pass.new.knows.list event what) }
+    ensures came { IfSome result (λ what. IsSubmission S.setting S.base (length pass.old.knows.list)
+        pass.new.knows.list event what) }
     ensures none { IfNone result (pass.new ≡ pass.old) }
 {
     match pass.submit(rt, alloc, live, event) {
@@ -56,14 +58,15 @@ fn submitted<S: Start + Protocol<Published, View>, M: Machine + Drop, R: Wait + 
     }
 }
 
-/// Whether the task is inside of as many versions as are kept.
+/// Whether the task is inside of as many versions as a frame list can keep.
 fn is_full(frames: &Frames) -> bool
     ensures { MatchBool result (length frames.now ≡ MAX_FRAMES) (length frames.now < MAX_FRAMES) }
 {
     frames.count() >= MAX_FRAMES
 }
 
-/// Enters a function, unless as many versions are entered as are kept.
+/// Calls the function at a site, and returns what it came to: the version that was entered, why none was, or `Deep` if
+/// the list of frames is full.
 fn called<S: Start + Protocol<Published, View>>(
     pass: &mut TaskPass<S>,
     frames: &mut Frames,
@@ -71,7 +74,8 @@ fn called<S: Start + Protocol<Published, View>>(
 ) -> What
     ensures learns { Learns pass.old pass.new result }
     ensures frames { frames.new ≡ frames_after frames.old result }
-    ensures came { IsCall S.setting S.base pass.old.task (length pass.old.knows.list) frames.old pass.new.knows.list site result }
+    ensures came { IsCall S.setting S.base pass.old.task (length pass.old.knows.list) frames.old pass.new.knows.list
+        site result }
 {
     if is_full(frames) {
         return What::Deep;
@@ -85,7 +89,7 @@ fn called<S: Start + Protocol<Published, View>>(
     }
 }
 
-/// What a step comes to, unless memory is refused.
+/// Does a step and returns what it came to, or None if there was no memory.
 fn came_to<S: Start + Protocol<Published, View>, M: Machine + Drop, R: Wait + Drop, W: Wait>(
     rt: &W,
     alloc: Global,
@@ -96,7 +100,8 @@ fn came_to<S: Start + Protocol<Published, View>, M: Machine + Drop, R: Wait + Dr
 ) -> Option<What>
     ensures learns { IfSome result (λ what. Learns pass.old pass.new what) }
     ensures frames { IfSome result (λ what. frames.new ≡ frames_after frames.old what) }
-    ensures came { IfSome result (λ what. CameTo S.setting S.base pass.old.task (length pass.old.knows.list) frames.old pass.new.knows.list step.now what) }
+    ensures came { IfSome result (λ what. CameTo S.setting S.base pass.old.task (length pass.old.knows.list)
+        frames.old pass.new.knows.list step.now what) }
     ensures none { IfNone result (pass.new ≡ pass.old) }
     ensures why { IfNone result (submits step.now ≡ true) }
 {
@@ -111,7 +116,7 @@ fn came_to<S: Start + Protocol<Published, View>, M: Machine + Drop, R: Wait + Dr
     }
 }
 
-/// One step, unless memory is refused.
+/// Does a step and returns its outcome, with the number of events known then, or None if there was no memory.
 fn done<S: Start + Protocol<Published, View>, M: Machine + Drop, R: Wait + Drop, W: Wait>(
     rt: &W,
     alloc: Global,
@@ -120,7 +125,8 @@ fn done<S: Start + Protocol<Published, View>, M: Machine + Drop, R: Wait + Drop,
     frames: &mut Frames,
     step: &Step,
 ) -> Option<Outcome>
-    ensures done { IfSome result (λ outcome. IsStepped S.setting S.base pass.old pass.new frames.old frames.new step.now outcome) }
+    ensures done { IfSome result (λ outcome. IsStepped S.setting S.base pass.old pass.new frames.old frames.new
+        step.now outcome) }
     ensures none { IfNone result (pass.new ≡ pass.old) }
     ensures why { IfNone result (submits step.now ≡ true) }
 {
@@ -131,7 +137,8 @@ fn done<S: Start + Protocol<Published, View>, M: Machine + Drop, R: Wait + Drop,
     })
 }
 
-/// Does all steps, for whose outcomes there is room.
+/// Does all steps, and appends the outcome of each to `out`. Stops early if the gate doesn't let the task in, or if
+/// there is no memory.
 pub(crate) fn run_steps<
     S: Start + Protocol<Published, View>,
     G: Gate,
@@ -159,7 +166,7 @@ pub(crate) fn run_steps<
     }
     let mut frames = Frames::new();
     for (number, step) in steps.iter().enumerate() {
-        if !is_let_in(gate, task, number as u32) {
+        if !waits_for_gate(gate, task, number as u32) {
             return Err(BodyCause::Held);
         }
         let Some(outcome) = done(rt, alloc, live, pass, &mut frames, step) else {

@@ -1,4 +1,4 @@
-//! What a body does, and what comes of it.
+//! The steps of a body, and their outcomes.
 use klp_live::EnterFault;
 use klp_model::{Event, Refusal, Reply};
 use klp_types::{Site, Target};
@@ -6,9 +6,9 @@ use klp_types::{Site, Target};
 /// What a task does next.
 #[derive(Clone, Copy)]
 pub enum Step {
-    /// An event is submitted: any event, of whichever task.
+    /// The task's thread submits an event. It may be any event, also one of another task.
     Submit(Event),
-    /// The task calls the function at the site, and is inside of the version that it enters.
+    /// The task calls the function at the site, and is then inside of the version that it enters.
     Call(Site),
     /// The task returns from the innermost version that it is inside of, if there is one.
     Return,
@@ -16,8 +16,7 @@ pub enum Step {
     Nap,
 }
 
-/// What a receipt tells, as plain data: the number of an accepted event, counted from 1, the event, and what it was
-/// answered.
+/// A receipt as plain data: the number of an accepted event, counted from 1, the event, and its reply.
 #[derive(Clone, Copy)]
 pub struct Accepted {
     pub number: u64,
@@ -25,24 +24,24 @@ pub struct Accepted {
     pub reply: Reply,
 }
 
-/// What a step came to.
+/// The result of a step.
 #[derive(Clone, Copy)]
 pub enum What {
     /// The event was accepted.
     Receipt(Accepted),
     /// The event was refused.
     Refused(Refusal),
-    /// The task is inside of this version.
+    /// The task entered this version, and is inside of it now.
     Entered(Target),
-    /// There was nothing to enter.
+    /// The call found nothing to enter.
     NoEntry(EnterFault),
-    /// The task has returned, or was inside of nothing.
+    /// The task has returned, or wasn't inside of any version.
     Returned,
-    /// The task is inside of as many versions as are kept of one, so nothing was entered.
+    /// The task was inside of as many versions as can be kept, so nothing was entered.
     Deep,
 }
 
-/// What a step came to, and how many events were known then.
+/// An outcome of a step: what the step came to, and how many events the task knew after it.
 #[derive(Clone, Copy)]
 pub struct Outcome {
     pub known: u64,

@@ -1,5 +1,5 @@
-//! Two jobs at once. What takes a body out and what keeps its end are functions of their own, since each drops what
-//! was there (docs/DECISIONS.md, "One way out for an owner").
+//! Running two jobs at once. Taking a body out and keeping its end are separate functions, since each drops a value
+//! that was there (docs/DECISIONS.md, "One way out for an owner").
 ghost use Rattle.std.specs.Prelude.{◌≡◌, ◌<◌, ◌^◌, [], length, Some, None, IsSome, IfSome, vec_len};
 ghost use Rattle.klp_live_bodies.specs.Jobs.{body_of, IsRun};
 ghost use Rattle.klp_live_bodies.specs.Running.{Ends};
@@ -16,7 +16,7 @@ use std::alloc::Global;
 use std::sync::Wait;
 use std::thread::{Threads, join};
 
-/// Runs a body from its beginning.
+/// Runs a body from its beginning, and returns how it ended, with the outcomes of its steps.
 fn go<
     S: Start + Protocol<Published, View>,
     G: Gate + Drop,
@@ -52,7 +52,7 @@ fn taken<S: Start + Protocol<Published, View>, G: Gate + Drop>(
     }
 }
 
-/// Keeps what a body came to in the job that it was taken out of.
+/// Stores in a job how its body ended, with the outcomes of its steps.
 fn keep<S: Start + Protocol<Published, View>>(
     ended: &mut Option<Result<TaskPass<S>, BodyFault<S>>>,
     outcomes: &mut Vec<Outcome>,
@@ -66,7 +66,8 @@ fn keep<S: Start + Protocol<Published, View>>(
     *outcomes = answered;
 }
 
-/// Runs the bodies of two jobs at once where a second thread can be made, else one after the other, and waits for both.
+/// Runs the bodies of two jobs, and waits for both. They run at once if a second thread can be made, and else one after
+/// the other.
 pub fn run_two<
     S: Start + Protocol<Published, View> + Send + Sync,
     G: Gate + Drop + Send,

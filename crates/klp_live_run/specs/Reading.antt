@@ -1,4 +1,4 @@
--- What becomes of one step more.
+-- Adding one more step.
 use Rattle.std.specs.Prelude.{◌≡◌, ◌<◌, ℕ, List, [], ◌∷◌, ◌++◌, length}
 use Rattle.klp_live_bodies.specs.declared.step.Step.{Step}
 use Rattle.klp_live_run.specs.declared.step_lines.TheConstants.{MAX_STEPS}
@@ -9,12 +9,12 @@ use Rattle.klp_live_run.specs.declared.fault.ReadFault.TheVariants.{NoMemory, St
 use Rattle.klp_live_run.specs.declared.fault.StepsFaultKind.TheVariants.{TooMany}
 use Rattle.klp_live_run.specs.Steps.{count_of}
 
--- it stands last in its task's list
+-- the step is the last one in its task's list
 abbrev pub IsAdded : Half → Step → List Step → List Step → List Step → List Step → Type 0
 IsAdded First step first second first' second' = (first' ≡ first ++ step ∷ []) × (second' ≡ second) × (length first < MAX_STEPS)
 IsAdded Second step first second first' second' = (first' ≡ first) × (second' ≡ second ++ step ∷ []) × (length second < MAX_STEPS)
 
--- so many steps are as many as a task may have, or there is no memory
+-- the task has as many steps as it may have, or memory ran out
 abbrev pub IsFull : ℕ → ℕ → ReadFault → Type 0
 IsFull count number NoMemory = Unit {0}
 IsFull count number (Steps fault) = (fault.line ≡ number) × (fault.kind ≡ TooMany) × (count ≡ MAX_STEPS)

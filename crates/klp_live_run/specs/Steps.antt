@@ -1,4 +1,4 @@
--- The steps of two tasks, out of a text: each line is one step of one of the two.
+-- The steps of two tasks in a text: each line is a step of one of them.
 use Rattle.std.specs.Prelude.{◌≡◌, ◌≢◌, ◌≤◌, ◌⊎◌, ℕ, ◌+◌, ◌==◌, not, nat_lt, if◌then◌else◌, List, [], ◌∷◌, ◌++◌, length, drop, filter_map, codes, bytes_eq, Option, Some, None, IsSome, option_map, option_and_then}
 use Rattle.std.specs.List.{All, position_or_len, before_first, after_first}
 use Rattle.klp_types.specs.declared.limits.TheConstants.{MAX_CONSOLE_LINE}
@@ -16,20 +16,21 @@ use Rattle.klp_live_run.specs.declared.fault.ReadFault.TheVariants.{NoMemory, St
 use Rattle.klp_live_run.specs.declared.fault.StepsFaultKind.{StepsFaultKind}
 use Rattle.klp_live_run.specs.declared.fault.StepsFaultKind.TheVariants.{BadStep, TooMany}
 
--- a line from its first byte on that is no space
+-- the line without its leading spaces
 abbrev pub unindented : List ℕ → List ℕ
 unindented line = drop (position_or_len (λ b. not (b == 32)) line) line
 
--- SYMBOL
+-- the call of SYMBOL
 abbrev pub call_of : Journaled → List (List ℕ) → Option Step
 call_of manager (symbol ∷ []) = option_map Call (site_of manager symbol)
 call_of manager words = None
 
--- a step that has no words
+-- a step whose line has no further words
 abbrev pub alone : Step → List (List ℕ) → Option Step
 alone step [] = Some step
 alone step words = None
 
+-- the step of a line with these words
 abbrev pub step_with : Journaled → List ℕ → List (List ℕ) → Option Step
 step_with manager line [] = None
 step_with manager line (first ∷ words) =
@@ -39,7 +40,7 @@ step_with manager line (first ∷ words) =
     else if nat_lt MAX_CONSOLE_LINE (length line) then None
     else option_map Submit (event_of manager line)
 
--- `call SYMBOL`, `return`, `nap`, or a line of the console that asks for an event; that one alone is no longer than a line of the console may be
+-- `call SYMBOL`, `return`, `nap`, or a console line that asks for an event; only the latter is limited in length
 abbrev pub step_of : Journaled → List ℕ → Option Step
 step_of manager line = step_with manager line (words_between (separates Spaces) line)
 
@@ -47,7 +48,7 @@ step_of manager line = step_with manager line (words_between (separates Spaces) 
 abbrev pub half_of : List ℕ → Option Half
 half_of word = if bytes_eq word (codes "1") then Some First else if bytes_eq word (codes "2") then Some Second else None
 
--- the first word of a line, and what stands behind it
+-- the first word of a line, and below it what comes behind that word
 abbrev pub number_in : List ℕ → List ℕ
 number_in line = before_first (λ b. b == 32) (unindented line)
 
@@ -58,21 +59,21 @@ rest_of line = unindented (after_first (λ b. b == 32) (unindented line))
 abbrev pub task_step : Journaled → List ℕ → Option (Half × Step)
 task_step manager line = option_and_then (λ half. option_map (λ step. (half, step)) (step_of manager (rest_of line))) (half_of (number_in line))
 
--- the step, where it is this task's
+-- the step, if it is one of this task
 abbrev pub of_half : Half → Option (Half × Step) → Option Step
 of_half First (Some (First, step)) = Some step
 of_half Second (Some (Second, step)) = Some step
 of_half half other = None
 
--- a line without words, or a step of one of the two
+-- whether the line has no words, or is a step of one of the two
 abbrev pub IsGood : Journaled → List ℕ → Type 0
 IsGood manager line = (unindented line ≡ []) ⊎ IsSome (task_step manager line)
 
--- a line that has words, and is no step
+-- whether the line has words, and is no step
 abbrev pub IsBad : Journaled → List ℕ → Type 0
 IsBad manager line = (unindented line ≢ []) × (task_step manager line ≡ None)
 
--- the steps of this task among the lines, in their order
+-- the steps of this task in the lines, in their order
 abbrev pub steps_in : Journaled → Half → List (List ℕ) → List Step
 steps_in manager half lines = filter_map (λ line. of_half half (task_step manager line)) lines
 
@@ -84,12 +85,12 @@ pub record AreSteps (manager : Journaled) (lines : List (List ℕ)) (first secon
   pub first_fits : length first ≤ MAX_STEPS
   pub second_fits : length second ≤ MAX_STEPS
 
--- how many steps of this task there are
+-- how many steps this task has
 abbrev pub count_of : Half → List Step → List Step → ℕ
 count_of First first second = length first
 count_of Second first second = length second
 
--- what is wrong with a line behind these steps
+-- what is wrong with a line that comes behind these steps
 abbrev pub IsKind : Journaled → List ℕ → List Step → List Step → StepsFaultKind → Type 0
 IsKind manager line first second BadStep = IsBad manager line
 IsKind manager line first second TooMany =
@@ -107,7 +108,7 @@ pub record IsFirstFault (manager : Journaled) (lines : List (List ℕ)) (number 
   pub read : AreSteps manager earlier first second
   pub kind_is : IsKind manager line first second kind
 
--- why steps aren't read: want of memory may stand in place of a line at fault
+-- why steps aren't read; if memory ran out, a line may be at fault too
 abbrev pub IsReadFault : Journaled → List (List ℕ) → ReadFault → Type 0
 IsReadFault manager lines NoMemory = Unit {0}
 IsReadFault manager lines (Steps fault) = IsFirstFault manager lines fault.line fault.kind

@@ -13,10 +13,10 @@ use thiserror::Error;
 /// What is wrong with a line of the steps.
 #[derive(Clone, Copy, Debug, Error)]
 pub enum StepsFaultKind {
-    /// It is no step of task 1 or 2, or has a name that isn't known.
+    /// The line is no step of task 1 or 2, or has an unknown name.
     #[error("BadStep")]
     BadStep,
-    /// Its task has as many steps as it may have before it.
+    /// The line's task has as many steps before it as it may have.
     #[error("TooMany")]
     TooMany,
 }
@@ -25,12 +25,12 @@ pub enum StepsFaultKind {
 #[derive(Clone, Copy, Debug, Error)]
 #[error("line {line}: {kind}")]
 pub struct StepsFault {
-    /// Counted from 1, lines without words too.
+    /// The line's number, counted from 1. Lines without words count too.
     pub line: u64,
     pub kind: StepsFaultKind,
 }
 
-/// Why steps aren't read.
+/// Why steps couldn't be read.
 #[derive(Clone, Copy, Debug, Error)]
 pub enum ReadFault {
     #[error("NoMemory")]
@@ -47,24 +47,24 @@ impl<T: Drop> From<AllocFailed<T>> for ReadFault {
     }
 }
 
-/// Why two tasks don't come to their end.
+/// Why the run of two tasks failed.
 #[derive(Clone, Copy, Debug, Error)]
 pub enum LiveFault {
-    /// No manager is booted over the catalog's text, or the output fails.
+    /// No manager could be booted over the catalog's text, or writing the output failed.
     #[error(transparent)]
     Program(Fault),
-    /// The text of the steps has a line that is at fault.
+    /// The text of the steps has a line at fault.
     #[error(transparent)]
     Steps(StepsFault),
     #[error("NoMemory")]
     NoMemory,
-    /// There was no place for a task at the table.
+    /// `left_right` had no place for a task's reader.
     #[error("NoPlace")]
     NoPlace,
 }
 
 impl LiveFault {
-    /// Why nothing was started.
+    /// Converts the cause of a failed start.
     pub(crate) fn of_start(cause: StartCause) -> LiveFault
         ensures value { result ≡ start_fault cause }
         ensures fault { IsRunFault result }
@@ -75,7 +75,7 @@ impl LiveFault {
         }
     }
 
-    /// Why the steps weren't read.
+    /// Converts the fault of reading the steps.
     pub(crate) fn of_reading(fault: ReadFault) -> LiveFault
         ensures { result ≡ read_fault fault }
     {

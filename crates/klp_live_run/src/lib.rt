@@ -1,4 +1,4 @@
-//! Two task threads over a catalog: the steps of each are read out of one text (`src/step_lines.rt`).
+//! Running two task threads over a catalog. The steps of both are read from one text (`src/step_lines.rt`).
 #![tactic(auto)]
 
 mod fault;

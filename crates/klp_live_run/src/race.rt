@@ -1,4 +1,4 @@
-//! Two task threads run their steps over one machine, and all that was accepted is taken back.
+//! Running the steps of two task threads over one machine, and taking back all that was accepted.
 ghost use Rattle.std.specs.Prelude.{◌≡◌, ◌<◌, ◌≤◌, [], ◌∷◌, ◌++◌, vec_len, Some, Ok, IsSomeAnd, IfOk, IfErr, OnOk};
 ghost use Rattle.klp_types.specs.declared.limits.TheConstants.{MAX_TASKS};
 ghost use Rattle.klp_live.specs.Opening.{IsFresh};
@@ -24,12 +24,12 @@ use std::sync::Wait;
 use std::sync::ledger::Blank;
 use std::thread::Threads;
 
-/// The tasks that run.
+/// The numbers of the two tasks.
 pub(crate) const FIRST: TaskId = TaskId(1);
 
 pub(crate) const SECOND: TaskId = TaskId(2);
 
-/// A gate that lets everybody in.
+/// A gate that always lets a task in.
 #[derive(Clone, Copy)]
 struct Open;
 
@@ -43,14 +43,14 @@ impl Gate for Open {
     }
 }
 
-/// What the steps of each task came to, all of which are done.
+/// The outcomes of the steps of each task. All steps are done.
 #[derive(Drop)]
 pub(crate) struct Done {
     pub(crate) first: Vec<Outcome>,
     pub(crate) second: Vec<Outcome>,
 }
 
-/// The job of a task that takes a seat.
+/// Gives a seat to a task, and returns the job of its steps.
 fn job_of<S: Start + Protocol<Published, View>, M: Machine + Drop, R: Wait + Drop>(
     alloc: Global,
     live: &Live<S, M, R>,
@@ -69,7 +69,8 @@ fn job_of<S: Start + Protocol<Published, View>, M: Machine + Drop, R: Wait + Dro
     }
 }
 
-/// The seat of a job that has run, and what its steps came to. Its gate has let the task in.
+/// Returns the seat of a job that has run, and the outcomes of its steps, or `NoMemory` if it stopped. The gate always
+/// lets a task in, so a job stops for nothing else.
 fn ended<S: Start + Protocol<Published, View>>(
     job: Job<S, Open>,
 ) -> Result<(Seat<S>, Vec<Outcome>), LiveFault>
@@ -88,7 +89,7 @@ fn ended<S: Start + Protocol<Published, View>>(
     }
 }
 
-/// Gives both seats back.
+/// Puts both seats back into the list.
 fn give_back<S: Start + Protocol<Published, View>>(
     seats: &mut Vec<Seat<S>>,
     first: Seat<S>,
@@ -101,7 +102,7 @@ fn give_back<S: Start + Protocol<Published, View>>(
     Ok(())
 }
 
-/// Both tasks run their steps, and give back the seats, which they took before anybody knew of an event.
+/// Runs the steps of both tasks, and returns the seats with the outcomes. The seats must not know of any event before.
 fn run_both<
     S: Start + Protocol<Published, View> + Send + Sync,
     M: Machine + Drop + Send,
@@ -116,7 +117,8 @@ fn run_both<
     requires two { seats.items ≡ knows_nothing ∷ knows_nothing ∷ [] }
     requires first { vec_len steps.first ≤ MAX_STEPS }
     requires second { vec_len steps.second ≤ MAX_STEPS }
-    ensures done { IfOk result (λ both. HaveEnded S.setting S.base steps.first.items steps.second.items both.1 both.0.items) }
+    ensures done { IfOk result (λ both. HaveEnded S.setting S.base steps.first.items steps.second.items both.1
+        both.0.items) }
     ensures fault { IfErr result IsRunFault }
 {
     let mut seats = seats;
@@ -136,7 +138,7 @@ fn run_both<
     Ok((seats, Done { first, second }))
 }
 
-/// Starts, has both tasks run, and ends.
+/// Starts over the machine, runs the steps of both tasks, closes the start, and returns the machine with the outcomes.
 fn run_over_start<
     S: Start + Protocol<Published, View> + Send + Sync,
     M: Machine + Drop + Send,
@@ -156,7 +158,8 @@ fn run_over_start<
     requires fresh { IsFresh S.setting S.base (M.journaled machine) }
     requires first { vec_len steps.first ≤ MAX_STEPS }
     requires second { vec_len steps.second ≤ MAX_STEPS }
-    ensures done { IfOk result (λ ran. HaveRun S.setting S.base (M.journaled ran.0) steps.first.items steps.second.items ran.1) }
+    ensures done { IfOk result (λ ran. HaveRun S.setting S.base (M.journaled ran.0) steps.first.items
+        steps.second.items ran.1) }
     ensures fault { IfErr result IsRunFault }
 {
     let (live, seats) = match Live::<S, M, &R>::start(rt, alloc, blank, opened, machine, 2) {
@@ -170,8 +173,8 @@ fn run_over_start<
     }
 }
 
-/// Has both tasks run over a machine from which nothing is to be taken back, and takes all that was accepted back. The
-/// owner of a machine picks the start.
+/// Runs the steps of both tasks over a machine with an empty journal, and takes back all that was accepted. The start
+/// is chosen here, where the machine is owned.
 pub(crate) fn run_and_rewind<M: Machine + Drop + Send, R: Threads + Wait + Sync>(
     rt: &R,
     alloc: Global,
@@ -181,7 +184,8 @@ pub(crate) fn run_and_rewind<M: Machine + Drop + Send, R: Threads + Wait + Sync>
     requires empty { (M.journaled machine).groups ≡ [] }
     requires first { vec_len steps.first ≤ MAX_STEPS }
     requires second { vec_len steps.second ≤ MAX_STEPS }
-    ensures done { IfOk result (λ ran. HaveRunBoth (M.journaled machine) (M.journaled ran.0) steps.first.items steps.second.items ran.1) }
+    ensures done { IfOk result (λ ran. HaveRunBoth (M.journaled machine) (M.journaled ran.0) steps.first.items
+        steps.second.items ran.1) }
     ensures fault { IfErr result IsRunFault }
 {
     let (machine, done) = run_over_start::<Brand, M, R>(
@@ -195,7 +199,7 @@ pub(crate) fn run_and_rewind<M: Machine + Drop + Send, R: Threads + Wait + Sync>
     Ok((rewound_machine(machine), done))
 }
 
-/// The machine without what was accepted.
+/// Takes back all accepted events, and returns the machine.
 fn rewound_machine<M: Machine>(machine: M) -> M
     ensures setting { setting_of (M.journaled result).managed ≡ setting_of (M.journaled machine).managed }
     ensures rewound { IsRewound (M.journaled machine) (M.journaled result) 0 }

@@ -1,5 +1,6 @@
-//! A manager is booted over a catalog's text, and two task threads run the steps of another text over it.
-ghost use Rattle.std.specs.Prelude.{◌≡◌, ◌≤◌, ◌++◌, [], false, length, vec_len, slice_get, slice_index_or, IfOk, IfErr, OnOk, MatchResult};
+//! Booting a manager over a catalog's text, and running the steps of another text over it in two task threads.
+ghost use Rattle.std.specs.Prelude.{◌≡◌, ◌≤◌, ◌++◌, [], false, length, vec_len, slice_get, slice_index_or, IfOk, IfErr};
+ghost use Rattle.std.specs.Prelude.{OnOk, MatchResult};
 ghost use Rattle.std.specs.Str.Lines.{lines};
 ghost use Rattle.klp_types.specs.declared.limits.TheConstants.{MAX_GROUPS};
 ghost use Rattle.klp_catalog_text.specs.Within.{AreTargetsWithin};
@@ -31,7 +32,7 @@ use std::sync::Wait;
 use std::sync::ledger::{Blank, Ledger};
 use std::thread::Threads;
 
-/// Adds the line of the console that asks for the text of an object, if it is loaded.
+/// Adds the console line that asks for the text of an object, if the object is loaded.
 fn add_ask(
     alloc: Global,
     modules: &Modules,
@@ -52,7 +53,7 @@ fn add_ask(
     Ok(())
 }
 
-/// A line for each object that is loaded.
+/// Returns the console lines that ask for the texts of all loaded objects.
 fn texts(alloc: Global, manager: &Manager) -> Result<Vec<u8>, AllocError>
     ensures { IfOk result (λ lines. lines.items ≡ asks_for_texts manager.now) }
 {
@@ -64,9 +65,10 @@ fn texts(alloc: Global, manager: &Manager) -> Result<Vec<u8>, AllocError>
     Ok(lines)
 }
 
-/// How many steps of each task are done.
+/// Returns the two lines that say how many steps of each task are done.
 fn counts(alloc: Global, done: &Done) -> io::Result<Vec<u8>>
-    ensures { IfOk result (λ text. text.items ≡ counts_text (length done.now.first.items) (length done.now.second.items)) }
+    ensures { IfOk result (λ text. text.items
+        ≡ counts_text (length done.now.first.items) (length done.now.second.items)) }
 {
     let mut text = Vec::new(alloc);
     let (first, second) = (done.first.len(), done.second.len());
@@ -74,7 +76,7 @@ fn counts(alloc: Global, done: &Done) -> io::Result<Vec<u8>>
     Ok(text)
 }
 
-/// The console's answers to these lines, behind a front.
+/// Returns `front` followed by the console's answers to these lines.
 fn answered<L: Ledger, M: Ledger>(
     manager: &mut Manager,
     lines: &[u8],
@@ -96,8 +98,8 @@ fn answered<L: Ledger, M: Ledger>(
     }
 }
 
-/// How many steps of each task are done, and the text of each object that is loaded. Only memory can be missing: each
-/// line is whole, and no longer than a line may be.
+/// Returns how many steps of each task are done, and the text of each loaded object. An error means that memory ran
+/// out: console lines made here are never cut off or too long.
 fn shown(alloc: Global, manager: &mut Manager, done: &Done) -> Result<Vec<u8>, AllocError>
     ensures { IfOk result (λ text. IsShown manager.old done.now text.items) }
 {
@@ -108,24 +110,26 @@ fn shown(alloc: Global, manager: &mut Manager, done: &Done) -> Result<Vec<u8>, A
     )
 }
 
-/// What is done with a manager before and after its tasks run. It is a trait since one that has tasks run names no
-/// manager: a library can't hand one on to what asks a trait of it (docs/DECISIONS.md, "A manager that runs tasks").
+/// What is done with a manager before and after its tasks run. It is a trait, since the functions that run tasks don't
+/// name the manager's type: a library can't pass a manager to a function that needs a trait of it (docs/DECISIONS.md,
+/// "A manager that runs tasks").
 trait Runs: Machine {
-    /// The steps of a text, by the names that it has.
+    /// Reads the steps from a text, and looks up its names.
     fn steps(&self, alloc: Global, text: &[u8]) -> Result<Steps, ReadFault>
         ensures steps { MatchResult result
             (λ steps. AreSteps (Self.journaled self.now) (lines text.now) steps.first.items steps.second.items)
             (λ fault. IsReadFault (Self.journaled self.now) (lines text.now) fault) };
 
-    /// Has both tasks come, and nothing to be taken back any more.
+    /// Begins both tasks, and then seals the journal, so that rewinding leaves them.
     fn prepare(&mut self)
         requires room { length (Self.journaled self.old).groups ≤ MAX_GROUPS }
         ensures prepared { IsPrepared (Self.journaled self.old) (Self.journaled self.new) };
 
-    /// Writes how many steps of each task are done, and the text of each object that is loaded.
+    /// Writes how many steps of each task are done, and the text of each loaded object.
     fn show<W: Write>(&mut self, alloc: Global, done: &Done, out: &mut W) -> Result<(), LiveFault>
         requires room { length (Self.journaled self.old).groups ≤ MAX_GROUPS }
-        ensures shown { OnOk result (IsShownOn (Self.journaled self.old) done.now (W.contents out.old) (W.contents out.new)) }
+        ensures shown { OnOk result (IsShownOn (Self.journaled self.old) done.now (W.contents out.old)
+            (W.contents out.new)) }
         ensures fault { IfErr result IsRunFault };
 }
 
@@ -150,7 +154,7 @@ impl Runs for Manager {
     }
 }
 
-/// Has both tasks run, and shows what came of it. The machine goes then.
+/// Runs the steps of both tasks, and writes what is shown of them. The machine is dropped at the end.
 fn race<M: Runs + Drop + Send, W: Write, R: Threads + Wait + Sync>(
     rt: &R,
     alloc: Global,
@@ -177,7 +181,7 @@ fn race<M: Runs + Drop + Send, W: Write, R: Threads + Wait + Sync>(
     }
 }
 
-/// Reads the steps, and has both tasks run.
+/// Reads the steps from a text, runs the steps of both tasks, and writes what is shown of them.
 fn live_over_manager<M: Runs + Drop + Send, W: Write, R: Threads + Wait + Sync>(
     rt: &R,
     alloc: Global,
@@ -198,8 +202,8 @@ fn live_over_manager<M: Runs + Drop + Send, W: Write, R: Threads + Wait + Sync>(
     }
 }
 
-// Boots a manager over a plan, and has both tasks run. The callbacks are made here, as where the console is served, but
-// all of one kind.
+// Boots a manager over a plan, and runs the steps of both tasks over it. The callbacks are made here, as for serving a
+// console, but all are of one kind.
 fn live_over_plan<W: Write, R: Threads + Wait + Sync>(
     rt: &R,
     alloc: Global,
@@ -219,9 +223,9 @@ fn live_over_plan<W: Write, R: Threads + Wait + Sync>(
     live_over_manager::<Manager, W, R>(rt, alloc, manager, text, out)
 }
 
-/// Boots a manager over the catalog's text, has tasks 1 and 2 run the steps of the other text in threads of their own, at
-/// once where a second thread can be made, takes back all that was accepted, and writes how many steps of each are done
-/// and the text of each object that is loaded. Nothing is written before all of that is done.
+/// Boots a manager over the catalog's text, and runs the steps of the other text: those of task 1 and those of task 2
+/// in a thread each. The threads run at once if a second one can be made. Then takes back all accepted events. Only
+/// then writes how many steps of each task are done, and the text of each loaded object.
 pub(crate) fn live_over_text<W: Write, R: Threads + Wait + Sync>(
     rt: &R,
     alloc: Global,
@@ -237,7 +241,7 @@ pub(crate) fn live_over_text<W: Write, R: Threads + Wait + Sync>(
     }
 }
 
-/// The same, with the exit status: 0, or 1 where a line on `err` tells the fault.
+/// Does the same as `live_over_text`, and returns the exit status: 0, or 1 after a line on `err` that says the fault.
 pub fn live<W: Write, E: Write, R: Threads + Wait + Sync>(
     rt: &R,
     alloc: Global,

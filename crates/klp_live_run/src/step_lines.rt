@@ -1,8 +1,9 @@
-//! The steps of two tasks, out of a text. Each line is one step of one of the two: `1` or `2`, and then `call SYMBOL`,
-//! `return`, `nap`, or a line of the console that asks for an event.
+//! Reading the steps of two tasks from a text. Each line is a step of one of them: `1` or `2`, and then `call SYMBOL`,
+//! `return`, `nap`, or a console line that asks for an event.
 ghost use Rattle.std.specs.Prelude.{◌≡◌, ◌<◌, ◌≤◌, ◌==◌, not, ◌++◌, [], ◌∷◌, length, position, MatchResult};
 ghost use Rattle.std.specs.Str.Lines.{lines};
-ghost use Rattle.klp_live_run.specs.Steps.{unindented, call_of, alone, step_of, half_of, task_step, count_of, AreSteps, IsReadFault};
+ghost use Rattle.klp_live_run.specs.Steps.{unindented, call_of, alone, step_of, half_of, task_step, count_of, AreSteps};
+ghost use Rattle.klp_live_run.specs.Steps.{IsReadFault};
 ghost use Rattle.klp_live_run.specs.Reading.{IsFull, IsAdded};
 
 use crate::fault::{ReadFault, StepsFault, StepsFaultKind};
@@ -18,30 +19,30 @@ use std::alloc::Global;
 /// How many steps a task may have.
 pub const MAX_STEPS: usize = 1_000;
 
-/// What the steps of two tasks come to.
+/// The steps of both tasks.
 #[derive(Drop)]
 pub struct Steps {
-    /// Those of task 1, in the order of their lines.
+    /// The steps of task 1, in the order of their lines.
     pub first: Vec<Step>,
-    /// Those of task 2.
+    /// The steps of task 2, in the order of their lines.
     pub second: Vec<Step>,
 }
 
-/// Which of the two tasks.
+/// One of the two tasks.
 #[derive(Clone, Copy)]
 enum Half {
     First,
     Second,
 }
 
-/// Where the first byte is that is no space.
+/// Returns the place of the first byte that isn't a space, or None if there is none.
 fn start_of(line: &[u8]) -> Option<usize>
     ensures { result ≡ position (λ b. not (b == 32)) line.now }
 {
     line.iter().position(|b| *b != b' ')
 }
 
-/// The line from its first byte on that is no space.
+/// Returns the line without its leading spaces.
 fn unindented(line: &[u8]) -> &[u8]
     ensures { result.now ≡ unindented line.now }
 {
@@ -51,7 +52,7 @@ fn unindented(line: &[u8]) -> &[u8]
     }
 }
 
-/// The word behind `call`: the symbol that is called.
+/// Reads the symbol behind `call`, which must be the last word. None if it isn't, or if there is no such symbol.
 fn call_of(words: &mut LineWords<'_>, manager: &Manager) -> Option<Step>
     ensures { result ≡ call_of manager.now words.old }
 {
@@ -61,7 +62,7 @@ fn call_of(words: &mut LineWords<'_>, manager: &Manager) -> Option<Step>
     Some(Step::Call(site_of(symbol, manager)?))
 }
 
-/// The step, where nothing stands behind its name.
+/// Returns the step, or None if a word is left behind its name.
 fn alone(step: Step, words: &mut LineWords<'_>) -> Option<Step>
     ensures { result ≡ alone step words.old }
 {
@@ -71,7 +72,8 @@ fn alone(step: Step, words: &mut LineWords<'_>) -> Option<Step>
     }
 }
 
-/// The step that a line is behind its task's number. Names are looked up, and nothing of the manager's state is.
+/// Reads a step from the part of a line behind the task's number. None if it isn't a step. Looks up names, but the
+/// manager's state makes no difference.
 fn step_of(line: &[u8], manager: &Manager) -> Option<Step>
     ensures { result ≡ step_of manager.now line.now }
 {
@@ -91,6 +93,7 @@ fn step_of(line: &[u8], manager: &Manager) -> Option<Step>
     }
 }
 
+/// Returns the task that a word numbers, or None.
 fn half_of(number: &[u8]) -> Option<Half>
     ensures { result ≡ half_of number.now }
 {
@@ -103,7 +106,7 @@ fn half_of(number: &[u8]) -> Option<Half>
     }
 }
 
-/// The task that a line numbers, and its step.
+/// Reads the task's number and the step of a line. None if it has no such number or no step.
 fn task_step(line: &[u8], manager: &Manager) -> Option<(Half, Step)>
     ensures { result ≡ task_step manager.now line.now }
 {
@@ -113,7 +116,7 @@ fn task_step(line: &[u8], manager: &Manager) -> Option<(Half, Step)>
     Some((half, step))
 }
 
-/// One step more, where there may be one. What a step is makes no difference.
+/// Appends a step, or returns `TooMany` if the list is full. Generic, since the proof doesn't depend on what a step is.
 fn push<T: Copy>(steps: &mut Vec<T>, step: T, line: u64) -> Result<(), ReadFault>
     requires { length steps.old.items ≤ MAX_STEPS }
     ensures { MatchResult result
@@ -131,12 +134,14 @@ fn push<T: Copy>(steps: &mut Vec<T>, step: T, line: u64) -> Result<(), ReadFault
 }
 
 impl Steps {
-    /// Adds the step that the line with this number is.
+    /// Appends a step to the list of its task, or returns `TooMany` if that is full. `line` is the number of the step's
+    /// line.
     fn add(&mut self, half: Half, step: Step, line: u64) -> Result<(), ReadFault>
         requires first { length self.old.first.items ≤ MAX_STEPS }
         requires second { length self.old.second.items ≤ MAX_STEPS }
         ensures { MatchResult result
-            (λ _. IsAdded half step self.old.first.items self.old.second.items self.new.first.items self.new.second.items)
+            (λ _. IsAdded half step self.old.first.items self.old.second.items self.new.first.items
+            self.new.second.items)
             (λ fault. IsFull (count_of half self.old.first.items self.old.second.items) line fault) }
     {
         match half {
@@ -146,9 +151,9 @@ impl Steps {
     }
 }
 
-/// Reads the steps of both tasks, in time that is linear in the length of the text, which may have any bytes. Lines end
-/// as those of a catalog do. The first line at fault is told; a line that is no step is so also behind the last step that
-/// its task may have. Names are looked up, and nothing of the manager's state is.
+/// Reads the steps of both tasks. The text may have any bytes, and its lines end as those of a catalog. Returns the
+/// first line at fault; a bad step is reported as `BadStep` also behind the last step that its task may have. Of the
+/// manager only the names are used. The time is linear in the length of the text.
 pub fn steps_of(alloc: Global, text: &[u8], manager: &Manager) -> Result<Steps, ReadFault>
     ensures { MatchResult result
         (λ steps. AreSteps manager.now (lines text.now) steps.first.items steps.second.items)

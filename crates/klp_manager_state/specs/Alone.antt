@@ -16,7 +16,8 @@ use Rattle.klp_manager_state.specs.Invariant.{Invariant}
 use Rattle.klp_manager_state.specs.Managed.{setting_in, state_in, refused_in}
 use Rattle.klp_manager_state.specs.StepLaws.{StepLaws}
 
--- an event that nothing refuses, that runs no callback and changes the tasks alone, is taken by changing them so
+-- An event that nothing refuses, that runs no callback and changes the tasks alone, is taken by changing the tasks in
+-- that way.
 abbrev pub AreTasksTaken : Type 0
 AreTasksTaken = StepLaws → (before : ManagerState) (catalog : Catalog) (tasks : Tasks) (log : RecordList) (event : Event) (reply : Reply) → Invariant before catalog
     → refused_in before catalog event ≡ None
@@ -24,7 +25,7 @@ AreTasksTaken = StepLaws → (before : ManagerState) (catalog : Catalog) (tasks 
     → accepted (setting_in before catalog) (state_in before catalog) event ≡ (reply, with_tasks (state_in before catalog) tasks)
     → log.room ≡ MAX_RECORDS → TakesEvent before (record before { tasks = tasks; log = log }) catalog catalog event (Ok reply)
 
--- the same of one that changes the world alone, and leaves the list of installed patches
+-- an event that does so with the world, and leaves the list of installed patches, is taken by changing the world
 abbrev pub IsWorldTaken : Type 0
 IsWorldTaken = StepLaws → (before : ManagerState) (catalog : Catalog) (world : World) (log : RecordList) (event : Event) (reply : Reply) → Invariant before catalog
     → refused_in before catalog event ≡ None

@@ -1,10 +1,10 @@
--- Replies without frames and values, in a form of their own.
+-- Replies without frames and values, in a smaller form.
 use Rattle.klp_model.specs.declared.event.Reply.{Reply}
 use Rattle.klp_model.specs.declared.event.Reply.TheVariants as full
 use Rattle.klp_manager_state.specs.declared.brief.Brief.{Brief}
 use Rattle.klp_manager_state.specs.declared.brief.Brief.TheVariants.{Done, Started, Reversed, Pending, Completed, PreFailed, Freed}
 
--- the reply that a brief one is
+-- the reply that a brief reply means
 abbrev pub reply_of : Brief → Reply
 reply_of Done = full.Done
 reply_of Started = full.Started

@@ -1,4 +1,4 @@
--- How the rows that events change are told apart: each has a code, and two rows are the same where their codes are.
+-- Codes of rows, by which rows are compared: two rows are the same if their codes are.
 use Rattle.std.specs.Prelude.{◌≡◌, ℕ, zero, suc, ℤ, ◌==◌, Bool, true, false, ◌&&◌, ◌⊎◌, List, Option, refl}
 use Rattle.std.specs.Coded.{Coded, code_by, coded_ℕ, coded_ℤ, coded_bool, coded_list, coded_option, coded×, coded⊎}
 use base.Stored.{Gv, gnil, gnum, gcons}
@@ -12,14 +12,14 @@ use Rattle.klp_types.specs.declared.version.Version.{Version}
 use Rattle.klp_types.specs.declared.version.Version.TheVariants.{Original, New}
 use Rattle.klp_model.specs.Task.{Tasks}
 
--- whether two codes, which are trees of numbers, are the same
+-- whether two codes are the same; a code is a tree of numbers
 abbrev pub is_same_code : Gv → Gv → Bool
 is_same_code gnil gnil = true
 is_same_code (gnum m) (gnum n) = m == n
 is_same_code (gcons a b) (gcons c d) = is_same_code a c && is_same_code b d
 is_same_code one other = false
 
--- whether two values are the same
+-- whether two values have the same code
 unfoldable pub is_same : {A : Type 0} → Coded A → A → A → Bool
 is_same coded one other = is_same_code (coded.code one) (coded.code other)
 

@@ -1,4 +1,4 @@
--- What a manager keeps, over its catalog.
+-- What every manager keeps, with its catalog.
 use Rattle.std.specs.Prelude.{◌≡◌, ℕ}
 use Rattle.klp_types.specs.declared.limits.TheConstants.{MAX_RECORDS}
 use Rattle.klp_model.specs.Allowed.{Allowed}
@@ -10,15 +10,16 @@ use Rattle.klp_stack.specs.Stack.{entries_at}
 use Rattle.klp_manager_state.specs.declared.state.ManagerState.{ManagerState}
 use Rattle.klp_manager_state.specs.Managed.{setting_in, state_in, entries_in}
 
+-- what a manager keeps between events
 pub record Invariant (manager : ManagerState) (catalog : Catalog) : Type 0 where
   -- the state is one that events can lead to
   pub allowed : Allowed (setting_in manager catalog) (state_in manager catalog)
   pub stated : IsStated (setting_in manager catalog) (state_in manager catalog)
   pub limits : IsWithinLimits manager.sites.image.objects
-  -- the names are the image's, and the same objects are loaded
+  -- the names are the image's, and both have the same objects loaded
   pub modules_are : manager.modules ≡ record { names = names_of manager.sites.image.objects; loaded = manager.sites.loaded }
   pub catalog_names : catalog.names ≡ names_of manager.sites.image.objects
-  -- the stack of each site is the one that the state tells
+  -- the stack of each site has the entries that the state says
   pub entries : (site : ℕ) → entries_at manager.sites.stacks site ≡ entries_in manager catalog site
-  -- an event finds room for all records that it may note
+  -- the log has room for all records that an event may log
   pub room : manager.log.room ≡ MAX_RECORDS

@@ -1,4 +1,4 @@
--- What contracts see of a manager: what stays fixed, and the state.
+-- A manager as contracts see it: what stays fixed, and the state.
 use Rattle.std.specs.Prelude.{ℕ, Bool, List, Option}
 use Rattle.klp_types.specs.declared.version.Entry.{Entry}
 use Rattle.klp_types.specs.Callbacks.{Call}
@@ -13,16 +13,17 @@ use Rattle.klp_model.specs.State.{State}
 use Rattle.klp_catalog.specs.Catalog.{Catalog, patches_of}
 use Rattle.klp_manager_state.specs.declared.state.ManagerState.{ManagerState}
 
+-- a manager as contracts see it
 pub record Managed : Type 0 where
   pub image : Image
   pub catalog : Catalog
   pub state : State
 
--- the image, and the catalog's patches with the sites that their functions name
+-- the image, and the catalog's patches with the sites of their functions
 abbrev pub setting_of : Managed → Setting
 setting_of managed = record { image = managed.image; patches = patches_of managed.catalog }
 
--- what the state of a manager and its catalog stand for
+-- what a manager and its catalog are to contracts
 abbrev pub managed_of : ManagerState → Catalog → Managed
 managed_of manager catalog = record {
   image = manager.sites.image;
@@ -36,14 +37,14 @@ managed_of manager catalog = record {
   };
 }
 
--- the image and the patches, and the state, of which the model speaks
+-- the setting and the state, in the model's terms: what stays, and what events change
 abbrev pub setting_in : ManagerState → Catalog → Setting
 setting_in manager catalog = setting_of (managed_of manager catalog)
 
 abbrev pub state_in : ManagerState → Catalog → State
 state_in manager catalog = (managed_of manager catalog).state
 
--- what refuses an event, if anything does
+-- why an event is refused, if it is
 abbrev pub refused_in : ManagerState → Catalog → Event → Option Refusal
 refused_in manager catalog event = refusal (setting_in manager catalog) (state_in manager catalog) event
 
@@ -51,10 +52,10 @@ refused_in manager catalog event = refusal (setting_in manager catalog) (state_i
 abbrev pub may_run_in : ManagerState → Catalog → Event → List Call
 may_run_in manager catalog event = may_run (setting_in manager catalog) (state_in manager catalog) event
 
--- whether these may find no room for the shadow variables that they add
+-- whether there may be no room for the shadow variables that these callbacks add
 abbrev pub lacks_room_in : ManagerState → Catalog → Event → Bool
 lacks_room_in manager catalog event = lacks_room (setting_in manager catalog) (state_in manager catalog) event
 
--- the entries that the state has on a site, newest first
+-- the entries that a site has by the state, newest first
 abbrev pub entries_in : ManagerState → Catalog → ℕ → List Entry
 entries_in manager catalog site = entries_of (setting_in manager catalog) (state_in manager catalog) site

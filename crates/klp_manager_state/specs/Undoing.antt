@@ -1,9 +1,9 @@
--- What an event logged is put back, record by record.
+-- Putting back what an event logged, record by record.
 use Rattle.std.specs.Prelude.{◌≡◌, ◌<◌, true, [], length}
 use Rattle.klp_manager_state.specs.declared.state.ManagerState.{ManagerState}
 use Rattle.klp_manager_state.specs.Rows.{rows_in, undone, are_due}
 
--- one record fewer is left: those that are left give what all of them gave, and they can be put back
+-- One record was put back. The rest give the same rows as before it, and can be put back.
 pub record IsOneBack (before after : ManagerState) : Type 0 where
   pub rows : undone (rows_in after) after.log.logged ≡ undone (rows_in before) before.log.logged
   pub due : are_due (rows_in after) after.log.logged ≡ true

@@ -5,7 +5,7 @@ use klp_model::Reply;
 use klp_types::{ObjId, PatchId};
 use std::marker::Model;
 
-/// What a [`BriefReply`] says.
+/// The kinds of a [`BriefReply`], each with its values.
 #[derive(Drop)]
 pub enum Brief {
     /// [`Reply::Done`].
@@ -24,8 +24,9 @@ pub enum Brief {
     Freed(u16),
 }
 
-/// A [`Reply`] without the frames of a task and the value of a variable, for which that one has room: most events have
-/// none, and to hand a whole reply on from step to step costs more than a refused event. Contracts see the reply.
+/// A [`Reply`] that has no frames of a task and no value of a variable. It is smaller than `Reply`, which needs room
+/// for both. Most events reply in this form, because passing a whole `Reply` from step to step costs more than a
+/// refused event. In contracts a `BriefReply` is the `Reply` that it converts to.
 #[derive(Drop)]
 pub struct BriefReply(pub Brief);
 
@@ -39,7 +40,7 @@ impl Model for BriefReply {
 }
 
 impl BriefReply {
-    /// The reply that it is.
+    /// Converts to the same reply as a [`Reply`].
     #[inline(always)]
     pub fn reply(&self) -> Reply
         ensures { result ≡ self.now }

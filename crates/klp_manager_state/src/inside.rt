@@ -1,4 +1,4 @@
-//! What a sleeping task is inside of: a module with such a task can't go.
+//! What a sleeping task is inside of. A module can't be unloaded while a task sleeps inside of it.
 ghost use Rattle.std.specs.Prelude.{◌≡◌, ◌<◌, ◌==◌, ◌&&◌, true, false, length, option_map, slice_get, Some, None};
 ghost use Rattle.std.specs.List.{list_any};
 ghost use Rattle.klp_model.specs.Frames.{is_inside, is_object, object_of_version};
@@ -12,7 +12,8 @@ use crate::state::ManagerState;
 use klp_catalog::Catalog;
 use klp_types::{Frames, MAX_TASKS, Mode, ObjId, PatchId, Site, TaskId, Version};
 
-/// The object of a patch's function. It is the catalog's, since a function may have no site to ask.
+/// Returns the object of a patch's function, or None if the patch has no function of this number. Asks the catalog,
+/// since a function may have no site.
 fn object_of_function(catalog: &Catalog, patch: PatchId, number: u16) -> Option<ObjId>
     ensures { result ≡ option_map (λ (f : FunctionOf). f.object) (slice_get
         (catalog_functions catalog.now patch) number) }
@@ -22,8 +23,8 @@ fn object_of_function(catalog: &Catalog, patch: PatchId, number: u16) -> Option<
 }
 
 impl ManagerState {
-    /// Whether a task sleeps inside of the module: in a function of its own, or in a new one for it, which
-    /// goes with the module's entries. It looks at each frame of each task.
+    /// Whether a task sleeps inside of the module: in one of its own functions, or in a new function for one of them,
+    /// which the module's unloading would remove. Looks at each frame of each task.
     pub fn is_in_use(&self, catalog: &Catalog, object: ObjId) -> bool
         requires { Invariant self.now catalog.now }
         ensures { result ≡ list_any (is_inside (setting_in self.now catalog.now) object) self.now.tasks }
@@ -36,7 +37,7 @@ impl ManagerState {
         false
     }
 
-    /// Whether this task sleeps inside of the module. One that doesn't sleep has no frames to be asked for.
+    /// Whether this task sleeps inside of the module. A task that doesn't sleep has no frames to look at.
     fn is_inside(&self, catalog: &Catalog, object: ObjId, task: TaskId) -> bool
         requires { Invariant self.now catalog.now }
         ensures value { result ≡ is_inside (setting_in self.now catalog.now) object (task_at self.now.tasks task) }
@@ -50,7 +51,7 @@ impl ManagerState {
         }
     }
 
-    /// Whether one of these frames is in the object: a task may be inside of several objects at once.
+    /// Whether one of these frames is in the object. A task may be inside of several objects at once.
     fn has_inside(&self, catalog: &Catalog, object: ObjId, frames: &Frames) -> bool
         requires { Invariant self.now catalog.now }
         ensures { result
@@ -65,7 +66,7 @@ impl ManagerState {
         false
     }
 
-    /// Whether a version is in the object; one that image or catalog don't have is in none.
+    /// Whether a version is in the object. A version that neither the image nor the catalog has is in no object.
     fn lies_in(&self, catalog: &Catalog, object: ObjId, version: Version) -> bool
         requires { Invariant self.now catalog.now }
         ensures { result ≡ is_object object (object_of_version (setting_in self.now catalog.now) version) }
@@ -76,7 +77,8 @@ impl ManagerState {
         }
     }
 
-    /// The object that a version is in: that of its site, or that of the function of a patch.
+    /// Returns the object that a version is in: the object of its site, or the object of a patch's new function. None
+    /// if neither the image nor the catalog has the version.
     pub fn object_of(&self, catalog: &Catalog, version: Version) -> Option<ObjId>
         requires { Invariant self.now catalog.now }
         ensures { result ≡ object_of_version (setting_in self.now catalog.now) version }
@@ -87,7 +89,7 @@ impl ManagerState {
         }
     }
 
-    /// The object of a site, by the names, which have a table for it.
+    /// Returns the object of a site, or None if the image has no such site. Looks it up in the table of names.
     fn object_of_site(&self, site: Site) -> Option<ObjId>
         ensures { result ≡ option_map (λ (s : Named). s.object) (symbol_at_site self.now.modules.names site) }
     {

@@ -1,5 +1,4 @@
-//! What is proved of the states that a manager may be in. A function here does nothing: its
-//! contract is the law.
+//! Laws of the states that a manager may be in. A function here does nothing: its contract is the law.
 ghost use Rattle.std.specs.Prelude.{◌≡◌, ◌≢◌, ℕ, true, List, None};
 ghost use Rattle.std.specs.List.{All};
 ghost use Rattle.klp_types.specs.declared.record.Record.{Record};
@@ -20,16 +19,16 @@ ghost use Rattle.klp_model.specs.Stated.{IsStated};
 ghost use Rattle.klp_catalog.specs.States.{previous_state};
 ghost use Rattle.klp_manager_state.specs.Managed.{Managed, setting_of};
 
-/// The patch whose state a callback takes over is the one that the catalog says: the newest of the patches
-/// installed before that names the state. The world answers it from its rows, and this is why the two
-/// agree: each installed patch has the states that the catalog gives it, which a manager keeps.
+/// World and catalog name the same patch as the one whose state a callback takes over: the newest patch that was
+/// installed before and names the state. The world finds it in its rows. Both agree because each installed patch has
+/// the states that the catalog gives it, which every manager keeps.
 pub fn previous_states_agree()
     ensures { (managed : Managed) (patch id : ℕ) → IsStated (setting_of managed) managed.state
         → previous_patch managed.state.world patch id
         ≡ previous_state managed.catalog patch id (installed_patches managed.state) }
 {}
 
-/// What each step keeps. It is one law, so that each event's function calls one instead of three.
+/// The facts that each step keeps. They are one law, so that each event's function calls one law and not three.
 pub fn steps_keep()
     ensures { StepLaws }
 {
@@ -38,7 +37,7 @@ pub fn steps_keep()
     klp_catalog::laws::runs_add_up();
 }
 
-/// An event that nothing refuses, that runs no callback and changes one kind of rows alone, is taken by
+/// An event that nothing refuses, that runs no callback and that changes rows of one kind alone, is taken by making
 /// that change. The events of tasks and of shadow variables are proved by this.
 #[tactic(auto, using(crate::proofs::StepLemmas::tasks_taken, crate::proofs::StepLemmas::world_taken))]
 pub fn changes_of_one_kind_are_taken()
@@ -46,8 +45,8 @@ pub fn changes_of_one_kind_are_taken()
     ensures world { IsWorldTaken }
 {}
 
-/// What is logged of a change, put back, gives the rows before, whatever is logged of other rows, where each
-/// record changes its own: so each part is proved by itself.
+/// Putting back the records of a change gives the rows before it, whatever is logged of other rows, if each of the
+/// records has an effect. So the records of each kind of rows are proved without those of the others.
 #[tactic(auto, using(crate::proofs::RowLemmas::world_back, crate::proofs::RowLemmas::tasks_back))]
 pub fn what_is_logged_gives_the_rows_back()
     ensures world { (before after : World) (log_before log_after : RecordList) (rows : List Record)
@@ -60,9 +59,11 @@ pub fn what_is_logged_gives_the_rows_back()
         → TasksGoBack before after log_before log_after }
 {}
 
-/// A record that tells a row that changed changes the rows when it is put back. A hook's doesn't: the hook of
-/// a site follows its entries, so its record has its place, behind that of the entry, in place of an effect.
+/// A record that has an effect changes the rows when it is put back, unless it is a hook's. The hook of a site follows
+/// its entries, so putting the hook's record back changes nothing. It counts because it comes right behind its entry's
+/// record.
 #[tactic(auto, using(crate::proofs::EffectLemmas::changed_if))]
 pub fn what_tells_a_change_has_an_effect()
-    ensures { (rows : Rows) (row : Record) → has_effect rows row ≡ true → hook_of row ≡ None → put_back rows row ≢ rows }
+    ensures { (rows : Rows) (row : Record) → has_effect rows row ≡ true → hook_of row ≡ None
+        → put_back rows row ≢ rows }
 {}

@@ -1,18 +1,18 @@
 //! The state of a manager, beside its catalog, and what every event of it promises.
 //!
-//! [`ManagerState`] has sites, names, world, tasks, the transition, pins and undo records. The catalog goes
-//! beside it, because it holds boxes, of which a definition can't speak. An event answers and leaves what
-//! the definition says, or is refused for its reason (`TakesEvent` in `specs/Events`), with its callbacks
-//! counted. Afterwards the state is allowed, installed patches have the states that the catalog gives them,
-//! and the stack of each site is the one that the state wants (`specs/Invariant`).
+//! [`ManagerState`] has sites, names, world, tasks, the transition, pins and undo records. The catalog is separate,
+//! because it holds boxes, which a definition can't mention. An event has the reply and the effect that the model
+//! defines, or is refused for the reason that the model gives (`TakesEvent` in `specs/Events`). The runs of its
+//! callbacks are counted. Afterwards the state is allowed, installed patches have the states that the catalog gives
+//! them, and each site has the function stack that the state says (`specs/Invariant`).
 //!
-//! What an accepted event logged gives the rows before it, each record by a change of its row, and a refused
-//! one changes nothing (`IsLogged` in `specs/Rows`); 4,096 records are always enough. [`ManagerState::undo`]
-//! puts what an event logged back. `laws`: a callback takes values over from the patch that the catalog says;
-//! what each step keeps; how an event is taken that changes one kind of rows alone; and that a record which
-//! tells a change has an effect.
+//! An accepted event logs records that give back the rows before it, and each record has an effect. A refused event
+//! changes nothing (`IsLogged` in `specs/Rows`). There is always room for the records of one event, 4,096.
+//! [`ManagerState::undo`] puts back what an event logged. The laws in `laws` say: which patch a callback takes values
+//! over from; what each step keeps; how an event is taken that changes one kind of rows alone; and that a record with
+//! an effect changes the rows.
 //!
-//! The events themselves are above: those of patches and modules in `klp_patch_events`, those of tasks and
+//! The events themselves are in crates above: those of patches and modules in `klp_patch_events`, those of tasks and
 //! shadow variables in `klp_task_shadow_events`. Read `specs/Managed`, `Events`, `Invariant` and `Rows` first.
 #![tactic(auto)]
 

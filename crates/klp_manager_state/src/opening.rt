@@ -5,8 +5,8 @@ ghost use Rattle.klp_model.specs.Allowed.{Allowed};
 ghost use Rattle.klp_model.specs.Opening.{opening_state};
 ghost use Rattle.klp_model.specs.Stated.{IsStated};
 
-/// What the opening state has, which boot has to show: it is allowed, and no patch lacks its states, as
-/// none is installed.
+/// The facts that boot needs of the opening state: it is allowed, and each installed patch has its states, since none
+/// is installed.
 pub(crate) fn opening_keeps()
     ensures allowed { (setting : Setting) → is_empty setting.image.objects ≡ false
         → Allowed setting (opening_state setting) }

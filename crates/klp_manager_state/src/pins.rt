@@ -1,4 +1,5 @@
-ghost use Rattle.std.specs.Prelude.{◌≡◌, ◌+◌, ◌<◌, ◌≤◌, false, true, not, ◌==◌, length, replicate, filter, slice_index_or, slice_set, IfOk};
+ghost use Rattle.std.specs.Prelude.{◌≡◌, ◌+◌, ◌<◌, ◌≤◌, false, true, not, ◌==◌, length, replicate, filter};
+ghost use Rattle.std.specs.Prelude.{slice_index_or, slice_set, IfOk};
 ghost use Rattle.klp_types.specs.Records.{spare_of};
 ghost use Rattle.klp_model.specs.Forcing.{pin_all};
 ghost use Rattle.klp_manager_state.specs.Rows.{put_pinned, PinsGoBack};
@@ -8,8 +9,9 @@ use klp_types::{PatchId, Record};
 use std::alloc::{AllocError, Global};
 use std::marker::Model;
 
-/// Which patches are pinned: a forced transition left functions behind that a task may still be inside of
-/// (livepatch, Force). A pin never goes but by undo. All room is taken by [`Pins::new`].
+/// Which patches are pinned, by a flag for each patch. A pinned patch has functions that a forced transition left
+/// behind, and that a task may still be inside of (livepatch, Force). Only undo takes a pin away. [`Pins::new`]
+/// allocates all memory.
 #[derive(Drop)]
 pub struct Pins {
     flags: Vec<bool>,
@@ -24,8 +26,7 @@ impl Model for Pins {
 }
 
 impl Pins {
-    /// None of so many patches is pinned, with a flag for each patch of the catalog. An error is want of
-    /// memory.
+    /// Makes a flag for each of the catalog's `patches`, none of them pinned. An error means that memory ran out.
     pub fn new(alloc: Global, patches: u8) -> Result<Self, AllocError>
         ensures { IfOk result (λ pins. pins ≡ replicate patches false) }
     {
@@ -34,7 +35,7 @@ impl Pins {
         })
     }
 
-    /// Whether a patch is pinned, which keeps it from being enabled again.
+    /// Whether a patch is pinned, and so can't be enabled again. False for a patch that the catalog doesn't have.
     pub fn is_pinned(&self, patch: PatchId) -> bool
         ensures { result ≡ slice_index_or self.now patch false }
     {
@@ -44,8 +45,8 @@ impl Pins {
             .unwrap_or(false)
     }
 
-    /// Pins a patch, where there is one of this number, and logs it where it wasn't pinned, since no record
-    /// is kept of an unchanged row.
+    /// Pins a patch, and logs that it wasn't pinned. Does nothing if the patch is pinned already, since an unchanged
+    /// row gets no record, or if the catalog has no such patch.
     pub fn pin(&mut self, patch: PatchId, log: &mut Records)
         requires { 0 < spare_of log.old }
         ensures flags { self.new ≡ slice_set self.old patch true }
@@ -60,7 +61,7 @@ impl Pins {
         }
     }
 
-    /// Pins these patches but for this one: those that a forced cumulative patch replaces.
+    /// Pins these patches except for `patch`, which is the forced cumulative patch that replaces the others.
     pub fn pin_others(&mut self, patches: &[PatchId], patch: PatchId, log: &mut Records)
         requires { length patches.now ≤ spare_of log.old }
         ensures flags { self.new ≡ pin_all (filter (λ p. not (p == patch)) patches.now) self.old }
@@ -74,8 +75,7 @@ impl Pins {
         }
     }
 
-    /// Puts back whether a patch was pinned. A row of another kind changes nothing, since each part is
-    /// handed every record.
+    /// Puts back the pin that a record has. Ignores a record of another kind, as the definition does.
     pub fn put_back(&mut self, row: Record)
         ensures { self.new ≡ put_pinned self.old row }
     {

@@ -19,28 +19,28 @@ use klp_types::{MAX_RECORDS, Transition};
 use klp_world::World;
 use std::alloc::{AllocError, Global};
 
-/// What a manager is made of, beside its catalog. All room is taken when they are made.
+/// All parts of a manager but its catalog and its journal. [`ManagerState::new`] allocates all memory.
 #[derive(Drop)]
 pub struct ManagerState {
     /// The image with its text, and the function stacks of its sites.
     pub sites: Sites,
-    /// The names of the image's objects and symbols, and once more which objects are loaded.
+    /// The names of the image's objects and symbols, with a copy of the flags of which objects are loaded.
     pub modules: Modules,
     /// The installed patches with the values of their system states, and the shadow variables.
     pub world: World,
     pub tasks: Tasks,
-    /// The patch in transition, and where it moves to.
+    /// The patch in transition, and its target.
     pub moving: Option<Transition>,
-    /// By patch, whether it is pinned.
+    /// For each patch, whether it is pinned.
     pub pinned: Pins,
-    /// Where a transition puts the versions that hold sleepers back, while it is tried.
+    /// The versions that block sleepers. Filled while a transition is tried.
     pub blocked: VersionSet,
-    /// The rows that an event changed, as they were, in the order in which they were logged, behind those of earlier
-    /// events. An event empties it of its own before it changes anything.
+    /// The rows that events changed, each as it was before, oldest first. The records of the event under way are behind
+    /// those that the journal keeps of earlier events. An event first drops all records that aren't kept.
     pub log: Records,
 }
 
-/// What no image is needed for.
+/// The parts of a manager that are made without the image.
 #[derive(Drop)]
 struct Room {
     world: World,
@@ -49,7 +49,7 @@ struct Room {
     log: Records,
 }
 
-/// The room for all of it, in which nothing is. An error is want of memory.
+/// Allocates the parts that need no image, all of them empty. An error means that memory ran out.
 fn make_room(alloc: Global, catalog: &Catalog) -> Result<Room, AllocError>
     ensures world { IfOk result (λ made. made.world ≡ record { installed = []; shadow = finite.empty }) }
     ensures tasks { IfOk result (λ made. made.tasks ≡ replicate MAX_TASKS None) }
@@ -69,8 +69,8 @@ fn make_room(alloc: Global, catalog: &Catalog) -> Result<Room, AllocError>
 }
 
 impl ManagerState {
-    /// The parts that stand for the opening state: `vmlinux` alone is loaded, and nothing else is
-    /// there. An error is want of memory; image and modules are dropped with it.
+    /// Makes the state of a manager that has just opened: `vmlinux` alone is loaded, and there are no patches, tasks or
+    /// variables. An error means that memory ran out; image and modules are dropped then.
     pub fn new(
         alloc: Global,
         image: Image,

@@ -1,4 +1,4 @@
-//! The patch in transition, as a row of the state, so that undo gives it back like any other.
+//! The patch in transition, as a row of the state, so that undo puts it back like any other row.
 ghost use Rattle.std.specs.Prelude.{◌≡◌, ◌≢◌, ◌<◌, ◌∷◌, [], length, not};
 ghost use Rattle.klp_types.specs.Records.{spare_of};
 ghost use Rattle.klp_model.specs.Refusals.{moves_out};
@@ -8,8 +8,8 @@ ghost use Rattle.klp_manager_state.specs.Rows.{row_of_moving, rows_before, put_m
 use crate::state::ManagerState;
 use klp_types::{PatchId, Record, Transition};
 
-/// What moved before, as a record has it. A row of another kind changes nothing, since each part is handed
-/// every record.
+/// Returns the transition that a record has from before the change. Returns `moving` for a record of another kind, as
+/// the definition does.
 pub(crate) fn moving_before(moving: Option<Transition>, row: Record) -> Option<Transition>
     ensures { result ≡ put_moving moving row }
 {
@@ -21,8 +21,8 @@ pub(crate) fn moving_before(moving: Option<Transition>, row: Record) -> Option<T
 }
 
 impl ManagerState {
-    /// What the `enabled` file of an installed patch reads: 0 as soon as the patch is on its way out, and
-    /// 1 as soon as it is on its way in.
+    /// Returns what the `enabled` file of an installed patch reads: false from the moment when the patch begins to
+    /// leave, true from the moment when it begins to come in.
     pub fn enabled_value(&self, patch: PatchId) -> bool
         ensures { result ≡ not (moves_out self.now.moving patch) }
     {
@@ -32,8 +32,8 @@ impl ManagerState {
         }
     }
 
-    /// Something else moves, or nothing, where something did: no record is kept of an unchanged row. What
-    /// moved before is logged, so a transition that ended goes on after undo.
+    /// Replaces the transition by another one, or by none, and logs the transition that there was, so that undo
+    /// continues it. The new one must differ, since an unchanged row gets no record.
     #[tactic(auto, using(crate::proofs::RowLemmas::moving_back))]
     pub fn set_moving(&mut self, moving: Option<Transition>)
         requires room { 0 < spare_of self.old.log }

@@ -1,4 +1,4 @@
-//! What an event logged is put back. No step is turned round, since the rows have all that there was.
+//! Putting back what an event logged. Undo runs no step backwards: the records have all that there was.
 ghost use Rattle.std.specs.Prelude.{◌≡◌, ◌<◌, true, false, [], length};
 ghost use Rattle.klp_journal.specs.Small.{row_of};
 ghost use Rattle.klp_manager_state.specs.Rows.{rows_in, put_back, undone, is_due, are_due};
@@ -10,10 +10,10 @@ use klp_journal::SmallRecord;
 use klp_types::Record;
 
 impl ManagerState {
-    /// Gives each row what its record has that an event logged, the newest record, which is last, first, and takes
-    /// these records out. It costs as much as there are records. No callback runs. Stacks are rows like all others, so
-    /// nothing is computed anew (docs/DECISIONS.md, "Undo by rows"). That each record is due, so that its entry finds
-    /// room, the journal knows of its groups.
+    /// Puts all records of an event back, newest first, and removes them from the log. The newest is the last in the
+    /// log. The cost grows with the number of records. No callback runs. Stacks are rows like all others, so nothing is
+    /// computed anew (docs/DECISIONS.md, "Undo by rows"). The clause `due` makes sure that each entry that is put back
+    /// finds room; the journal keeps it for its groups.
     pub fn undo(&mut self)
         requires modules { self.old.modules.loaded ≡ self.old.sites.loaded }
         requires objects { length self.old.sites.loaded ≡ length self.old.sites.image.objects }
@@ -26,7 +26,7 @@ impl ManagerState {
         while self.put_newest_back() {}
     }
 
-    /// Puts the newest record back that is left, and answers whether there was one.
+    /// Puts back the newest record that is left. Returns whether there was one.
     #[inline(always)]
     fn put_newest_back(&mut self) -> bool
         requires modules { self.old.modules.loaded ≡ self.old.sites.loaded }
@@ -51,8 +51,8 @@ impl ManagerState {
         true
     }
 
-    /// The same of a record that is there, and of a kind that few events log: it is handed on whole. It isn't part of its
-    /// caller, which would clear the room for a record at each turn.
+    /// Puts back the newest record, of a kind that few events log. This function isn't inlined into its caller, which
+    /// would clear the room for a whole record at each turn.
     #[cold]
     fn put_other_back(&mut self)
         requires some { 0 < length self.old.log.logged }
@@ -68,8 +68,7 @@ impl ManagerState {
         self.put_back(&newest);
     }
 
-    /// Gives one row what its record has, which is a small one. A hook's own changes nothing, since the hook went back
-    /// with the entry's.
+    /// Puts one small record back. A hook's record changes nothing, since the hook changed with its entry.
     #[inline(always)]
     fn put_small_back(&mut self, row: SmallRecord)
         requires modules { self.old.modules.loaded ≡ self.old.sites.loaded }
@@ -83,12 +82,14 @@ impl ManagerState {
         match row {
             SmallRecord::Entry { site, patch, was } => self.sites.put_entry(site, patch, was),
             SmallRecord::Hook { site: _, was: _ } => {}
-            SmallRecord::Resting { task, state, mode } => self.tasks.put_resting(task, state, mode),
+            SmallRecord::Resting { task, state, mode } => self
+                .tasks
+                .put_without_frames(task, state, mode),
         }
     }
 
-    /// The same of any record. Each kind goes to the part that has the row, since to hand every
-    /// record to every part costs more than most of them do.
+    /// Puts any record back. Passes it only to the parts that have such rows, since passing every record to every part
+    /// costs more than putting most of them back.
     fn put_back(&mut self, row: &Record)
         requires modules { self.old.modules.loaded ≡ self.old.sites.loaded }
         requires objects { length self.old.sites.loaded ≡ length self.old.sites.image.objects }

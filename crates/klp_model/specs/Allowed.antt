@@ -1,4 +1,4 @@
--- Allowed states: what every state has that the manager reaches.
+-- Allowed states: what holds of every state that the manager reaches.
 use Rattle.std.specs.Prelude.{◌≡◌, ℕ, ◌≤◌, ℤ, Bool, true, false, not, ◌==◌, ◌&&◌, ◌||◌, List, [], ◌∷◌, length, Option, Some, None, if◌then◌else◌}
 use Rattle.std.specs.List.{list_any}
 use Rattle.std.specs.FinMap as finite
@@ -23,17 +23,17 @@ abbrev pub AreDistinct : List ℕ → Type 0
 AreDistinct [] = Unit {0}
 AreDistinct (patch ∷ newer) = (is_one_of patch newer ≡ false) × AreDistinct newer
 
--- the patch in transition is one of these
+-- the patch in transition, if any, is one of these
 abbrev pub MovesOneOf : Option Transition → List ℕ → Type 0
 MovesOneOf None patches = Unit {0}
 MovesOneOf (Some move) patches = is_one_of move.patch patches ≡ true
 
--- of patches that have older ones: each that replaces is the newest, and moves
+-- of patches that have older ones: a cumulative one is the newest, and in transition
 abbrev pub AreAbove : Setting → Option Transition → List ℕ → Type 0
 AreAbove setting moving [] = Unit {0}
 AreAbove setting moving (patch ∷ newer) = (replaces setting patch ≡ true → (newer ≡ []) × (moves moving patch ≡ true)) × AreAbove setting moving newer
 
--- the same of all patches: the oldest may replace
+-- of all installed patches: only the oldest may be cumulative without being the newest and in transition
 abbrev pub AreStacked : Setting → Option Transition → List ℕ → Type 0
 AreStacked setting moving [] = Unit {0}
 AreStacked setting moving (oldest ∷ newer) = AreAbove setting moving newer
@@ -48,12 +48,12 @@ abbrev pub NoneLacks : Setting → List Bool → List ℕ → Type 0
 NoneLacks setting loaded [] = Unit {0}
 NoneLacks setting loaded (patch ∷ patches) = (lacks_symbol setting loaded patch ≡ false) × NoneLacks setting loaded patches
 
--- the state of a task is -1 where nothing moves, and 0 or 1 where a patch does
+-- the patch state of a task is -1 if there is no transition, else 0 or 1
 abbrev pub is_right_state : Option Transition → ℤ → Bool
 is_right_state None state = is_at_rest state
 is_right_state (Some move) state = is_at true state || is_at false state
 
--- only a sleeping task has frames, and image and catalog have them; that there are at most 32, their type says
+-- only a sleeping task has frames, and the image and the catalog have them; their type allows at most 32
 abbrev pub are_right_frames : Setting → Task → Bool
 are_right_frames setting task = if is_mode task.mode Asleep then not (list_any (is_bad setting) task.frames) else is_empty task.frames
 
@@ -75,7 +75,7 @@ pub record Allowed (setting : Setting) (state : State) : Type 0 where
   pub symbols : NoneLacks setting state.loaded (installed_patches state)
   pub tasks : AreRight setting state.moving state.tasks
   pub room : finite.len state.world.shadow ≤ MAX_VARIABLES
-  -- flags and rows are there for each object, task and patch
+  -- there is a flag or a row for each object, task and patch
   pub objects : length state.loaded ≡ length setting.image.objects
   pub rows : length state.tasks ≡ MAX_TASKS
   pub flags : length state.pinned ≡ length setting.patches

@@ -1,4 +1,5 @@
--- A fair company of a patch: events among which the patch may be enabled, turned round and disabled without leaving a trace.
+-- A fair company of a patch: events among which the patch may be enabled, reversed and disabled without leaving a
+-- trace.
 use Rattle.std.specs.Prelude.{◌≡◌, ℕ, zero, suc, pos, Bool, true, false, not, ◌&&◌, List, [], ◌∷◌, Option, Some, None}
 use Rattle.std.specs.List.{list_any, before_first}
 use Rattle.klp_types.specs.declared.shadow.ShadowKey.{ShadowKey}
@@ -23,7 +24,7 @@ use Rattle.klp_model.specs.Run.{next}
 abbrev pub taking_part : Setting → State → ℕ → List (ℕ × PatchObject)
 taking_part setting state patch = before_first refuses (loaded_objects setting state patch)
 
--- a callback that isn't there is the empty script
+-- the script of a callback; a missing callback has the empty script
 abbrev pub script_or_empty : Option Script → Script
 script_or_empty None = record { edits = []; status = pos 0 }
 script_or_empty (Some script) = script
@@ -45,7 +46,7 @@ one_touches objects key = list_any (object_touches key) objects
 abbrev pub company_keys : Setting → State → ℕ → ShadowKey → Bool
 company_keys setting state patch key = one_touches (taking_part setting state patch) key
 
--- post-unpatch undoes pre-patch at the world, and pre-unpatch undoes post-patch at what pre-patch makes of it
+-- post-unpatch undoes pre-patch in this world, and pre-unpatch undoes post-patch in the world that pre-patch leaves
 pub record UndoesItself (patch : ℕ) (world : World) (object : ℕ × PatchObject) : Type 0 where
   pub pre : Undoes patch (script_of PostUn object) (script_of Pre object) world
   pub post : Undoes patch (script_of PreUn object) (script_of Post object) (effect patch world (script_of Pre object))
@@ -72,12 +73,13 @@ replaces_older setting state None = false
 replaces_older setting state (Some move) =
     is_none_left (pending setting state move) && move.target && replaces setting move.patch && has_older move.patch state.world
 
--- whether the event completes a replacement at which an older patch leaves
+-- whether the event completes a replacement by which an older patch leaves
 abbrev pub drops_older : Setting → State → Event → Bool
 drops_older setting state Poll = replaces_older setting state state.moving
 drops_older setting state other = false
 
--- the patch is enabled, turned round, disabled or polled, a task does something, or a shadow variable changes that isn't one of these
+-- the patch is enabled, reversed, disabled or polled, a task does something, or a shadow variable changes that
+-- isn't one of these keys
 abbrev pub IsOfCompany : ℕ → (ShadowKey → Bool) → Event → Type 0
 IsOfCompany patch keys (Enable other) = other ≡ patch
 IsOfCompany patch keys (SetEnabled other value) = other ≡ patch
@@ -96,8 +98,8 @@ AreFair setting patch keys state [] = Unit {0}
 AreFair setting patch keys state (event ∷ events) =
     IsFairEvent setting patch keys state event × AreFair setting patch keys (next setting state event) events
 
--- the patch isn't there and nothing moves, and its callbacks undo each other, each object's apart from the others'; that the
--- start is an allowed state isn't needed
+-- the patch isn't installed, there is no transition, its callbacks undo each other, and no two of its objects touch
+-- the same variable. The start needn't be an allowed state
 pub record IsFairStart (setting : Setting) (patch : ℕ) (start : State) : Type 0 where
   pub still : start.moving ≡ None
   pub away : is_installed start patch ≡ false

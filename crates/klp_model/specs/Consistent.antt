@@ -1,4 +1,4 @@
--- Consistency: what a task is inside of is what it would run now.
+-- Consistency: each frame of a task is the version that the task would run now.
 use Rattle.std.specs.Prelude.{◌≡◌, ℕ, pos, Bool, true, false, ◌==◌, ◌&&◌, List, [], ◌∷◌, Option, Some, None, option_map, option_and_then, slice_get, if◌then◌else◌}
 use Rattle.std.specs.List.{list_any}
 use Rattle.klp_types.specs.declared.version.Version.{Version}
@@ -32,7 +32,7 @@ abbrev pub is_number : Option ℕ → ℕ → Bool
 is_number None function = false
 is_number (Some own) function = own == function
 
--- a new function that a task is inside of has an entry at the site
+-- if this is a new function, it has an entry at the site
 abbrev pub HasEntryIn : List Entry → Version → Type 0
 HasEntryIn entries (Original site) = Unit {0}
 HasEntryIn entries (New patch function) = list_any (λ (e : Entry). e.patch == patch && is_number e.func function) entries ≡ true
@@ -52,18 +52,18 @@ abbrev pub NoneOfPatch : ℕ → List Frame → Type 0
 NoneOfPatch patch [] = Unit {0}
 NoneOfPatch patch (frame ∷ frames) = (is_of_patch patch frame.version ≡ false) × NoneOfPatch patch frames
 
--- the version next below the patch's entry, if it has one
+-- the version just below the patch's entry, if it has one
 abbrev pub below : ℕ → ℕ → List Entry → List Version
 below site patch [] = []
 below site patch (entry ∷ older) = if entry.patch == patch then newest_version site older ∷ [] else below site patch older
 
--- no frame is the version below an entry of the patch, whatever the entry's site
+-- no frame is a version below an entry of the patch, at any site
 abbrev pub NoneBelow : Setting → State → ℕ → List Frame → Type 0
 NoneBelow setting state patch [] = Unit {0}
 NoneBelow setting state patch (frame ∷ frames) =
     ((site : ℕ) → list_any (is_version frame.version) (below site patch (entries_of setting state site)) ≡ false) × NoneBelow setting state patch frames
 
--- what a task in transition isn't inside of
+-- which frames a task doesn't have during a transition
 abbrev pub IsUnmixed : Setting → State → Task → List Frame → Type 0
 IsUnmixed setting state task frames =
     (move : Transition) → state.moving ≡ Some move
@@ -72,7 +72,7 @@ IsUnmixed setting state task frames =
 abbrev pub NoneMixed : Setting → Watched → Type 0
 NoneMixed setting w = (number : ℕ) (task : Task) → task_at w.state.tasks number ≡ Some task → IsUnmixed setting w.state task (w.stacks number)
 
--- the site that a version is one of
+-- the site of a function with this number
 abbrev pub site_at : List Function → ℕ → Option ℕ
 site_at functions number = option_and_then (λ (f : Function). f.site) (slice_get functions number)
 

@@ -1,4 +1,4 @@
--- A patch is enabled, turned round or disabled.
+-- How a patch is enabled, reversed or disabled.
 use Rattle.std.specs.Prelude.{ℕ, Bool, true, false, find, Option, Some, None}
 use Rattle.klp_types.specs.declared.callback.Which.TheVariants.{Pre, PreUn}
 use Rattle.klp_model.specs.declared.event.Reply.{Reply}
@@ -12,24 +12,24 @@ use Rattle.klp_types.specs.Pick.{moves}
 use Rattle.klp_model.specs.Callbacks.{loaded_objects, status_of}
 use Rattle.klp_types.specs.Callbacks.{calls_of, script_for, refuses, enable_calls, after_calls}
 
--- a transition to this target starts, or turns round
+-- the transition of this patch to this target
 abbrev pub move_to : ℕ → Bool → Option Transition
 move_to patch target = Some (record { patch = patch; target = target })
 
--- the patch moves to the target 1, or it is gone again where the pre-patch callback of an object refused
+-- the transition to target 1 starts; or, if the pre-patch callback of an object refused, the patch is removed again
 abbrev pub enabled_or_gone : State → ℕ → World → Option (ℕ × PatchObject) → Reply × State
 enabled_or_gone state patch world None =
     (Started, record state { world = world; moving = move_to patch true; tasks = all_in (at_target false) state.tasks })
 enabled_or_gone state patch world (Some object) =
     (PreFailed patch object.1.object (status_of (script_for Pre object.1.callbacks)), with_world state (without_patch world patch))
 
--- a patch is put last, its states at 0, and its callbacks run
+-- a patch is added as the newest, its states at 0, and its callbacks run
 abbrev pub enabled : Setting → State → ℕ → Reply × State
 enabled setting state patch =
     let objects = loaded_objects setting state patch in
     enabled_or_gone state patch (after_calls (with_patch state.world patch (state_ids setting patch)) (enable_calls patch objects)) (find refuses objects)
 
--- a transition turns round, and nothing runs; or a disabling starts, with pre-unpatch
+-- a transition is reversed, and nothing runs; or a disabling starts, with pre-unpatch
 abbrev pub turned_or_started : Setting → State → ℕ → Bool → Bool → Reply × State
 turned_or_started setting state patch value true = (Reversed, record state { moving = move_to patch value })
 turned_or_started setting state patch value false = (

@@ -1,4 +1,4 @@
--- The callbacks that an event runs, and those for which there has to be room.
+-- The callbacks that an event runs, and those for which there must be room.
 use Rattle.std.specs.Prelude.{ℕ, zero, suc, ◌+◌, Bool, nat_lt, List, [], ◌++◌, Option, Some, None, if◌then◌else◌}
 use Rattle.std.specs.List.{flat_map}
 use Rattle.std.specs.FinMap as finite
@@ -20,7 +20,7 @@ abbrev pub disable_calls : Setting → State → ℕ → List Call
 disable_calls setting state patch =
     if moves state.moving patch then [] else calls_of patch PreUn (loaded_objects setting state patch)
 
--- while tasks are pending nothing runs
+-- nothing runs while tasks are pending
 abbrev pub once_done : ℕ → List Call → List Call
 once_done zero calls = calls
 once_done (suc left) calls = []
@@ -29,7 +29,7 @@ abbrev pub poll_calls : Setting → State → Option Transition → List Call
 poll_calls setting state None = []
 poll_calls setting state (Some move) = once_done (pending setting state move) (end_calls setting state (Some move))
 
--- the callbacks that an event runs where nothing refuses it
+-- the callbacks that an accepted event runs
 abbrev pub calls : Setting → State → Event → List Call
 calls setting state (Enable patch) = enable_calls patch (loaded_objects setting state patch)
 calls setting state (SetEnabled patch value) = disable_calls setting state patch
@@ -44,7 +44,7 @@ going_may_run moving part = part_call PostUn part ++ still_call moving PreUn par
 abbrev pub coming_may_run : Option Transition → Part → List Call
 coming_may_run moving part = part_call Pre part ++ part_call PostUn part ++ still_call moving Post part ++ still_call moving PreUn part
 
--- those for which there has to be room: which statuses are answered isn't asked
+-- the callbacks for which there must be room, whatever statuses they return
 abbrev pub may_run : Setting → State → Event → List Call
 may_run setting state (Enable patch) =
     calls_of patch Pre (loaded_objects setting state patch) ++ calls_of patch PostUn (loaded_objects setting state patch)

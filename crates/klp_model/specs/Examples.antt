@@ -21,12 +21,12 @@ use Rattle.klp_model.specs.State.{State}
 abbrev pub function_at : ℕ → Function
 function_at site = record { site = Some site; address = site }
 
--- an object of a patch with all four callbacks, where no pre-patch refuses
+-- an object of a patch with all four callbacks, none of which refuses
 abbrev pub quiet_object : ℕ → List Function → PatchObject
 quiet_object object functions = record { object = object; functions = functions; callbacks = callbacks_for 2 object }
 
--- p patches f and h of the kernel and g of the module; c is a cumulative patch with f alone; q patches f, and r's
--- pre-patch refuses the module
+-- p patches f and h of the kernel and g of the module; c is a cumulative patch with a function only for f; q
+-- patches f; r patches g, and its pre-patch refuses the module
 abbrev pub p : Patch
 p = record {
   replace = false;
@@ -52,7 +52,7 @@ move_of patch target = Some (record { patch = patch; target = target })
 abbrev pub installed : ℕ → Installed
 installed patch = record { patch = patch; values = [] }
 
--- these patches are installed, oldest first; the module is loaded or not
+-- a state with these patches installed, oldest first; the module is loaded or not
 abbrev pub state_with : Bool → List ℕ → Option Transition → Tasks → State
 state_with module_loaded patches moving tasks = record {
   loaded = true ∷ module_loaded ∷ [];
@@ -68,14 +68,14 @@ in_kernel state = Some (record { state = state; mode = Kernel; frames = [] })
 abbrev pub asleep_in : ℤ → List Version → Option Task
 asleep_in state frames = Some (record { state = state; mode = Asleep; frames = frames })
 
--- which callbacks run: of which patch, and of which kind
+-- which callbacks run: the patch, and the kind
 abbrev pub ran_by : List Call → List (ℕ × Which)
 ran_by calls = map {B = ℕ × Which} (λ (call : Call). (call.patch, call.which)) calls
 
 abbrev pub in_user : ℤ → Option Task
 in_user state = Some (record { state = state; mode = User; frames = [] })
 
--- the same patches but for c and q, and s between them, which patches the module alone
+-- a catalog with p, a patch that has a function only for the module, and r
 abbrev pub module_kernel : Setting
 module_kernel = record {
   image = kernel;
@@ -88,8 +88,8 @@ making which edits = record { which = which; script = record { edits = edits; st
 abbrev pub state_7 : SystemState
 state_7 = record { id = 7; version = 1 }
 
--- a patch that names state 7, and a cumulative one that sets it to 3 when it comes and takes over the older one's value at
--- the end
+-- a patch that names state 7, and a cumulative one whose pre-patch sets it to 3 and whose post-patch takes over the
+-- older one's value
 abbrev pub taking_over : Setting
 taking_over = record {
   image = kernel;
@@ -121,7 +121,7 @@ with_states patches moving = record {
   tasks = [];
 }
 
--- a patch whose callback of a kind for the module may add so many variables
+-- a patch whose callback of this kind for the module may add this many variables
 abbrev pub crowded_by : ℕ → Which → Setting
 crowded_by count which = record {
   image = kernel;
@@ -132,12 +132,12 @@ crowded_by count which = record {
   } ∷ [];
 }
 
--- more than there is room for
+-- a patch whose callback may add more variables than there is room for
 abbrev pub crowded : Which → Setting
 crowded which = crowded_by 513 which
 
--- a patch that names state 7, and a cumulative one that doesn't, whose function names no symbol of the kernel or of the
--- module, and whose pre-patch may add more variables than there is room for
+-- a patch that names state 7, and a cumulative one that doesn't. The function of that one names no symbol of the
+-- kernel or of the module, and its pre-patch may add more variables than there is room for
 abbrev pub faulty : ℕ → Setting
 faulty object = record {
   image = kernel;
@@ -154,6 +154,6 @@ faulty object = record {
       } ∷ [];
 }
 
--- a task, and no other
+-- one task, and no other
 abbrev pub alone : Option Task → Tasks
 alone task = task ∷ replicate 63 None

@@ -1,4 +1,4 @@
--- A transition is forced, and patches are pinned.
+-- How a transition is forced, and which patches are pinned.
 use Rattle.std.specs.Prelude.{ℕ, ◌==◌, Bool, true, not, List, [], ◌∷◌, Option, Some, None, slice_set, if◌then◌else◌}
 use Rattle.std.specs.List.{filter}
 use Rattle.klp_model.specs.declared.event.Reply.{Reply}
@@ -12,7 +12,7 @@ abbrev pub pin_all : List ℕ → List Bool → List Bool
 pin_all [] pinned = pinned
 pin_all (patch ∷ patches) pinned = pin_all patches (slice_set pinned patch true)
 
--- which patches are pinned when this transition is forced
+-- the patches that are pinned when this transition is forced
 abbrev pub pinned_by : Setting → State → Transition → List ℕ
 pinned_by setting state move =
     if not move.target then move.patch ∷ []

@@ -1,4 +1,4 @@
--- What a sleeping task may be inside of, and in which object that lies.
+-- What a sleeping task may be inside of, and in which object that is.
 use Rattle.std.specs.Prelude.{ℕ, ◌-◌, Bool, false, not, ◌==◌, ◌&&◌, nat_lt, List, [], ◌∷◌, length, Option, Some, None, if◌then◌else◌}
 use Rattle.std.specs.List.{list_any}
 use Rattle.klp_types.specs.declared.version.Version.{Version}
@@ -9,18 +9,18 @@ use Rattle.klp_types.specs.Setting.{Setting, PatchObject, objects_of, functions_
 use Rattle.klp_types.specs.declared.task.Task.{Task}
 use Rattle.klp_model.specs.Task.{is_mode}
 
--- whether image or catalog don't have the site or function
+-- whether the image doesn't have the site, or the catalog the function
 abbrev pub is_bad : Setting → Version → Bool
 is_bad setting (Original site) = not (nat_lt site (length (symbols_of setting.image.objects)))
 is_bad setting (New patch function) = not (nat_lt function (length (functions_of setting patch)))
 
--- the object of a patch's function, counted over its objects in order
+-- the object of a patch's function; functions are counted over the patch's objects in order
 abbrev pub object_of_function : List PatchObject → ℕ → Option ℕ
 object_of_function [] function = None
 object_of_function (object ∷ objects) function =
     if nat_lt function (length object.functions) then Some object.object else object_of_function objects (function - length object.functions)
 
--- an original lies in the object of its site, a new version in the object of its function
+-- the object of a version: of an original the object of its site, of a new function the object that it is for
 abbrev pub object_of_version : Setting → Version → Option ℕ
 object_of_version setting (Original site) = object_of setting.image.objects site
 object_of_version setting (New patch function) = object_of_function (objects_of setting patch) function

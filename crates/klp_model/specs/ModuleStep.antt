@@ -1,4 +1,4 @@
--- A module comes or goes.
+-- How a module is loaded or unloaded.
 use Rattle.std.specs.Prelude.{ℕ, Bool, true, false, find, Option, Some, None, slice_set}
 use Rattle.klp_types.specs.declared.callback.Which.TheVariants.{Pre}
 use Rattle.klp_model.specs.declared.event.Reply.{Reply}
@@ -12,7 +12,7 @@ use Rattle.klp_model.specs.ModuleCalls.{Part, parts, part_refuses, coming_calls,
 abbrev pub with_loaded : State → ℕ → Bool → State
 with_loaded state object flag = record state { loaded = slice_set state.loaded object flag }
 
--- the module is loaded, or it is refused by the pre-patch callback of a patch
+-- the module is loaded, or the pre-patch callback of a patch refused it
 abbrev pub come_or_refused : State → ℕ → Option Part → Reply × State
 come_or_refused state object None = (Done, with_loaded state object true)
 come_or_refused state object (Some part) = (PreFailed part.0 object (status_of (script_for Pre part.1.1.callbacks)), state)

@@ -18,12 +18,12 @@ use Rattle.klp_model.specs.Refusals.{accepts, is_there}
 use Rattle.klp_model.specs.Run.{next}
 use Rattle.klp_model.specs.Allowed.{Allowed}
 
--- what a task is inside of: the site that it called, and the version that it got
+-- one frame of a task: the site that it called, and the version that it got
 pub record Frame : Type 0 where
   pub site : ℕ
   pub version : Version
 
--- for each task number what it is inside of, innermost last
+-- for each task number its frames, innermost last
 abbrev pub Stacks : Type 0
 Stacks = ℕ → List Frame
 
@@ -33,12 +33,12 @@ with_frames stacks task frames other = if other == task then frames else stacks 
 abbrev pub versions : List Frame → List Version
 versions frames = map (λ (f : Frame). f.version) frames
 
--- a state, and what the tasks are inside of
+-- a state, and the frames of all tasks
 pub record Watched : Type 0 where
   pub state : State
   pub stacks : Stacks
 
--- the version that a call got goes on the frames
+-- the frames after a call, with the version that it got
 abbrev pub called : ℕ → List Frame → Option Target → List Frame
 called site frames None = frames
 called site frames (Some target) = frames ++ record { site = site; version = target.version } ∷ []
@@ -78,12 +78,12 @@ opening state = record { state = state; stacks = λ n. [] }
 abbrev pub seen_from : Setting → State → List Seen → Watched
 seen_from setting start items = seen_run setting (opening start) items
 
--- a frame in an object
+-- whether a frame is in the object
 abbrev pub is_frame_in : Setting → ℕ → Frame → Bool
 is_frame_in setting object frame = is_object object (object_of_version setting frame.version)
 
--- what an accepted event says of the frames: a sleeper tells them all, a task that leaves the kernel or ends has none,
--- nobody is inside of a module that goes; and nothing is forced
+-- what must hold of the frames for an accepted event to be honest: a sleeper names all of its frames, a task that
+-- leaves the kernel or ends has none, and no task is inside of a module that is unloaded; a force is never honest
 abbrev pub IsHonestEvent : Setting → Stacks → Event → Type 0
 IsHonestEvent setting stacks (Sleep task frames) = frames ≡ versions (stacks task)
 IsHonestEvent setting stacks (ExitToUser task) = stacks task ≡ []
@@ -92,8 +92,8 @@ IsHonestEvent setting stacks (Going object) = (task : ℕ) → list_any (is_fram
 IsHonestEvent setting stacks (Force patch) = ⊥
 IsHonestEvent setting stacks other = Unit {0}
 
--- a call stands only where the task is there and the site's object is loaded, a return only where the task has frames, and both
--- only in the kernel
+-- a task calls or returns only in the kernel; it calls only if it exists and the site's object is loaded, and
+-- returns only if it has a frame
 abbrev pub IsHonestItem : Setting → Watched → Seen → Type 0
 IsHonestItem setting w (Happens event) = accepts setting w.state event ≡ true → IsHonestEvent setting w.stacks event
 IsHonestItem setting w (Calls task site) =

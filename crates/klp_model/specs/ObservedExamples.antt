@@ -1,4 +1,4 @@
--- A small kernel, and observed runs over it.
+-- A small kernel, and observed runs of it.
 use Rattle.std.specs.Prelude.{ℕ, ℤ, pos, negsuc, Bool, true, false, List, [], ◌∷◌, map, replicate, Option, Some, None}
 use Rattle.std.specs.FinMap as finite
 use Rattle.klp_types.specs.declared.version.Version.{Version}
@@ -34,11 +34,11 @@ kernel_with objects = record {
   patches = record { replace = false; objects = objects; states = [] } ∷ [];
 }
 
--- the patch has a function for each site, each with the object of the site
+-- the patch has a function for each site, each listed with the object of the site
 abbrev pub kernel : Setting
 kernel = kernel_with (for_object 0 (function_for 0 ∷ function_for 1 ∷ []) ∷ for_object 1 (function_for 2 ∷ []) ∷ [])
 
--- the patch has a function for the module's site that stands with `vmlinux`
+-- the patch has a function for the module's site, but it is listed with `vmlinux`
 abbrev pub stray_kernel : Setting
 stray_kernel = kernel_with (for_object 0 (function_for 2 ∷ []) ∷ [])
 
@@ -48,7 +48,7 @@ with_one task = None ∷ task ∷ replicate 62 None
 abbrev pub nobody : List (Option Task)
 nobody = with_one None
 
--- task 1 alone
+-- only task 1 exists
 abbrev pub one_task : Mode → ℤ → List Version → List (Option Task)
 one_task mode state frames = with_one (Some (record { state = state; mode = mode; frames = frames }))
 
@@ -76,25 +76,26 @@ watched state stacks = record { state = state; stacks = stacks }
 abbrev pub start : State
 start = state_of false [] None nobody
 
--- what a sleeper in the original of site 0 is inside of
+-- the frames of a sleeper in the original of site 0
 abbrev pub in_original : List Version
 in_original = Original 0 ∷ []
 
--- task 1 runs in the kernel inside of the original, in a transition to the target 1
+-- task 1 runs in the kernel inside of the original, in a transition to target 1
 abbrev pub late : Watched
 late = watched (state_of false (0 ∷ []) towards_1 (one_task Kernel (pos 0) [])) (inside 0 (Original 0))
 
--- a task falls asleep in the original, the patch is enabled, and the task leaves the kernel before the transition completes
+-- a task falls asleep in the original, the patch is enabled, and the task leaves the kernel before the transition
+-- completes
 abbrev pub sleeper_run : List Seen
 sleeper_run =
     Happens (NewTask 1) ∷ Happens (EnterKernel 1) ∷ Calls 1 0 ∷ Happens (Sleep 1 in_original) ∷ Happens (Enable 0) ∷ Happens Poll ∷ Happens (Wake 1) ∷ Returns 1
     ∷ Happens (ExitToUser 1) ∷ Happens Poll ∷ []
 
--- the module comes, a task enters the patch's function there, and the module goes
+-- the module is loaded, a task calls the patch's function there, and the module is unloaded
 abbrev pub stray_run : List Seen
 stray_run = Happens (Enable 0) ∷ Happens (Coming 1) ∷ Happens (NewTask 1) ∷ Happens (EnterKernel 1) ∷ Calls 1 2 ∷ Happens (Going 1) ∷ []
 
--- the module goes from under a task that runs in its original function
+-- a task runs in the module's original function, so that unloading the module isn't honest
 abbrev pub under_a_task : Watched
 under_a_task = watched (state_of true [] None (one_task Kernel (negsuc 0) [])) (inside 2 (Original 2))
 
@@ -102,7 +103,7 @@ under_a_task = watched (state_of true [] None (one_task Kernel (negsuc 0) [])) (
 abbrev pub inside_both : Version → Version → Stacks
 inside_both outer inner = with_frames no_frames 1 (record { site = 0; version = outer } ∷ record { site = 1; version = inner } ∷ [])
 
--- task 1 in the kernel, while the patch moves in
+-- task 1 is in the kernel while the patch is being enabled
 abbrev pub moving_in : ℤ → Stacks → Watched
 moving_in state stacks = watched (state_of false (0 ∷ []) towards_1 (one_task Kernel state [])) stacks
 
@@ -110,7 +111,7 @@ moving_in state stacks = watched (state_of false (0 ∷ []) towards_1 (one_task 
 abbrev pub unpatched : Mode → Stacks → Watched
 unpatched mode stacks = watched (state_of false [] None (one_task mode (negsuc 0) [])) stacks
 
--- the second function that the second patch has for `vmlinux` is the module's
+-- the second function that the second patch lists with `vmlinux` is for the module's site
 abbrev pub stray_behind : Setting
 stray_behind = record stray_kernel {
   patches =

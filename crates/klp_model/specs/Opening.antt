@@ -1,11 +1,11 @@
--- The state that a manager is booted with.
+-- The state with which a manager is booted.
 use Rattle.std.specs.Prelude.{true, false, [], length, None, slice_set, replicate}
 use Rattle.std.specs.FinMap as finite
 use Rattle.klp_types.specs.Setting.{Setting}
 use Rattle.klp_types.specs.declared.limits.TheConstants.{MAX_TASKS}
 use Rattle.klp_model.specs.State.{State}
 
--- `vmlinux` alone is loaded; there are no tasks, patches, pins and shadow variables
+-- only `vmlinux` is loaded; there are no tasks, patches, pins and shadow variables
 abbrev pub opening_state : Setting → State
 opening_state setting = record {
   loaded = slice_set (replicate (length setting.image.objects) false) 0 true;

@@ -8,7 +8,7 @@ use Rattle.klp_model.specs.Task.{task_at}
 use Rattle.klp_model.specs.State.{State}
 use Rattle.klp_model.specs.Entries.{is_site_loaded, entries_of}
 
--- what a task of this state (-1, 0 or 1) runs at a site; none where the site's object isn't loaded
+-- what a task with this patch state (-1, 0 or 1) runs at a site; None if the site's object isn't loaded
 abbrev pub pick_in : Setting → State → ℤ → ℕ → Option Target
 pick_in setting state own site =
     if is_site_loaded setting state site
@@ -19,6 +19,6 @@ abbrev pub pick_by : Setting → State → ℕ → Option Task → Option Target
 pick_by setting state site None = None
 pick_by setting state site (Some task) = pick_in setting state task.state site
 
--- what a task runs at a site, if it is there
+-- what a task runs at a site; None if there is no such task
 abbrev pub pick : Setting → State → ℕ → ℕ → Option Target
 pick setting state task site = pick_by setting state site (task_at state.tasks task)

@@ -1,4 +1,4 @@
--- What an event is refused for.
+-- Why events are refused.
 use Rattle.std.specs.Prelude.{◌≡◌, ℕ, ◌==◌, Bool, true, false, not, ◌&&◌, ◌||◌, is_some, is_none, nat_lt, nat_le, List, [], ◌∷◌, length, map, Option, Some, None}
 use Rattle.std.specs.List.{list_any}
 use Rattle.std.specs.FinMap as finite
@@ -24,11 +24,11 @@ use Rattle.klp_model.specs.Frames.{is_bad, is_inside}
 abbrev pub has_patch : Setting → ℕ → Bool
 has_patch setting patch = nat_lt patch (length setting.patches)
 
--- whether no shadow variable can be added
+-- whether there is no room for another shadow variable
 abbrev pub is_full : World → Bool
 is_full world = nat_le MAX_VARIABLES (finite.len world.shadow)
 
--- whether a function of the patch for this object names no site of it
+-- whether the patch has a function for this object that names no site of it
 abbrev pub lacks_symbol_of : PatchObject → Bool
 lacks_symbol_of object = list_any (λ (f : Function). is_none f.site) object.functions
 
@@ -40,12 +40,12 @@ lacks_symbol setting loaded patch = list_any (λ (o : PatchObject). is_flagged l
 abbrev pub part_lacks_symbol : Setting → State → ℕ → Bool
 part_lacks_symbol setting state object = list_any (λ (p : Part). lacks_symbol_of p.1.1) (parts setting state object)
 
--- whether the patch can live with the system states of each installed patch
+-- whether the patch is compatible with the system states of each installed patch
 abbrev pub is_compatible : Setting → State → ℕ → Bool
 is_compatible setting state patch =
     compatible.is_compatible (replaces setting patch) (named_states setting patch) (map (named_states setting) (installed_patches state))
 
--- whether the patch moves to the target 0
+-- whether the patch is in transition to target 0
 abbrev pub moves_out : Option Transition → ℕ → Bool
 moves_out None patch = false
 moves_out (Some move) patch = move.patch == patch && not move.target
@@ -54,7 +54,7 @@ abbrev pub same_bool : Bool → Bool → Bool
 same_bool true value = value
 same_bool false value = not value
 
--- what the `enabled` file of an installed patch reads
+-- the value of the `enabled` file of an installed patch
 abbrev pub enabled_value : State → ℕ → Bool
 enabled_value state patch = not (moves_out state.moving patch)
 
@@ -64,7 +64,7 @@ is_module setting object = not (object == 0) && nat_lt object (length setting.im
 abbrev pub is_there : State → ℕ → Bool
 is_there state task = is_some (task_at state.tasks task)
 
--- what an event is refused for, in the order in which it is looked at
+-- the reasons to refuse an event, in the order in which they are checked
 abbrev pub refusals : Setting → State → Event → List (Bool × Refusal)
 refusals setting state (Enable patch) =
     (not (has_patch setting patch), NoPatch) ∷ (is_installed state patch, AlreadyThere) ∷ (is_moving state, Busy) ∷ (is_pinned state patch, Pinned)
@@ -97,7 +97,7 @@ refusals setting state (ShadowGetOrAlloc key value) = (is_none (variable state.w
 refusals setting state (ShadowFree key) = []
 refusals setting state (ShadowFreeAll id) = []
 
--- why an event is refused, if it is
+-- the first reason that holds, if any
 abbrev pub refusal : Setting → State → Event → Option Refusal
 refusal setting state event = first_of (refusals setting state event)
 

@@ -1,4 +1,4 @@
--- Small catalogs with a patch, and what happens to it.
+-- Small catalogs with a patch, and lists of events for it.
 use Rattle.std.specs.Prelude.{ℕ, ℤ, pos, negsuc, true, false, List, [], ◌∷◌, replicate, Some, None}
 use Rattle.std.specs.Int.{w64, to_le_bytes}
 use Rattle.std.specs.FinMap as finite
@@ -22,7 +22,7 @@ use Rattle.klp_model.specs.State.{State, with_tasks}
 abbrev pub key_of : ℕ → ℕ → ShadowKey
 key_of obj id = record { obj = obj; id = id }
 
--- the value that a number is
+-- the value of a number
 abbrev pub value_of : ℕ → ShadowValue
 value_of number = to_le_bytes w64 number
 
@@ -34,7 +34,8 @@ making which edits = record { which = which; script = record { edits = edits; st
 abbrev pub small_object : Object
 small_object = record { name = []; symbols = record { name = []; address = 100; body = 1 ∷ 2 ∷ 3 ∷ 4 ∷ 5 ∷ 6 ∷ [] } ∷ [] }
 
--- a cumulative patch that adds the variable (1, 9) when it comes and (1, 10) when it is complete, and removes them
+-- a cumulative patch whose pre-patch adds the variable (1, 9) and whose post-patch adds (1, 10); pre-unpatch and
+-- post-unpatch remove them
 abbrev pub adding : Setting
 adding = record {
   image = record { handler = 0; objects = small_object ∷ [] };
@@ -50,7 +51,7 @@ adding = record {
   } ∷ [];
 }
 
--- nothing is there
+-- nothing is installed, and there is no task and no variable
 abbrev pub bare : State
 bare = record { loaded = true ∷ []; world = record { installed = []; shadow = finite.empty }; moving = None; pinned = false ∷ []; tasks = [] }
 
@@ -61,19 +62,19 @@ one_task mode state frames = Some (record { state = state; mode = mode; frames =
 abbrev pub with_a_sleeper : State
 with_a_sleeper = with_tasks bare (one_task Asleep (negsuc 0) (Original 0 ∷ []))
 
--- enabled, and held by the sleeper; turned round twice, and a variable of another added; complete once the sleeper has left the
--- kernel; disabled, and complete once the task was in the kernel and left it again
+-- the patch is enabled, blocked by the sleeper, reversed twice, and another variable is added; it completes once
+-- the sleeper has left the kernel; it is disabled, and gone once the task has entered the kernel and left it
 abbrev pub every_stage : List Event
 every_stage =
     Enable 0 ∷ Poll ∷ SetEnabled 0 false ∷ SetEnabled 0 true ∷ ShadowAlloc (key_of 7 7) (value_of 1) ∷ Wake 0 ∷ ExitToUser 0 ∷ Poll
     ∷ SetEnabled 0 false ∷ Poll ∷ EnterKernel 0 ∷ ExitToUser 0 ∷ Poll ∷ []
 
--- the patch's own variable is there before it comes
+-- the patch's own variable exists before the patch is enabled
 abbrev pub own_variable_first : List Event
 own_variable_first = ShadowAlloc (key_of 1 9) (value_of 77) ∷ Enable 0 ∷ Poll ∷ SetEnabled 0 false ∷ Poll ∷ []
 
--- pre-patch of one object removes the variable (1, 1), and post-unpatch adds it again with 5; pre-patch of the object behind
--- it adds it with 9
+-- pre-patch of one object removes the variable (1, 1), and post-unpatch adds it with 5; pre-patch of the next
+-- object adds it with 9
 abbrev pub sharing : Setting
 sharing = record {
   image = record { handler = 0; objects = small_object ∷ small_object ∷ [] };
@@ -98,7 +99,8 @@ with_five = record {
 abbrev pub there_and_back : List Event
 there_and_back = Enable 0 ∷ SetEnabled 0 false ∷ Poll ∷ []
 
--- a patch for two objects, of which the second refuses: pre-patch of the first adds a variable, and post-unpatch removes it
+-- a patch for two objects, of which the second refuses: pre-patch of the first adds a variable, and post-unpatch
+-- removes it
 abbrev pub refusing_behind : Setting
 refusing_behind = record {
   image = record { handler = 0; objects = small_object ∷ small_object ∷ [] };
@@ -120,6 +122,6 @@ both_loaded = record {
   tasks = [];
 }
 
--- an object whose callback of a kind removes the variable (1, 9)
+-- an object whose callback of this kind removes the variable (1, 9)
 abbrev pub freeing : Which → PatchObject
 freeing which = record { object = 0; functions = []; callbacks = making which (Free (key_of 1 9) ∷ []) ∷ [] }

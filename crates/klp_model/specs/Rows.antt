@@ -18,21 +18,21 @@ abbrev pub older_than_newest : List Entry → List Entry
 older_than_newest [] = []
 older_than_newest (entry ∷ older) = older
 
--- the patch in transition
+-- the patch in transition, if any
 abbrev pub moving_patch : Option Transition → Option ℕ
 moving_patch moving = option_map (λ (m : Transition). m.patch) moving
 
--- whether the newest entry is the moving patch's
+-- whether the newest entry is of the patch in transition
 abbrev pub newest_moves : Option ℕ → Option Entry → Bool
 newest_moves (Some patch) (Some entry) = patch == entry.patch
 newest_moves moving newest = false
 
--- the two newest entries, and whether the newest one's patch moves
+-- the two newest entries, and whether the newest one's patch is in transition
 abbrev pub word_of : Option ℕ → List Entry → SiteWord
 word_of moving entries =
     record { top = newest entries; below = newest (older_than_newest entries); moves = newest_moves moving (newest entries) }
 
--- where the version of the newest of these entries begins: the original where there is none, and for a nop
+-- the address of the version of the newest of these entries; the original's if there is no entry, or for a nop
 abbrev pub newest_address : Setting → ℕ → List Entry → ℕ
 newest_address setting site entries = unwrap_or (address_of setting (newest_version site entries)) 0
 
@@ -44,7 +44,7 @@ row_among setting moving site entries = record {
   below = newest_address setting site (older_than_newest entries);
 }
 
--- the row of a site; none where its object isn't loaded
+-- the row of a site; None if its object isn't loaded
 abbrev pub row_of : Setting → State → ℕ → Option SiteRow
 row_of setting state site =
     if is_site_loaded setting state site then Some (row_among setting state.moving site (entries_of setting state site)) else None

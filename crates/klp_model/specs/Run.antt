@@ -1,4 +1,4 @@
--- Events in order: a refused event leaves the state.
+-- Runs of events in order. A refused event leaves the state.
 use Rattle.std.specs.Prelude.{List, [], ◌∷◌, ◌++◌, Result, Ok, Err, if◌then◌else◌}
 use Rattle.klp_model.specs.declared.event.Event.{Event}
 use Rattle.klp_model.specs.declared.event.Reply.{Reply}
@@ -9,7 +9,7 @@ use Rattle.klp_types.specs.Callbacks.{Call}
 use Rattle.klp_model.specs.Refusals.{accepts}
 use Rattle.klp_model.specs.Step.{step, callbacks_of}
 
--- what a step answers
+-- the answer of a step: its reply, or the refusal
 abbrev pub answer_of : Result (Reply × State) Refusal → Result Reply Refusal
 answer_of (Ok outcome) = Ok outcome.0
 answer_of (Err refusal) = Err refusal
@@ -19,7 +19,7 @@ abbrev pub state_after : State → Result (Reply × State) Refusal → State
 state_after state (Ok outcome) = outcome.1
 state_after state (Err refusal) = state
 
--- the answer to one event, and the state after it
+-- the answer to one event
 abbrev pub answer : Setting → State → Event → Result Reply Refusal
 answer setting state event = answer_of (step setting state event)
 

@@ -7,7 +7,7 @@ use Rattle.klp_model.specs.declared.event.Event.TheVariants.{ShadowAlloc, Shadow
 use Rattle.klp_types.specs.World.{World, variable, with_variable, without_variable, without_id}
 use Rattle.klp_types.specs.Script.{is_key, allocated}
 
--- the change that a shadow event makes; any other event makes none here
+-- the world after a shadow event; the same world after any other event
 abbrev pub shadow_changed : World → Event → World
 shadow_changed world (ShadowAlloc key value) = with_variable world key value
 shadow_changed world (ShadowGetOrAlloc key value) = allocated world key value (variable world key)
@@ -15,11 +15,11 @@ shadow_changed world (ShadowFree key) = without_variable world key
 shadow_changed world (ShadowFreeAll id) = without_id world id
 shadow_changed world other = world
 
--- how many shadow variables of the id there are: so many are gone once they are freed
+-- how many shadow variables have the id, and so are removed when it is freed
 abbrev pub freed_count : World → ℕ → ℕ
 freed_count world id = finite.len world.shadow - finite.len (without_id world id).shadow
 
--- the changes of the shadow events of a list, in order
+-- the world after the shadow events of a list, in order
 abbrev pub shadow_changes : World → List Event → World
 shadow_changes world [] = world
 shadow_changes world (event ∷ events) = shadow_changes (shadow_changed world event) events

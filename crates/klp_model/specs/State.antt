@@ -1,5 +1,5 @@
--- The state: what is loaded, what is installed, the shadow variables, what moves, what is pinned, and the tasks.
--- Everything else is derived from it.
+-- The state: which objects are loaded, what is installed, the shadow variables, the transition, the pinned patches,
+-- and the tasks. Everything else is derived from it.
 use Rattle.std.specs.Prelude.{ℕ, Bool, false, ◌==◌, List, map, Option, is_some, slice_index_or}
 use Rattle.std.specs.List.{list_any}
 use Rattle.klp_types.specs.declared.version.Transition.{Transition}

@@ -23,8 +23,8 @@ use Rattle.klp_model.specs.Completing.{polled}
 use Rattle.klp_model.specs.ModuleStep.{come, gone}
 use Rattle.klp_model.specs.TaskStep.{state_wanted, change, put_task, new_task, state_of_task, exited}
 
--- what an event does that nothing refuses: so `Force` takes the patch that moves, and a `SetEnabled` that starts
--- a transition has the value false
+-- the reply and the next state of an event that isn't refused. So `Force` needn't check its patch, which is the one
+-- in transition, and a `SetEnabled` that starts a transition has the value false
 abbrev pub accepted : Setting → State → Event → Reply × State
 accepted setting state (Enable patch) = enabled setting state patch
 accepted setting state (SetEnabled patch value) = turned setting state patch value
@@ -55,6 +55,6 @@ abbrev pub calls_unless : Option Refusal → List Call → List Call
 calls_unless None calls = calls
 calls_unless (Some refusal) calls = []
 
--- the callbacks that an event runs, in order: none where it is refused
+-- the callbacks that an event runs, in order; none if it is refused
 abbrev pub callbacks_of : Setting → State → Event → List Call
 callbacks_of setting state event = calls_unless (refusal setting state event) (calls setting state event)

@@ -1,10 +1,10 @@
--- Tasks: how far each is brought to the patch in transition, where it is, and what it is inside of.
+-- Tasks: the patch state of each, its mode, and the functions that it is inside of.
 use Rattle.std.specs.Prelude.{ℕ, ℤ, pos, negsuc, Bool, true, false, ◌==◌, List, map, Option, Some, None, option_map, slice_index_or, slice_set}
 use Rattle.klp_types.specs.declared.task.Task.{Task}
 use Rattle.klp_types.specs.declared.task.Mode.{Mode}
 use Rattle.klp_types.specs.declared.task.Mode.TheVariants.{User, Kernel, Asleep}
 
--- for each number the task, if it is there
+-- for each number the task, if there is one
 abbrev pub Tasks : Type 0
 Tasks = List (Option Task)
 
@@ -20,16 +20,16 @@ is_mode Kernel Kernel = true
 is_mode Asleep Asleep = true
 is_mode own other = false
 
--- whether the task is there and in this mode
+-- whether the task exists and is in this mode
 abbrev pub is_in : Mode → Option Task → Bool
 is_in mode None = false
 is_in mode (Some task) = is_mode task.mode mode
 
--- the state of a task where no patch moves
+-- the patch state of a task if there is no transition
 abbrev pub at_rest : ℤ
 at_rest = negsuc 0
 
--- the state of a task that is brought to this target
+-- the patch state of a task that is at this target
 abbrev pub at_target : Bool → ℤ
 at_target true = pos 1
 at_target false = pos 0
@@ -46,6 +46,6 @@ is_at target (negsuc n) = false
 abbrev pub in_state : ℤ → Task → Task
 in_state state task = record task { state = state }
 
--- every task gets this state
+-- the tasks, each with this patch state
 abbrev pub all_in : ℤ → Tasks → Tasks
 all_in state tasks = map (option_map (in_state state)) tasks

@@ -6,12 +6,12 @@ use Rattle.klp_types.specs.declared.task.Task.{Task}
 use Rattle.klp_model.specs.Task.{task_at, with_task, at_rest, at_target}
 use Rattle.klp_model.specs.State.{State, with_tasks}
 
--- the state that a task has when it is brought to whatever moves
+-- the patch state of a task that is at the target of the transition, if there is one
 abbrev pub state_wanted : Option Transition → ℤ
 state_wanted None = at_rest
 state_wanted (Some move) = at_target move.target
 
--- a change of the row of one task that is there
+-- the state after a change of the row of one task, if it exists
 abbrev pub change_task : State → ℕ → (Task → Task) → Option Task → State
 change_task state number f None = state
 change_task state number f (Some task) = with_tasks state (with_task state.tasks number (Some (f task)))

@@ -1,6 +1,6 @@
-//! What is proved of honest observed runs, and examples of them. A function here does nothing: its contract
-//! is the law or the example. The laws are in this crate because they alone depend on which versions hold a
-//! sleeper back (docs/DECISIONS.md, "Where the theorems are").
+//! What is proved of honest observed runs, and examples of them. A function here does nothing: its contract is the
+//! law or the example. The laws are in this crate because only they depend on which versions block a sleeper
+//! (docs/DECISIONS.md, "Where the theorems are").
 ghost use Rattle.std.specs.Prelude.{◌≡◌, ℕ, pos, negsuc, true, false, List, [], ◌∷◌, ◌++◌, Some, None};
 ghost use Rattle.klp_types.specs.declared.version.Version.TheVariants.{Original, New};
 ghost use Rattle.klp_types.specs.Setting.{Setting};
@@ -11,58 +11,63 @@ ghost use Rattle.klp_model.specs.Run.{run};
 ghost use Rattle.klp_model.specs.Blocked.{blocked, is_held};
 ghost use Rattle.klp_model.specs.declared.seen.Seen.{Seen};
 ghost use Rattle.klp_model.specs.declared.seen.Seen.TheVariants.{Event as Happens, Call as Calls, Return as Returns};
-ghost use Rattle.klp_model.specs.Observed.{IsHonestItem, IsHonestRun, Watched, events_of, seen_next, seen_run, seen_from};
+ghost use Rattle.klp_model.specs.Observed.{IsHonestItem, IsHonestRun, Watched, events_of, seen_next, seen_run};
+ghost use Rattle.klp_model.specs.Observed.{seen_from};
 ghost use Rattle.klp_model.specs.InPlace.{IsInPlace};
 ghost use Rattle.klp_model.specs.Consistent.{version_now, AllCurrent, NoneLeft, NoneMixed, AllNamed};
-ghost use Rattle.klp_model.specs.ObservedExamples.{kernel, stray_kernel, one_task, state_of, towards_1, no_frames, inside, watched, start, in_original, late, sleeper_run, stray_run, under_a_task, inside_both, moving_in, unpatched, stray_behind};
+ghost use Rattle.klp_model.specs.ObservedExamples.{kernel, stray_kernel, one_task, state_of, towards_1, no_frames};
+ghost use Rattle.klp_model.specs.ObservedExamples.{inside, watched, start, in_original, late, sleeper_run, stray_run};
+ghost use Rattle.klp_model.specs.ObservedExamples.{under_a_task, inside_both, moving_in, unpatched, stray_behind};
 
-/// At every moment of an honest observed run each frame of each task is the version that the task would run
-/// at that site now. This is the consistency model in one sentence: no task is in old code while its calls
-/// get new code.
+/// At every moment of an honest observed run, each frame of each task is the version that the task would run at
+/// that site now. This is the consistency model in one sentence: no task is inside of old code while its calls run
+/// new code.
 pub fn frames_are_current()
     ensures { (setting : Setting) (start : State) (first second : List Seen)
         → IsInPlace setting → IsHonestRun setting start (first ++ second)
         → AllCurrent setting (seen_from setting start first) }
 {}
 
-/// No task has a frame of a function that has left the stacks, so what a patch brought may be freed.
+/// No task has a frame of a function whose entry has left the function stacks. So the code of a patch that is gone
+/// may be freed.
 pub fn none_has_left()
     ensures { (setting : Setting) (start : State) (first second : List Seen)
         → IsInPlace setting → IsHonestRun setting start (first ++ second)
         → NoneLeft setting (seen_from setting start first) }
 {}
 
-/// During a transition a task of state 0 has no frame of the moving patch's functions, and one of state 1
-/// none of the version below an entry of that patch: so no task mixes the two.
+/// During a transition a task with patch state 0 has no frame of the patch's functions, and a task with state 1 has
+/// no frame of a version below an entry of the patch. So no task mixes the two.
 pub fn none_is_mixed()
     ensures { (setting : Setting) (start : State) (first second : List Seen)
         → IsInPlace setting → IsHonestRun setting start (first ++ second)
         → NoneMixed setting (seen_from setting start first) }
 {}
 
-/// A frame's version names the site of the call: a table of versions is enough to know the frames.
+/// In an honest observed run, the version of each frame is one of the site that was called: its original, or a patch's
+/// new function for it. So the versions alone tell the sites, and frames needn't store both.
 pub fn versions_name_their_sites()
     ensures { (setting : Setting) (start : State) (first second : List Seen)
         → IsInPlace setting → IsHonestRun setting start (first ++ second)
         → AllNamed setting (seen_from setting start first) }
 {}
 
-/// At the end of an honest observed run each frame of each task is the version that the task would run at
-/// that site now: the law in the form that a call which does a list of items can promise.
+/// At the end of an honest observed run, each frame of each task is the version that the task would run at that
+/// site now. A call that does a list of items can promise the law in this form.
 pub fn frames_are_current_at_the_end()
     ensures { (setting : Setting) (start : State) (items : List Seen)
         → IsInPlace setting → IsHonestRun setting start items
         → AllCurrent setting (seen_from setting start items) }
 {}
 
-/// The state of an observed run is that of a run of its events: to watch what tasks call changes nothing.
+/// The state of an observed run is the state of a run of its events: watching what tasks call changes nothing.
 pub fn state_is_that_of_the_events()
     ensures { (setting : Setting) (w : Watched) (items : List Seen)
         → (seen_run setting w items).state ≡ run setting w.state (events_of items) }
 {}
 
-/// The premises are met by a task that sleeps in an original while the patch is enabled: it holds the
-/// transition until it has left the kernel.
+/// An honest observed run. A task sleeps in an original while the patch is enabled, and blocks the transition until
+/// it leaves the kernel.
 pub fn a_sleeper_holds_the_transition()
     ensures in_place { IsInPlace kernel }
     ensures honest { IsHonestRun kernel start sleeper_run }
@@ -72,8 +77,8 @@ pub fn a_sleeper_holds_the_transition()
         (record { patch = 0; target = true })) in_original ≡ true }
 {}
 
-/// What isn't honest: to fall asleep and give no frames, to leave the kernel inside of a function, to
-/// unload a module from under a task that runs in it, to call from outside of the kernel.
+/// Items that aren't honest, among them: falling asleep without naming the frames, leaving the kernel inside of a
+/// function, unloading a module while a task runs in it, and calling a function outside of the kernel.
 pub fn these_are_dishonest()
     ensures sleep { IsHonestItem kernel
         (watched (state_of false [] None (one_task Kernel (negsuc 0) [])) (inside 0 (Original 0)))
@@ -89,7 +94,7 @@ pub fn these_are_dishonest()
     ensures inside_at_the_start { IsHonestRun kernel (unpatched User no_frames).state [] → ⊥ }
 {}
 
-/// What the laws of consistency exclude: a frame counts whatever is outside of it.
+/// What the laws of consistency exclude: every frame counts, also one outside of others.
 pub fn these_are_inconsistent()
     ensures old { AllCurrent kernel (moving_in (pos 1) (inside_both (New 0 0) (Original 1))) → ⊥ }
     ensures left { NoneLeft kernel (unpatched Kernel (inside_both (Original 0) (New 0 1))) → ⊥ }
@@ -101,14 +106,15 @@ pub fn these_are_inconsistent()
     ensures out_of_place { IsInPlace stray_behind → ⊥ }
 {}
 
-/// A call goes on the frames of its task, in the version that it got, and a return takes the innermost off.
-/// A forked child is inside of nothing, and so is a task that begins anew.
+/// A call adds a frame to its task, with the version that it got, and a return removes the innermost one. A forked
+/// child is inside of nothing, and so is a new task.
 pub fn calls_go_on_the_frames()
     ensures called { (seen_next kernel (unpatched Kernel (inside 0 (Original 0))) (Calls 1 1)).stacks 1
         ≡ (inside_both (Original 0) (Original 1)) 1 }
     ensures not_loaded { (seen_next kernel (unpatched Kernel (inside 0 (Original 0))) (Calls 1 2)).stacks 1
         ≡ (inside 0 (Original 0)) 1 }
-    ensures returned { (seen_next kernel (unpatched Kernel (inside_both (Original 0) (Original 1))) (Returns 1)).stacks 1
+    ensures returned { (seen_next kernel (unpatched Kernel (inside_both (Original 0) (Original 1)))
+        (Returns 1)).stacks 1
         ≡ (inside 0 (Original 0)) 1 }
     ensures forked { (seen_next kernel (unpatched Kernel (inside 0 (Original 0))) (Happens (Fork 1 2))).stacks 2 ≡ [] }
     ensures parent { (seen_next kernel (unpatched Kernel (inside 0 (Original 0))) (Happens (Fork 1 2))).stacks 1
@@ -116,8 +122,8 @@ pub fn calls_go_on_the_frames()
     ensures anew { (seen_next kernel (watched start (inside 0 (Original 0))) (Happens (NewTask 1))).stacks 1 ≡ [] }
 {}
 
-/// Where a function is of another object than its site, an honest run leaves a task in a function that no
-/// site has: the module has gone from under it.
+/// Why a function must be in the object of its site: if it isn't, an honest run can leave a task inside of a
+/// function that no site has, because the module was unloaded.
 pub fn a_stray_function_outlives_its_site()
     ensures honest { IsHonestRun stray_kernel start stray_run }
     ensures end { seen_from stray_kernel start stray_run
@@ -126,8 +132,8 @@ pub fn a_stray_function_outlives_its_site()
         ≡ None }
 {}
 
-/// Towards 1 the version below holds a sleeper. If the new version did, the sleeper in the original
-/// would be let through, and be inside of what it doesn't run any more.
+/// Why the version *below* blocks a sleeper towards target 1: if the new version did instead, a sleeper in the
+/// original would be switched, and be inside of code that it doesn't run any more.
 pub fn the_rule_turned_round_lets_a_sleeper_through()
     ensures turned { is_held (New 0 0 ∷ New 0 1 ∷ []) in_original ≡ false }
     ensures completed { version_now kernel (state_of false (0 ∷ []) None (one_task Asleep (negsuc 0) in_original)) 1 0

@@ -1,14 +1,21 @@
-//! Worked examples of the definitions, by computation. A function here does nothing: its contract is the
-//! example. They are here and not in tests, since a test proves no definition (docs/DECISIONS.md, "Tests
-//! above what they test").
+//! Worked examples of the definitions. A function here does nothing: its contract is the example, and it is proved
+//! by computing the definition. They are here and not in tests, since a test proves nothing of a definition
+//! (docs/DECISIONS.md, "Tests above what they test").
 ghost use Rattle.std.specs.Prelude.{◌≡◌, pos, negsuc, true, false, [], ◌∷◌, replicate, Some, None};
 ghost use Rattle.klp_types.specs.declared.callback.Which.TheVariants.{Pre, Post, PreUn, PostUn};
 ghost use Rattle.klp_types.specs.declared.version.Version.TheVariants.{Original, New};
 ghost use Rattle.klp_types.specs.World.{state_value};
 ghost use Rattle.klp_types.specs.Examples.{key_of, ran, refusing_in};
-ghost use Rattle.klp_model.specs.declared.event.Event.TheVariants.{Enable, SetEnabled, Force, Poll, Coming, Going, NewTask, Fork, EndTask, EnterKernel, ExitToUser, Sleep, Wake, ShadowAlloc, ShadowGetOrAlloc, ShadowFree, ShadowFreeAll};
-ghost use Rattle.klp_model.specs.declared.event.Reply.TheVariants.{Done, Started, Reversed, Pending, Completed, PreFailed, Woken};
-ghost use Rattle.klp_model.specs.declared.event.Refusal.TheVariants.{NoPatch, Busy, AlreadyThere, Pinned, Incompatible, NoSymbol, NoModule, InUse, NoTask, TaskThere, WrongMode, BadFrame, Full, NotMoving, NotFound, SameValue};
+ghost use Rattle.klp_model.specs.declared.event.Event.TheVariants.{Enable, SetEnabled, Force, Poll, Coming, Going};
+ghost use Rattle.klp_model.specs.declared.event.Event.TheVariants.{NewTask, Fork, EndTask, EnterKernel, ExitToUser};
+ghost use Rattle.klp_model.specs.declared.event.Event.TheVariants.{Sleep, Wake, ShadowAlloc, ShadowGetOrAlloc};
+ghost use Rattle.klp_model.specs.declared.event.Event.TheVariants.{ShadowFree, ShadowFreeAll};
+ghost use Rattle.klp_model.specs.declared.event.Reply.TheVariants.{Done, Started, Reversed, Pending, Completed};
+ghost use Rattle.klp_model.specs.declared.event.Reply.TheVariants.{PreFailed, Woken};
+ghost use Rattle.klp_model.specs.declared.event.Refusal.TheVariants.{NoPatch, Busy, AlreadyThere, Pinned, Incompatible};
+ghost use Rattle.klp_model.specs.declared.event.Refusal.TheVariants.{NoSymbol, NoModule, InUse, NoTask, TaskThere};
+ghost use Rattle.klp_model.specs.declared.event.Refusal.TheVariants.{WrongMode, BadFrame, Full, NotMoving, NotFound};
+ghost use Rattle.klp_model.specs.declared.event.Refusal.TheVariants.{SameValue};
 ghost use Rattle.klp_model.specs.State.{State, is_loaded, installed_patches};
 ghost use Rattle.klp_model.specs.Entries.{entries_of, is_hooked};
 ghost use Rattle.klp_model.specs.Bytes.{text_of};
@@ -21,10 +28,12 @@ ghost use Rattle.klp_model.specs.Opening.{opening_state};
 ghost use Rattle.klp_model.specs.ShadowStep.{concerns};
 ghost use Rattle.klp_model.specs.Refusals.{enabled_value, refusal};
 ghost use Rattle.klp_model.specs.Step.{accepted};
-ghost use Rattle.klp_model.specs.Examples.{small_kernel, module_kernel, taking_over, lacking, crowded, crowded_by, faulty, alone, move_of, state_with, with_state, with_states, in_user, in_kernel, asleep_in, ran_by};
+ghost use Rattle.klp_model.specs.Examples.{small_kernel, module_kernel, taking_over, lacking, crowded, crowded_by};
+ghost use Rattle.klp_model.specs.Examples.{faulty, alone, move_of, state_with, with_state, with_states, in_user};
+ghost use Rattle.klp_model.specs.Examples.{in_kernel, asleep_in, ran_by};
 
-/// A transition that is reversed runs nothing, towards either target, and the states of tasks stay: what
-/// was set up is still there, and each task goes back from where it is.
+/// A reversal runs no callback, towards either target, and the tasks keep their patch states: what was set up is
+/// still there, and each task goes back from where it is.
 pub fn a_reversal_runs_nothing()
     ensures enabling { calls small_kernel (state_with true (0 ∷ []) (move_of 0 true) []) (SetEnabled 0 false) ≡ [] }
     ensures disabling { calls small_kernel (state_with true (0 ∷ []) (move_of 0 false) []) (SetEnabled 0 true) ≡ [] }
@@ -35,7 +44,7 @@ pub fn a_reversal_runs_nothing()
         ≡ state_with true (0 ∷ []) (move_of 0 false) (in_kernel (pos 1) ∷ []) }
 {}
 
-/// A disabling starts with pre-unpatch, and every task still runs the patch, since no entry has gone yet.
+/// Disabling starts with pre-unpatch. Every task still runs the patch, since no entry has gone yet.
 pub fn a_disabling_starts_with_pre_unpatch()
     ensures runs { ran (calls small_kernel (state_with true (0 ∷ []) None []) (SetEnabled 0 false))
         ≡ (0, PreUn) ∷ (1, PreUn) ∷ [] }
@@ -49,9 +58,9 @@ pub fn a_disabling_starts_with_pre_unpatch()
         ≡ state_with true (0 ∷ []) (move_of 0 false) (in_kernel (pos 1) ∷ []) }
 {}
 
-/// Pre-patch runs in the order of the patch's objects up to the one that refuses, and those before it get
-/// post-unpatch, so that each pre-patch that succeeded is cleaned up; objects that aren't loaded take no
-/// part. Then the patch isn't installed, and nothing moves.
+/// Enabling runs pre-patch in the order of the patch's objects, up to the first that refuses. Then post-unpatch
+/// runs for the objects before it, so that every successful pre-patch is cleaned up. Objects that aren't loaded are
+/// left out. Afterwards the patch isn't installed, and there is no transition.
 pub fn objects_before_the_one_that_refuses_get_post_unpatch()
     ensures runs { ran
         (calls (refusing_in 1)
@@ -82,8 +91,8 @@ pub fn objects_before_the_one_that_refuses_get_post_unpatch()
         ≡ state_with true [] None (in_kernel (negsuc 0) ∷ []) }
 {}
 
-/// When a cumulative patch is complete the older patches leave the list, with the nops over their
-/// functions, since nothing is left below these; a newer patch stays. Where it is withdrawn, it alone
+/// When a cumulative patch completes, the older patches leave the list, and its nops over their functions go too,
+/// since nothing is left below them; newer patches stay. If the cumulative patch is withdrawn instead, only it
 /// leaves.
 pub fn a_replacement_takes_the_older_patches_out()
     ensures older { installed_patches (accepted small_kernel (state_with true (0 ∷ 1 ∷ []) (move_of 1 true) []) Poll).1
@@ -98,9 +107,9 @@ pub fn a_replacement_takes_the_older_patches_out()
         (accepted small_kernel (state_with true (0 ∷ 1 ∷ []) (move_of 1 false) []) Poll).1 ≡ 0 ∷ [] }
 {}
 
-/// While a task isn't at the target a poll completes nothing and runs nothing. A sleeping task that nothing
-/// holds gets there by the poll; one in the kernel doesn't, nor one in user space, because both switch when
-/// they next leave the kernel.
+/// While a task isn't at the target, a poll completes nothing and runs nothing. It switches sleeping tasks that
+/// aren't blocked. It doesn't switch tasks in the kernel or in user space, because both switch when they next leave
+/// the kernel.
 pub fn a_poll_waits_for_tasks()
     ensures runs { calls small_kernel (state_with true (0 ∷ []) (move_of 0 true) (in_kernel (pos 0) ∷ [])) Poll ≡ [] }
     ensures reply { (accepted small_kernel (state_with true (0 ∷ []) (move_of 0 true) (in_kernel (pos 0) ∷ [])) Poll).0
@@ -127,9 +136,9 @@ pub fn a_poll_waits_for_tasks()
         ≡ (Completed false, state_with true (0 ∷ []) None (in_kernel (negsuc 0) ∷ [])) }
 {}
 
-/// Towards the patch a sleeping task is held by what is below the patch's entries; away from it, by the
-/// patch's own versions: by what it couldn't be inside of once it is switched. This is so under a newer
-/// patch too, and a nop is the original.
+/// While a patch is being enabled, a sleeping task is blocked by the versions below the patch's entries; while it
+/// is being disabled, by the patch's own versions. These are what it couldn't be inside of once it is switched. The
+/// same holds under a newer patch, and a nop counts as the original.
 pub fn tasks_are_held_by_what_they_would_leave()
     ensures to_the_patch { blocked small_kernel (state_with false (0 ∷ []) (move_of 0 true) [])
         (record { patch = 0; target = true }) ≡ Original 0 ∷ Original 1 ∷ [] }
@@ -143,8 +152,8 @@ pub fn tasks_are_held_by_what_they_would_leave()
         (record { patch = 1; target = false }) ≡ New 1 0 ∷ Original 1 ∷ Original 2 ∷ [] }
 {}
 
-/// A task of state 0 runs what is below the moving patch, since it isn't at the patch yet or any more; any
-/// other runs the newest version, which is the original where that is a nop.
+/// A task with patch state 0 runs the version below the entry of the patch in transition, since it isn't at the
+/// patch. Any other task runs the newest version; if that is a nop, the original.
 pub fn tasks_pick_by_their_state()
     ensures below { pick small_kernel (state_with true (0 ∷ 2 ∷ []) (move_of 2 true) (in_kernel (pos 0) ∷ [])) 0 0
         ≡ Some (record { version = New 0 0; address = 0 }) }
@@ -162,8 +171,8 @@ pub fn tasks_pick_by_their_state()
         ≡ None }
 {}
 
-/// An object that isn't loaded, or isn't there, has no entries and no text: a function for it waits for the
-/// module to come.
+/// An object that isn't loaded, or doesn't exist, has no entries and no text. A function for it waits until the
+/// module is loaded.
 pub fn what_is_not_loaded_has_nothing()
     ensures entries { entries_of small_kernel (state_with false (0 ∷ []) None []) 2 ≡ [] }
     ensures text { text_of small_kernel (state_with false [] None []) 1 ≡ None }
@@ -171,9 +180,9 @@ pub fn what_is_not_loaded_has_nothing()
     ensures no_object { text_of small_kernel (state_with true [] None []) 2 ≡ None }
 {}
 
-/// The row of a site has its two newest entries with the addresses where their versions begin: for a nop,
-/// and where there is no entry, behind the entry site of the original. A site is hooked where it has an
-/// entry, and a site of an object that isn't loaded has no row.
+/// The row of a site has its two newest entries, with the addresses at which their versions begin. For a nop, or if
+/// there is no entry, that is the address after the original's entry site. A site is hooked if it has an entry. A
+/// site of an object that isn't loaded has no row.
 pub fn a_row_tells_the_two_newest_entries()
     ensures nop { row_of small_kernel (state_with true (0 ∷ 1 ∷ []) (move_of 1 true) []) 1
         ≡ Some (record {
@@ -201,9 +210,9 @@ pub fn a_row_tells_the_two_newest_entries()
     ensures not_hooked { is_hooked small_kernel (state_with true (2 ∷ []) None []) 1 ≡ false }
 {}
 
-/// A module that comes gets pre-patch and post-patch patch by patch, oldest first; a patch that moves runs
-/// pre-patch alone, because its post-patch comes with the end of the transition. Where a pre-patch refuses,
-/// the patches before it are cleaned up, and the module isn't loaded.
+/// Loading a module runs pre-patch and post-patch, patch by patch, oldest first. For a patch in transition only
+/// pre-patch runs, because its post-patch runs when the transition completes. If a pre-patch refuses, the patches
+/// before it are cleaned up, and the module isn't loaded.
 pub fn a_module_comes_patch_by_patch()
     ensures still { ran_by (calls small_kernel (state_with false (0 ∷ []) None []) (Coming 1))
         ≡ (0, Pre) ∷ (0, Post) ∷ [] }
@@ -224,8 +233,8 @@ pub fn a_module_comes_patch_by_patch()
         ≡ state_with false (0 ∷ 3 ∷ []) None [] }
 {}
 
-/// A module that goes gets pre-unpatch and post-unpatch patch by patch, oldest first; a patch that moves
-/// runs post-unpatch alone, since it never ran post-patch or has run pre-unpatch. The module stays while a
+/// Unloading a module runs pre-unpatch and post-unpatch, patch by patch, oldest first. For a patch in transition
+/// only post-unpatch runs, since its post-patch never ran, or its pre-unpatch ran already. The module stays while a
 /// task sleeps inside of it, in a function of its own or in a new one for it.
 pub fn a_module_goes_patch_by_patch()
     ensures still { ran_by (calls small_kernel (state_with true (0 ∷ []) None []) (Going 1))
@@ -240,8 +249,8 @@ pub fn a_module_goes_patch_by_patch()
         (state_with true (0 ∷ []) None (asleep_in (negsuc 0) (New 0 2 ∷ []) ∷ [])) (Going 1) ≡ Some InUse }
 {}
 
-/// A transition that is forced brings every task to the target. Away from the patch it pins the patch, to a
-/// cumulative one all others, because a task may still be inside of their functions.
+/// Forcing a transition switches every task to the target. Forcing a patch out pins it, and forcing a cumulative
+/// one in pins all others, because a task may still be inside of their functions.
 pub fn who_is_forced_away_is_pinned()
     ensures away { (accepted small_kernel (state_with true (0 ∷ 2 ∷ []) (move_of 2 false) (in_kernel (pos 1) ∷ []))
         (Force 2)).1
@@ -255,9 +264,9 @@ pub fn who_is_forced_away_is_pinned()
         ≡ false ∷ false ∷ false ∷ false ∷ [] }
 {}
 
-/// A new task is in user space, and at the target where a patch moves; a forked one is in the kernel with
-/// its parent's state. A task that leaves the kernel is brought to the target, and one that wakes is in the
-/// kernel again and the reply has what it was inside of.
+/// A new task is in user space, and at the target of the transition if there is one. A forked task is in the kernel
+/// and has its parent's patch state. A task that leaves the kernel is switched to the target. A task that wakes is
+/// in the kernel again, and the reply has its frames.
 pub fn tasks_come_and_go()
     ensures new { accepted small_kernel (state_with true (0 ∷ []) (move_of 0 true) (None ∷ [])) (NewTask 0)
         ≡ (Done, state_with true (0 ∷ []) (move_of 0 true) (in_user (pos 1) ∷ [])) }
@@ -285,9 +294,9 @@ pub fn tasks_come_and_go()
         ≡ (Woken (Original 0 ∷ Original 1 ∷ []), state_with true [] None (in_kernel (negsuc 0) ∷ [])) }
 {}
 
-/// Callbacks find the list of patches as it was before the event's change at its end, and as it is after
-/// the change at its start: so pre-patch can set a state of its own patch, and post-patch can take over the
-/// value of a patch that is about to be replaced.
+/// Callbacks run after a patch is added to the list of installed patches, and before patches are removed from it.
+/// So pre-patch can set a state of its own patch, and post-patch can take over the value of a patch that is about
+/// to be replaced.
 pub fn callbacks_find_the_patches_there()
     ensures set { state_value (accepted taking_over (with_states (with_state 0 5 ∷ []) None) (Enable 1)).1.world 1 7
         ≡ Some 3 }
@@ -296,9 +305,9 @@ pub fn callbacks_find_the_patches_there()
         ≡ Some 5 }
 {}
 
-/// There has to be room for what the callbacks that may run would add, whether they run or not, so that one
-/// can add it up beforehand: at a poll that stays pending, at an enabling that succeeds, for the cleaning
-/// up of a module that comes.
+/// There must be room for the variables of all callbacks that may run, whether they run or not, so that the sum is
+/// known beforehand. The cases are a poll that stays pending, an enabling that succeeds, and the clean-up of a
+/// module that is being loaded.
 pub fn room_is_asked_for_all_that_may_run()
     ensures pending { refusal (crowded Post) (state_with true (0 ∷ []) (move_of 0 true) (in_kernel (pos 0) ∷ [])) Poll
         ≡ Some Full }
@@ -306,8 +315,7 @@ pub fn room_is_asked_for_all_that_may_run()
     ensures coming { refusal (crowded PreUn) (state_with false (0 ∷ []) None []) (Coming 1) ≡ Some Full }
 {}
 
-/// What enabling, writing and forcing are refused for, in their order: where two reasons hold, the first is
-/// reported.
+/// Why enabling, writing and forcing are refused: if two reasons hold, the first in their order is reported.
 pub fn refusals_come_in_order()
     ensures no_patch { refusal small_kernel (state_with true (0 ∷ []) (move_of 0 true) []) (Enable 4) ≡ Some NoPatch }
     ensures there_first { refusal small_kernel (state_with true (0 ∷ []) (move_of 0 true) []) (Enable 0)
@@ -328,7 +336,7 @@ pub fn refusals_come_in_order()
     ensures at_rest { refusal small_kernel (state_with true (0 ∷ []) None []) Poll ≡ Some NotMoving }
 {}
 
-/// What modules and tasks are refused for, reason by reason: where several hold, the first is reported.
+/// Why events of modules and tasks are refused, reason by reason: if several hold, the first is reported.
 pub fn modules_and_tasks_are_refused()
     ensures kernel { refusal small_kernel (state_with true [] None []) (Coming 0) ≡ Some NoModule }
     ensures no_module { refusal small_kernel (state_with true [] None []) (Coming 2) ≡ Some NoModule }
@@ -358,13 +366,13 @@ pub fn modules_and_tasks_are_refused()
     ensures no_task { refusal small_kernel (state_with true [] None (None ∷ [])) (Wake 0) ≡ Some NoTask }
 {}
 
-/// A manager begins with `vmlinux` loaded, and with no module, patch, pin, task and shadow variable.
+/// A manager begins with only `vmlinux` loaded, and without patches, pins, tasks and shadow variables.
 pub fn a_manager_begins_with_nothing_installed()
     ensures { opening_state small_kernel ≡ state_with false [] None (replicate 64 None) }
 {}
 
-/// An enabling puts the patch last, and every task at 0, since none runs it yet. A module that comes or goes
-/// changes its own flag.
+/// Enabling adds the patch as the newest, and sets every task to 0, since none runs it yet. Loading or unloading a
+/// module changes the module's own flag.
 pub fn an_enabling_starts_with_no_task_at_the_patch()
     ensures enabled { accepted small_kernel
         (state_with true (0 ∷ []) None (in_kernel (negsuc 0) ∷ asleep_in (negsuc 0) [] ∷ None ∷ [])) (Enable 2)
@@ -376,7 +384,7 @@ pub fn an_enabling_starts_with_no_task_at_the_patch()
     ensures no_object { is_loaded (state_with true [] None []) 2 ≡ false }
 {}
 
-/// The `enabled` file reads 0 only where the patch itself moves out.
+/// The `enabled` file of a patch reads 0 only while the patch itself is being disabled.
 pub fn a_patch_reads_enabled_until_it_moves_out()
     ensures still { enabled_value (state_with true (0 ∷ []) None []) 0 ≡ true }
     ensures coming_in { enabled_value (state_with true (0 ∷ []) (move_of 0 true) []) 0 ≡ true }
@@ -384,7 +392,7 @@ pub fn a_patch_reads_enabled_until_it_moves_out()
     ensures another { enabled_value (state_with true (0 ∷ 2 ∷ []) (move_of 2 false) []) 0 ≡ true }
 {}
 
-/// Where several reasons hold against an event, the one that is asked for first is reported.
+/// If several reasons hold against an event, the one that is checked first is reported.
 pub fn earlier_reasons_come_first()
     ensures busy { refusal (faulty 0)
         (record (with_states (with_state 0 5 ∷ []) (move_of 0 true)) { pinned = false ∷ true ∷ [] }) (Enable 1) ≡ Some Busy }
@@ -424,8 +432,8 @@ pub fn earlier_reasons_come_first()
         ≡ Some WrongMode }
 {}
 
-/// What nothing is said against is accepted: a task ends in the kernel too, and a sleeper may be inside of
-/// functions of objects and patches that aren't there.
+/// An event is accepted if no reason holds against it: a task may end in the kernel too, and a sleeper may be
+/// inside of functions whose objects aren't loaded or whose patches aren't installed.
 pub fn what_no_reason_is_against_is_accepted()
     ensures ends { refusal small_kernel (state_with true [] None (in_kernel (negsuc 0) ∷ [])) (EndTask 0) ≡ None }
     ensures ends_outside { refusal small_kernel (state_with true [] None (in_user (negsuc 0) ∷ [])) (EndTask 0) ≡ None }
@@ -448,8 +456,9 @@ pub fn what_no_reason_is_against_is_accepted()
         (state_with true (0 ∷ []) None (asleep_in (negsuc 0) (Original 1 ∷ New 0 1 ∷ []) ∷ [])) (Going 1) ≡ None }
 {}
 
-/// Room is asked for as many variables as there may be and no more, of the callbacks that may run: not of
-/// those of a patch that moves when a module comes or goes, and not at a reversal.
+/// There must be room for exactly as many variables as may be added, by the callbacks that may run. Post-patch and
+/// pre-unpatch of a patch in transition don't run when a module is loaded or unloaded, and a reversal runs nothing;
+/// these don't count.
 pub fn the_last_place_may_be_taken()
     ensures enabling { refusal (crowded_by 512 Pre) (state_with true [] None []) (Enable 0) ≡ None }
     ensures unloaded { refusal (crowded Pre) (state_with false [] None []) (Enable 0) ≡ None }
@@ -466,7 +475,7 @@ pub fn the_last_place_may_be_taken()
     ensures completing { refusal (crowded PostUn) (state_with true (0 ∷ []) (move_of 0 true) []) Poll ≡ None }
 {}
 
-/// A shadow event concerns the variables that it names, and no other event any.
+/// A shadow event concerns the variables that it names. No other event concerns any.
 pub fn shadow_events_concern_what_they_name()
     ensures added { concerns (ShadowAlloc (key_of 1 2) []) (key_of 1 2) ≡ true }
     ensures another { concerns (ShadowAlloc (key_of 1 2) []) (key_of 3 2) ≡ false }

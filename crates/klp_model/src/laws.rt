@@ -1,8 +1,10 @@
-//! What is proved of the definitions themselves. Each law is the contract of a function that does nothing:
-//! it keeps the definitions honest, and a crate above may rely on it. A lemma that a crate above needs is a
-//! law here too, since only what a public contract says can be cited there (docs/DECISIONS.md, "Lemmas of
-//! other crates").
-ghost use Rattle.std.specs.Prelude.{◌≡◌, ℕ, ◌+◌, ◌-◌, ◌≤◌, nat_le, if◌then◌else◌, ℤ, pos, Bool, true, false, not, ◌==◌, ◌&&◌, List, [], ◌∷◌, ◌++◌, map, reverse, filter, Some, None, is_some, is_none, option_map, Ok};
+//! What is proved of the definitions themselves. Each law is the contract of a function that does nothing. The laws
+//! show that the definitions mean what they should, and a crate above may rely on them. A lemma that a crate above
+//! needs is a law here too, since that crate can cite only public contracts (docs/DECISIONS.md, "Lemmas of other
+//! crates").
+ghost use Rattle.std.specs.Prelude.{◌≡◌, ℕ, ◌+◌, ◌-◌, ◌≤◌, nat_le, if◌then◌else◌, ℤ, pos, Bool, true, false, not, ◌==◌};
+ghost use Rattle.std.specs.Prelude.{◌&&◌, List, [], ◌∷◌, ◌++◌, map, reverse, filter, Some, None, is_some, is_none};
+ghost use Rattle.std.specs.Prelude.{option_map, Ok};
 ghost use Rattle.std.specs.List.{count_by, list_any};
 ghost use Rattle.std.specs.FinMap as finite;
 ghost use Rattle.klp_types.specs.declared.shadow.ShadowKey.{ShadowKey};
@@ -19,7 +21,8 @@ ghost use Rattle.klp_types.specs.Callbacks.{after_calls};
 ghost use Rattle.klp_model.specs.declared.event.Event.{Event as AnyEvent};
 ghost use Rattle.klp_types.specs.FirstOf.{first_of};
 ghost use Rattle.klp_types.specs.Script.{is_key};
-ghost use Rattle.klp_model.specs.declared.event.Event.TheVariants.{ShadowAlloc, ShadowGetOrAlloc, ShadowFree, ShadowFreeAll};
+ghost use Rattle.klp_model.specs.declared.event.Event.TheVariants.{ShadowAlloc, ShadowGetOrAlloc, ShadowFree};
+ghost use Rattle.klp_model.specs.declared.event.Event.TheVariants.{ShadowFreeAll};
 ghost use Rattle.klp_model.specs.declared.event.Reply.TheVariants.{Value, Freed};
 ghost use Rattle.klp_model.specs.declared.event.Refusal.TheVariants.{Exists, Full};
 ghost use Rattle.klp_model.specs.declared.event.Reply.{Reply as AnyReply};
@@ -42,14 +45,14 @@ ghost use Rattle.klp_model.specs.Allowed.{is_one_of, Allowed};
 ghost use Rattle.klp_model.specs.Stated.{IsStated};
 ghost use Rattle.klp_model.specs.Opening.{opening_state};
 
-/// The state that a manager is booted with is allowed, if the image has an object: `vmlinux`, which is
-/// loaded from the start.
+/// The state with which a manager is booted is allowed, if the image has an object: `vmlinux`, which is loaded from
+/// the start.
 pub fn the_opening_state_is_allowed()
     ensures { (setting : Setting) → is_empty setting.image.objects ≡ false → Allowed setting (opening_state setting) }
 {}
 
-/// A step leads from an allowed state to an allowed state, and so does a run: so what laws ask of a state
-/// holds of every state that a manager comes to.
+/// A step leads from an allowed state to an allowed state, and so does a run. So what laws require of a state holds
+/// of every state that a manager reaches.
 pub fn states_stay_allowed()
     ensures step { (setting : Setting) (state : State) (event : AnyEvent) → Allowed setting state
         → Allowed setting (next setting state event) }
@@ -57,17 +60,17 @@ pub fn states_stay_allowed()
         → Allowed setting (run setting state events) }
 {}
 
-/// What an accepted event does to a shadow variable is what the shadow event, or the callbacks that it
-/// runs, do to it: so a variable can be followed through a run without its states.
+/// An accepted event changes a shadow variable exactly as the shadow event does, or the callbacks that it runs. So
+/// a variable can be followed through a run without computing the states.
 pub fn callbacks_make_the_changes()
     ensures { (setting : Setting) (state : State) (event : AnyEvent) (key : ShadowKey)
         → variable (accepted setting state event).1.world key ≡ variable (after_calls (shadow_changed state.world event)
         (calls setting state event)) key }
 {}
 
-/// What a task runs, by the installed patches alone: one of state 0 runs what it would run if the moving
-/// patch weren't installed, any other, and every task where nothing moves, the newest version. So no task
-/// runs a part of a patch.
+/// What a task runs, computed from the installed patches alone. A task with patch state 0 runs what it would run if
+/// the patch in transition weren't installed. Any other task, and every task without a transition, runs the newest
+/// version. So no task runs a part of a patch.
 pub fn tasks_run_whole_lists_of_patches()
     ensures patched { (setting : Setting) (state : State) (own : ℤ) (site : ℕ)
         → is_site_loaded setting state site ≡ true → is_unpatched own ≡ false
@@ -83,8 +86,8 @@ pub fn tasks_run_whole_lists_of_patches()
         (reverse (others move.patch (installed_patches state)))) }
 {}
 
-/// When the moving patch is taken out its own entries are gone, and those of the other patches are as they
-/// were, nops among them. So the stacks needn't be made anew.
+/// Removing the patch in transition removes its own entries, and leaves those of the other patches as they were,
+/// nops too. So the stacks needn't be built again.
 pub fn a_patch_leaves_the_entries_of_the_others()
     ensures { (setting : Setting) (state : State) (patch : ℕ) (site : ℕ) → Allowed setting state
         → moves state.moving patch ≡ true
@@ -92,9 +95,8 @@ pub fn a_patch_leaves_the_entries_of_the_others()
         (e : Entry). not (e.patch == patch)) (entries_of setting state site) }
 {}
 
-/// Of an event that is accepted none of the cases holds in which it would be refused, and it leads to the
-/// state that its step gives. A refused event leaves the state. So the list of cases is all there is to
-/// know of a refusal.
+/// For an accepted event no case of a refusal holds, and the event leads to the state that its step defines. A
+/// refused event leaves the state. So the list of cases says everything about refusals.
 pub fn events_are_accepted_where_no_case_holds()
     ensures none { (cases : List (Bool × Refusal)) → is_none (first_of cases) ≡ true → NoneHolds cases }
     ensures next { (setting : Setting) (state : State) (event : AnyEvent) → accepts setting state event ≡ true
@@ -103,9 +105,9 @@ pub fn events_are_accepted_where_no_case_holds()
         → next setting state event ≡ state }
 {}
 
-/// A history grows by an event that is accepted after it; its front is a history of the base, and what is
-/// behind that is one of the state that the front leads to. Replies follow from the events. Undo rests on
-/// this, since it cuts histories at their end.
+/// A history grows by each event that is accepted after it. The first part of a history is a history from the same
+/// base, and the second part one from the state to which the first leads. The replies follow from the events. Undo
+/// relies on this, since it cuts histories at their end.
 pub fn histories_grow_and_are_cut_at_their_end()
     ensures grown { (setting : Setting) (base : State) (history : History) (event : AnyEvent) (reply : AnyReply)
         → IsLegal setting base history → answer setting (state_after_history setting base history) event ≡ Ok reply
@@ -120,8 +122,8 @@ pub fn histories_grow_and_are_cut_at_their_end()
         → map (λ (p : AnyEvent × AnyReply). p.0) one ≡ map (λ (p : AnyEvent × AnyReply). p.0) other → one ≡ other }
 {}
 
-/// What a list of events adds to the history is legal, and leads where all of them lead, since those that
-/// are refused change nothing.
+/// The accepted events of any list, with their replies, are a legal history. It leads to the same state as the whole
+/// list, since refused events change nothing.
 pub fn accepted_events_lead_where_all_lead()
     ensures legal { (setting : Setting) (state : State) (events : List AnyEvent)
         → IsLegal setting state (history_of setting state events) }
@@ -129,17 +131,16 @@ pub fn accepted_events_lead_where_all_lead()
         → state_after_history setting state (history_of setting state events) ≡ run setting state events }
 {}
 
-/// Where no task lags, sleepers that are tried change nothing: so a poll may complete without asking who
-/// sleeps.
+/// If no task lags, trying the sleepers changes nothing. So a poll may complete without asking who sleeps.
 pub fn where_none_lags_none_is_switched()
     ensures { (blocked : List AnyVersion) (target : Bool) (tasks : Tasks) → count_by (lags target) tasks ≡ 0
         → map (option_map (switched blocked target)) tasks ≡ tasks }
 {}
 
-/// When a cumulative patch has replaced the older ones, their entries are gone, and so are its own
-/// nops; the others are as they were. Where it had older ones, its own functions alone are left: it is
-/// the newest. One that is the oldest itself, disabled and enabled again, may have newer ones, which
-/// stay.
+/// When a cumulative patch has replaced the older ones, their entries are gone, and so are its own nops. All other
+/// entries are as they were. If there were older patches, the cumulative patch is the newest, and only its own
+/// functions are left. If it is the oldest itself, since it was disabled and enabled again, newer patches may
+/// exist, and stay.
 pub fn a_replacement_takes_the_older_entries_along()
     ensures older { (setting : Setting) (state : State) (move : Transition) (site : ℕ) → Allowed setting state
         → state.moving ≡ Some move → replaces setting move.patch ≡ true
@@ -156,15 +157,15 @@ pub fn a_replacement_takes_the_older_entries_along()
         ≡ filter (λ (e : Entry). e.patch == move.patch && is_some e.func) (entries_of setting state site) }
 {}
 
-/// Of the installed patches at most two replace: the oldest, and one that moves. One whose replacement is
-/// complete has no older patch left, since all of them went out with it.
+/// At most two of the installed patches are cumulative: the oldest, and one in transition. When the transition of a
+/// cumulative patch completes, all older patches leave.
 pub fn at_most_two_patches_replace()
     ensures { (setting : Setting) (state : State) → Allowed setting state
         → count_by (replaces setting) (installed_patches state) ≤ 2 }
 {}
 
-/// In every state that is reached, an installed patch has a value for each system state that the catalog
-/// gives it, and for no other: so to ask for one can fail only for want of the patch or its state.
+/// In every state that is reached, an installed patch has a value for exactly those system states that it names in
+/// the catalog. So a value is missing only if the patch isn't installed or doesn't name the state.
 pub fn installed_patches_have_their_states()
     ensures opening { (setting : Setting) → IsStated setting (opening_state setting) }
     ensures step { (setting : Setting) (state : State) (event : AnyEvent) → IsStated setting state
@@ -174,15 +175,15 @@ pub fn installed_patches_have_their_states()
         (state_ids setting patch)) }
 {}
 
-/// A site has an entry exactly where its object is loaded and an installed patch has a function for it: a
-/// nop is never alone, because a cumulative patch puts it only over an older entry.
+/// A site has an entry exactly when its object is loaded and an installed patch has a function for it. A nop is never
+/// alone, because a cumulative patch puts it only over an older entry.
 pub fn entry_where_patched()
     ensures { (setting : Setting) (state : State) (site : ℕ)
         → is_hooked setting state site
         ≡ (is_site_loaded setting state site && list_any (patches_site setting site) (installed_patches state)) }
 {}
 
-/// A function of a loaded object reads as it was built, but for its entry site, whatever happened before.
+/// A function of a loaded object reads as it was built, except for its entry site, whatever happened before.
 pub fn reads_as_built()
     ensures { (setting : Setting) (state : State) (object : ℕ) (number : ℕ)
         → is_loaded state object ≡ true
@@ -192,8 +193,8 @@ pub fn reads_as_built()
         (given_symbol setting.image object number) }
 {}
 
-/// A function without an entry reads the NOP, and behind it as it was built: so it runs as if there were no
-/// patches at all.
+/// A function without an entry reads as it was built, with the NOP at its entry site. So it runs as if there were
+/// no patches.
 pub fn reads_nop_without_entry()
     ensures { (setting : Setting) (state : State) (object : ℕ) (number : ℕ)
         → is_loaded state object ≡ true
@@ -202,9 +203,8 @@ pub fn reads_nop_without_entry()
         ≡ option_map resting (given_symbol setting.image object number) }
 {}
 
-/// The text depends on no more than what is loaded and for which sites there are functions: not on the
-/// order of patches, nor on what moves, what is pinned and what tasks do. So a patch that is gone has left
-/// no byte.
+/// The text depends only on which objects are loaded and which sites have functions of installed patches. It
+/// doesn't depend on the order of patches, the transition, pins or tasks. So a patch that is gone has left no byte.
 pub fn same_functions_same_text()
     ensures { (setting : Setting) (a : State) (b : State) (object : ℕ)
         → a.loaded ≡ b.loaded
@@ -213,8 +213,8 @@ pub fn same_functions_same_text()
         → text_of setting a object ≡ text_of setting b object }
 {}
 
-/// A run over one list and then another is the run over the first, and from where that ends over the
-/// second: so runs may be cut anywhere.
+/// A run over two lists, one after the other, is the run over the first, and then the run over the second from the
+/// state that the first leaves. So runs may be cut anywhere.
 pub fn runs_go_on_where_they_end()
     ensures state { (setting : Setting) (state : State) (first second : List AnyEvent)
         → run setting state (first ++ second) ≡ run setting (run setting state first) second }
@@ -223,14 +223,15 @@ pub fn runs_go_on_where_they_end()
         (run setting state first) second }
 {}
 
-/// A shadow event goes by whether its variable is there. What is there is found by those that ask for it
-/// and in the way of those that add it, what isn't there takes room, and to remove it removes nothing.
+/// What a shadow event does depends on whether its variable exists. If it does, adding it is refused, and asking
+/// for it returns its value. If it doesn't, adding it needs room, and removing it removes nothing.
 pub fn shadow_events_go_by_what_is_there()
     ensures exists { (setting : Setting) (state : State) (key : ShadowKey) (value old : ShadowValue)
         → variable state.world key ≡ Some old → refusal setting state (ShadowAlloc key value) ≡ Some Exists }
     ensures room { (setting : Setting) (state : State) (key : ShadowKey) (value : ShadowValue)
         → variable state.world key ≡ None
-        → refusal setting state (ShadowAlloc key value) ≡ (if nat_le 512 (finite.len state.world.shadow) then Some Full else None) }
+        → refusal setting state (ShadowAlloc key value)
+        ≡ (if nat_le 512 (finite.len state.world.shadow) then Some Full else None) }
     ensures added { (setting : Setting) (state : State) (key : ShadowKey) (value : ShadowValue)
         → variable (accepted setting state (ShadowAlloc key value)).1.world key ≡ Some value }
     ensures found { (setting : Setting) (state : State) (key : ShadowKey) (value old : ShadowValue)
@@ -238,10 +239,12 @@ pub fn shadow_events_go_by_what_is_there()
         → step setting state (ShadowGetOrAlloc key value) ≡ Ok (Value old, state) }
     ensures room_to_add { (setting : Setting) (state : State) (key : ShadowKey) (value : ShadowValue)
         → variable state.world key ≡ None
-        → refusal setting state (ShadowGetOrAlloc key value) ≡ (if nat_le 512 (finite.len state.world.shadow) then Some Full else None) }
+        → refusal setting state (ShadowGetOrAlloc key value)
+        ≡ (if nat_le 512 (finite.len state.world.shadow) then Some Full else None) }
     ensures got { (setting : Setting) (state : State) (key : ShadowKey) (value : ShadowValue)
         → variable state.world key ≡ None
-        → accepted setting state (ShadowGetOrAlloc key value) ≡ (Value value, (accepted setting state (ShadowAlloc key value)).1) }
+        → accepted setting state (ShadowGetOrAlloc key value)
+        ≡ (Value value, (accepted setting state (ShadowAlloc key value)).1) }
     ensures one { (setting : Setting) (state : State) (key : ShadowKey) (old : ShadowValue)
         → variable state.world key ≡ Some old → (accepted setting state (ShadowFree key)).0 ≡ Freed 1 }
     ensures none { (setting : Setting) (state : State) (key : ShadowKey)
@@ -249,11 +252,14 @@ pub fn shadow_events_go_by_what_is_there()
     ensures gone { (setting : Setting) (state : State) (key : ShadowKey)
         → variable (accepted setting state (ShadowFree key)).1.world key ≡ None }
     ensures all { (setting : Setting) (state : State) (id : ℕ) (key : ShadowKey)
-        → variable (accepted setting state (ShadowFreeAll id)).1.world key ≡ (if id == key.id then None else variable state.world key) }
+        → variable (accepted setting state (ShadowFreeAll id)).1.world key
+        ≡ (if id == key.id then None else variable state.world key) }
     ensures count { (setting : Setting) (state : State) (id : ℕ)
         → (accepted setting state (ShadowFreeAll id)).0
-        ≡ Freed (finite.len state.world.shadow - finite.len (accepted setting state (ShadowFreeAll id)).1.world.shadow) }
-    ensures others { (setting : Setting) (state : State) (own key : ShadowKey) (value : ShadowValue) → is_key own key ≡ false
+        ≡ Freed (finite.len state.world.shadow - finite.len
+        (accepted setting state (ShadowFreeAll id)).1.world.shadow) }
+    ensures others { (setting : Setting) (state : State) (own key : ShadowKey) (value : ShadowValue) → is_key own key
+        ≡ false
         → (variable (accepted setting state (ShadowAlloc own value)).1.world key ≡ variable state.world key)
         × (variable (accepted setting state (ShadowGetOrAlloc own value)).1.world key ≡ variable state.world key)
         × (variable (accepted setting state (ShadowFree own)).1.world key ≡ variable state.world key) }

@@ -1,6 +1,5 @@
-//! What is proved of a patch that is enabled and gone again. A function here does nothing: its contract is
-//! the law. The premises are those of `specs/Company`; `round_trip_examples` shows what is lost where some of them
-//! fail.
+//! What is proved of a patch that is enabled and gone again. A function here does nothing: its contract is the law.
+//! The premises are in `specs/Company`; `round_trip_examples` shows what is lost if some of them don't hold.
 ghost use Rattle.std.specs.Prelude.{◌≡◌, ℕ, ◌<◌, false, List, [], ◌∷◌, ◌++◌, Some};
 ghost use Rattle.std.specs.List.{find};
 ghost use Rattle.klp_types.specs.declared.callback.Which.TheVariants.{Pre};
@@ -17,8 +16,8 @@ ghost use Rattle.klp_model.specs.Footprint.{SameFootprint};
 ghost use Rattle.klp_model.specs.Rounds.{enablings, kinds_for, repeated, RanInRounds, RanOneRound};
 ghost use Rattle.klp_model.specs.Company.{taking_part, company_keys, IsFairCompany};
 
-/// At every moment of a fair company of a patch at which the patch isn't installed, the footprint is that
-/// of the start. Every moment counts, since the patch may come and go many times.
+/// Whenever the patch isn't installed during a fair company, the footprint is that of the start. This holds at
+/// every moment, since the patch may be enabled and disabled many times.
 pub fn gone_without_a_trace()
     ensures { (setting : Setting) (patch : ℕ) (start : State) (first second : List AnyEvent)
         → IsFairCompany setting patch start (first ++ second)
@@ -26,9 +25,9 @@ pub fn gone_without_a_trace()
         → SameFootprint setting (company_keys setting start patch) (run setting start first) start }
 {}
 
-/// At every moment of a fair company, outside of the patch's own variables the shadow variables are those
-/// of the start with the changes of the shadow events: no callback of another patch runs, since none comes
-/// or goes.
+/// At every moment of a fair company, the shadow variables that the patch's callbacks don't touch are those of the
+/// start, changed by the shadow events alone. No callback of another patch runs, since no other patch is enabled or
+/// disabled.
 pub fn only_shadow_events_outside()
     ensures { (setting : Setting) (patch : ℕ) (start : State) (first second : List AnyEvent)
         → IsFairCompany setting patch start (first ++ second)
@@ -36,9 +35,9 @@ pub fn only_shadow_events_outside()
         → variable (run setting start first).world key ≡ variable (shadow_changes start.world first) key }
 {}
 
-/// Between two moments of a fair company at which the patch isn't installed, the callbacks of each object
-/// that takes part ran in as many rounds as there are enablings: pre-patch, post-patch and pre-unpatch any
-/// number of times, post-unpatch. So a callback may count on its partner having run.
+/// Between two moments of a fair company at which the patch isn't installed, the callbacks of each object that
+/// takes part ran in one round for each enabling: pre-patch, then post-patch and pre-unpatch any number of times,
+/// then post-unpatch. So a callback can rely on its partner having run.
 pub fn callbacks_in_rounds()
     ensures { (setting : Setting) (patch : ℕ) (start : State) (first second third : List AnyEvent)
         → IsFairCompany setting patch start (first ++ second ++ third)
@@ -48,8 +47,8 @@ pub fn callbacks_in_rounds()
         (enablings second) }
 {}
 
-/// Where there is one enabling between two such moments, the callbacks of each object that takes part ran
-/// in one round. This is the common case, in which the number of rounds needn't be spoken of.
+/// The case of `callbacks_in_rounds` with one enabling, which is the common one. Between two moments of a fair
+/// company at which the patch isn't installed, the callbacks of each object that takes part ran in one round.
 pub fn callbacks_of_one_round()
     ensures { (setting : Setting) (patch : ℕ) (start : State) (first second third : List AnyEvent)
         → IsFairCompany setting patch start (first ++ second ++ third)
@@ -59,8 +58,8 @@ pub fn callbacks_of_one_round()
         → RanOneRound (taking_part setting start patch) (callbacks_of_run setting (run setting start first) second) }
 {}
 
-/// Where an object refuses, each enabling runs its pre-patch callback and nothing else of it, and nothing
-/// of the objects behind it: a pre-patch that fails has to clean up after itself.
+/// If an object refuses, each enabling runs its pre-patch callback, no other callback of it, and none of the
+/// objects after it. So a pre-patch that fails has to clean up after itself.
 pub fn callbacks_of_the_object_that_refuses()
     ensures refusing { (setting : Setting) (patch : ℕ) (start : State) (first second third : List AnyEvent)
         → IsFairCompany setting patch start (first ++ second ++ third)
@@ -74,8 +73,8 @@ pub fn callbacks_of_the_object_that_refuses()
         → kinds_for place (callbacks_of_run setting (run setting start first) second) ≡ [] }
 {}
 
-/// At the end of a fair company at which the patch isn't installed, the footprint is that of the
-/// start: where the events of a list were all accepted, this is what a call that makes them promises.
+/// If the patch isn't installed at the end of a fair company, the footprint is that of the start. A call that makes
+/// a list of events, all of them accepted, promises this.
 pub fn gone_at_the_end()
     ensures { (setting : Setting) (patch : ℕ) (start : State) (events : List AnyEvent)
         → IsFairCompany setting patch start events
@@ -83,9 +82,9 @@ pub fn gone_at_the_end()
         → SameFootprint setting (company_keys setting start patch) (run setting start events) start }
 {}
 
-/// What a run of any events promises at its end: where those that aren't refused are a fair company
-/// of a patch, and the patch isn't installed, the footprint is that of the start; and outside of the
-/// patch's own variables the shadow variables are changed by shadow events alone.
+/// What a run of any events promises at its end, if those that aren't refused are a fair company of a patch. If the
+/// patch isn't installed, the footprint is that of the start. The shadow variables that the patch's callbacks don't
+/// touch are changed by shadow events alone.
 pub fn at_the_end_of_a_run()
     ensures footprint { (setting : Setting) (patch : ℕ) (start : State) (events : List AnyEvent)
         → IsFairCompany setting patch start (accepted_events setting start events)
@@ -98,9 +97,9 @@ pub fn at_the_end_of_a_run()
         (accepted_events setting start events)) key }
 {}
 
-/// At every moment of a fair company at which the patch isn't installed, the world is as if the patch had
-/// never been: that of the start with the changes of the shadow events. This is stronger than the footprint
-/// alone, since shadow events may go on meanwhile.
+/// Whenever the patch isn't installed during a fair company, the world is as if the patch had never been there: the
+/// world of the start, changed by the shadow events. This says more than the footprint alone, since shadow events
+/// may happen meanwhile.
 pub fn as_if_it_had_never_been()
     ensures { (setting : Setting) (patch : ℕ) (start : State) (first second : List AnyEvent)
         → IsFairCompany setting patch start (first ++ second)

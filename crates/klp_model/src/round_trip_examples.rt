@@ -1,32 +1,36 @@
-//! Worked examples, by computation: that there are fair companies, so that the laws don't hold of nothing,
-//! and what is lost where a premise fails. A function here does nothing: its contract is the example.
+//! Worked examples: fair companies exist, so the laws aren't empty; and what is lost if a premise doesn't hold. A
+//! function here does nothing: its contract is the example, and it is proved by computing the definition.
 ghost use Rattle.std.specs.Prelude.{◌≡◌, pos, true, false, [], ◌∷◌, find, is_some, Some, None};
 ghost use Rattle.klp_types.specs.declared.callback.Which.TheVariants.{Pre, Post, PreUn, PostUn};
 ghost use Rattle.klp_types.specs.World.{variable};
-ghost use Rattle.klp_model.specs.declared.event.Event.TheVariants.{Enable, SetEnabled, Force, Poll, Coming, Going, ShadowAlloc, ShadowFree};
+ghost use Rattle.klp_model.specs.declared.event.Event.TheVariants.{Enable, SetEnabled, Force, Poll, Coming, Going};
+ghost use Rattle.klp_model.specs.declared.event.Event.TheVariants.{ShadowAlloc, ShadowFree};
 ghost use Rattle.klp_model.specs.State.{State, is_installed, with_world};
 ghost use Rattle.klp_model.specs.ShadowStep.{shadow_changed, shadow_changes, concerns};
 ghost use Rattle.klp_types.specs.Callbacks.{refuses};
 ghost use Rattle.klp_model.specs.Callbacks.{loaded_objects};
 ghost use Rattle.klp_model.specs.Run.{run};
 ghost use Rattle.klp_model.specs.Allowed.{Allowed};
-ghost use Rattle.klp_model.specs.Company.{object_touches, taking_part, company_keys, EachUndoes, drops_older, IsOfCompany, IsFairEvent, IsFairStart, IsFairCompany};
+ghost use Rattle.klp_model.specs.Company.{object_touches, taking_part, company_keys, EachUndoes, drops_older};
+ghost use Rattle.klp_model.specs.Company.{IsOfCompany, IsFairEvent, IsFairStart, IsFairCompany};
 ghost use Rattle.klp_model.specs.Examples.{small_kernel, move_of, in_kernel, state_with, with_state, with_states};
 ghost use Rattle.klp_model.specs.Footprint.{SameFootprint};
-ghost use Rattle.klp_model.specs.RoundTripExamples.{key_of, value_of, adding, bare, with_a_sleeper, every_stage, own_variable_first, refusing_behind, both_loaded, sharing, with_five, there_and_back, freeing};
+ghost use Rattle.klp_model.specs.RoundTripExamples.{key_of, value_of, adding, bare, with_a_sleeper, every_stage};
+ghost use Rattle.klp_model.specs.RoundTripExamples.{own_variable_first, refusing_behind, both_loaded, sharing};
+ghost use Rattle.klp_model.specs.RoundTripExamples.{with_five, there_and_back, freeing};
 
-/// A cumulative patch is enabled, held by a sleeper, turned round twice, complete, disabled, waited for and
-/// gone, and a variable of somebody else is added between: a fair company, so the laws speak of all of
-/// these.
+/// A fair company with every stage: a cumulative patch is enabled, blocked by a sleeper, reversed twice, completed,
+/// disabled, waited for and gone; in between a variable that isn't the patch's is added. So the laws hold of all
+/// these stages.
 pub fn a_fair_company_goes_through_every_stage()
     ensures allowed { Allowed adding with_a_sleeper }
     ensures fair { IsFairCompany adding 0 with_a_sleeper every_stage }
     ensures gone { is_installed (run adding with_a_sleeper every_stage) 0 ≡ false }
 {}
 
-/// A variable of the patch's callbacks is there before the patch comes: pre-patch leaves it and
-/// post-unpatch removes it, so it is lost. The event that adds it concerns a variable of the company,
-/// and from behind that event the callbacks don't undo each other.
+/// A variable that the patch's callbacks touch exists before the patch is enabled. Pre-patch leaves it,
+/// post-unpatch removes it, and so it is lost. This company isn't fair: the event that adds the variable concerns a
+/// variable of the patch's callbacks, and after that event the callbacks don't undo each other.
 pub fn a_variable_that_was_there_is_lost()
     ensures gone { is_installed (run adding bare own_variable_first) 0 ≡ false }
     ensures lost { variable (run adding bare own_variable_first).world (key_of 1 9) ≡ None }
@@ -37,9 +41,9 @@ pub fn a_variable_that_was_there_is_lost()
         (taking_part adding bare 0) → ⊥ }
 {}
 
-/// Two objects whose callbacks share a variable: those of each undo each other, and yet the variable isn't
-/// what it was when the patch is gone, because the objects clean up in the order in which they were set up,
-/// and not backwards.
+/// Two objects whose callbacks share a variable. Those of each object undo each other, but the variable is changed
+/// when the patch is gone, because the objects are cleaned up in the order in which they were set up, not in
+/// reverse.
 pub fn objects_that_share_a_variable_leave_a_trace()
     ensures undone { EachUndoes 0 with_five.world (taking_part sharing with_five 0) }
     ensures before { variable with_five.world (key_of 1 1) ≡ Some (value_of 5) }
@@ -47,8 +51,8 @@ pub fn objects_that_share_a_variable_leave_a_trace()
     ensures after { variable (run sharing with_five there_and_back).world (key_of 1 1) ≡ Some (value_of 9) }
 {}
 
-/// A patch whose second object refuses is gone at once, and its enabling is a fair company: the first
-/// object takes part, since it was set up and cleaned up, and the second one refuses.
+/// A patch whose second object refuses is gone at once, and its enabling is a fair company. The first object takes
+/// part, since it was set up and cleaned up; the second one refuses.
 pub fn a_refused_patch_is_a_fair_company()
     ensures fair { IsFairCompany refusing_behind 0 both_loaded (Enable 0 ∷ []) }
     ensures refuses { is_some (find refuses (loaded_objects refusing_behind both_loaded 0)) ≡ true }
@@ -64,8 +68,8 @@ pub fn variables_of_each_callback_count()
     ensures another { object_touches (key_of 2 9) (0, freeing Pre) ≡ false }
 {}
 
-/// What a footprint shows of two states: which modules are loaded, which patches are installed in which
-/// order and with which values, which are pinned, and what the variables are.
+/// What a footprint shows: which modules are loaded, which patches are installed, in which order and with which
+/// values, which are pinned, and the values of the variables.
 pub fn a_footprint_shows_each_trace()
     ensures module { SameFootprint small_kernel (λ key. false) (state_with true [] None []) (state_with false [] None []) → ⊥ }
     ensures order { SameFootprint small_kernel (λ key. false) (state_with true (0 ∷ 2 ∷ []) None [])
@@ -78,9 +82,9 @@ pub fn a_footprint_shows_each_trace()
         (with_world bare (shadow_changed bare.world (ShadowAlloc (key_of 1 9) (value_of 77)))) bare → ⊥ }
 {}
 
-/// What isn't fair to a patch: events of other patches and of modules, a force, a change of a variable of
-/// its callbacks, what is refused, and that older patches leave. Nor does it begin where something moves, or
-/// where the patch is there.
+/// What isn't fair to a patch: events of other patches and of modules, a force, a change of a variable of its
+/// callbacks, an event that is refused, and a replacement of older patches. Nor is a start at which there is a
+/// transition, or at which the patch is installed.
 pub fn these_companies_are_unfair()
     ensures another { IsOfCompany 0 (λ key. false) (Enable 1) → ⊥ }
     ensures another_disabled { IsOfCompany 0 (λ key. false) (SetEnabled 1 false) → ⊥ }

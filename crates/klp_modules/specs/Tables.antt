@@ -1,4 +1,4 @@
--- The tables that look-ups go by: what each has for the numbered objects.
+-- The tables for look-ups, and when they are right for the numbered objects.
 use Rattle.std.specs.Prelude.{◌≡◌, ℕ, ◌+◌, ◌==◌, nat_eq, Bool, List, [], ◌∷◌, ◌++◌, length, take, slice_get, position, count_by, Option, Some, None, Vec}
 use Rattle.std.specs.declared.alloc.Global.{Global}
 use Rattle.indexmap.specs.IndexMap.{IndexMap, get}
@@ -8,7 +8,7 @@ use Rattle.klp_modules.specs.declared.numbered.NumberedObject.{NumberedObject}
 use Rattle.klp_modules.specs.declared.numbered.NumberedSymbol.{NumberedSymbol}
 use Rattle.klp_modules.specs.declared.tables.Tables.{Tables}
 
--- a number has the place of the first object of that name
+-- the table has, for the number of each name, the first object of that name
 abbrev pub HasObjects : {S : Type 0} → List NumberedObject → IndexMap ℕ ℕ S → Type 0
 HasObjects objects table = (number : ℕ) → get nat_eq table number ≡ position (λ (object : NumberedObject). object.name == number) objects
 
@@ -17,11 +17,11 @@ abbrev pub sites_in : Option (Vec ℕ Global) → List ℕ
 sites_in None = []
 sites_in (Some sites) = sites.items
 
--- a number has the sites of the symbols of that name, where the first symbol's is this
+-- the table has, for the number of each name, the sites of the symbols of that name; the first symbol has this site
 abbrev pub IsSiteTable : {S : Type 0} → ℕ → List ℕ → IndexMap ℕ (Vec ℕ Global) S → Type 0
 IsSiteTable first symbols table = (number : ℕ) → sites_in (get nat_eq table number) ≡ sites_where (λ other. other == number) first symbols
 
--- each of these tables is its object's
+-- each of these tables is right for its object
 abbrev pub AreSiteTables : {S : Type 0} → List NumberedObject → List (IndexMap ℕ (Vec ℕ Global) S) → Type 0
 AreSiteTables {S} objects tables = (o : ℕ) (object : NumberedObject) (table : IndexMap ℕ (Vec ℕ Global) S) →
     slice_get objects o ≡ Some object → slice_get tables o ≡ Some table → IsSiteTable (numbered_first_site objects o) object.symbols.items table
@@ -31,25 +31,25 @@ pub record HasSites {S : Type 0} (objects : List NumberedObject) (tables : List 
   pub each : length tables ≡ length objects
   pub sites : AreSiteTables objects tables
 
--- an object's symbols from a place on, each with its position among all of the object
+-- an object's symbols from this index on, each with its position among all symbols of the object
 abbrev pub placed : ℕ → ℕ → List ℕ → List ℕ → List NumberedSymbol
 placed object place symbols [] = []
 placed object place symbols (name ∷ rest) =
     (record { object = object; name = name; position = count_by (λ other. other == name) (take (place + 1) symbols) })
     ∷ placed object (place + 1) symbols rest
 
--- the symbols of all objects in order, where the first object has this number
+-- the symbols of all objects in order; the first object has this number
 abbrev pub placed_symbols : ℕ → List NumberedObject → List NumberedSymbol
 placed_symbols number [] = []
 placed_symbols number (object ∷ objects) = placed number 0 object.symbols.items object.symbols.items ++ placed_symbols (number + 1) objects
 
--- the tables are for these objects
+-- the tables are right for these objects
 pub record AreTabled (objects : List NumberedObject) (tables : Tables) : Type 0 where
   pub by_name : HasObjects objects tables.named
   pub by_object : HasSites objects tables.sites.items
   pub by_site : tables.symbols.items ≡ placed_symbols 0 objects
 
--- what the modules keep, with the tables for it
+-- what the modules store, with the tables for it
 pub record IsTabled (texts : List (List ℕ)) (objects : List NumberedObject) (loaded : List Bool) (tables : Tables) : Type 0 where
   pub kept : IsKept texts objects loaded
   pub tabled : AreTabled objects tables

@@ -1,16 +1,16 @@
 use thiserror::Error;
 
-/// Why a name and a position pick no symbol of an object, as the kernel's `klp_find_object_symbol` does.
-/// The numbers are this project's own, and stay.
+/// Why a name and a position pick no symbol of an object, as in the kernel's `klp_find_object_symbol`. The numbers
+/// are this project's own, and don't change.
 #[derive(Clone, Copy, Debug, PartialEq, Eq, Error)]
 pub enum SymbolFault {
     /// No symbol of the object has the name, whatever the position.
     #[error("Missing")]
     Missing = 1,
-    /// Several symbols have the name, and the position is 0, which asks for the only one.
+    /// Several symbols have the name, and the position is 0, which means the only one.
     #[error("Ambiguous")]
     Ambiguous = 2,
-    /// Fewer symbols than the position have the name. Positions count from 1, as in kallsyms.
+    /// Fewer symbols have the name than the position says. Positions count from 1, as in kallsyms.
     #[error("NoPosition")]
     NoPosition = 3,
 }

@@ -1,5 +1,7 @@
-ghost use Rattle.std.specs.Prelude.{◌≡◌, ◌<◌, length, slice_set, slice_get, slice_index_or, false, option_map, IfOk, IfSome};
-ghost use Rattle.klp_modules.specs.Names.{ObjectNames, names_of_object, Named, opening, object_named, picked, resolved, symbol_at_site};
+ghost use Rattle.std.specs.Prelude.{◌≡◌, ◌<◌, length, slice_set, slice_get, slice_index_or, false, option_map, IfOk};
+ghost use Rattle.std.specs.Prelude.{IfSome};
+ghost use Rattle.klp_modules.specs.Names.{ObjectNames, names_of_object, Named, opening, object_named, picked, resolved};
+ghost use Rattle.klp_modules.specs.Names.{symbol_at_site};
 ghost use Rattle.klp_modules.specs.Kept.{texts_of, text_at, AddsName, AddsObject, AreNumbered};
 ghost use Rattle.klp_modules.specs.Undo.{put_back};
 
@@ -15,11 +17,11 @@ use std::mem::replace;
 
 /// The names of all objects and symbols, loaded or not, and which objects are loaded.
 ///
-/// Names are kept once, and each look-up goes by a table: its cost doesn't grow with the objects or
-/// the symbols. No call but `new` takes memory.
+/// Each name is stored once, and each look-up uses a table: its cost doesn't grow with the number of objects or
+/// symbols. Only `new` takes memory.
 #[derive(Drop)]
 pub struct Modules {
-    /// Every name of an object or a symbol.
+    /// Every name of an object or a symbol. A name's index in this set is its number.
     names: IndexSet<String>,
     objects: Vec<NumberedObject>,
     /// By object, whether it is loaded.
@@ -43,9 +45,8 @@ impl Model for Modules {
 }
 
 impl Modules {
-    /// The names of an image. Object 0 alone is loaded. An error is want of memory.
-    ///
-    /// Makes all tables, and compares each symbol with those before it in its object.
+    /// Makes the names of an image, and all tables. Only object 0 is loaded. It compares each symbol with those
+    /// before it in its object. `Err` if memory is refused.
     pub fn new(alloc: Global, image: &Image) -> Result<Modules, AllocError>
         ensures { IfOk result (λ modules. modules ≡ opening image.now.image.objects) }
     {
@@ -61,7 +62,8 @@ impl Modules {
         })
     }
 
-    /// The number of the object of this name, the first where several have it. Takes two look-ups.
+    /// Returns the number of the object with this name, the first if several have it. `None` if there is none. It
+    /// takes two look-ups.
     pub fn object(&self, name: &str) -> Option<ObjId>
         ensures { result ≡ object_named self.now.names name.now }
     {
@@ -71,7 +73,7 @@ impl Modules {
         self.tables.named.get(&number).copied()
     }
 
-    /// The name of an object.
+    /// Returns the name of an object. `None` if there is no such object.
     pub fn object_name(&self, object: ObjId) -> Option<&str>
         ensures { option_map (λ name. name.now) result
             ≡ option_map (λ (found : ObjectNames). found.name) (slice_get self.now.names object) }
@@ -80,7 +82,7 @@ impl Modules {
         Some(text(&self.names, object.name))
     }
 
-    /// How many symbols an object has.
+    /// Returns how many symbols an object has. `None` if there is no such object.
     pub fn symbols(&self, object: ObjId) -> Option<u16>
         ensures { result ≡ option_map (λ (found : ObjectNames). length found.symbols)
             (slice_get self.now.names object) }
@@ -89,7 +91,7 @@ impl Modules {
         Some(object.symbols.len() as u16)
     }
 
-    /// Whether an object is loaded. An object that isn't there isn't.
+    /// Whether an object is loaded. False if there is no such object.
     pub fn is_loaded(&self, object: ObjId) -> bool
         ensures { result ≡ slice_index_or self.now.loaded object false }
     {
@@ -99,8 +101,7 @@ impl Modules {
             .unwrap_or(false)
     }
 
-    /// Notes that an object is loaded, or that it isn't. The record tells whether it was before: to
-    /// put it back undoes the change.
+    /// Marks an object as loaded or not, and returns the undo record, which says whether it was loaded before.
     pub fn set_loaded(&mut self, object: ObjId, loaded: bool) -> Record
         requires { object < length self.old.loaded }
         ensures flag { self.new ≡ record self.old { loaded = slice_set self.old.loaded object loaded } }
@@ -111,8 +112,8 @@ impl Modules {
         Record::LoadedFlag { object, was }
     }
 
-    /// Makes an object loaded, or not, as a record tells. A record of another kind, or of an object
-    /// that isn't there, changes nothing.
+    /// Restores the loaded flag that the record names. A record of another kind changes nothing, nor does one of an
+    /// object that doesn't exist.
     pub fn put_back(&mut self, row: Record)
         ensures { self.new ≡ put_back self.old row }
     {
@@ -123,11 +124,11 @@ impl Modules {
         }
     }
 
-    /// The site of the symbol that a name and a position pick among an object's symbols, loaded or
-    /// not: position 0 asks for the only one of that name, and n for the n-th in the object's
-    /// order (livepatch, Metadata). An object that isn't there has no symbols.
+    /// Returns the site of the symbol that a name and a position pick in an object, loaded or not. Position 0 means
+    /// the only symbol of that name, and n the n-th in the object's order (livepatch, Metadata). `Err` says why no
+    /// symbol is picked; if there is no such object, that is `Missing`.
     ///
-    /// Takes two look-ups, and no walk over the symbols.
+    /// It takes two look-ups, and no walk over the symbols.
     pub fn resolve(&self, object: ObjId, name: &str, position: u32) -> Result<Site, SymbolFault>
         ensures { result ≡ resolved self.now.names object name.now position }
     {
@@ -143,8 +144,8 @@ impl Modules {
         pick(sites, position)
     }
 
-    /// The symbol of a site: its object, its name, and its position from 1 among the symbols of
-    /// that name in the object. Takes no look-up: a table has it by the site.
+    /// Returns the symbol of a site: its object, its name, and its position, from 1, among the symbols of that name
+    /// in the object. `None` if there is no such site. It needs no look-up by name: a table has each site's symbol.
     pub fn symbol(&self, site: Site) -> Option<(ObjId, &str, u32)>
         ensures object { option_map (λ found. found.0) result
             ≡ option_map (λ (s : Named). s.object) (symbol_at_site self.now.names site) }
@@ -162,7 +163,7 @@ impl Modules {
     }
 }
 
-/// The text of a number.
+/// Returns the name with this number.
 fn text(names: &IndexSet<String>, number: usize) -> &str
     requires { number < length names.now.keys }
     ensures { result.now ≡ text_at (texts_of names.now.keys) number }
@@ -170,7 +171,7 @@ fn text(names: &IndexSet<String>, number: usize) -> &str
     names.as_slice()[number].as_str()
 }
 
-/// The one of the sites that a position picks.
+/// Picks one of the sites of a name by its position: 0 means the only one, n the n-th.
 fn pick(sites: &[Site], position: u32) -> Result<Site, SymbolFault>
     ensures { result ≡ picked sites.now position }
 {
@@ -189,7 +190,7 @@ fn pick(sites: &[Site], position: u32) -> Result<Site, SymbolFault>
     Ok(*first)
 }
 
-/// Every name of an image, and its objects by the numbers of their names.
+/// Returns the set of all names of an image, and its objects, in which each name is a number in that set.
 fn numbered_objects(
     alloc: Global,
     image: &Image,
@@ -204,7 +205,7 @@ fn numbered_objects(
     Ok((names, objects))
 }
 
-/// An object by the numbers of its names, which are kept from now on.
+/// Adds the names of an object to the set, and returns the object with the numbers of its names.
 fn numbered(
     alloc: Global,
     names: &mut IndexSet<String>,
@@ -224,7 +225,7 @@ fn numbered(
     Ok(NumberedObject { name, symbols })
 }
 
-/// The number of a name, which is kept from now on.
+/// Returns the number of a name, which it adds to the set if it isn't there.
 fn number_of(alloc: Global, names: &mut IndexSet<String>, name: &str) -> Result<usize, AllocError>
     ensures { IfOk result (λ number. AddsName (texts_of names.old.keys) (texts_of names.new.keys) name.now number) }
 {

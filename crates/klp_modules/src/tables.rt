@@ -1,4 +1,4 @@
-//! The tables that look-ups go by. Each is made once, from the objects, since these never change.
+//! The tables for look-ups. Each is made once, from the objects, since these never change.
 
 ghost use Rattle.std.specs.Prelude.{◌≡◌, ◌+◌, ◌≤◌, ◌++◌, ◌==◌, length, count_by, IfOk, OnOk};
 ghost use Rattle.klp_types.specs.declared.limits.TheConstants.{MAX_OBJECTS, MAX_SITES};
@@ -10,19 +10,19 @@ use indexmap::IndexMap;
 use klp_types::{ObjId, Site};
 use std::alloc::{AllocError, Global};
 
-/// The tables for numbered objects.
+/// The tables for objects with numbered names.
 #[derive(Drop)]
 pub struct Tables {
     /// By the number of a name, the first object of that name.
     pub named: IndexMap<usize, ObjId>,
-    /// By object, the sites of its symbols by the numbers of their names, in order.
+    /// By object, for the number of each name the sites of its symbols of that name, in order.
     pub sites: Vec<IndexMap<usize, Vec<Site>>>,
-    /// By site, the symbol.
+    /// By site, its symbol.
     pub symbols: Vec<NumberedSymbol>,
 }
 
 impl Tables {
-    /// Makes the tables for these objects.
+    /// Makes the tables for these objects. `Err` if memory is refused.
     pub fn new(alloc: Global, objects: &[NumberedObject]) -> Result<Tables, AllocError>
         requires few_objects { length objects.now ≤ MAX_OBJECTS }
         requires few_symbols { symbol_count objects.now ≤ MAX_SITES }
@@ -39,8 +39,8 @@ impl Tables {
     }
 }
 
-/// By the number of a name, the first object of that name: of two of one name, which an image hasn't, the
-/// other is never found.
+/// Makes a table from the number of a name to the first object of that name. No image has two objects of one name;
+/// if there were two, the second would never be found.
 fn objects_by_name(
     alloc: Global,
     objects: &[NumberedObject],
@@ -55,7 +55,8 @@ fn objects_by_name(
     Ok(table)
 }
 
-/// By object, the sites of its symbols by the numbers of their names, so that a position is an index.
+/// Makes a table for each object, from the number of a name to the sites of the object's symbols of that name. A
+/// position minus 1 is then an index.
 fn sites_by_object(
     alloc: Global,
     objects: &[NumberedObject],
@@ -72,8 +73,8 @@ fn sites_by_object(
     Ok(tables)
 }
 
-/// By the number of a name, the sites of the symbols of that name, in order, where the first symbol's site
-/// is this.
+/// Makes the table for one object, whose first symbol has the site `first`: from the number of a name to the sites
+/// of the symbols of that name, in order.
 fn sites_by_name(
     alloc: Global,
     first: u16,
@@ -90,7 +91,7 @@ fn sites_by_name(
     Ok(table)
 }
 
-/// By site, its symbol: the way back from a site to what an administrator calls it.
+/// Makes a table with the symbol of each site. An administrator names a site by its symbol.
 fn symbols_by_site(
     alloc: Global,
     objects: &[NumberedObject],
@@ -106,8 +107,8 @@ fn symbols_by_site(
     Ok(table)
 }
 
-/// Adds the symbols of an object, whose positions are counted over the symbols before each. That is
-/// quadratic in them, and done once.
+/// Adds the symbols of an object to the table. Each symbol's position is counted over the symbols before it, which
+/// is quadratic, but done only once.
 fn add_symbols(
     table: &mut Vec<NumberedSymbol>,
     object: ObjId,
@@ -127,7 +128,8 @@ fn add_symbols(
     Ok(())
 }
 
-/// How many of the symbols have the name of this number: the last one's position, from 1.
+/// Returns how many of the symbols have the name with this number. For the symbols up to one of that name this is
+/// its position, from 1.
 fn count(symbols: &[usize], number: usize) -> usize
     ensures { result ≡ count_by (λ other. other == number) symbols.now }
 {

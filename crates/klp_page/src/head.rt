@@ -2,7 +2,8 @@
 ghost use Rattle.std.specs.Prelude.{◌≡◌, [], ◌++◌, codes, count_by, if◌then◌else◌};
 ghost use Rattle.std.specs.Fmt.{decimal};
 ghost use Rattle.klp_markup.specs.Adds.{Adds};
-ghost use Rattle.klp_page.specs.Text.{is_started, is_start, count_text, refusals_text, title_text, opening_text, all_refused, front_text, story_and_drawing};
+ghost use Rattle.klp_page.specs.Text.{is_started, is_start, count_text, refusals_text, title_text, opening_text};
+ghost use Rattle.klp_page.specs.Text.{all_refused, front_text, story_and_drawing};
 
 use crate::style::{COUNTS, HEAD, LINES, RUN, STORY, STYLE, STYLE_END};
 use klp_catalog::Catalog;

@@ -1,9 +1,11 @@
 //! A manager is booted over a catalog's text, and a script is shown by it.
-ghost use Rattle.std.specs.Prelude.{◌≡◌, [], ◌∷◌, length, count_by, map, string_bytes, Some, None, IfOk, IfErr, MatchResult};
+ghost use Rattle.std.specs.Prelude.{◌≡◌, [], ◌∷◌, length, count_by, map, string_bytes, Some, None, IfOk, IfErr};
+ghost use Rattle.std.specs.Prelude.{MatchResult};
 ghost use Rattle.klp_catalog_text.specs.Within.{AreTargetsWithin};
 ghost use Rattle.klp_page.specs.Rows.{last_view};
 ghost use Rattle.klp_page.specs.Text.{page_text};
-ghost use Rattle.klp_page.specs.Pages.{is_refused, IsPage, IsPageOfRun, IsScriptFault, IsPageOver, IsFaultOver, IsPageOf, IsFaultOf, Writes};
+ghost use Rattle.klp_page.specs.Pages.{is_refused, IsPage, IsPageOfRun, IsScriptFault, IsPageOver, IsFaultOver};
+ghost use Rattle.klp_page.specs.Pages.{IsPageOf, IsFaultOf, Writes};
 ghost use Rattle.klp_program.specs.Asked.{two_files};
 
 use crate::head::{Title, add_front, add_story_and_drawing, transitions};

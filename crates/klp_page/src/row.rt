@@ -2,7 +2,8 @@
 ghost use Rattle.std.specs.Prelude.{◌≡◌, ◌<◌, ◌+◌, ◌-◌, ◌^◌, ◌++◌, length};
 ghost use Rattle.std.specs.Fmt.{decimal};
 ghost use Rattle.klp_markup.specs.Adds.{Adds};
-ghost use Rattle.klp_page.specs.Text.{mark_text, refused_text, open_text, shown_text, start_text, row_text, fold_start, fold_end, rows_text};
+ghost use Rattle.klp_page.specs.Text.{mark_text, refused_text, open_text, shown_text, start_text, row_text, fold_start};
+ghost use Rattle.klp_page.specs.Text.{fold_end, rows_text};
 
 use crate::style::{
     ANSWER, ANSWER_END, CARD_NUMBER, CARD_ROW, CARDS, CARDS_END, FOLD, FOLD_END, FOLDED, HELD,
@@ -98,7 +99,8 @@ fn add_plain_row(sheet: &mut Sheet, number: u64, row: &Row)
 /// A row that opens, with its cards.
 fn add_card_row(sheet: &mut Sheet, number: u64, row: &Row)
     ensures { Adds sheet.old sheet.new
-        (start_text CARD_ROW.now number row.now ++ open_text row.now.is_open ++ CARD_NUMBER.now ++ shown_text number row.now
+        (start_text CARD_ROW.now number row.now ++ open_text row.now.is_open ++ CARD_NUMBER.now
+        ++ shown_text number row.now
         ++ CARDS.now ++ row.now.cards.text ++ CARDS_END.now) }
 {
     klp_markup::laws::what_is_added_adds_up();

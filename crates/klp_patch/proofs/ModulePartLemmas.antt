@@ -17,7 +17,7 @@ use Rattle.klp_model.specs.EventCalls.{coming_may_run, going_may_run}
 use Rattle.klp_catalog.specs.Catalog.{Catalog}
 use Rattle.klp_catalog.specs.Runs.{callbacks_of, callbacks_at, objects_at, place_of, script_at}
 use Rattle.klp_patch.specs.Refusing.{refusal_of}
-use Rattle.klp_patch.specs.Places.{call_at, still_at, coming_at, going_at}
+use Rattle.klp_patch.specs.Places.{call_at, call_unless_moving, coming_at, going_at}
 use Rattle.klp_patch.specs.ModuleParts.{parts_at}
 use Rattle.klp_patch.specs.UntilRefused.{calls_until_refused, refusal}
 use Rattle.klp_patch.proofs.LoopLemmas.{refusing-status}
@@ -115,13 +115,13 @@ module _ (catalog : Catalog) (object patch place : ℕ) (part : IsPart catalog o
       alone (part_going moving)
       ∙ ap (λ cs. cond (moves moving patch) [] (call_of patch place PreUn (script_for PreUn cs)) ++ call_of patch place PostUn (script_for PostUn cs)) part.there
 
-  pub may_go : flat_map (going_may_run moving) (parts_at catalog object patch) ≡ call_at catalog patch place PostUn ++ still_at moving catalog patch place PreUn
+  pub may_go : flat_map (going_may_run moving) (parts_at catalog object patch) ≡ call_at catalog patch place PostUn ++ call_unless_moving moving catalog patch place PreUn
   may_go =
       alone (going_may_run moving)
       ∙ ap (λ cs. call_of patch place PostUn (script_for PostUn cs) ++ cond (moves moving patch) [] (call_of patch place PreUn (script_for PreUn cs))) part.there
 
   pub may_come : flat_map (coming_may_run moving) (parts_at catalog object patch)
-      ≡ call_at catalog patch place Pre ++ call_at catalog patch place PostUn ++ still_at moving catalog patch place Post ++ still_at moving catalog patch place PreUn
+      ≡ call_at catalog patch place Pre ++ call_at catalog patch place PostUn ++ call_unless_moving moving catalog patch place Post ++ call_unless_moving moving catalog patch place PreUn
   may_come =
       alone (coming_may_run moving)
       ∙ ap (λ cs. call_of patch place Pre (script_for Pre cs) ++ call_of patch place PostUn (script_for PostUn cs)

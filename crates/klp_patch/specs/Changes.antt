@@ -1,4 +1,4 @@
--- What becomes of the entries when a patch comes to sites or leaves them, and what these changes note.
+-- The entries of sites after a patch was put on them or taken out, and the records that these changes log.
 use Rattle.std.specs.Prelude.{◌≡◌, ℕ, ◌+◌, ◌≤◌, Bool, true, not, ◌==◌, ◌&&◌, ◌||◌, List, ◌∷◌, ◌++◌, None, length, filter, is_none, if◌then◌else◌}
 use Rattle.std.specs.List.{All, count_by}
 use Rattle.klp_types.specs.declared.record.Record.{Record}
@@ -14,20 +14,21 @@ use Rattle.klp_sites.specs.Changes.{noting}
 use Rattle.klp_sites.specs.Undo.{is_of_sites, undone, have_effects}
 use Rattle.klp_patch.specs.Covered.{functions_in}
 
--- what a patch puts on the entries of a site: its function, or a nop where it replaces and there are entries
+-- the entries of a site once a patch is put on it: on top its function, or a nop if it is cumulative and the site has
+-- entries
 abbrev pub with_entry : Catalog → ℕ → ℕ → List Entry → List Entry
 with_entry catalog patch site entries =
     entry_of patch (function_for (functions_in catalog patch) site) (is_cumulative catalog patch && not (is_empty entries)) ++ entries
 
--- a nop on top, where there are entries but none of this patch
+-- puts a nop of the patch on top, if there are entries but none of the patch
 abbrev pub with_nop : ℕ → List Entry → List Entry
 with_nop patch entries = if is_empty entries || has_entry patch entries then entries else record { patch = patch; func = None } ∷ entries
 
--- the entries but the nop of this patch
+-- the entries without a nop of this patch
 abbrev pub without_nop : ℕ → List Entry → List Entry
 without_nop patch entries = filter (λ (e : Entry). not (e.patch == patch && is_none e.func)) entries
 
--- the entries of the sites that a change is about are made anew, and nothing else changes
+-- each site that the change covers has the entries that `made` gives, and nothing else changes
 pub record AreMade (before after : SiteTable) (covers : ℕ → Bool) (made : ℕ → List Entry → List Entry) : Type 0 where
   pub image : after.image ≡ before.image
   pub loaded : after.loaded ≡ before.loaded
@@ -38,18 +39,19 @@ pub record AreMade (before after : SiteTable) (covers : ℕ → Bool) (made : �
 abbrev pub hooked_count : SiteTable → ℕ
 hooked_count table = count_by is_stacked table.stacks
 
--- how many entries a patch has at most: one for each function, and a nop on every other site where it replaces
+-- how many entries a patch has at most: one for each function, and, if it is cumulative, a nop for each site
 abbrev pub most_entries : Catalog → ℕ → SiteTable → ℕ
 most_entries catalog patch table = length (functions_in catalog patch) + (if is_cumulative catalog patch then length table.stacks else 0)
 
--- the rows that changed are logged as they were, as the newest: no more than these many entries, and one for each site that is
--- hooked or unhooked. So many sites were hooked before, or are afterwards, and so many are afterwards, or were before.
+-- The change logged each row as it was before, behind the records of the log: at most `most` entries, and one record
+-- for each site that was hooked or unhooked. For a change that hooks sites, `from` is how many were hooked before and
+-- `to` how many are hooked afterwards; for a change that unhooks sites it is the other way round.
 pub record Notes (before after : SiteTable) (log_before log_after : RecordList) (most from to : ℕ) : Type 0 where
   pub rows : List Record
   pub logged : log_after ≡ noting log_before rows
   pub of_sites : All (λ row. is_of_sites row ≡ true) rows
   -- put back newest first, they give the table before
   pub undo : undone after rows ≡ before
-  -- and each of them tells an entry or a hook that changed, so that it can be put back
+  -- each of them has an effect at its turn
   pub effective : have_effects after rows ≡ true
   pub few : length rows + from ≤ most + to

@@ -9,15 +9,16 @@ use Rattle.klp_sites.specs.Table.{SiteTable}
 abbrev pub functions_in : Catalog → ℕ → List Function
 functions_in catalog patch = all_functions (patch_objects (slice_get (patches_of catalog) patch))
 
--- whether a change of one object, or of all that are loaded, is about this object
+-- whether a change covers this object: the one that is named, or without a name any loaded object
 abbrev pub is_in_scope : Option ℕ → List Bool → ℕ → Bool
 is_in_scope None loaded object = slice_index_or loaded object false
 is_in_scope (Some own) loaded object = object == own
 
+-- whether a change covers this object, if there is one
 abbrev pub is_object_in_scope : Option ℕ → List Bool → Option ℕ → Bool
 is_object_in_scope only loaded None = false
 is_object_in_scope only loaded (Some object) = is_in_scope only loaded object
 
--- whether it is about the object of this site; a site that isn't there has none
+-- whether a change covers the object of this site; a site that the image doesn't have is never covered
 abbrev pub is_covered : SiteTable → Option ℕ → ℕ → Bool
 is_covered table only site = is_object_in_scope only table.loaded (object_of table.image.objects site)

@@ -7,7 +7,7 @@ use Rattle.klp_modules.specs.Names.{ModuleTable}
 use Rattle.klp_catalog.specs.Catalog.{Catalog}
 use Rattle.klp_catalog.specs.Runs.{objects_at}
 
--- whether the object is loaded; one that isn't there isn't
+-- whether the object is loaded; an object without a flag isn't
 abbrev pub is_loaded_in : ModuleTable → ℕ → Bool
 is_loaded_in modules object = slice_index_or modules.loaded object false
 
@@ -15,7 +15,7 @@ is_loaded_in modules object = slice_index_or modules.loaded object false
 abbrev pub patches_in : World → List ℕ
 patches_in world = map (λ (i : Installed). i.patch) world.installed
 
--- the loaded ones of these objects, of which the first has this place
+-- the loaded ones of these objects, each with its place; the first of the objects has the place `place`
 abbrev pub loaded_from : (ℕ → Bool) → ℕ → List PatchObject → List (ℕ × PatchObject)
 loaded_from loaded place objects = filter (λ (o : ℕ × PatchObject). loaded o.1.object) (enumerate_from place objects)
 

@@ -1,5 +1,4 @@
-//! One callback: the only place where a catalog's callback is run, so that all that holds of a run is
-//! proved once.
+//! Running one callback. Callbacks are run here and nowhere else, so that the facts about a run are proved once.
 ghost use Rattle.std.specs.Prelude.{◌≡◌};
 ghost use Rattle.klp_model.specs.Callbacks.{status_of};
 ghost use Rattle.klp_catalog.specs.Runs.{script_at};
@@ -11,8 +10,9 @@ use klp_journal::Records;
 use klp_types::{PatchId, Which};
 use klp_world::World;
 
-/// Runs the callback of a patch for its object at this place, and answers its status: 0 where there is no
-/// such callback. The laws that every run needs are called here, so that no walk over callbacks has to.
+/// Runs the callback of this kind that a patch has for its object at this place (its number among the patch's objects).
+/// Returns the callback's status, or 0 if the patch has no such callback. Calls the laws that every run needs, so that
+/// no loop over callbacks has to call them.
 pub(crate) fn run_at(
     catalog: &mut Catalog,
     patch: PatchId,

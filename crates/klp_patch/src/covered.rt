@@ -1,4 +1,4 @@
-//! The sites that a change is about: those of one object, or of all that are loaded.
+//! The sites that a change covers: those of one object, or of all loaded objects.
 ghost use Rattle.std.specs.Prelude.{◌≡◌, ℕ, ◌<◌, ◌&&◌, length, IfSome};
 ghost use Rattle.klp_types.specs.Setting.{is_at};
 ghost use Rattle.klp_modules.specs.Names.{names_of};
@@ -10,8 +10,8 @@ use klp_sites::Sites;
 use klp_text::Image;
 use klp_types::{ObjId, Site};
 
-/// Whether a change of one object, or of all that are loaded, is about this object. The one that is named
-/// is meant whether it is loaded or not.
+/// Whether a change covers this object. With `only`, the change covers that object alone, loaded or not. Without it,
+/// the change covers each loaded object.
 pub(crate) fn is_in_scope(image: &Image, only: Option<ObjId>, object: ObjId) -> bool
     ensures { result ≡ covered.is_in_scope only image.now.loaded object }
 {
@@ -21,7 +21,8 @@ pub(crate) fn is_in_scope(image: &Image, only: Option<ObjId>, object: ObjId) -> 
     }
 }
 
-/// The site of a function, where the change is about its object, which is told. A function without a site has no entry.
+/// Returns the function's site if the change covers the function's object. The caller says so by `in_scope`, so that it
+/// is computed once for each object. None if the object isn't covered, or if the function has no site.
 #[inline(always)]
 pub(crate) fn site_in_scope(
     sites: &Sites,
@@ -35,12 +36,14 @@ pub(crate) fn site_in_scope(
         → is_at result site ≡ (covered.is_covered sites.now only.now site && is_at function.now.site site) }
     ensures there { IfSome result (λ site. site < length sites.now.stacks) }
 {
-    // for its contract: each site of the image has a stack
+    // called for its contract: each site of the image has a stack
     let _image = sites.image();
     if in_scope { function.site() } else { None }
 }
 
-/// Whether a site lies in the object `only`, or without one in any loaded object. The cost is the number of the object that the site lies in.
+/// Whether a change covers a site: with `only`, whether the site lies in that object; without it, whether the site lies
+/// in a loaded object. The cost grows with the number of the object that the site lies in, since objects are searched
+/// in order.
 pub(crate) fn covers(sites: &Sites, only: &Option<ObjId>, site: Site) -> bool
     ensures { result ≡ covered.is_covered sites.now only.now site }
 {

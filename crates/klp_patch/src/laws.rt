@@ -1,4 +1,4 @@
-//! What is proved of the definitions themselves. A function here does nothing: its contract is the law.
+//! Laws of the definitions themselves. A function here does nothing: its contract is the law.
 ghost use Rattle.std.specs.Prelude.{◌≡◌, ℕ, ◌≤◌, ◌++◌, List, Option, length};
 ghost use Rattle.std.specs.List.{flat_map};
 ghost use Rattle.klp_types.specs.declared.callback.Which.TheVariants.{Pre, PostUn};
@@ -16,8 +16,8 @@ ghost use Rattle.klp_stack.specs.Stack.{entries_at};
 ghost use Rattle.klp_patch.specs.Blocked.{blocked_at};
 ghost use Rattle.klp_patch.specs.Calls.{records_of};
 
-/// Where the stacks are the entries of a state, site by site, what is blocked at the stacks is what is
-/// blocked in the state: so the set may be made of the stacks, which the definitions don't know.
+/// The versions blocked by the function stacks are those blocked by the state, if each site's stack has the entries
+/// that the state says. So `block` may make its set from the stacks, which the model's definitions don't mention.
 pub fn the_stacks_tell_what_is_blocked()
     ensures { (setting : Setting) (state : State) (move : Transition) (stacks : List (List Entry))
         → length stacks ≡ length (symbols_of setting.image.objects)
@@ -25,8 +25,8 @@ pub fn the_stacks_tell_what_is_blocked()
         → blocked_at 0 move stacks ≡ blocked setting state move }
 {}
 
-/// The callbacks that run log no more records than those that may, so room for these is room enough.
-pub fn those_that_run_note_no_more_than_those_that_may()
+/// The callbacks that run log at most as many records as the callbacks that may run. So room for the latter is enough.
+pub fn runs_log_no_more_than_may_run()
     ensures enabling { (patch : ℕ) (objects : List (ℕ × PatchObject))
         → records_of (enable_calls patch objects) ≤ records_of (calls_of patch Pre objects
         ++ calls_of patch PostUn objects) }

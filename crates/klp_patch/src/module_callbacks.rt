@@ -1,5 +1,5 @@
-//! The callbacks of a module that comes or goes, patch by patch, oldest first, as the kernel walks over
-//! `klp_patches`.
+//! The callbacks of a module that is loaded (coming) or unloaded (going): patch by patch, oldest first, as the kernel
+//! walks over `klp_patches`.
 ghost use Rattle.std.specs.Prelude.{◌≡◌, ℕ, ◌+◌, ◌≤◌, find, length, take, None, Some, option_map, MatchOption};
 ghost use Rattle.std.specs.List.{flat_map};
 ghost use Rattle.klp_types.specs.declared.callback.Which.TheVariants.{Pre};
@@ -13,15 +13,15 @@ ghost use Rattle.klp_patch.specs.UntilRefused.{calls_until_refused, refusal};
 ghost use Rattle.klp_patch.specs.Calls.{HaveRun, HasRoomFor, records_of, are_some};
 
 use crate::module_parts::{
-    a_coming_may_run, a_going_may_run, coming_allocs, going_allocs, part_coming, part_going,
+    coming_allocs, going_allocs, has_coming_callback, has_going_callback, part_coming, part_going,
 };
 use klp_catalog::Catalog;
 use klp_journal::Records;
 use klp_types::{ObjId, PatchId, Transition};
 use klp_world::World;
 
-/// How many shadow variables the callbacks that may run when a module comes add at most, the cleaning up
-/// after a refusal among them.
+/// Returns how many shadow variables the callbacks add at most that may run when a module is loaded. The callbacks that
+/// clean up after a refusal count too.
 pub fn allocs_of_coming(
     catalog: &Catalog,
     installed: &[PatchId],
@@ -30,7 +30,7 @@ pub fn allocs_of_coming(
 ) -> usize
     requires { length installed.now ≤ MAX_PATCHES }
     ensures value { result ≡ allocs_of (flat_map (coming_may_run moving) (parts_in catalog.now object installed.now)) }
-    // so they log few records
+    // so a bound on the records follows
     ensures records { records_of (flat_map (coming_may_run moving) (parts_in catalog.now object installed.now))
         ≤ MAX_COMING_EDITS + result }
 {
@@ -41,7 +41,7 @@ pub fn allocs_of_coming(
     sum
 }
 
-/// How many shadow variables the callbacks that may run when a module goes add at most.
+/// Returns how many shadow variables the callbacks add at most that may run when a module is unloaded.
 pub fn allocs_of_going(
     catalog: &Catalog,
     installed: &[PatchId],
@@ -60,7 +60,7 @@ pub fn allocs_of_going(
     sum
 }
 
-/// Whether one of these patches has a callback that may run when a module comes.
+/// Whether one of these patches has a callback that may run when the module is loaded.
 pub fn may_run_coming(
     catalog: &Catalog,
     installed: &[PatchId],
@@ -70,14 +70,14 @@ pub fn may_run_coming(
     ensures { result ≡ are_some (flat_map (coming_may_run moving) (parts_in catalog.now object installed.now)) }
 {
     for &patch in installed {
-        if a_coming_may_run(catalog, patch, object, &moving) {
+        if has_coming_callback(catalog, patch, object, &moving) {
             return true;
         }
     }
     false
 }
 
-/// Whether one of these patches has a callback that may run when a module goes.
+/// Whether one of these patches has a callback that may run when the module is unloaded.
 pub fn may_run_going(
     catalog: &Catalog,
     installed: &[PatchId],
@@ -87,16 +87,15 @@ pub fn may_run_going(
     ensures { result ≡ are_some (flat_map (going_may_run moving) (parts_in catalog.now object installed.now)) }
 {
     for &patch in installed {
-        if a_going_may_run(catalog, patch, object, &moving) {
+        if has_going_callback(catalog, patch, object, &moving) {
             return true;
         }
     }
     false
 }
 
-/// For each of these patches that has the module, pre-unpatch if the patch doesn't move, and post-unpatch.
-/// It is the going of a module, and also the cleaning up of one that was refused, since both undo what
-/// came.
+/// For each of these patches that changes the module, runs pre-unpatch unless the patch is in transition, and then
+/// post-unpatch. Called when a module is unloaded, and to clean up after a refused load.
 fn each_going(
     catalog: &mut Catalog,
     installed: &[PatchId],
@@ -115,9 +114,9 @@ fn each_going(
     }
 }
 
-/// For each of these patches that has the module, pre-patch, and post-patch if the patch doesn't move; up
-/// to and with the first pre-patch that refuses. If one does, its place among these, before which the
-/// cleaning up stops, its patch and the status are answered.
+/// For each of these patches that changes the module, runs pre-patch, and then post-patch unless the patch is in
+/// transition. Stops after the first pre-patch that refuses, and then returns three things: the index of the refusing
+/// patch in `installed`, so that the caller can clean up the patches before it; the patch; and the status.
 fn each_coming(
     catalog: &mut Catalog,
     installed: &[PatchId],
@@ -126,7 +125,8 @@ fn each_coming(
     world: &mut World,
     log: &mut Records,
 ) -> Option<(usize, PatchId, i32)>
-    requires { HasRoomFor world.old log.old (calls_until_refused moving.now (parts_in catalog.old object installed.now)) }
+    requires { HasRoomFor world.old log.old (calls_until_refused moving.now
+        (parts_in catalog.old object installed.now)) }
     ensures refused { MatchOption result
         (find part_refuses (parts_in catalog.old object installed.now) ≡ None)
         (λ r. (r.0 ≤ length installed.now)
@@ -145,10 +145,10 @@ fn each_coming(
     None
 }
 
-/// Runs, for each of these patches that has the module, pre-patch, and post-patch if the patch doesn't
-/// move; up to and with the first pre-patch that refuses. If one does, the patches before it are cleaned
-/// up, oldest first (the kernel's `klp_cleanup_module_patches_limited`): pre-unpatch if the patch doesn't
-/// move, and post-unpatch. Its patch and the status are answered.
+/// Runs the callbacks for a module that is loaded: for each of these patches that changes it, pre-patch, and post-patch
+/// unless the patch is in transition. If a pre-patch refuses, no later patch runs. The patches before it are cleaned up
+/// then, oldest first (the kernel's `klp_cleanup_module_patches_limited`): pre-unpatch unless the patch is in
+/// transition, then post-unpatch. Returns the refusing patch and its status, or None if none refused.
 pub fn run_coming(
     catalog: &mut Catalog,
     installed: &[PatchId],
@@ -171,8 +171,8 @@ pub fn run_coming(
     Some((patch, status))
 }
 
-/// Runs, for each of these patches that has the module, pre-unpatch if the patch doesn't move, and
-/// post-unpatch. None of them can keep the module from going.
+/// Runs the callbacks for a module that is unloaded: for each of these patches that changes it, pre-unpatch unless the
+/// patch is in transition, then post-unpatch. None of them can refuse the unloading.
 pub fn run_going(
     catalog: &mut Catalog,
     installed: &[PatchId],

@@ -1,6 +1,6 @@
-//! The callbacks of one patch for a module that comes or goes.
+//! The callbacks of one patch for a module that is loaded (coming) or unloaded (going).
 //!
-//! The patch in transition is lent, since it is asked for each callback.
+//! `moving` is passed by reference, since it is looked at for each callback.
 ghost use Rattle.std.specs.Prelude.{◌≡◌, ◌+◌, ◌*◌, ◌≤◌, [], find, option_map, is_some, true};
 ghost use Rattle.std.specs.List.{flat_map};
 ghost use Rattle.klp_types.specs.declared.limits.TheConstants.{MAX_EDITS};
@@ -12,7 +12,7 @@ ghost use Rattle.klp_model.specs.EventCalls.{coming_may_run, going_may_run};
 ghost use Rattle.klp_catalog.specs.Runs.{script_at};
 ghost use Rattle.klp_patch.specs.Refusing.{refusal_of};
 ghost use Rattle.klp_patch.specs.Places as places;
-ghost use Rattle.klp_patch.specs.Places.{call_at, still_at};
+ghost use Rattle.klp_patch.specs.Places.{call_at, call_unless_moving};
 ghost use Rattle.klp_patch.specs.ModuleParts.{parts_at};
 ghost use Rattle.klp_patch.specs.UntilRefused.{calls_until_refused, refusal};
 ghost use Rattle.klp_patch.specs.Calls.{HaveRun, HasRoomFor, records_of, are_some};
@@ -23,7 +23,7 @@ use klp_journal::Records;
 use klp_types::{ObjId, PatchId, Transition, Which, is_in_transition};
 use klp_world::World;
 
-/// How many shadow variables a callback adds at most; none where there is no such callback.
+/// Returns how many shadow variables one callback adds at most: 0 if the patch has no such callback.
 fn allocs_at(catalog: &Catalog, patch: PatchId, place: u8, which: Which) -> usize
     ensures value { result ≡ allocs_of (call_at catalog.now patch place which) }
     ensures limit { result ≤ MAX_EDITS }
@@ -32,17 +32,18 @@ fn allocs_at(catalog: &Catalog, patch: PatchId, place: u8, which: Which) -> usiz
     usize::from(catalog.allocs(patch, place, which))
 }
 
-/// How many shadow variables a callback adds at most that runs only if the patch doesn't move.
-fn allocs_still(
+/// Returns how many shadow variables one callback adds at most, if it runs only while its patch isn't in transition: 0
+/// while it is.
+fn allocs_unless_moving(
     catalog: &Catalog,
     patch: PatchId,
     place: u8,
     which: Which,
     moving: &Option<Transition>,
 ) -> usize
-    ensures value { result ≡ allocs_of (still_at moving.now catalog.now patch place which) }
+    ensures value { result ≡ allocs_of (call_unless_moving moving.now catalog.now patch place which) }
     ensures limit { result ≤ MAX_EDITS }
-    ensures records { records_of (still_at moving.now catalog.now patch place which) ≤ MAX_EDITS + result }
+    ensures records { records_of (call_unless_moving moving.now catalog.now patch place which) ≤ MAX_EDITS + result }
 {
     if is_in_transition(moving, patch) {
         0
@@ -51,8 +52,8 @@ fn allocs_still(
     }
 }
 
-/// How many shadow variables the patch's callbacks that may run when the module comes add at most: all four
-/// kinds, since a patch behind this one may refuse and this one be cleaned up.
+/// Returns how many shadow variables the patch's callbacks add at most that may run when the module is loaded. All four
+/// kinds count, since a later patch may refuse, and then this patch is cleaned up.
 pub(crate) fn coming_allocs(
     catalog: &Catalog,
     patch: PatchId,
@@ -68,16 +69,16 @@ pub(crate) fn coming_allocs(
         Some(place) => {
             let comes = allocs_at(catalog, patch, place, Which::Pre);
             let goes = allocs_at(catalog, patch, place, Which::PostUn);
-            let came = allocs_still(catalog, patch, place, Which::Post, moving);
-            let leaves = allocs_still(catalog, patch, place, Which::PreUn, moving);
+            let came = allocs_unless_moving(catalog, patch, place, Which::Post, moving);
+            let leaves = allocs_unless_moving(catalog, patch, place, Which::PreUn, moving);
             comes + goes + came + leaves
         }
         None => 0,
     }
 }
 
-/// How many shadow variables the patch's callbacks that may run when the module goes add at most: the two
-/// kinds of leaving.
+/// Returns how many shadow variables the patch's callbacks add at most that may run when the module is unloaded:
+/// pre-unpatch and post-unpatch.
 pub(crate) fn going_allocs(
     catalog: &Catalog,
     patch: PatchId,
@@ -92,27 +93,27 @@ pub(crate) fn going_allocs(
     match catalog.place(patch, object) {
         Some(place) => {
             allocs_at(catalog, patch, place, Which::PostUn)
-                + allocs_still(catalog, patch, place, Which::PreUn, moving)
+                + allocs_unless_moving(catalog, patch, place, Which::PreUn, moving)
         }
         None => 0,
     }
 }
 
-/// Whether there is a callback that runs only if the patch doesn't move, and the patch doesn't.
-fn has_still(
+/// Whether the patch has this callback and isn't in transition, so that a callback runs which runs only then.
+fn has_unless_moving(
     catalog: &Catalog,
     patch: PatchId,
     place: u8,
     which: Which,
     moving: &Option<Transition>,
 ) -> bool
-    ensures { result ≡ are_some (still_at moving.now catalog.now patch place which) }
+    ensures { result ≡ are_some (call_unless_moving moving.now catalog.now patch place which) }
 {
     !is_in_transition(moving, patch) && catalog.has_callback(patch, place, which)
 }
 
-/// Whether the patch has a callback that may run when the module comes.
-pub(crate) fn a_coming_may_run(
+/// Whether the patch has a callback that may run when the module is loaded.
+pub(crate) fn has_coming_callback(
     catalog: &Catalog,
     patch: PatchId,
     object: ObjId,
@@ -124,16 +125,16 @@ pub(crate) fn a_coming_may_run(
         Some(place) => {
             let comes = catalog.has_callback(patch, place, Which::Pre);
             let goes = catalog.has_callback(patch, place, Which::PostUn);
-            let came = has_still(catalog, patch, place, Which::Post, moving);
-            let leaves = has_still(catalog, patch, place, Which::PreUn, moving);
+            let came = has_unless_moving(catalog, patch, place, Which::Post, moving);
+            let leaves = has_unless_moving(catalog, patch, place, Which::PreUn, moving);
             comes | goes | came | leaves
         }
         None => false,
     }
 }
 
-/// Whether the patch has a callback that may run when the module goes.
-pub(crate) fn a_going_may_run(
+/// Whether the patch has a callback that may run when the module is unloaded.
+pub(crate) fn has_going_callback(
     catalog: &Catalog,
     patch: PatchId,
     object: ObjId,
@@ -144,15 +145,15 @@ pub(crate) fn a_going_may_run(
     match catalog.place(patch, object) {
         Some(place) => {
             let goes = catalog.has_callback(patch, place, Which::PostUn);
-            let leaves = has_still(catalog, patch, place, Which::PreUn, moving);
+            let leaves = has_unless_moving(catalog, patch, place, Which::PreUn, moving);
             goes | leaves
         }
         None => false,
     }
 }
 
-/// Runs a callback if the patch doesn't move, and drops its status, as only pre-patch may refuse.
-fn run_still(
+/// Runs a callback unless its patch is in transition. Drops the status, since only pre-patch may refuse.
+fn run_unless_moving(
     catalog: &mut Catalog,
     patch: PatchId,
     place: u8,
@@ -161,17 +162,16 @@ fn run_still(
     world: &mut World,
     log: &mut Records,
 )
-    requires { HasRoomFor world.old log.old (still_at moving.now catalog.old patch place which) }
+    requires { HasRoomFor world.old log.old (call_unless_moving moving.now catalog.old patch place which) }
     ensures { HaveRun catalog.old catalog.new world.old world.new log.old log.new
-        (still_at moving.now catalog.old patch place which) }
+        (call_unless_moving moving.now catalog.old patch place which) }
 {
     if !is_in_transition(moving, patch) {
         run_at(catalog, patch, place, which, world, log);
     }
 }
 
-/// Runs pre-patch for the object at this place, and answers its status where it refuses, as 0 is no
-/// refusal.
+/// Runs pre-patch for the object at this place. Returns its status if it refuses, which every status but 0 does.
 fn run_pre_at(
     catalog: &mut Catalog,
     patch: PatchId,
@@ -190,8 +190,8 @@ fn run_pre_at(
     }
 }
 
-/// Runs pre-patch, and post-patch if the patch doesn't move, for the object at this place. Where pre-patch
-/// refuses it runs alone, since nothing was set up, and its status is answered.
+/// Runs pre-patch for the object at this place, and then post-patch unless the patch is in transition. If pre-patch
+/// refuses, post-patch doesn't run, and the status is returned.
 fn coming_at(
     catalog: &mut Catalog,
     patch: PatchId,
@@ -208,15 +208,15 @@ fn coming_at(
     klp_catalog::laws::runs_add_up();
     match run_pre_at(catalog, patch, place, world, log) {
         None => {
-            run_still(catalog, patch, place, Which::Post, moving, world, log);
+            run_unless_moving(catalog, patch, place, Which::Post, moving, world, log);
             None
         }
         Some(status) => Some(status),
     }
 }
 
-/// Brings a module to one patch: where the patch has it, pre-patch runs for it, and post-patch if the patch
-/// doesn't move. Answers the status of a pre-patch that refuses.
+/// Runs one patch's callbacks for a module that is loaded, if the patch changes it: pre-patch, and post-patch unless
+/// the patch is in transition. Returns the status of a pre-patch that refuses.
 pub(crate) fn part_coming(
     catalog: &mut Catalog,
     patch: PatchId,
@@ -228,7 +228,7 @@ pub(crate) fn part_coming(
     requires { HasRoomFor world.old log.old (calls_until_refused moving.now (parts_at catalog.old object patch)) }
     ensures refused { option_map (λ status. (patch, status)) result
         ≡ option_map refusal (find part_refuses (parts_at catalog.old object patch)) }
-    // nothing of the patch comes before what refuses, since a patch has the module once
+    // a patch has the module once, so none of its callbacks runs before the one that refuses
     ensures first { is_some result ≡ true → parts_before (parts_at catalog.old object patch) ≡ [] }
     ensures ran { HaveRun catalog.old catalog.new world.old world.new log.old log.new
         (calls_until_refused moving.now (parts_at catalog.old object patch)) }
@@ -237,8 +237,8 @@ pub(crate) fn part_coming(
     coming_at(catalog, patch, place, moving, world, log)
 }
 
-/// Runs pre-unpatch if the patch doesn't move, and post-unpatch, for the object at this place. One that
-/// moves gets post-unpatch alone, because it has run pre-unpatch already, or never post-patch.
+/// Runs the callbacks of unloading for the object at this place: pre-unpatch unless the patch is in transition, then
+/// post-unpatch. A patch in transition has already run pre-unpatch, or never ran post-patch.
 fn going_at(
     catalog: &mut Catalog,
     patch: PatchId,
@@ -252,12 +252,12 @@ fn going_at(
         (places.going_at moving.now catalog.old patch place) }
 {
     klp_catalog::laws::runs_add_up();
-    run_still(catalog, patch, place, Which::PreUn, moving, world, log);
+    run_unless_moving(catalog, patch, place, Which::PreUn, moving, world, log);
     run_at(catalog, patch, place, Which::PostUn, world, log);
 }
 
-/// Lets a module go from one patch: where the patch has it, pre-unpatch runs for it if the patch doesn't
-/// move, and post-unpatch.
+/// Runs one patch's callbacks for a module that is unloaded, if the patch changes it: pre-unpatch unless the patch is
+/// in transition, then post-unpatch.
 pub(crate) fn part_going(
     catalog: &mut Catalog,
     patch: PatchId,

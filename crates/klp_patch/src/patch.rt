@@ -11,7 +11,8 @@ ghost use Rattle.klp_catalog.specs.States.{is_cumulative};
 ghost use Rattle.klp_stack.specs.Stack.{entries_at, has_entry, entries_of_others};
 ghost use Rattle.klp_patch.specs.Covered.{functions_in, is_covered};
 ghost use Rattle.klp_patch.specs.Room.{HasRoom};
-ghost use Rattle.klp_patch.specs.Changes.{AreMade, Notes, with_entry, with_nop, without_nop, hooked_count, most_entries};
+ghost use Rattle.klp_patch.specs.Changes.{AreMade, Notes, with_entry, with_nop, without_nop, hooked_count};
+ghost use Rattle.klp_patch.specs.Changes.{most_entries};
 
 use crate::covered::{covers, is_in_scope, site_in_scope};
 use crate::site::{put, put_nop, take, take_nop};
@@ -20,8 +21,8 @@ use klp_journal::Records;
 use klp_sites::Sites;
 use klp_types::{Entry, MAX_FUNCTIONS, MAX_PATCHES, MAX_SITES, ObjId, PatchId};
 
-/// Puts the functions of a patch on top of the stacks of their sites. No two are for one site, so each
-/// stack gets one entry at most. Whether the change is about an object is asked once for all its functions.
+/// Puts the functions of a patch on top of the stacks of their sites, for the objects that the change covers. No two
+/// functions share a site, so each stack gets at most one entry. Scope is computed once for each object.
 fn put_functions(
     sites: &mut Sites,
     functions: &[CatalogFunction],
@@ -61,14 +62,15 @@ fn put_functions(
     }
 }
 
-/// Puts a nop of a patch on each site that has entries but none of the patch, so that what older patches
-/// replaced is the original again. The patch's own functions have to be there first.
+/// Puts a nop of a patch on each covered site that has entries but none of the patch, so that calls there run the
+/// original and not what older patches put there. The patch's own functions must be on their stacks already.
 fn put_nops(sites: &mut Sites, patch: PatchId, only: &Option<ObjId>, log: &mut Records)
     requires number { patch < MAX_PATCHES }
     requires sites { length sites.old.stacks ≤ MAX_SITES }
     requires room { HasRoom sites.old (is_covered sites.old only.now) (λ site entries. with_nop patch entries) }
     requires records { length sites.old.stacks + MAX_SITES ≤ spare_of log.old + hooked_count sites.old }
-    ensures entries { AreMade sites.old sites.new (is_covered sites.old only.now) (λ site entries. with_nop patch entries) }
+    ensures entries { AreMade sites.old sites.new (is_covered sites.old only.now)
+        (λ site entries. with_nop patch entries) }
     ensures notes { Notes sites.old sites.new log.old log.new (length sites.old.stacks) (hooked_count sites.old)
         (hooked_count sites.new) }
 {
@@ -81,8 +83,8 @@ fn put_nops(sites: &mut Sites, patch: PatchId, only: &Option<ObjId>, log: &mut R
     }
 }
 
-/// Takes the entries of a patch out of the stacks of its functions' sites. There are no others, where the
-/// patch isn't cumulative.
+/// Takes the entries of a patch that isn't cumulative out of the stacks of its functions' sites. Such a patch has no
+/// other entries.
 fn take_functions(
     sites: &mut Sites,
     functions: &[CatalogFunction],
@@ -116,8 +118,8 @@ fn take_functions(
     }
 }
 
-/// Takes the entries of a patch out of all stacks that the change is about, since its nops may be at any
-/// site that has entries.
+/// Takes the entries of a cumulative patch out of all covered stacks, since its nops may be at any site that has
+/// entries.
 fn take_all(sites: &mut Sites, patch: PatchId, only: &Option<ObjId>, log: &mut Records)
     requires sites { length sites.old.stacks ≤ MAX_SITES }
     requires records { length sites.old.stacks + hooked_count sites.old ≤ spare_of log.old }
@@ -135,10 +137,12 @@ fn take_all(sites: &mut Sites, patch: PatchId, only: &Option<ObjId>, log: &mut R
     }
 }
 
-/// Puts a patch's entries on top of the stacks of its sites: those of one object, or of all that are
-/// loaded. A cumulative patch gets a nop on each other site that has entries (the kernel's `klp_add_nops`).
+/// Puts a patch's entries on top of the stacks of its sites, for the object `only`, or without `only` for all loaded
+/// objects. A cumulative patch also gets a nop on each other covered site that has entries (the kernel's
+/// `klp_add_nops`).
 ///
-/// It costs as much as the patch has functions; for a cumulative one as much as there are sites with entries, too.
+/// The cost grows with the number of the patch's functions, and for a cumulative patch with the number of sites that
+/// have entries, too.
 pub fn patch_sites(
     sites: &mut Sites,
     catalog: &Catalog,
@@ -166,10 +170,11 @@ pub fn patch_sites(
     }
 }
 
-/// Takes a patch's entries out of the stacks of its sites: those of one object, or of all that are
-/// loaded.
+/// Takes a patch's entries out of the stacks of its sites, for the object `only`, or without `only` for all loaded
+/// objects.
 ///
-/// It costs as much as the patch has functions; for a cumulative one as much as there are sites with entries, too.
+/// The cost grows with the number of the patch's functions, or for a cumulative patch with the number of sites that
+/// have entries.
 pub fn unpatch_sites(
     sites: &mut Sites,
     catalog: &Catalog,
@@ -179,8 +184,7 @@ pub fn unpatch_sites(
 )
     requires sites { length sites.old.stacks ≤ MAX_SITES }
     requires names { catalog.now.names ≡ names_of sites.old.image.objects }
-    // only a cumulative patch has entries where it has no function, so its functions are enough for any
-    // other
+    // only a cumulative patch has entries at sites where it has no function
     requires own { (site : ℕ) → is_covered sites.old only site ≡ true
         → has_entry patch (entries_at sites.old.stacks site) ≡ true
         → (is_some (function_for (functions_in catalog.now patch) site) || is_cumulative catalog.now patch) ≡ true }
@@ -200,8 +204,8 @@ pub fn unpatch_sites(
     }
 }
 
-/// Takes the nops of a patch out of all stacks, at the cost of the sites that have entries: once no older entry is left, the
-/// original needs none in its place.
+/// Takes the nops of a patch out of all stacks. Once no older entries are left under a nop, calls run the original
+/// without it. The cost grows with the number of sites that have entries.
 pub fn drop_nops(sites: &mut Sites, patch: PatchId, log: &mut Records)
     requires sites { length sites.old.stacks ≤ MAX_SITES }
     requires records { length sites.old.stacks + MAX_SITES ≤ spare_of log.old }

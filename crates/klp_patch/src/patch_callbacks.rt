@@ -1,6 +1,8 @@
-//! The callbacks of a patch, object by object, in the order in which the patch has its objects.
-ghost use Rattle.std.specs.Prelude.{◌≡◌, ℕ, ◌*◌, ◌≤◌, ◌++◌, length, slice_get, find, None, Some, option_map, MatchOption};
-ghost use Rattle.klp_types.specs.declared.limits.TheConstants.{MAX_CALLBACK_RECORDS, MAX_EDITS, MAX_KIND_RECORDS, MAX_TARGETS};
+//! The callbacks of a patch, object by object, in the order of the patch's objects.
+ghost use Rattle.std.specs.Prelude.{◌≡◌, ℕ, ◌*◌, ◌≤◌, ◌++◌, length, slice_get, find, None, Some, option_map};
+ghost use Rattle.std.specs.Prelude.{MatchOption};
+ghost use Rattle.klp_types.specs.declared.limits.TheConstants.{MAX_CALLBACK_RECORDS, MAX_EDITS, MAX_KIND_RECORDS};
+ghost use Rattle.klp_types.specs.declared.limits.TheConstants.{MAX_TARGETS};
 ghost use Rattle.klp_types.specs.declared.callback.Which.TheVariants.{Pre, PostUn};
 ghost use Rattle.klp_types.specs.Setting.{PatchObject as ObjectOf};
 ghost use Rattle.klp_types.specs.Callbacks.{script_for, calls_of, enable_calls, refuses, allocs_of};
@@ -17,8 +19,8 @@ use klp_modules::Modules;
 use klp_types::{ObjId, PatchId, Which};
 use klp_world::World;
 
-/// How many shadow variables the callback of one object adds at most, where the object is loaded. An object
-/// that isn't loaded takes no part: its callbacks run when it comes.
+/// Returns how many shadow variables the callback of one object adds at most: 0 if the object isn't loaded, since its
+/// callbacks run when it is loaded.
 fn allocs_where_loaded(
     catalog: &Catalog,
     modules: &Modules,
@@ -36,12 +38,12 @@ fn allocs_where_loaded(
     }
 }
 
-/// How many shadow variables the callbacks of a kind for the loaded objects of a patch add at most: those
-/// that are there already and those that are removed aren't counted against them.
+/// Returns how many shadow variables the callbacks of one kind add at most, for the loaded objects of a patch.
+/// Variables that exist already, or that the callbacks remove, aren't subtracted.
 pub fn allocs(catalog: &Catalog, modules: &Modules, patch: PatchId, which: Which) -> usize
     ensures value { result ≡ allocs_of (calls_of patch which (loaded_in catalog.now modules.now patch)) }
     ensures limit { result ≤ MAX_TARGETS * MAX_EDITS }
-    // so they log few records
+    // so a bound on the records follows
     ensures records { records_of (calls_of patch which (loaded_in catalog.now modules.now patch)) ≤ MAX_KIND_RECORDS }
 {
     let mut sum = 0;
@@ -51,7 +53,7 @@ pub fn allocs(catalog: &Catalog, modules: &Modules, patch: PatchId, which: Which
     sum
 }
 
-/// Whether one object has a callback of a kind, where the object is loaded.
+/// Whether one object is loaded and has a callback of this kind.
 fn has_callback_where_loaded(
     catalog: &Catalog,
     modules: &Modules,
@@ -67,7 +69,7 @@ fn has_callback_where_loaded(
     }
 }
 
-/// Whether one of a patch's loaded objects has a callback of a kind.
+/// Whether one of a patch's loaded objects has a callback of this kind.
 pub fn has_callbacks(catalog: &Catalog, modules: &Modules, patch: PatchId, which: Which) -> bool
     ensures { result ≡ are_some (calls_of patch which (loaded_in catalog.now modules.now patch)) }
 {
@@ -79,8 +81,8 @@ pub fn has_callbacks(catalog: &Catalog, modules: &Modules, patch: PatchId, which
     false
 }
 
-/// Runs the callback of one object, where the object is loaded, and answers its status: 0 where there is
-/// none, since what isn't there can't refuse.
+/// Runs the callback of one object if the object is loaded. Returns its status, or 0 if no callback ran, since nothing
+/// refused.
 fn run_where_loaded(
     catalog: &mut Catalog,
     modules: &Modules,
@@ -103,8 +105,8 @@ fn run_where_loaded(
     }
 }
 
-/// Runs the callbacks of a kind for the loaded ones of the patch's first `end` objects, in order. The end
-/// is for cleaning up, which stops before the object that refused.
+/// Runs the callbacks of one kind for those of the patch's first `end` objects that are loaded, in order. The cleaning
+/// up passes as `end` the place of the object that refused.
 fn run_first(
     catalog: &mut Catalog,
     modules: &Modules,
@@ -125,8 +127,8 @@ fn run_first(
     }
 }
 
-/// Runs the callbacks of a kind for the loaded objects of a patch, in order. Their statuses are dropped:
-/// only pre-patch may refuse, as in the kernel, where the other kinds return nothing.
+/// Runs the callbacks of one kind for the loaded objects of a patch, in order. Drops their statuses: only pre-patch may
+/// refuse, as in the kernel, whose other callbacks return nothing.
 pub fn run_callbacks(
     catalog: &mut Catalog,
     modules: &Modules,
@@ -143,8 +145,8 @@ pub fn run_callbacks(
     run_first(catalog, modules, patch, which, end, world, log);
 }
 
-/// Runs pre-patch object by object, up to and with the first that refuses, and answers the place of that
-/// object, before which the cleaning up stops, and the status.
+/// Runs pre-patch object by object, up to and including the first that refuses. Returns the refusing object's place and
+/// its status, or None if none refused. The cleaning up covers the objects before that place.
 fn pre_patch(
     catalog: &mut Catalog,
     modules: &Modules,
@@ -172,9 +174,9 @@ fn pre_patch(
     None
 }
 
-/// Runs pre-patch object by object, up to and with the first that refuses. If one does, the objects before
-/// it get post-unpatch, so that what they set up is cleaned up, and its number and the status are answered.
-/// The one that refuses cleans up after itself.
+/// Runs pre-patch object by object, up to and including the first that refuses. If one refuses, post-unpatch runs for
+/// the objects before it, which cleans up what they set up, and the refusing object is returned with its status. The
+/// callback that refuses cleans up after itself.
 pub fn run_pre_patch(
     catalog: &mut Catalog,
     modules: &Modules,

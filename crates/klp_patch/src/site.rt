@@ -1,5 +1,5 @@
-//! The entry of a patch comes to the stack of one site, or leaves it. A change of many sites is made of
-//! these, and so is its proof.
+//! Changes of the stack of one site: the entry of a patch is put on it, or taken out. Changes of many sites are made of
+//! these, and so are their proofs.
 ghost use Rattle.std.specs.Prelude.{◌≡◌, ℕ, ◌+◌, ◌<◌, ◌≤◌, ◌==◌, false, ◌∷◌, length};
 ghost use Rattle.klp_types.specs.Records.{spare_of};
 ghost use Rattle.klp_stack.specs.Spare.{spare_in};
@@ -10,7 +10,8 @@ use klp_journal::Records;
 use klp_sites::Sites;
 use klp_types::{Entry, MAX_PATCHES, MAX_SITES, PatchId, Site};
 
-/// Puts an entry on top of a site's stack. Its clauses count records as those of all sites are added up.
+/// Puts an entry on top of a site's stack. The clauses on records are in the form that loops over sites need to add
+/// them up.
 #[inline(always)]
 pub(crate) fn put(sites: &mut Sites, site: Site, entry: Entry, log: &mut Records)
     requires there { site < length sites.old.stacks }
@@ -25,8 +26,8 @@ pub(crate) fn put(sites: &mut Sites, site: Site, entry: Entry, log: &mut Records
     sites.push(site, entry, log);
 }
 
-/// Puts a nop on top of a site's stack, where it has entries but none of the patch: an unpatched site runs
-/// its original without one.
+/// Puts a nop of the patch on top of a site's stack if the stack has entries but none of the patch. A site without
+/// entries needs no nop: it runs its original anyway.
 #[tactic(auto, using(crate::proofs::SiteLemmas::none_of_sites))]
 pub(crate) fn put_nop(sites: &mut Sites, site: Site, patch: PatchId, log: &mut Records)
     requires there { site < length sites.old.stacks }
@@ -43,8 +44,8 @@ pub(crate) fn put_nop(sites: &mut Sites, site: Site, patch: PatchId, log: &mut R
     }
 }
 
-/// Takes the entry of a patch out of a site's stack, if it has one there: a walk over all sites meets many
-/// without.
+/// Takes the entry of a patch out of a site's stack, and does nothing if there is none: loops over all sites also call
+/// it for sites where the patch has no entry.
 #[inline(always)]
 pub(crate) fn take(sites: &mut Sites, site: Site, patch: PatchId, log: &mut Records)
     requires { 1 + hooked_count sites.old ≤ spare_of log.old }
@@ -55,7 +56,7 @@ pub(crate) fn take(sites: &mut Sites, site: Site, patch: PatchId, log: &mut Reco
     sites.take(site, patch, log);
 }
 
-/// Takes the nop of a patch out of a site's stack, if it has one there, and leaves a function of the patch.
+/// Takes the patch's entry out of a site's stack if that entry is a nop. Leaves a function of the patch.
 #[tactic(auto, using(crate::proofs::SiteLemmas::none_of_sites))]
 pub(crate) fn take_nop(sites: &mut Sites, site: Site, patch: PatchId, log: &mut Records)
     requires { 1 + hooked_count sites.old ≤ spare_of log.old }

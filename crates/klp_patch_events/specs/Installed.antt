@@ -1,4 +1,4 @@
--- The installed patches of an allowed state, as a change of the sites asks for them.
+-- The installed patches of an allowed state, in the form in which changes of sites need them.
 use Rattle.std.specs.Prelude.{◌≡◌, ℕ, ◌<◌, ◌≤◌, List, length}
 use Rattle.std.specs.List.{All, count_by}
 use Rattle.klp_types.specs.declared.limits.TheConstants.{MAX_PATCHES, MAX_SITES}
@@ -9,7 +9,8 @@ use Rattle.klp_catalog.specs.Catalog.{Catalog}
 use Rattle.klp_catalog.specs.States.{is_cumulative}
 use Rattle.klp_sites.specs.Table.{SiteTable}
 
--- patches of the catalog, each once and at most two of them cumulative, over an image with few sites, by whose names the catalog was made
+-- patches of the catalog: each once, at most two of them cumulative, over an image with few sites and with the
+-- catalog's names
 pub record AreInstalled (catalog : Catalog) (sites : SiteTable) (patches : List ℕ) : Type 0 where
   pub numbers : All (λ p. p < MAX_PATCHES) patches
   pub few : length patches ≤ MAX_PATCHES

@@ -1,5 +1,5 @@
-//! Whether an event may run a callback. Counts of runs stay where an event is taken back, so who does events ahead of
-//! something that may fail asks this first.
+//! Whether an event may run a callback. Rewinding an event doesn't reset the counts of runs. So whoever takes an event
+//! before something that may fail asks this first.
 ghost use Rattle.std.specs.Prelude.{◌≡◌};
 ghost use Rattle.klp_model.specs.declared.event.Event.TheVariants.{Enable, SetEnabled, Poll};
 ghost use Rattle.klp_patch.specs.Calls.{are_some};
@@ -13,7 +13,7 @@ use klp_model::Event;
 use klp_patch::{has_callbacks, may_run_coming, may_run_going};
 use klp_types::{PatchId, Which, is_in_transition};
 
-/// Pre-patch, and post-unpatch where a pre-patch refuses.
+/// Whether enabling a patch may run a callback: pre-patch, or post-unpatch, which runs if a pre-patch refuses.
 fn may_run_enabling(state: &ManagerState, catalog: &Catalog, patch: PatchId) -> bool
     requires { Invariant state.now catalog.now }
     ensures { result ≡ are_some (may_run_in state.now catalog.now (Enable patch)) }
@@ -23,7 +23,8 @@ fn may_run_enabling(state: &ManagerState, catalog: &Catalog, patch: PatchId) -> 
     pre | post_un
 }
 
-/// Pre-unpatch, unless a transition turns round.
+/// Whether writing to a patch's `enabled` file may run a callback: pre-unpatch. A transition that is reversed runs
+/// none.
 fn may_run_setting(state: &ManagerState, catalog: &Catalog, patch: PatchId, value: bool) -> bool
     requires { Invariant state.now catalog.now }
     ensures { result ≡ are_some (may_run_in state.now catalog.now (SetEnabled patch value)) }
@@ -35,7 +36,7 @@ fn may_run_setting(state: &ManagerState, catalog: &Catalog, patch: PatchId, valu
     }
 }
 
-/// What runs at the end of the transition, if there is one.
+/// Whether a poll may run a callback: those that run at the end of the transition, if there is one.
 fn may_run_polling(state: &ManagerState, catalog: &Catalog) -> bool
     requires { Invariant state.now catalog.now }
     ensures { result ≡ are_some (may_run_in state.now catalog.now Poll) }
@@ -46,8 +47,9 @@ fn may_run_polling(state: &ManagerState, catalog: &Catalog) -> bool
     }
 }
 
-/// Whether one of the callbacks is there that the event may run where nothing refuses it. They are those for which an
-/// event asks whether there is room. It costs as much as the objects of the patch, or of installed patches for a module.
+/// Whether the patches have one of the callbacks that the event may run if nothing refuses it. An event asks for room
+/// for the same callbacks. The cost grows with the number of the patch's objects, or for a module with the objects of
+/// all installed patches.
 pub fn may_run(state: &ManagerState, catalog: &Catalog, event: &Event) -> bool
     requires { Invariant state.now catalog.now }
     ensures { result ≡ are_some (may_run_in state.now catalog.now event.now) }

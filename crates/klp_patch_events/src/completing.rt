@@ -1,9 +1,11 @@
-//! A transition is tried and completed (livepatch, Consistency model; cumulative-patches). Entries leave
-//! before the callbacks run, as in the kernel, and the list changes after them, so that they find the
-//! patches that leave.
+//! Trying and completing a transition (livepatch, Consistency model; cumulative-patches). As in the kernel, entries
+//! leave before the callbacks run. The list of installed patches changes after the callbacks, so that these still find
+//! the patches that leave.
 ghost use Rattle.std.specs.Prelude.{◌≡◌, ◌≢◌, ℕ, ◌+◌, ◌*◌, ◌≤◌, true, [], None, Some, ◌==◌, length};
 ghost use Rattle.std.specs.FinMap as finite;
-ghost use Rattle.klp_types.specs.declared.limits.TheConstants.{MAX_KIND_RECORDS, MAX_RECORDS, MAX_SITES, MAX_TASKS, MAX_VARIABLES, RECORDS_AFTER_CALLBACKS, RECORDS_AFTER_LIST, RECORDS_AFTER_SITES};
+ghost use Rattle.klp_types.specs.declared.limits.TheConstants.{MAX_KIND_RECORDS, MAX_RECORDS, MAX_SITES, MAX_TASKS};
+ghost use Rattle.klp_types.specs.declared.limits.TheConstants.{MAX_VARIABLES, RECORDS_AFTER_CALLBACKS};
+ghost use Rattle.klp_types.specs.declared.limits.TheConstants.{RECORDS_AFTER_LIST, RECORDS_AFTER_SITES};
 ghost use Rattle.klp_types.specs.Callbacks.{end_of, allocs_of};
 ghost use Rattle.klp_model.specs.declared.event.Event.TheVariants.{Poll};
 ghost use Rattle.klp_model.specs.declared.event.Reply.TheVariants.{Completed};
@@ -35,18 +37,17 @@ use klp_types::{
     MAX_FUNCTIONS, MAX_PATCHES, MAX_SITES, MAX_VARIABLES, PatchId, PatchState, Transition, Which,
 };
 
-/// The kind of callback that runs at the end of a transition to this target: post-patch where the patch is
-/// in, post-unpatch where it is out.
+/// Returns the kind of callback that runs at the end of a transition to this target: post-patch if the patch comes in,
+/// post-unpatch if it leaves.
 pub(crate) fn end_of(target: bool) -> Which
     ensures { result ≡ end_of target }
 {
     if target { Which::Post } else { Which::PostUn }
 }
 
-/// The transition is tried once more: sleepers that are inside of nothing blocked are brought to the
-/// target, and where no task lags it is completed. Nothing completes by itself, while a kernel tries
-/// every second; where there are no tasks the first try completes it (docs/DECISIONS.md, "When
-/// transitions complete").
+/// Tries the transition once more: switches the sleepers that aren't blocked, and completes the transition if no task
+/// lags then. Without tasks the first try completes it. A kernel tries every second, but here nothing completes without
+/// a poll (docs/DECISIONS.md, "When transitions complete").
 pub fn poll(state: &mut ManagerState, catalog: &mut Catalog) -> Result<BriefReply, Refusal>
     requires { Invariant state.old catalog.old }
     ensures taken { TakesEvent state.old state.new catalog.old catalog.new Poll result }
@@ -58,8 +59,8 @@ pub fn poll(state: &mut ManagerState, catalog: &mut Catalog) -> Result<BriefRepl
     }
 }
 
-/// Why the transition isn't tried, if it isn't: the first reason that holds. Room is asked for also
-/// where a task will lag, since nobody knows before.
+/// Returns the first reason why a poll is refused, or None. The poll needs room for the callbacks of the end even if a
+/// task will lag, since nobody knows that beforehand.
 pub fn poll_refusal(state: &ManagerState, catalog: &Catalog) -> Option<Refusal>
     requires { Invariant state.now catalog.now }
     ensures refusal { result ≡ refused_in state.now catalog.now Poll }
@@ -68,8 +69,8 @@ pub fn poll_refusal(state: &ManagerState, catalog: &Catalog) -> Option<Refusal>
     let Some(moving) = state.moving else {
         return Some(Refusal::NotMoving);
     };
-    // The sum over all callbacks of the end decides, before any of them runs (docs/DECISIONS.md,
-    // "`Full` at the end of a transition").
+    // The sum over all callbacks of the end decides, before any of them runs (docs/DECISIONS.md, "`Full` at the end of
+    // a transition").
     let end = allocs(catalog, &state.modules, moving.patch, end_of(moving.target));
     if usize::from(state.world.count()) + end > MAX_VARIABLES {
         return Some(Refusal::Full);
@@ -77,7 +78,8 @@ pub fn poll_refusal(state: &ManagerState, catalog: &Catalog) -> Option<Refusal>
     None
 }
 
-/// A transition that nothing refuses is tried. A task that lags leaves all else as it was.
+/// Tries the transition, and completes it if no task lags then. The caller has checked that nothing refuses the poll.
+/// If a task lags, only tasks have changed.
 fn try_once_more(state: &mut ManagerState, catalog: &mut Catalog) -> BriefReply
     requires kept { Invariant state.old catalog.old }
     requires free { refused_in state.old catalog.old Poll ≡ None }
@@ -87,7 +89,7 @@ fn try_once_more(state: &mut ManagerState, catalog: &mut Catalog) -> BriefReply
 {
     klp_manager_state::laws::steps_keep();
     let Some(moving) = state.moving else {
-        // Can't be: where nothing moves, the poll is refused.
+        // Never happens: without a transition the poll is refused.
         return BriefReply(Brief::Completed(false));
     };
     let left = try_tasks(state, catalog, &moving);
@@ -98,8 +100,8 @@ fn try_once_more(state: &mut ManagerState, catalog: &mut Catalog) -> BriefReply
     BriefReply(Brief::Completed(moving.target))
 }
 
-/// Brings sleepers to the target that are inside of nothing blocked, and answers how many tasks lag
-/// then. What was logged before is forgotten, since an event begins here.
+/// Drops what was logged, as the event begins here, and switches the sleepers that aren't blocked. Returns how many
+/// tasks still lag.
 fn try_tasks(state: &mut ManagerState, catalog: &Catalog, moving: &Transition) -> u8
     requires kept { Invariant state.old catalog.now }
     requires moving { state.old.moving ≡ Some moving.now }
@@ -122,8 +124,8 @@ fn try_tasks(state: &mut ManagerState, catalog: &Catalog, moving: &Transition) -
     state.tasks.lagging(moving.target)
 }
 
-/// Brings sleepers to the target that are inside of nothing blocked. The set of what is blocked is made
-/// anew, because entries and modules may have come or gone since the last try.
+/// Switches the sleepers that aren't blocked. Makes the set of blocked versions anew, because entries and modules may
+/// have come or gone since the last try.
 fn switch_sleepers(state: &mut ManagerState, catalog: &Catalog, moving: &Transition)
     requires state { Allowed (setting_in state.old catalog.now) (state_in state.old catalog.now) }
     requires limits { IsWithinLimits state.old.sites.image.objects }
@@ -150,9 +152,8 @@ fn switch_sleepers(state: &mut ManagerState, catalog: &Catalog, moving: &Transit
         .try_all(&state.blocked, moving.target, &mut state.log);
 }
 
-/// Every task is at the target: the transition is complete. As in the kernel
-/// (`klp_complete_transition`) the entries go before the callbacks run, and these still find the
-/// patches that leave.
+/// Completes a transition whose tasks are all at the target. As in the kernel (`klp_complete_transition`) the entries
+/// leave before the callbacks run, and the callbacks still find the patches that leave.
 fn complete(state: &mut ManagerState, catalog: &mut Catalog, moving: &Transition)
     requires kept { Invariant state.old catalog.old }
     requires moving { state.old.moving ≡ Some moving.now }
@@ -160,12 +161,13 @@ fn complete(state: &mut ManagerState, catalog: &mut Catalog, moving: &Transition
         + allocs_of (end_calls (setting_in state.old catalog.old) (state_in state.old catalog.old)
         (Some moving.now)) ≤ MAX_VARIABLES }
     requires calls { records_of
-        (end_calls (setting_in state.old catalog.old) (state_in state.old catalog.old) (Some moving.now)) ≤ MAX_KIND_RECORDS }
+        (end_calls (setting_in state.old catalog.old) (state_in state.old catalog.old) (Some moving.now))
+        ≤ MAX_KIND_RECORDS }
     requires records { length state.old.log.logged ≤ MAX_TASKS }
     ensures completed { IsCompleted state.old state.new catalog.old catalog.new moving.now }
     ensures logged { rows_before state.new ≡ rows_before state.old }
 {
-    settle_sites(state, catalog, moving);
+    remove_leaving_entries(state, catalog, moving);
     run_callbacks(
         catalog,
         &state.modules,
@@ -174,11 +176,12 @@ fn complete(state: &mut ManagerState, catalog: &mut Catalog, moving: &Transition
         &mut state.world,
         &mut state.log,
     );
-    settle_list(state, catalog, moving);
+    remove_leaving_patches(state, catalog, moving);
     rest(state);
 }
 
-/// Nothing moves any more: each task has the state -1, as `/proc/<pid>/patch_state` shows it at rest.
+/// Ends the transition: sets each task's patch state to -1, which `/proc/<pid>/patch_state` shows outside of
+/// transitions.
 fn rest(state: &mut ManagerState)
     requires moves { state.old.moving ≢ None }
     requires tasks { length state.old.tasks ≡ MAX_TASKS }
@@ -194,9 +197,9 @@ fn rest(state: &mut ManagerState)
     state.set_moving(None);
 }
 
-/// Leaves at the sites the entries of the patches that stay. A patch that came in without replacing
-/// anything changes no site now.
-fn settle_sites(state: &mut ManagerState, catalog: &Catalog, moving: &Transition)
+/// Takes out the entries of the patches that leave when the transition completes. A patch that comes in without
+/// replacing others changes no site here.
+fn remove_leaving_entries(state: &mut ManagerState, catalog: &Catalog, moving: &Transition)
     requires kept { Invariant state.old catalog.now }
     requires moving { state.old.moving ≡ Some moving.now }
     requires records { length state.old.log.logged ≤ MAX_TASKS }
@@ -228,8 +231,8 @@ fn settle_sites(state: &mut ManagerState, catalog: &Catalog, moving: &Transition
     }
 }
 
-/// Takes the entries of the older patches away, and the nops of the patch that replaces them, which
-/// were there for nothing but these.
+/// Takes out the entries of the older patches, and the nops of the patch that replaces them, which only hid these
+/// entries.
 fn replace_sites(state: &mut ManagerState, catalog: &Catalog, moving: &Transition)
     requires kept { Invariant state.old catalog.now }
     requires moving { state.old.moving ≡ Some moving.now }
@@ -255,8 +258,8 @@ fn replace_sites(state: &mut ManagerState, catalog: &Catalog, moving: &Transitio
     drop_nops(&mut state.sites, moving.patch, &mut state.log);
 }
 
-/// Leaves the patches that stay in the list, and the values of their states with them.
-fn settle_list(state: &mut ManagerState, catalog: &Catalog, moving: &Transition)
+/// Takes the patches that leave out of the list of installed patches, with the values of their system states.
+fn remove_leaving_patches(state: &mut ManagerState, catalog: &Catalog, moving: &Transition)
     requires records { length state.old.log.logged ≤ RECORDS_AFTER_CALLBACKS }
     requires log { state.old.log.room ≡ MAX_RECORDS }
     ensures parts { state.new

@@ -1,5 +1,5 @@
-//! A patch is disabled, or its transition turns round (livepatch, Disabling; callbacks, the case of a
-//! transition that is reversed).
+//! Disabling a patch, or reversing its transition (livepatch, Disabling; callbacks, the case of a transition that is
+//! reversed).
 ghost use Rattle.std.specs.Prelude.{◌≡◌, ◌≤◌, true, false, None, Some};
 ghost use Rattle.klp_types.specs.declared.limits.TheConstants.{MAX_KIND_RECORDS};
 ghost use Rattle.klp_types.specs.Pick.{moves};
@@ -19,9 +19,9 @@ use klp_patch::{allocs, run_callbacks};
 use klp_tasks::target_state;
 use klp_types::{MAX_VARIABLES, PatchId, Transition, Which, is_in_transition};
 
-/// A value is written to the `enabled` file of an installed patch (the kernel's `enabled_store`). A
-/// transition of the patch turns round, and nothing runs, since what was set up is still there; else
-/// the patch starts to be disabled, object by object with pre-unpatch.
+/// Writes a value to the `enabled` file of an installed patch (the kernel's `enabled_store`). If the patch is in
+/// transition, the transition is reversed, and no callback runs, since what callbacks set up is still there. Otherwise
+/// the patch starts to be disabled, and pre-unpatch runs object by object.
 pub fn set_enabled(
     state: &mut ManagerState,
     catalog: &mut Catalog,
@@ -32,16 +32,15 @@ pub fn set_enabled(
     ensures taken { TakesEvent state.old state.new catalog.old catalog.new (SetEnabled patch value) result }
     ensures logged { IsLogged state.old state.new result }
 {
-    match set_refusal(state, catalog, patch, value) {
+    match set_enabled_refusal(state, catalog, patch, value) {
         Some(refusal) => Err(refusal),
         None => Ok(turn(state, catalog, patch, value)),
     }
 }
 
-/// Why the value isn't written, if it isn't: the first reason that holds. Room is computed before them,
-/// though it is the last, since its proof bounds the records too (docs/DECISIONS.md, "Room computed
-/// before the refusals").
-pub fn set_refusal(
+/// Returns the first reason why the value can't be written, or None. Room is computed before the other reasons, though
+/// it is the last, since its proof also bounds the records (docs/DECISIONS.md, "Room computed before the refusals").
+pub fn set_enabled_refusal(
     state: &ManagerState,
     catalog: &Catalog,
     patch: PatchId,
@@ -68,8 +67,8 @@ pub fn set_refusal(
     }
 }
 
-/// Whether there is no room for what the callbacks add. A patch that moves runs none, since its
-/// transition turns round.
+/// Whether there is no room for the variables that the callbacks may add. A patch in transition runs no callback, since
+/// its transition is reversed.
 fn lacks_room_to_set(state: &ManagerState, catalog: &Catalog, patch: PatchId, value: bool) -> bool
     requires { Invariant state.now catalog.now }
     ensures room { result ≡ lacks_room_in state.now catalog.now (SetEnabled patch value) }
@@ -84,7 +83,7 @@ fn lacks_room_to_set(state: &ManagerState, catalog: &Catalog, patch: PatchId, va
     usize::from(state.world.count()) + pre_un > MAX_VARIABLES
 }
 
-/// A transition turns round, or a disabling starts, by whether the patch moves.
+/// Reverses the patch's transition if it is in one, and otherwise starts to disable it.
 fn turn(state: &mut ManagerState, catalog: &mut Catalog, patch: PatchId, value: bool) -> BriefReply
     requires kept { Invariant state.old catalog.old }
     requires free { refused_in state.old catalog.old (SetEnabled patch value) ≡ None }
@@ -105,8 +104,8 @@ fn turn(state: &mut ManagerState, catalog: &mut Catalog, patch: PatchId, value: 
     disable(state, catalog, patch, value)
 }
 
-/// A disabling starts. The tasks are at 1, because all of them run the patch, and the entries stay
-/// until the end.
+/// Starts to disable a patch: runs pre-unpatch, sets all tasks to patch state 1, since all of them run the patch, and
+/// begins a transition to 0. The entries stay until it completes.
 fn disable(
     state: &mut ManagerState,
     catalog: &mut Catalog,

@@ -1,7 +1,9 @@
-//! A patch is enabled (livepatch, Enabling; callbacks, pre-patch; cumulative-patches).
-ghost use Rattle.std.specs.Prelude.{◌≡◌, ℕ, ◌+◌, ◌<◌, ◌≤◌, true, false, None, Some, length, slice_index_or, is_none, ◌&&◌};
+//! Enabling a patch (livepatch, Enabling; callbacks, pre-patch; cumulative-patches).
+ghost use Rattle.std.specs.Prelude.{◌≡◌, ℕ, ◌+◌, ◌<◌, ◌≤◌, true, false, None, Some, length, slice_index_or, is_none};
+ghost use Rattle.std.specs.Prelude.{◌&&◌};
 ghost use Rattle.std.specs.List.{list_any};
-ghost use Rattle.klp_types.specs.declared.limits.TheConstants.{MAX_ENABLING_RECORDS, MAX_LIST_RECORDS, RECORDS_BEFORE_SITES};
+ghost use Rattle.klp_types.specs.declared.limits.TheConstants.{MAX_ENABLING_RECORDS, MAX_LIST_RECORDS};
+ghost use Rattle.klp_types.specs.declared.limits.TheConstants.{RECORDS_BEFORE_SITES};
 ghost use Rattle.klp_types.specs.World.{with_patch, without_patch};
 ghost use Rattle.klp_model.specs.declared.event.Event.TheVariants.{Enable};
 ghost use Rattle.klp_model.specs.declared.event.Reply.TheVariants.{PreFailed};
@@ -34,9 +36,9 @@ use klp_types::{
     Which,
 };
 
-/// Whether a function of the patch for a loaded object names no site, so that the patch couldn't be put in
-/// whole. One for an object that isn't loaded may, since it is looked at when the module comes
-/// (docs/DECISIONS.md, "Symbols of objects that aren't loaded").
+/// Whether a function of the patch, for a loaded object, names no symbol of it, so that the patch couldn't be put in
+/// whole. A function for an object that isn't loaded may lack its symbol, since that is checked when the module is
+/// loaded (docs/DECISIONS.md, "Symbols of objects that aren't loaded").
 fn lacks_symbol(state: &ManagerState, found: &CatalogPatch) -> bool
     ensures { result ≡ list_any (λ (f : FunctionOf). slice_index_or state.now.modules.loaded f.object false
         && is_none f.site) found.now.functions }
@@ -52,7 +54,7 @@ fn lacks_symbol(state: &ManagerState, found: &CatalogPatch) -> bool
     false
 }
 
-/// The reply where a pre-patch callback of the patch refused: for this object, with this status. It is no
+/// Returns the reply for a patch whose pre-patch callback refused, with the object and the status. It is a reply and no
 /// refusal, since callbacks ran and were counted.
 fn pre_failed(patch: PatchId, refused: &(ObjId, i32)) -> BriefReply
     ensures { result ≡ PreFailed patch refused.now.0 refused.now.1 }
@@ -61,9 +63,9 @@ fn pre_failed(patch: PatchId, refused: &(ObjId, i32)) -> BriefReply
     BriefReply(Brief::PreFailed(patch, object, status))
 }
 
-/// A patch that isn't installed is put last and starts to move to the target 1: pre-patch runs object
-/// by object, and its entries come to the sites of loaded objects. Where pre-patch refuses, the objects
-/// before get post-unpatch, and the patch is gone again.
+/// Enables a patch that isn't installed, and starts its transition to 1. Puts the patch last in the list, runs
+/// pre-patch object by object, and puts its entries on the sites of loaded objects. If a pre-patch refuses,
+/// post-unpatch runs for the objects before it, the patch leaves the list again, and the reply is `PreFailed`.
 pub fn enable(
     state: &mut ManagerState,
     catalog: &mut Catalog,
@@ -79,15 +81,15 @@ pub fn enable(
     }
 }
 
-/// Why the patch isn't enabled, if it isn't: the first reason that holds. It may be asked without
-/// enabling, as a full journal does.
+/// Returns the first reason why the patch can't be enabled, or None. Changes nothing, so that a full journal can ask
+/// which refusal an event would get.
 pub fn enable_refusal(state: &ManagerState, catalog: &Catalog, patch: PatchId) -> Option<Refusal>
     requires { Invariant state.now catalog.now }
     ensures refusal { result ≡ refused_in state.now catalog.now (Enable patch) }
     ensures records { records_of (may_run_in state.now catalog.now (Enable patch)) ≤ MAX_ENABLING_RECORDS }
 {
-    // Computed before the refusals, though it comes last, since its proof bounds the records on every
-    // way out (docs/DECISIONS.md, "Room computed before the refusals").
+    // Computed before the other refusals, though it comes last, since its proof bounds the records on every way out
+    // (docs/DECISIONS.md, "Room computed before the refusals").
     let lacks_room = lacks_room_to_enable(state, catalog, patch);
     let Some(found) = catalog.get(patch) else {
         return Some(Refusal::NoPatch);
@@ -99,7 +101,7 @@ pub fn enable_refusal(state: &ManagerState, catalog: &Catalog, patch: PatchId) -
     } else if state.pinned.is_pinned(patch) {
         Some(Refusal::Pinned)
     } else if !catalog.is_compatible(patch, state.world.installed()) {
-        // Those that it would replace count too, since it takes their states over.
+        // The patches that it would replace count too, since it takes their states over.
         Some(Refusal::Incompatible)
     } else if lacks_symbol(state, found) {
         Some(Refusal::NoSymbol)
@@ -110,22 +112,23 @@ pub fn enable_refusal(state: &ManagerState, catalog: &Catalog, patch: PatchId) -
     }
 }
 
-/// Whether there is no room for what the callbacks that may run add. It is asked once, so that none
+/// Whether there is no room for the variables that the callbacks may add. Checked once, beforehand, so that no callback
 /// fails for want of room.
 fn lacks_room_to_enable(state: &ManagerState, catalog: &Catalog, patch: PatchId) -> bool
     requires { Invariant state.now catalog.now }
     ensures room { result ≡ lacks_room_in state.now catalog.now (Enable patch) }
     ensures records { records_of (may_run_in state.now catalog.now (Enable patch)) ≤ MAX_ENABLING_RECORDS }
 {
-    // Both kinds count, whatever the statuses are, so that one can add it up from the catalog
+    // Both kinds count whatever the statuses are, so that one can compute the sum from the catalog alone
     // (docs/DECISIONS.md, "Room for the callbacks that may run").
     let pre = allocs(catalog, &state.modules, patch, Which::Pre);
     let post_un = allocs(catalog, &state.modules, patch, Which::PostUn);
     usize::from(state.world.count()) + pre + post_un > MAX_VARIABLES
 }
 
-/// A patch that nothing refuses is put last, and starts to move where no pre-patch callback refuses. It
-/// is in the list before they run, so that they can set its states.
+/// Puts a patch last in the list, runs pre-patch, and starts the transition unless a pre-patch refuses. The caller has
+/// checked that nothing refuses the event. The patch is in the list before its callbacks run, so that they can set its
+/// states.
 fn install(state: &mut ManagerState, catalog: &mut Catalog, patch: PatchId) -> BriefReply
     requires kept { Invariant state.old catalog.old }
     requires free { refused_in state.old catalog.old (Enable patch) ≡ None }
@@ -135,13 +138,13 @@ fn install(state: &mut ManagerState, catalog: &mut Catalog, patch: PatchId) -> B
 {
     klp_manager_state::laws::steps_keep();
     klp_model::laws::events_are_accepted_where_no_case_holds();
-    klp_patch::laws::those_that_run_note_no_more_than_those_that_may();
+    klp_patch::laws::runs_log_no_more_than_may_run();
     klp_types::laws::entries_are_of_their_patches();
     klp_types::laws::the_newest_entry_is_on_top();
     prove!(usize::from(catalog.patches()) <= MAX_PATCHES);
     prove!(state.sites.sites() <= MAX_SITES);
     put_last(state, catalog, patch);
-    // For all objects before the first site is hooked, since a refused patch mustn't touch the text
+    // Runs for all objects before the first site is hooked, since a refused patch must not touch the text
     // (docs/DECISIONS.md, "Pre-patch before the first hook").
     match run_pre_patch(
         catalog,
@@ -161,8 +164,8 @@ fn install(state: &mut ManagerState, catalog: &mut Catalog, patch: PatchId) -> B
     }
 }
 
-/// Puts a patch last, with its system states at 0. What was logged before is forgotten, since an event
-/// begins here.
+/// Puts a patch last in the list of installed patches, with its system states at 0. First drops what was logged, as the
+/// event begins here.
 fn put_last(state: &mut ManagerState, catalog: &Catalog, patch: PatchId)
     requires fresh { is_among patch state.old.world.installed ≡ false }
     requires room { length state.old.world.installed < MAX_PATCHES }
@@ -183,7 +186,7 @@ fn put_last(state: &mut ManagerState, catalog: &Catalog, patch: PatchId)
     state.world.add_states(patch, &ids, &mut state.log);
 }
 
-/// Takes a patch out again after a refusal, with its states and the values that callbacks gave these.
+/// Takes a patch out of the list after its pre-patch refused, with its states and the values that callbacks gave them.
 fn take_out(state: &mut ManagerState, patch: PatchId)
     requires { length state.old.log.logged + MAX_LIST_RECORDS ≤ state.old.log.room }
     ensures parts { state.new
@@ -196,8 +199,8 @@ fn take_out(state: &mut ManagerState, patch: PatchId)
     state.world.drop_states(patch, &mut state.log);
 }
 
-/// A patch that is put last starts to move to the target 1. Its entries are there before any task is at
-/// 1: a task of state 0 passes over them, so nothing changes for it yet.
+/// Starts the transition of an installed patch to 1. First puts its entries on the sites: no task has patch state 1
+/// then, so every task passes over the entries, and nothing changes for it yet.
 fn start(state: &mut ManagerState, catalog: &Catalog, patch: PatchId)
     requires number { patch < MAX_PATCHES }
     requires rests { state.old.moving ≡ None }
@@ -221,7 +224,7 @@ fn start(state: &mut ManagerState, catalog: &Catalog, patch: PatchId)
 {
     klp_tasks::laws::records_are_few();
     prove!(state.sites.sites() <= MAX_SITES);
-    // for its contract, which bounds the patch's functions
+    // called for its contract, which bounds the patch's functions
     let _found = catalog.get(patch);
     patch_sites(&mut state.sites, catalog, patch, None, &mut state.log);
     prove!(state.sites.sites() <= MAX_SITES);

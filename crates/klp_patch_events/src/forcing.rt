@@ -1,4 +1,4 @@
-//! A transition is forced (livepatch, Consistency model: the `force` attribute).
+//! Forcing a transition (livepatch, Consistency model: the `force` attribute).
 ghost use Rattle.std.specs.Prelude.{◌≡◌, ◌+◌, ◌≤◌, length};
 ghost use Rattle.klp_model.specs.declared.event.Event.TheVariants.{Force};
 ghost use Rattle.klp_model.specs.Refusals.{refusal};
@@ -14,10 +14,9 @@ use klp_model::Refusal;
 use klp_tasks::target_state;
 use klp_types::{MAX_PATCHES, PatchId, Transition, is_in_transition};
 
-/// Every task is brought to the target of the patch in transition, whatever it is inside of. Pinned are
-/// the patch itself where it moves out, and all other installed ones where it replaces them, since a
-/// task may still be in their functions. The transition is completed by the next poll. It looks at all
-/// tasks.
+/// Switches every task to the target of the patch in transition, whatever functions the task is inside of. Pins the
+/// patches whose functions tasks may still be in: the patch itself if it leaves, and all other installed patches if it
+/// replaces them. The next poll completes the transition. The cost grows with the number of tasks.
 pub fn force(
     state: &mut ManagerState,
     catalog: &Catalog,
@@ -43,8 +42,7 @@ pub fn force(
     Ok(BriefReply(Brief::Done))
 }
 
-/// Why a patch isn't forced, if it isn't: the first reason that holds. There is never want of room,
-/// since no callback runs.
+/// Returns the first reason why a transition can't be forced, or None. Room is never a reason, since no callback runs.
 pub fn force_refusal(state: &ManagerState, catalog: &Catalog, patch: PatchId) -> Option<Refusal>
     ensures { result ≡ refused_in state.now catalog.now (Force patch) }
 {
@@ -59,12 +57,13 @@ pub fn force_refusal(state: &ManagerState, catalog: &Catalog, patch: PatchId) ->
     }
 }
 
-/// Pins the patches that a forced transition leaves tasks inside of (the kernel's `forced` flag, by
-/// which their modules are never freed).
+/// Pins the patches whose functions tasks may still be inside of after a forced transition (the kernel's `forced` flag,
+/// with which their modules are never freed).
 fn pin(state: &mut ManagerState, catalog: &Catalog, moving: Transition)
     requires { length state.old.log.logged + MAX_PATCHES ≤ state.old.log.room }
     ensures parts { state.new ≡ record state.old {
-      pinned = pin_all (pinned_by (setting_in state.old catalog.now) (state_in state.old catalog.now) moving) state.old.pinned;
+      pinned = pin_all (pinned_by (setting_in state.old catalog.now) (state_in state.old catalog.now) moving)
+          state.old.pinned;
       log = state.new.log;
     } }
     ensures logged { rows_before state.new ≡ rows_before state.old }

@@ -1,12 +1,13 @@
 //! The events of patches and modules, each as a step of the model, over a manager's state.
 //!
-//! Each event answers and leaves what the definition says, or is refused for its reason (`TakesEvent` in
-//! `klp_manager_state/specs/Events`), with its callbacks counted, and what it logged gives the rows before
-//! it. What refuses an event can be asked alone, without taking it.
+//! Each event has the reply and the effect that the model defines, or is refused for the reason that the model gives
+//! (`TakesEvent` in `klp_manager_state/specs/Events`). The runs of its callbacks are counted. Putting back what it
+//! logged gives the rows before it. For each event a function of its own returns why it would be refused, without
+//! taking it.
 //!
-//! There is one file for each kind of event: `src/enabling.rt`, `disabling.rt`, `forcing.rt`,
-//! `completing.rt` and `module.rt`. `callbacks.rt` asks whether an event may run a callback, `replacing.rt` has what a cumulative patch takes out, and
-//! `module_sites.rt` what a module that comes or goes does to its sites.
+//! There is one file for each kind of event: `src/enabling.rt`, `disabling.rt`, `forcing.rt`, `completing.rt` and
+//! `module.rt`. `callbacks.rt` finds out whether an event may run a callback, `replacing.rt` takes out what a
+//! cumulative patch replaces, and `module_sites.rt` changes the sites of a module that is loaded or unloaded.
 #![tactic(auto)]
 
 mod callbacks;
@@ -20,7 +21,7 @@ mod replacing;
 
 pub use callbacks::may_run;
 pub use completing::{poll, poll_refusal};
-pub use disabling::{set_enabled, set_refusal};
+pub use disabling::{set_enabled, set_enabled_refusal};
 pub use enabling::{enable, enable_refusal};
 pub use forcing::{force, force_refusal};
 pub use module::{coming, coming_refusal, going, going_refusal};

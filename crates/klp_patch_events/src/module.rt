@@ -1,5 +1,6 @@
-//! A module is loaded, or unloaded (livepatch, Livepatch life-cycle; callbacks, the cases of modules).
-ghost use Rattle.std.specs.Prelude.{◌≡◌, ◌+◌, ◌<◌, ◌≤◌, ◌==◌, ◌&&◌, not, nat_lt, true, false, length, reverse, is_none, Some, None};
+//! Loading and unloading a module (livepatch, Livepatch life-cycle; callbacks, the cases of modules).
+ghost use Rattle.std.specs.Prelude.{◌≡◌, ◌+◌, ◌<◌, ◌≤◌, ◌==◌, ◌&&◌, not, nat_lt, true, false, length, reverse, is_none};
+ghost use Rattle.std.specs.Prelude.{Some, None};
 ghost use Rattle.std.specs.List.{All, count_by, list_any};
 ghost use Rattle.klp_types.specs.declared.limits.TheConstants.{MAX_COMING_EDITS, MAX_GOING_EDITS, MAX_PATCHES};
 ghost use Rattle.klp_types.specs.Callbacks.{allocs_of};
@@ -25,14 +26,14 @@ use klp_model::Refusal;
 use klp_patch::{allocs_of_coming, allocs_of_going, run_coming, run_going};
 use klp_types::{MAX_PATCHES, MAX_VARIABLES, ObjId, PatchId};
 
-/// Whether a function is for this object and names no site of it, so that it couldn't be put in.
+/// Whether a function is for this object but names no symbol of it, so that it has no site to be put on.
 fn lacks_site(function: &CatalogFunction, object: ObjId) -> bool
     ensures { result ≡ (function.now.object == object && is_none function.now.site) }
 {
     function.object() == object && function.site().is_none()
 }
 
-/// Whether a patch has a function for this object that names no site of it.
+/// Whether a patch has a function for this object that names no symbol of it.
 fn lacks_symbol(catalog: &Catalog, patch: PatchId, object: ObjId) -> bool
     ensures { result ≡ list_any (λ (f : FunctionOf). f.object == object && is_none f.site)
         (catalog_functions catalog.now patch) }
@@ -43,8 +44,8 @@ fn lacks_symbol(catalog: &Catalog, patch: PatchId, object: ObjId) -> bool
         .any(|function| lacks_site(function, object))
 }
 
-/// Whether one of these patches has a function for this object that names no site of it. It was enabled
-/// while the module wasn't loaded, so nobody has asked before.
+/// Whether one of these patches has a function for this object that names no symbol of it. Enabling a patch doesn't
+/// check this for a module that isn't loaded, so it is checked when the module is loaded.
 fn some_lacks_symbol(catalog: &Catalog, patches: &[PatchId], object: ObjId) -> bool
     ensures { result ≡ list_any (λ patch. list_any (λ (f : FunctionOf). f.object == object && is_none f.site)
         (catalog_functions catalog.now patch)) patches.now }
@@ -57,9 +58,9 @@ fn some_lacks_symbol(catalog: &Catalog, patches: &[PatchId], object: ObjId) -> b
     false
 }
 
-/// A module is loaded (the kernel's `klp_module_coming`). Each installed patch that has it runs
-/// pre-patch for it, and post-patch if it doesn't move, and puts its entries on the module's sites.
-/// Where a pre-patch refuses, the patches before are cleaned up, and the module isn't loaded.
+/// Loads a module (the kernel's `klp_module_coming`). For each installed patch that changes the module, pre-patch runs,
+/// and post-patch unless the patch is in transition. Then the patches' entries are put on the module's sites. If a
+/// pre-patch refuses, the patches before it are cleaned up, and the module isn't loaded.
 pub fn coming(
     state: &mut ManagerState,
     catalog: &mut Catalog,
@@ -75,9 +76,9 @@ pub fn coming(
     }
 }
 
-/// A module is unloaded (the kernel's `klp_module_going`). Each installed patch that has it runs
-/// pre-unpatch for it if it doesn't move, and post-unpatch, and takes its entries out of the module's
-/// sites.
+/// Unloads a module (the kernel's `klp_module_going`). For each installed patch that changes the module, pre-unpatch
+/// runs unless the patch is in transition, and then post-unpatch. Then the patches' entries are taken out of the
+/// module's sites.
 pub fn going(
     state: &mut ManagerState,
     catalog: &mut Catalog,
@@ -93,9 +94,8 @@ pub fn going(
     }
 }
 
-/// Why a module isn't loaded, if it isn't: the first reason that holds. Room is computed before the
-/// refusals, since its proof bounds the records too (docs/DECISIONS.md, "Room computed before the
-/// refusals").
+/// Returns the first reason why a module can't be loaded, or None. Room is computed before the other reasons, since its
+/// proof also bounds the records (docs/DECISIONS.md, "Room computed before the refusals").
 pub fn coming_refusal(state: &ManagerState, catalog: &Catalog, object: ObjId) -> Option<Refusal>
     requires { Invariant state.now catalog.now }
     ensures refusal { result ≡ refused_in state.now catalog.now (Coming object) }
@@ -117,8 +117,8 @@ pub fn coming_refusal(state: &ManagerState, catalog: &Catalog, object: ObjId) ->
     }
 }
 
-/// Why a module isn't unloaded, if it isn't: the first reason that holds. A task inside of it is one,
-/// since a kernel has the module's reference count for that.
+/// Returns the first reason why a module can't be unloaded, or None. One reason is a task inside of the module, for
+/// which a kernel has the module's reference count.
 pub fn going_refusal(state: &ManagerState, catalog: &Catalog, object: ObjId) -> Option<Refusal>
     requires { Invariant state.now catalog.now }
     ensures refusal { result ≡ refused_in state.now catalog.now (Going object) }
@@ -138,14 +138,14 @@ pub fn going_refusal(state: &ManagerState, catalog: &Catalog, object: ObjId) -> 
     }
 }
 
-/// Whether the image has this object, and it isn't `vmlinux`, which never comes or goes.
+/// Whether the image has this object and it isn't `vmlinux`, which is never loaded or unloaded.
 fn is_module(state: &ManagerState, object: ObjId) -> bool
     ensures { result ≡ (not (object == 0) && nat_lt object (length state.now.sites.image.objects)) }
 {
     object.0 != 0 && object.0 < state.sites.image().objects()
 }
 
-/// Whether an installed patch has a function for the module that names no site of it.
+/// Whether an installed patch has a function for the module that names no symbol of it.
 fn part_lacks_symbol(state: &ManagerState, catalog: &Catalog, object: ObjId) -> bool
     ensures { result
         ≡ part_lacks_symbol (setting_in state.now catalog.now) (state_in state.now catalog.now) object }
@@ -153,7 +153,7 @@ fn part_lacks_symbol(state: &ManagerState, catalog: &Catalog, object: ObjId) -> 
     some_lacks_symbol(catalog, state.world.installed(), object)
 }
 
-/// Whether there is no room for what the callbacks add when the module comes, whether they run or not.
+/// Whether there is no room for the variables that the callbacks may add when the module is loaded.
 fn lacks_room_to_come(state: &ManagerState, catalog: &Catalog, object: ObjId) -> bool
     ensures room { result ≡ lacks_room_in state.now catalog.now (Coming object) }
     ensures records { records_of (may_run_in state.now catalog.now (Coming object))
@@ -163,7 +163,7 @@ fn lacks_room_to_come(state: &ManagerState, catalog: &Catalog, object: ObjId) ->
     added > MAX_VARIABLES - usize::from(state.world.count())
 }
 
-/// Whether there is no room for what the callbacks add when the module goes.
+/// Whether there is no room for the variables that the callbacks may add when the module is unloaded.
 fn lacks_room_to_go(state: &ManagerState, catalog: &Catalog, object: ObjId) -> bool
     ensures room { result ≡ lacks_room_in state.now catalog.now (Going object) }
     ensures records { records_of (may_run_in state.now catalog.now (Going object))
@@ -173,28 +173,28 @@ fn lacks_room_to_go(state: &ManagerState, catalog: &Catalog, object: ObjId) -> b
     added > MAX_VARIABLES - usize::from(state.world.count())
 }
 
-/// The installed patches, oldest first, in a list that stays while the world changes: callbacks are
-/// handed the world, and so the world's own list can't be lent meanwhile.
+/// Returns a copy of the list of installed patches, oldest first. A copy is needed since callbacks get the world by
+/// `&mut`, and so the world's own list can't be borrowed meanwhile.
 fn installed_patches(state: &ManagerState, catalog: &Catalog) -> ArrayVec<PatchId, MAX_PATCHES>
     requires { Invariant state.now catalog.now }
     ensures value { result.items ≡ installed_patches (state_in state.now catalog.now) }
     ensures few { length result.items ≤ MAX_PATCHES }
     ensures numbers { All (λ p. p < MAX_PATCHES) result.items }
     ensures replace { count_by (is_cumulative catalog.now) result.items ≤ 2 }
-    // the entries of them all find room, on all sites
+    // the entries of all these patches fit, over all sites
     ensures fit { FindRoom (λ site. entries_from (setting_in state.now catalog.now) site
         (reverse (installed_patches (state_in state.now catalog.now)))) (length state.now.sites.stacks) }
 {
     klp_model::laws::at_most_two_patches_replace();
-    // for their contracts, which bound the entries
+    // called for their contracts, which bound the entries
     let _patches = catalog.patches();
     let _sites = state.sites.sites();
     state.world.installed_list()
 }
 
-/// A module is loaded that nothing speaks against. Callbacks see no function stack, and an event is one
-/// step, so they all run before the entries come, and a refused module costs no entry
-/// (docs/DECISIONS.md, "Callbacks of a module before its entries").
+/// Loads a module. The caller has checked that nothing refuses it. All callbacks run before the entries are put on its
+/// sites, so a refused module costs no entry. Nobody sees this order, since callbacks see no function stack, and an
+/// event is one step (docs/DECISIONS.md, "Callbacks of a module before its entries").
 fn come(state: &mut ManagerState, catalog: &mut Catalog, object: ObjId) -> BriefReply
     requires kept { Invariant state.old catalog.old }
     requires free { refused_in state.old catalog.old (Coming object) ≡ None }
@@ -217,7 +217,7 @@ fn come(state: &mut ManagerState, catalog: &mut Catalog, object: ObjId) -> Brief
         Some((patch, status)) => BriefReply(Brief::PreFailed(patch, object, status)),
         None => {
             state.log.note(state.sites.load(object));
-            // the one row is logged by the sites, and by its record both get their flag back
+            // only the sites log the loaded flag: by their record undo sets both flags back
             state.modules.set_loaded(object, true);
             patch_object(
                 &mut state.sites,
@@ -231,8 +231,8 @@ fn come(state: &mut ManagerState, catalog: &mut Catalog, object: ObjId) -> Brief
     }
 }
 
-/// A module is unloaded that nothing speaks against. The callbacks run before the entries go, as when
-/// one is loaded; the flag goes last, so that undo loads the module before its entries are back.
+/// Unloads a module. The caller has checked that nothing refuses it. The callbacks run before its entries leave, as
+/// when a module is loaded. The loaded flag changes last, so that undo first sets it back and then the entries.
 fn go(state: &mut ManagerState, catalog: &mut Catalog, object: ObjId) -> BriefReply
     requires kept { Invariant state.old catalog.old }
     requires free { refused_in state.old catalog.old (Going object) ≡ None }

@@ -1,8 +1,9 @@
-//! The entries of all installed patches come to the sites of a module, and leave them. What is proved here
-//! beside is how many records that logs at most.
+//! Putting the entries of all installed patches on the sites of a module, and taking them out. The proofs here also
+//! bound how many records these changes log.
 ghost use Rattle.std.specs.Prelude.{◌≡◌, ℕ, ◌+◌, ◌*◌, ◌∷◌, ◌<◌, ◌≤◌, true, [], length, reverse, Some, if◌then◌else◌};
 ghost use Rattle.std.specs.List.{All, count_by};
-ghost use Rattle.klp_types.specs.declared.limits.TheConstants.{MAX_FUNCTIONS, MAX_PATCHES, MAX_RECORDS, MAX_SITES, RECORDS_BEFORE_SITES};
+ghost use Rattle.klp_types.specs.declared.limits.TheConstants.{MAX_FUNCTIONS, MAX_PATCHES, MAX_RECORDS, MAX_SITES};
+ghost use Rattle.klp_types.specs.declared.limits.TheConstants.{RECORDS_BEFORE_SITES};
 ghost use Rattle.klp_types.specs.Entries.{entries_from};
 ghost use Rattle.klp_model.specs.Allowed.{AreDistinct};
 ghost use Rattle.klp_text.specs.TextImage.{site_count};
@@ -22,7 +23,7 @@ use klp_patch::{patch_sites, unpatch_sites};
 use klp_sites::Sites;
 use klp_types::{MAX_PATCHES, ObjId, PatchId};
 
-/// Each site has one stack. The call is made for its contract, which bounds their number.
+/// Shows that there are at most `MAX_SITES` stacks, one for each site. Calls `sites` for its contract.
 fn stacks_are_few(sites: &Sites)
     requires { site_count sites.now.image ≤ MAX_SITES }
     ensures stacks { length sites.now.stacks ≤ MAX_SITES }
@@ -32,8 +33,8 @@ fn stacks_are_few(sites: &Sites)
     let _sites = sites.sites();
 }
 
-/// A patch has few functions, and has nops only where it is a cumulative one. The call is made for its
-/// contract.
+/// Bounds the entries of a patch: a patch has few functions, and only a cumulative patch has nops. Calls `functions`
+/// for its contract.
 fn entries_are_few(sites: &Sites, catalog: &Catalog, patch: PatchId)
     requires { length sites.now.stacks ≤ MAX_SITES }
     ensures { most_entries catalog.now patch sites.now
@@ -42,8 +43,8 @@ fn entries_are_few(sites: &Sites, catalog: &Catalog, patch: PatchId)
     let _functions = catalog.functions(patch);
 }
 
-/// Puts the entries of patches on the sites of one object, which have none, oldest first: so each stack has
-/// the order in which the patches were enabled.
+/// Puts the entries of these patches on the sites of one object, which have no entries yet. Goes from the oldest patch
+/// to the newest, so that each stack has the order in which the patches were enabled.
 pub(crate) fn patch_object(
     sites: &mut Sites,
     catalog: &Catalog,
@@ -79,7 +80,7 @@ pub(crate) fn patch_object(
     }
 }
 
-/// Takes the entries of patches out of the sites of one object, which have those of no other, so that none
+/// Takes the entries of these patches out of the sites of one object. The sites have entries of no other patch, so none
 /// is left.
 pub(crate) fn unpatch_object(
     sites: &mut Sites,
@@ -90,7 +91,8 @@ pub(crate) fn unpatch_object(
 )
     requires installed { AreInstalled catalog.now sites.old patches.now }
     requires own { (site : ℕ) → is_covered sites.old (Some object) site ≡ true
-        → entries_at sites.old.stacks site ≡ entries_from (record { image = sites.old.image; patches = patches_of catalog.now }) site (reverse patches.now) }
+        → entries_at sites.old.stacks site ≡ entries_from
+        (record { image = sites.old.image; patches = patches_of catalog.now }) site (reverse patches.now) }
     requires records { length log.old.logged ≤ RECORDS_BEFORE_SITES }
     requires room { log.old.room ≡ MAX_RECORDS }
     ensures image { sites.new.image ≡ sites.old.image }

@@ -1,7 +1,9 @@
-//! What a cumulative patch takes along when its transition is complete (cumulative-patches).
-ghost use Rattle.std.specs.Prelude.{◌≡◌, ℕ, ◌+◌, ◌*◌, ◌≤◌, true, None, Some, not, ◌==◌, length, map, slice_get, if◌then◌else◌};
+//! What a cumulative patch replaces when its transition completes (cumulative-patches).
+ghost use Rattle.std.specs.Prelude.{◌≡◌, ℕ, ◌+◌, ◌*◌, ◌≤◌, true, None, Some, not, ◌==◌, length, map, slice_get};
+ghost use Rattle.std.specs.Prelude.{if◌then◌else◌};
 ghost use Rattle.std.specs.List.{filter, count_by};
-ghost use Rattle.klp_types.specs.declared.limits.TheConstants.{MAX_RECORDS, MAX_SITES, RECORDS_AFTER_CALLBACKS, RECORDS_AFTER_LIST, RECORDS_AFTER_SITES};
+ghost use Rattle.klp_types.specs.declared.limits.TheConstants.{MAX_RECORDS, MAX_SITES, RECORDS_AFTER_CALLBACKS};
+ghost use Rattle.klp_types.specs.declared.limits.TheConstants.{RECORDS_AFTER_LIST, RECORDS_AFTER_SITES};
 ghost use Rattle.klp_types.specs.declared.version.Entry.{Entry};
 ghost use Rattle.klp_types.specs.World.{Installed};
 ghost use Rattle.klp_model.specs.Allowed.{is_one_of};
@@ -22,9 +24,9 @@ use klp_sites::Sites;
 use klp_types::{MAX_FUNCTIONS, MAX_SITES, PatchId};
 use klp_world::World;
 
-/// Of these patches those before this one, all of them where it isn't among them. There may be none, and
-/// newer ones behind it, where a cumulative patch is enabled again after others: these stay
-/// (docs/DECISIONS.md, "Cumulative patches below newer ones").
+/// Returns the patches of the list that are before this one, or the whole list if this one isn't in the list. There may
+/// be none before it, and newer ones behind it, if a cumulative patch was disabled and enabled again. The newer ones
+/// stay then (docs/DECISIONS.md, "Cumulative patches below newer ones").
 pub(crate) fn older_than(patch: PatchId, installed: &[PatchId]) -> &[PatchId]
     ensures { result.now ≡ installed_before patch installed.now }
 {
@@ -36,8 +38,8 @@ pub(crate) fn older_than(patch: PatchId, installed: &[PatchId]) -> &[PatchId]
     installed
 }
 
-/// Takes the entries of these patches out of the stacks of all loaded sites. The order makes no difference
-/// to what is left, but to the records.
+/// Takes the entries of these patches out of the stacks of all loaded sites. The order of the patches changes only the
+/// records, not the stacks that are left.
 pub(crate) fn unpatch_each(
     sites: &mut Sites,
     catalog: &Catalog,
@@ -68,15 +70,15 @@ pub(crate) fn unpatch_each(
     }
 }
 
-/// The oldest installed patch, if there is one, as a copy, since the world is changed next.
+/// Returns a copy of the number of the oldest installed patch, or None without one. A copy, since the world changes
+/// next.
 fn oldest(world: &World) -> Option<PatchId>
     ensures { result ≡ slice_get (map (λ (i : Installed). i.patch) world.now.installed) 0 }
 {
     world.installed().first().copied()
 }
 
-/// Takes the patches before this one out of the list, oldest first, so that the one to go is always the
-/// first.
+/// Takes the patches before this one out of the list, oldest first, so that the next to leave is always the first.
 pub(crate) fn drop_older(world: &mut World, patch: PatchId, log: &mut Records)
     requires records { length log.old.logged ≤ RECORDS_AFTER_CALLBACKS }
     requires log { log.old.room ≡ MAX_RECORDS }

@@ -5,18 +5,18 @@ ghost use Rattle.klp_sites.specs.Hooked.{bit_of, IsLowestFrom, IsNextSet};
 
 use klp_types::{MAX_SITES, Site};
 
-/// How many sites a word has a bit for.
+/// How many sites one word has bits for.
 const WORD: usize = u64::BITS as usize;
 
-/// The sites that are hooked, by a bit each (those of the kernel's list `klp_ops`): who walks over them looks at no
-/// other site.
+/// The hooked sites, one bit each (the sites of the kernel's list `klp_ops`). A walk over them visits no other
+/// site.
 #[derive(Clone, Copy)]
 pub(crate) struct HookedSites {
     words: [u64; MAX_SITES / WORD],
 }
 
 impl HookedSites {
-    /// None of them.
+    /// Creates the empty set.
     pub(crate) fn new() -> Self
         ensures { (site : ℕ) → bit_of result.words site ≡ 0 }
     {
@@ -25,7 +25,7 @@ impl HookedSites {
         }
     }
 
-    /// Puts a site in.
+    /// Adds a site.
     #[inline(always)]
     pub(crate) fn insert(&mut self, site: Site)
         requires { site < MAX_SITES }
@@ -35,7 +35,7 @@ impl HookedSites {
         self.words[number / WORD] |= 1u64 << (number % WORD);
     }
 
-    /// Takes a site out.
+    /// Removes a site.
     #[inline(always)]
     pub(crate) fn remove(&mut self, site: Site)
         requires { site < MAX_SITES }
@@ -45,7 +45,8 @@ impl HookedSites {
         self.words[number / WORD] &= !(1u64 << (number % WORD));
     }
 
-    /// The first of them from a number on. The cost is a step for each word that is passed over.
+    /// Returns the lowest hooked site whose number is at least `from`. The cost is one step for each word of 64
+    /// sites that it passes.
     pub(crate) fn next(&self, from: usize) -> Option<Site>
         ensures some { IfSome result (λ site. IsNextSet self.now.words from site) }
         ensures none { IfNone result ((other : ℕ) → from ≤ other → bit_of self.now.words other ≡ 0) }
@@ -62,7 +63,7 @@ impl HookedSites {
     }
 }
 
-/// The lowest bit of a word from a number on.
+/// Returns the number of the lowest set bit of a word, among the bits from `from` on.
 #[inline(always)]
 fn lowest_from(word: u64, from: usize) -> Option<usize>
     requires { from < 64 }

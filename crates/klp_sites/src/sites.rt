@@ -1,4 +1,5 @@
-ghost use Rattle.std.specs.Prelude.{◌≡◌, ℕ, ◌<◌, ◌≤◌, true, false, length, replicate, option_map, slice_index_or, slice_set, is_some, IfOk, IfSome, IfNone, MatchOption};
+ghost use Rattle.std.specs.Prelude.{◌≡◌, ℕ, ◌<◌, ◌≤◌, true, false, length, replicate, option_map, slice_index_or};
+ghost use Rattle.std.specs.Prelude.{slice_set, is_some, IfOk, IfSome, IfNone, MatchOption};
 ghost use Rattle.klp_types.specs.declared.limits.TheConstants.{MAX_SITES};
 ghost use Rattle.klp_types.specs.Entries.{is_empty};
 ghost use Rattle.klp_types.specs.Records.{spare_of};
@@ -21,13 +22,13 @@ use std::marker::Model;
 
 /// The image and the function stacks of its sites.
 ///
-/// All room is taken by [`Sites::new`]. Each change logs or answers a record of every row that it changes,
-/// as it was. To put these records back, newest first, gives the table before the changes.
+/// [`Sites::new`] takes all room. Each change logs or returns an undo record for every row that it changes. These
+/// records, put back newest first, restore the table before the changes.
 #[derive(Drop)]
 pub struct Sites {
     image: Image,
     stacks: Stacks,
-    /// Those with an entry, so that a walk over them costs what they are.
+    /// The sites that have an entry. A walk over them costs nothing for the other sites.
     hooked: HookedSites,
 }
 
@@ -45,7 +46,7 @@ impl Model for Sites {
         × AreHooked s.hooked.words s.stacks };
 }
 
-/// How many sites the objects of an image have, loaded or not, since each wants its stack from the start.
+/// Counts the sites of all objects of an image, loaded or not: each needs a stack from the start.
 fn count_sites(image: &Image) -> usize
     ensures value { result ≡ site_count image.now.image }
     ensures few { result ≤ MAX_SITES }
@@ -58,8 +59,8 @@ fn count_sites(image: &Image) -> usize
 }
 
 impl Sites {
-    /// The image with a stack without entries for each site. Nothing may be hooked yet, since nothing has
-    /// an entry. An error is want of memory, and the image is dropped with it.
+    /// Takes an image without hooks, and creates an empty stack for each of its sites. `Err` if memory is refused;
+    /// the image is dropped then.
     pub fn new(alloc: Global, image: Image) -> Result<Self, AllocError>
         requires { image.hooked ≡ replicate (site_count image.image) false }
         ensures { IfOk result (λ sites. sites ≡ opening image) }
@@ -73,8 +74,8 @@ impl Sites {
         })
     }
 
-    /// Puts an entry on top of a site's stack, and hooks the site with its first, as the kernel registers
-    /// its `ftrace_ops` with the first function of a stack. The cost is constant.
+    /// Puts an entry on top of a site's stack, at a constant cost. The first entry of a site also hooks it, as the
+    /// kernel registers its `ftrace_ops` with the first function of a stack.
     #[inline(always)]
     pub fn push(&mut self, site: Site, entry: Entry, log: &mut Records)
         requires there { site < length self.old.stacks }
@@ -85,7 +86,7 @@ impl Sites {
         ensures changes { Changes self.old self.new log.old log.new (pushed self.old site entry)
             (rows_of_push self.old site entry) }
     {
-        // A nop is an entry too, because it has to be run by the handler.
+        // A nop counts as an entry too, because the handler has to run for it.
         let Entry { patch, func: _ } = entry;
         let is_first = self.stacks.push(site, entry);
         log.note(Record::StackEntry {
@@ -100,8 +101,9 @@ impl Sites {
         }
     }
 
-    /// Takes the entry of a patch out of a site's stack, if it has one there, and unhooks the site with its
-    /// last, so that a function without patches pays for none. The cost is the entry's place.
+    /// Takes the entry of a patch out of a site's stack, if the patch has one there. The last entry of a site also
+    /// unhooks it, so that a call of an unpatched function costs nothing extra. The cost is the number of entries
+    /// above the patch's.
     #[inline(always)]
     pub fn take(&mut self, site: Site, patch: PatchId, log: &mut Records)
         requires records { length (rows_of_take self.old site patch) ≤ spare_of log.old }
@@ -121,7 +123,7 @@ impl Sites {
         }
     }
 
-    /// The same without a record of it. Undoing has this part of the change's code.
+    /// Does what `take` does, without logging. Undo shares this code.
     #[inline(always)]
     fn take_out(&mut self, site: Site, patch: PatchId) -> Option<Taken>
         ensures place { option_map (λ taken. taken.place) result
@@ -142,8 +144,8 @@ impl Sites {
         Some(taken)
     }
 
-    /// Makes an object loaded, and answers whether it was. Its sites stay hooked or unhooked as they are,
-    /// because the entries of a module come by changes of their own. The cost is constant.
+    /// Marks an object as loaded, and returns the undo record, which says whether it was loaded before. The hooks
+    /// of its sites don't change: the entries of a module are put on by changes of their own. The cost is constant.
     pub fn load(&mut self, object: ObjId) -> Record
         requires { object < length self.old.image.objects }
         ensures row { result ≡ Record.LoadedFlag object (slice_index_or self.old.loaded object false) }
@@ -153,8 +155,8 @@ impl Sites {
         self.set_loaded(object, true)
     }
 
-    /// Makes an object one that isn't loaded, and answers whether it was. Its sites stay hooked or unhooked
-    /// as they are: the caller takes its entries out beside. The cost is constant.
+    /// Marks an object as not loaded, and returns the undo record, which says whether it was loaded before. The
+    /// hooks of its sites don't change: the caller takes the entries out itself. The cost is constant.
     pub fn unload(&mut self, object: ObjId) -> Record
         requires { object < length self.old.image.objects }
         ensures row { result ≡ Record.LoadedFlag object (slice_index_or self.old.loaded object false) }
@@ -164,10 +166,10 @@ impl Sites {
         self.set_loaded(object, false)
     }
 
-    /// Gives one row what the record has: an entry, with which the hook of its site comes or goes, or
-    /// whether an object is loaded. Nothing changes where there is no such site or object, and by a record
-    /// of another kind: a hook's own record is one, since the entry's, put back right after it, brings the hook back
-    /// (docs/DECISIONS.md, "Hooks in undo"). The cost is at most the stack's height.
+    /// Restores the one row that the record names: an entry, with which its site's hook appears or goes, or whether
+    /// an object is loaded. Nothing changes if there is no such site or object, or if the record is of another
+    /// kind. Nor does the record of a hook change anything: the record of its entry, which is put back right after it,
+    /// restores the hook too (docs/DECISIONS.md, "Hooks in undo"). The cost is at most the stack's height.
     pub fn put_back(&mut self, row: Record)
         requires due { is_due self.old row ≡ true }
         ensures { self.new ≡ put_back self.old row }
@@ -179,8 +181,9 @@ impl Sites {
         }
     }
 
-    /// Puts an entry of the site back, or takes it out, as `put_back` of its record does. The hook is written only
-    /// where it changes, which is with the first entry and the last. The cost is at most the stack's height.
+    /// Puts an entry back at its place, or takes it out if `was` is `None`, as `put_back` of its record does. It
+    /// writes the hook only if the site gets its first entry or loses its last. The cost is at most the stack's
+    /// height.
     #[inline(always)]
     pub fn put_entry(&mut self, site: Site, patch: PatchId, was: Option<Place>)
         requires { is_some was ≡ true → 0 < spare_in self.old.stacks }
@@ -200,6 +203,7 @@ impl Sites {
         }
     }
 
+    /// Sets back whether an object is loaded. Nothing changes if there is no such object.
     fn put_loaded(&mut self, object: ObjId, was: bool)
         ensures { self.new ≡ put_loaded self.old object was }
     {
@@ -208,8 +212,8 @@ impl Sites {
         }
     }
 
-    /// Makes an object loaded or one that isn't, and answers which it was. Both ways are one, so that
-    /// undoing has the same code as the change.
+    /// Sets whether an object is loaded, and returns the undo record, which says whether it was. Changes and undo
+    /// share this code.
     fn set_loaded(&mut self, object: ObjId, loaded: bool) -> Record
         requires { object < length self.old.image.objects }
         ensures row { result ≡ Record.LoadedFlag object (slice_index_or self.old.loaded object false) }
@@ -225,8 +229,8 @@ impl Sites {
         Record::LoadedFlag { object, was }
     }
 
-    /// The image as it is, to be looked at: its names, its addresses, and its bytes with the hooks. It is
-    /// lent for reading alone, since a hook that was written from outside would be out of step.
+    /// Lends the image: its names, its addresses, and its bytes with the hooks. It is read-only, since a hook
+    /// written from outside wouldn't match the stacks.
     pub fn image(&self) -> &Image
         ensures value { result.now ≡ image_of self.now }
         ensures sites { length self.now.stacks ≡ site_count self.now.image }
@@ -234,15 +238,15 @@ impl Sites {
         &self.image
     }
 
-    /// Whether an object is loaded. An object that isn't there isn't, so that every number has an answer.
+    /// Whether an object is loaded. False if there is no such object.
     pub fn is_loaded(&self, object: ObjId) -> bool
         ensures { result ≡ slice_index_or self.now.loaded object false }
     {
         self.image.is_loaded(object)
     }
 
-    /// The first site from a number on that has an entry, and so is hooked. It looks at no site that isn't, so who walks
-    /// over all that are hooked by it pays for these alone, and a step for each 64 sites.
+    /// Returns the lowest site numbered `from` or higher that has an entry, and so is hooked. A walk over all
+    /// hooked sites costs one step for each of them, and one for each 64 sites.
     pub fn next_hooked(&self, from: usize) -> Option<Site>
         ensures { MatchOption result ((other : ℕ) → from ≤ other → is_hooked_at self.now.stacks other ≡ false)
             (λ site. IsNextHooked self.now.stacks from site) }
@@ -250,7 +254,7 @@ impl Sites {
         self.hooked.next(from)
     }
 
-    /// How many sites there are, at a constant cost: one for each symbol of the image.
+    /// Returns how many sites there are, at a constant cost: one for each symbol of the image.
     pub fn sites(&self) -> usize
         ensures value { result ≡ length self.now.stacks }
         ensures image { result ≡ site_count self.now.image }
@@ -258,8 +262,8 @@ impl Sites {
         self.stacks.sites()
     }
 
-    /// The function stacks as they are, to be looked at: which entries a site has, and what runs there. They are lent for
-    /// reading alone, as the image is.
+    /// Lends the function stacks: which entries a site has, and which version runs there. They are read-only, as
+    /// the image is.
     pub fn stacks(&self) -> &Stacks
         ensures { result.now ≡ self.now.stacks }
     {

@@ -1,5 +1,6 @@
-//! The stack of one site, as slots of the pool that are linked: what is read of it.
-ghost use Rattle.std.specs.Prelude.{◌≡◌, ◌+◌, ◌-◌, ◌<◌, ◌≤◌, ◌==◌, ◌&&◌, not, nat_lt, find, length, slice_get, is_some, option_map, IfSome};
+//! Reads the stack of one site. Its entries are slots of the pool, linked from newest to oldest.
+ghost use Rattle.std.specs.Prelude.{◌≡◌, ◌+◌, ◌-◌, ◌<◌, ◌≤◌, ◌==◌, ◌&&◌, not, nat_lt, find, length, slice_get, is_some};
+ghost use Rattle.std.specs.Prelude.{option_map, IfSome};
 ghost use Rattle.std.specs.Option.{option_to_list};
 ghost use Rattle.klp_types.specs.declared.version.Entry.{Entry as AnyEntry};
 ghost use Rattle.klp_model.specs.Blocked.{blocked_among};
@@ -13,17 +14,18 @@ use crate::slot::Slot;
 use arrayvec::ArrayVec;
 use klp_types::{Entry, MAX_PATCHES, PatchId, Place, Site, SiteWord, Transition, Version};
 
-/// The entries of one site (the kernel's `func_stack`), newest first. The order is that of the enablings,
-/// since a newer patch hides the older ones.
+/// The function stack of one site (the kernel's `func_stack`). Its entries are linked newest first, in the order in
+/// which their patches were enabled: a newer patch hides the older ones.
 #[derive(Clone, Copy)]
 pub(crate) struct Chain {
-    /// The number of the slot with the newest entry; it says nothing where there is none.
+    /// The number of the slot with the newest entry. It means nothing while `len` is 0.
     pub(crate) newest: u16,
-    /// How many entries there are: 0 is what unhooks the site.
+    /// How many entries the stack has. A site with 0 entries isn't hooked.
     pub(crate) len: u16,
 }
 
-/// An entry below the newest, and the number of the slot above it, by which it is taken out.
+/// An entry below the newest one, with the number of the slot just above it. That slot must be relinked when the
+/// entry is taken out.
 #[derive(Clone, Copy)]
 pub(crate) struct Lower {
     pub(crate) above: u16,
@@ -31,7 +33,7 @@ pub(crate) struct Lower {
 }
 
 impl Chain {
-    /// The number of the slot that has so many newer ones, at a cost of as many steps.
+    /// Returns the number of the slot that has `newer` entries above it. The cost is `newer` steps.
     pub(crate) fn slot(self, slots: &[Slot], newer: u16) -> u16
         requires linked { IsLinked slots.now self.len self.newest }
         requires within { newer < self.len }
@@ -45,7 +47,7 @@ impl Chain {
         number
     }
 
-    /// The entry that has so many newer ones.
+    /// Returns the entry that has `newer` entries above it. `None` if the stack has at most `newer` entries.
     pub(crate) fn entry_below(self, slots: &[Slot], newer: u16) -> Option<Entry>
         requires { IsLinked slots.now self.len self.newest }
         ensures { result ≡ slice_get (entries_from slots.now self.len self.newest) newer }
@@ -58,8 +60,8 @@ impl Chain {
         }
     }
 
-    /// The place of a patch's entry, if it has one, and what the entry does. A patch has one at most, so the
-    /// newest is the only one.
+    /// Returns the place of the patch's entry: its index counted from the oldest entry, and what the entry does.
+    /// `None` if the patch has no entry here. A patch has at most one, so the first that is found is the only one.
     pub(crate) fn place(self, slots: &[Slot], patch: PatchId) -> Option<Place>
         requires linked { IsLinked slots.now self.len self.newest }
         requires few { self.len ≤ MAX_PATCHES }
@@ -79,7 +81,7 @@ impl Chain {
         None
     }
 
-    /// The place of a patch's entry below the newest one, if it has one there.
+    /// Returns the place of the patch's entry, and the slot above it, if the entry is below the newest one.
     pub(crate) fn lower(self, slots: &[Slot], patch: PatchId) -> Option<Lower>
         requires linked { IsLinked slots.now self.len self.newest }
         requires some { 0 < self.len }
@@ -105,8 +107,9 @@ impl Chain {
         None
     }
 
-    /// The number of the slot that has so many older ones: above it an entry with so many would come, which is to be put
-    /// below it. There is none where the stack isn't so high, and where the patch has an entry already.
+    /// Returns the number of the slot that has `index` older entries below it. An entry of the patch that is to get
+    /// position `index`, counted from the oldest, is put just below this slot. `None` if the stack has at most
+    /// `index` entries, or if the patch has an entry already.
     pub(crate) fn above(self, slots: &[Slot], patch: PatchId, index: u8) -> Option<u16>
         requires linked { IsLinked slots.now self.len self.newest }
         requires few { self.len ≤ MAX_PATCHES }
@@ -133,7 +136,7 @@ impl Chain {
         Some(above)
     }
 
-    /// The entries, newest first, in an array, so that none is lent.
+    /// Copies the entries into an array, newest first, so that the caller holds no borrow.
     pub(crate) fn entries(self, slots: &[Slot]) -> ArrayVec<Entry, MAX_PATCHES>
         requires linked { IsLinked slots.now self.len self.newest }
         requires few { self.len ≤ MAX_PATCHES }
@@ -149,7 +152,7 @@ impl Chain {
         entries
     }
 
-    /// The entry of a patch, if it has one, wherever it is on the stack.
+    /// Returns the entry of a patch, wherever it is on the stack. `None` if the patch has none.
     pub(crate) fn entry(self, slots: &[Slot], patch: PatchId) -> Option<Entry>
         requires linked { IsLinked slots.now self.len self.newest }
         requires few { self.len ≤ MAX_PATCHES }
@@ -161,8 +164,8 @@ impl Chain {
         Some(Entry { patch, func })
     }
 
-    /// The two newest entries, and whether the newest one's patch moves. Whether an older one's does isn't
-    /// asked, since the newest entry is what every task runs then.
+    /// Returns the two newest entries, and whether the newest one's patch is in transition. An older entry's patch
+    /// isn't asked: if it were in transition, every task would run the newest entry all the same.
     pub(crate) fn word(self, slots: &[Slot], moving: Option<PatchId>) -> SiteWord
         requires { IsLinked slots.now self.len self.newest }
         ensures { result ≡ word_of moving (entries_from slots.now self.len self.newest) }
@@ -179,9 +182,10 @@ impl Chain {
         }
     }
 
-    /// What holds a sleeper back at the site of these entries (the kernel's `klp_check_stack_func`). Away
-    /// from the patch that is the patch's own version. Towards it, it is what is below: the older entry, or
-    /// the original where there is none.
+    /// Returns the version that blocks a sleeper at this site (the kernel's `klp_check_stack_func`). While the
+    /// patch is being disabled it is the patch's own version. While the patch is being enabled it is the version
+    /// below: the next older entry's, or the original if the patch's entry is the oldest. `None` if the patch has
+    /// no entry here.
     pub(crate) fn blocked(self, slots: &[Slot], site: Site, moving: Transition) -> Option<Version>
         requires linked { IsLinked slots.now self.len self.newest }
         requires few { self.len ≤ MAX_PATCHES }
@@ -201,7 +205,7 @@ impl Chain {
         Some(version_of(site, entry))
     }
 
-    /// Whether a patch has an entry.
+    /// Whether the patch has an entry on this stack.
     #[inline(always)]
     pub(crate) fn has(self, slots: &[Slot], patch: PatchId) -> bool
         requires linked { IsLinked slots.now self.len self.newest }

@@ -7,16 +7,17 @@ ghost use Rattle.klp_model.specs.Rows.{moving_patch, word_of};
 ghost use Rattle.klp_stack.specs.Pick.{picked};
 ghost use Rattle.klp_stack.specs.Spare.{spare_in};
 
-/// The two newest entries of a site are enough: a task runs by them what it runs by all, since only the
-/// newest one's patch may be in transition and be passed over.
-pub fn the_word_is_enough()
+/// A site's two newest entries decide which version a task runs there, whatever is below them. Only the newest
+/// entry's patch can be in transition, so a task passes over at most that one entry.
+pub fn two_newest_entries_decide()
     ensures { (site : ℕ) (moving : Option Transition) (task : ℤ) (entries : List Entry)
         → picked site (word_of (moving_patch moving) entries) task ≡ newest_version site
         (entries_for moving task entries) }
 {}
 
-/// As long as no site has an entry, there is room for all functions of 15 patches, 64 of each, and for one entry on each
-/// of 256 sites: as many entries as there may ever be, since only the newest patch may have nops beside its functions.
+/// While no site has an entry, the pool has 15 * 64 + 256 free slots: 64 functions for each of 15 patches, and one
+/// entry on each of 256 sites. There can never be more entries, since only the newest patch may have nops beside
+/// its functions.
 pub fn the_pool_has_room_for_all_patches()
     ensures { (sites : ℕ) → spare_in (replicate sites []) ≡ 15 * 64 + 256 }
 {}

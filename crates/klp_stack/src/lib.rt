@@ -1,22 +1,22 @@
-//! The function stacks of all sites: what the installed patches do with each site, newest first, and which
+//! The function stacks of all sites: which entries the installed patches have at each site, newest first, and which
 //! version a task runs there (livepatch, Livepatch life-cycle).
 //!
-//! The model is a list of entries for each site, newest first (`specs/Stack`). `push` puts an entry on top,
-//! `take` takes that of a patch out, and `put` gives it its place again. Each looks the site up once, and tells
-//! with its answer whether the site came to its first entry or lost its last. The record of what `push` and
-//! `take` change, put back, gives the equal stacks (`specs/Changes`, `Undo`). `word` is the two newest entries,
-//! `blocked` what holds a sleeper back there; a site that isn't there has nothing.
+//! The model is a list of entries for each site, newest first (`specs/Stack`). `push` puts an entry on top, `take`
+//! takes out the entry of a patch, and `put` puts an entry back at its old place. Each looks the site up once. The
+//! answer says whether the site got its first entry or lost its last one. `push` and `take` each have an undo
+//! record; put back, it restores the stacks as they were (`specs/Changes`, `specs/Undo`). `word` returns the two
+//! newest entries, and `blocked` the version that blocks a sleeper. A site that doesn't exist has no entries.
 //!
-//! All entries are in one pool (`specs/Pool`), for [`MAX_ENTRIES`] of all sites together. What is seen of
-//! it from outside is how many more there is room for (`specs/Spare`).
+//! One pool has the entries of all sites (`specs/Pool`), at most [`MAX_ENTRIES`] together. From outside, only the
+//! number of free slots can be seen (`specs/Spare`).
 //!
-//! [`pick`] is the version of the definition (`specs/Pick`), by the word alone: `laws` says that the word
-//! is enough. One site by itself is in `src/chain.rt`.
+//! [`pick`] returns the version that the definition picks (`specs/Pick`), from a site's word alone. `laws` says
+//! that the word is enough. `src/chain.rt` reads the stack of one site.
 #![tactic(auto)]
 
 mod chain;
-mod picks;
 pub mod laws;
+mod picks;
 mod pool;
 mod slot;
 mod stacks;

@@ -1,5 +1,5 @@
-//! What a call at a site runs (the kernel's `klp_ftrace_handler`). It works on the two newest entries
-//! alone, as it would run at each call.
+//! Which version a call at a site runs (the kernel's `klp_ftrace_handler`). It reads only the two newest entries,
+//! since it would run at every call.
 
 ghost use Rattle.std.specs.Prelude.{◌≡◌};
 ghost use Rattle.std.specs.Option.{option_to_list};
@@ -8,9 +8,9 @@ ghost use Rattle.klp_stack.specs.Pick.{picked};
 
 use klp_types::{Entry, Site, SiteWord, Version};
 
-/// The version that a task of this state (-1, 0 or 1) runs at a site, at a constant cost. Only a task of
-/// state 0 passes over the entry of the patch in transition: -1 means that nothing moves. A nop is the
-/// original.
+/// Returns the version that a task with this patch state (-1, 0 or 1) runs at a site, at a constant cost. Only a
+/// task with state 0 passes over the entry of the patch in transition; -1 means that there is no transition. A nop
+/// runs the original.
 pub fn pick(site: Site, word: SiteWord, state: i8) -> Version
     ensures { result ≡ picked site word state }
 {
@@ -22,8 +22,8 @@ pub fn pick(site: Site, word: SiteWord, state: i8) -> Version
     version_of(site, entry)
 }
 
-/// The version of an entry, or the original where there is none. A nop is the original too, since that is
-/// what a cumulative patch gives back.
+/// Returns the version that an entry runs: its new function, or the original if there is no entry. A nop runs the
+/// original too, since a cumulative patch uses nops to give originals back.
 pub fn version_of(site: Site, entry: Option<Entry>) -> Version
     ensures { result ≡ newest_version site (option_to_list entry) }
 {

@@ -1,5 +1,6 @@
-//! The pool of all entries: the steps that give a stack a slot or take one from it.
-ghost use Rattle.std.specs.Prelude.{◌≡◌, ◌+◌, ◌-◌, ◌<◌, ◌≤◌, ◌&&◌, not, nat_lt, length, is_some, option_map, IfSome, IfNone};
+//! The pool of all entries. Its functions give a slot to a stack, or take one back.
+ghost use Rattle.std.specs.Prelude.{◌≡◌, ◌+◌, ◌-◌, ◌<◌, ◌≤◌, ◌&&◌, not, nat_lt, length, is_some, option_map, IfSome};
+ghost use Rattle.std.specs.Prelude.{IfNone};
 ghost use Rattle.klp_stack.specs.Stack.{has_entry, place_of};
 ghost use Rattle.klp_stack.specs.Undo.{may_be_at};
 ghost use Rattle.klp_stack.specs.Pool.{IsLinked, slot_at, entries_of, entries_below};
@@ -9,19 +10,19 @@ use crate::chain::{Chain, Lower};
 use crate::slot::{MAX_ENTRIES, Slot};
 use klp_types::{Entry, MAX_PATCHES, PatchId, Place};
 
-/// The slots of all stacks, and those that are free, as a list of their own.
+/// The slots of all stacks. The slots that no stack uses are linked into a free list.
 #[derive(Drop)]
 pub(crate) struct Pool {
-    /// By number; as many as [`MAX_ENTRIES`] from the start, since no later call takes memory.
+    /// All slots, by number. There are [`MAX_ENTRIES`] from the start, so no later call takes memory.
     pub(crate) slots: Vec<Slot>,
-    /// The number of the first free slot; it says nothing where none is free.
+    /// The number of the first free slot. It means nothing while `spare` is 0.
     pub(crate) free: u16,
     /// How many slots are free.
     pub(crate) spare: u16,
 }
 
 impl Pool {
-    /// Takes the first slot out of the free list, for an entry that is above this slot, and answers its
+    /// Takes the first slot of the free list for an entry, links it to the slot `older` below, and returns its
     /// number.
     #[inline(always)]
     fn fill(&mut self, entry: Entry, older: u16) -> u16
@@ -39,7 +40,7 @@ impl Pool {
         number
     }
 
-    /// Makes a slot the first of the free list.
+    /// Puts a slot back at the front of the free list.
     #[inline(always)]
     fn release(&mut self, number: u16)
         requires spare { self.old.spare < MAX_ENTRIES }
@@ -53,7 +54,7 @@ impl Pool {
         self.spare += 1;
     }
 
-    /// Puts an entry on top of a stack, and answers the stack.
+    /// Puts an entry on top of a stack, and returns the changed stack.
     #[inline(always)]
     pub(crate) fn push(&mut self, chain: Chain, entry: Entry) -> Chain
         requires spare { 0 < self.old.spare }
@@ -71,7 +72,7 @@ impl Pool {
         }
     }
 
-    /// Puts an entry below a slot, above what was there.
+    /// Inserts an entry just below the slot `above`, on top of the entries that were below that slot.
     fn put_below(&mut self, above: u16, entry: Entry)
         requires spare { 0 < self.old.spare }
         requires there { self.old.free < length self.old.slots.items }
@@ -87,7 +88,7 @@ impl Pool {
         self.slots[usize::from(above)].older = number;
     }
 
-    /// Takes the newest entry off a stack, and answers the stack.
+    /// Takes the newest entry off a stack, and returns the stack that is left.
     #[inline(always)]
     fn pop(&mut self, chain: Chain) -> Chain
         requires spare { self.old.spare < MAX_ENTRIES }
@@ -107,7 +108,7 @@ impl Pool {
         }
     }
 
-    /// Takes the entry out that is just below a slot, and links that slot to what is below the entry.
+    /// Takes out the entry just below the slot `above`, and links `above` to the one that was below the entry taken out.
     fn take_below(&mut self, above: u16)
         requires spare { self.old.spare < MAX_ENTRIES }
         requires above { above < length self.old.slots.items }
@@ -124,8 +125,9 @@ impl Pool {
         self.release(number);
     }
 
-    /// Takes the entry of a patch out of a stack, if it has one there, and answers its place and the stack that is left.
-    /// The newest entry is tried first, since most are taken while nothing is above them.
+    /// Takes the entry of a patch out of a stack, and returns the entry's place and the stack that is left. `None`
+    /// if the patch has no entry there. It tries the newest entry first: most entries are taken out while they are
+    /// on top.
     #[inline(always)]
     pub(crate) fn take(&mut self, chain: Chain, patch: PatchId) -> Option<(Place, Chain)>
         requires linked { IsLinked self.old.slots.items chain.len chain.newest }
@@ -150,7 +152,8 @@ impl Pool {
         Some((place, self.pop(chain)))
     }
 
-    /// The same where the newest entry isn't the patch's. The cost is how many newer ones there are.
+    /// Does what `take` does when the newest entry is another patch's. The cost is the number of entries above the
+    /// patch's.
     #[cold]
     fn take_lower(&mut self, chain: Chain, patch: PatchId) -> Option<(Place, Chain)>
         requires linked { IsLinked self.old.slots.items chain.len chain.newest }
@@ -171,9 +174,9 @@ impl Pool {
         Some((place, left))
     }
 
-    /// Puts an entry into a stack where it has so many older ones, and answers the stack. There is none, and nothing
-    /// changes, where the entry may not stand there: a record that fits no more, which undoing never meets, is left
-    /// alone, so that the stack stays one.
+    /// Puts an entry into a stack with `index` older entries below it, and returns the changed stack. `None`, with
+    /// nothing changed, if the stack has fewer entries, the patch has one already, or the patch's number is out of
+    /// range. Undoing never meets such a record; refusing it keeps the stack valid.
     #[inline(always)]
     pub(crate) fn put(&mut self, chain: Chain, index: u8, entry: Entry) -> Option<Chain>
         requires linked { IsLinked self.old.slots.items chain.len chain.newest }
@@ -196,7 +199,7 @@ impl Pool {
         Some(self.push(chain, entry))
     }
 
-    /// The same where the entry doesn't come on top. The cost is the stack's height.
+    /// Does what `put` does when the entry doesn't go on top. The cost is the stack's height.
     #[cold]
     fn put_lower(&mut self, chain: Chain, index: u8, entry: Entry) -> Option<Chain>
         requires linked { IsLinked self.old.slots.items chain.len chain.newest }

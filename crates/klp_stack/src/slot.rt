@@ -1,17 +1,17 @@
-//! One entry of the pool, and how many there are.
+//! One slot of the pool, and how many slots there are.
 
 use klp_types::{Entry, MAX_FUNCTIONS, MAX_PATCHES, MAX_SITES};
 
-/// How many entries all stacks may have together: those of all patches but one with all their functions, and
-/// one on each site, since only the newest patch may have nops beside its functions.
+/// How many entries all stacks may have together: all functions of every patch but one, and one entry on each site.
+/// Only the newest patch may have nops beside its functions.
 pub const MAX_ENTRIES: usize = (MAX_PATCHES - 1) * MAX_FUNCTIONS + MAX_SITES;
 
-/// A place of the pool. It is on one stack, or in the free list.
+/// A slot of the pool. It is on one stack, or in the free list.
 #[derive(Clone, Copy)]
 pub(crate) struct Slot {
-    /// What is there while the slot is on a stack.
+    /// The slot's entry. It means nothing while the slot is free.
     pub(crate) entry: Entry,
-    /// The number of the slot with the next older entry, or of the next free slot. Of the oldest and of the
-    /// last free one it says nothing, since stacks and the free list have their lengths.
+    /// The number of the slot with the next older entry, or of the next free slot. In the oldest slot of a stack
+    /// and in the last free slot it means nothing, since stacks and the free list have their lengths.
     pub(crate) older: u16,
 }

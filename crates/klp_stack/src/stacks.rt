@@ -1,4 +1,5 @@
-ghost use Rattle.std.specs.Prelude.{◌≡◌, ◌<◌, ◌≤◌, ◌==◌, ◌&&◌, not, find, true, false, [], ◌∷◌, length, replicate, slice_set, Some, None, is_some, option_map, IfOk, IfSome, IfNone};
+ghost use Rattle.std.specs.Prelude.{◌≡◌, ◌<◌, ◌≤◌, ◌==◌, ◌&&◌, not, find, true, false, [], ◌∷◌, length, replicate};
+ghost use Rattle.std.specs.Prelude.{slice_set, Some, None, is_some, option_map, IfOk, IfSome, IfNone};
 ghost use Rattle.std.specs.Option.{option_to_list};
 ghost use Rattle.klp_model.specs.Blocked.{blocked_among};
 ghost use Rattle.klp_model.specs.Rows.{word_of};
@@ -22,22 +23,22 @@ use std::marker::Model;
 
 /// The function stacks of all sites (the kernel's `func_stack` of each `klp_ops`).
 ///
-/// All room is taken by [`Stacks::new`], for [`MAX_ENTRIES`] entries of all sites together. Each change
-/// is of one entry, and there is a record of it, as it was. To put these records back, newest first,
-/// gives the stacks before the changes.
+/// [`Stacks::new`] takes all room, for [`MAX_ENTRIES`] entries of all sites together. Each change is of one entry,
+/// and has a record of the entry as it was. These records, put back newest first, restore the stacks before the
+/// changes.
 #[derive(Drop)]
 pub struct Stacks {
     pool: Pool,
-    /// By site, so that no look-up is needed.
+    /// The stack of each site, by the site's number.
     chains: Vec<Chain>,
 }
 
-/// What was taken out of a stack.
+/// What `take` took out of a stack.
 #[derive(Clone, Copy)]
 pub struct Taken {
-    /// Where the entry was, and what it does.
+    /// The place of the entry before, and what the entry does.
     pub place: Place,
-    /// Whether the stack has no entry any more.
+    /// Whether the stack is empty now.
     pub is_last: bool,
 }
 
@@ -53,7 +54,7 @@ impl Model for Stacks {
     ghost invariant = { λ s. IsPool s.pool.slots.items s.chains.items s.pool.free s.pool.spare };
 }
 
-/// The pool with all its slots in the free list, each linked to the next.
+/// Creates the pool with all its slots in the free list, each linked to the next.
 fn free_pool(alloc: Global) -> Result<Pool, AllocError>
     ensures { IfOk result (λ pool. IsFree pool.slots.items pool.free pool.spare) }
 {
@@ -72,8 +73,8 @@ fn free_pool(alloc: Global) -> Result<Pool, AllocError>
 }
 
 impl Stacks {
-    /// A stack without entries for each of so many sites, and the whole pool, since no later call takes
-    /// memory. An error is want of memory.
+    /// Creates an empty stack for each of `sites` sites, and the whole pool: no later call takes memory. `Err` if
+    /// memory is refused.
     pub fn new(alloc: Global, sites: usize) -> Result<Self, AllocError>
         ensures { IfOk result (λ stacks. stacks ≡ replicate sites []) }
     {
@@ -85,15 +86,15 @@ impl Stacks {
         Ok(Self { pool, chains })
     }
 
-    /// How many entries there is room for, at a constant cost: as many slots are free.
+    /// Returns how many more entries fit: the number of free slots, at a constant cost.
     pub fn spare(&self) -> u16
         ensures { result ≡ spare_in self.now }
     {
         self.pool.spare
     }
 
-    /// Puts an entry on top of a site's stack, at a constant cost, and answers whether it is the only one there. The
-    /// record of it is that the patch had none.
+    /// Puts an entry on top of a site's stack, at a constant cost, and returns whether it is now the only entry
+    /// there. Its undo record says that the patch had no entry at the site.
     #[inline(always)]
     pub fn push(&mut self, site: Site, entry: Entry) -> bool
         requires there { site < length self.old }
@@ -110,9 +111,9 @@ impl Stacks {
         chain.len == 0
     }
 
-    /// Takes the entry of a patch out of a site's stack, if it has one there, also from below newer ones. The record of
-    /// it is where it was, with which it can be put back below entries that are newer. The cost is its place: how many
-    /// newer ones there are.
+    /// Takes the entry of a patch out of a site's stack, also from below newer entries. `None` if the patch has no
+    /// entry there. The undo record has the entry's place, so that the entry can be put back below the newer ones.
+    /// The cost is the number of newer entries.
     #[inline(always)]
     pub fn take(&mut self, site: Site, patch: PatchId) -> Option<Taken>
         ensures place { option_map (λ taken. taken.place) result ≡ place_of patch (entries_at self.old site) }
@@ -122,7 +123,7 @@ impl Stacks {
             (Record.StackEntry site patch (place_of patch (entries_at self.old site)))
             (slice_set self.old site (entries_of_others patch (entries_at self.old site))) }
         ensures unchanged { IfNone result (self.new ≡ self.old) }
-        // so that the entry can be put back
+        // The slot that becomes free is room to put the entry back.
         ensures room { is_some result ≡ true → 0 < spare_in self.new }
     {
         let number = usize::from(site.0);
@@ -135,9 +136,9 @@ impl Stacks {
         })
     }
 
-    /// Gives an entry its place from the oldest again, where it may stand there, and answers whether it is the only one
-    /// then. An entry that can't have its place stays away, because a row that doesn't fit must do no harm; none is met
-    /// where the records of changes are put back newest first. The cost is at most the stack's height.
+    /// Puts an entry of the patch back at its place, counted from the oldest, and returns whether it is now the
+    /// only entry of the site. An entry that may not be there is left out, and the answer is false; records that
+    /// are put back newest first always fit. The cost is at most the stack's height.
     #[inline(always)]
     pub fn put(&mut self, site: Site, patch: PatchId, place: Place) -> bool
         requires { 0 < spare_in self.old }
@@ -156,7 +157,7 @@ impl Stacks {
         chain.len == 0
     }
 
-    /// Gives one entry what the record has; a record of another kind changes nothing.
+    /// Restores the one entry that the record names. A record of another kind changes nothing.
     pub fn put_back(&mut self, row: Record)
         requires { takes_room row ≡ true → 0 < spare_in self.old }
         ensures { self.new ≡ put_back self.old row }
@@ -174,8 +175,8 @@ impl Stacks {
         }
     }
 
-    /// Whether a site has entries, and none of the patch: so a nop of the patch would change what runs there. A site that
-    /// isn't there has none. The cost is at most the stack's height.
+    /// Whether a site has entries, but none of the patch. Only then does a nop of the patch change what runs there.
+    /// False for a site that doesn't exist. The cost is at most the stack's height.
     pub fn has_only_others(&self, site: Site, patch: PatchId) -> bool
         ensures { result
             ≡ (not (is_empty (entries_at self.now site)) && not (has_entry patch (entries_at self.now site))) }
@@ -186,17 +187,18 @@ impl Stacks {
         }
     }
 
-    /// How many sites there are, at a constant cost: as many as the stacks were made for.
+    /// Returns how many sites there are, at a constant cost: as many as `new` was asked for.
     pub fn sites(&self) -> usize
         ensures { result ≡ length self.now }
     {
         self.chains.len()
     }
 
-    /// The entry of a patch on a site's stack, if it has one there. The cost is its place.
+    /// Returns the entry of a patch on a site's stack. `None` if the patch has no entry there. The cost is the
+    /// number of newer entries.
     pub fn entry(&self, site: Site, patch: PatchId) -> Option<Entry>
         ensures value { result ≡ find (λ (e : AnyEntry). e.patch == patch) (entries_at self.now site) }
-        // what each stack keeps to, so that callers needn't prove it again
+        // Every stack keeps to this. It is stated so that callers needn't prove it.
         ensures stack { IsStack (entries_at self.now site) }
     {
         match self.chains.get(usize::from(site.0)) {
@@ -205,8 +207,8 @@ impl Stacks {
         }
     }
 
-    /// What a call at a site needs to know, at a constant cost. `moving` is the patch in transition, if
-    /// there is one: the stacks don't keep it, since it is one for all sites.
+    /// Returns what a call at a site needs to know, at a constant cost. `moving` is the patch in transition, if
+    /// any: the stacks don't store it, since it is the same for all sites.
     pub fn word(&self, site: Site, moving: Option<PatchId>) -> SiteWord
         ensures { result ≡ word_of moving (entries_at self.now site) }
     {
@@ -220,8 +222,8 @@ impl Stacks {
         }
     }
 
-    /// The entries of a site, newest first, in an array, so that none is lent. The cost is the stack's
-    /// height.
+    /// Copies the entries of a site into an array, newest first, so that the caller holds no borrow. The cost is
+    /// the stack's height.
     pub fn entries(&self, site: Site) -> ArrayVec<Entry, MAX_PATCHES>
         ensures { result.items ≡ entries_at self.now site }
     {
@@ -231,9 +233,9 @@ impl Stacks {
         }
     }
 
-    /// The version at a site that a task mustn't be inside of when it switches (what the kernel's
-    /// `klp_check_stack_func` looks for): none where the moving patch has no entry there. The cost is
-    /// its entry's place.
+    /// Returns the version at a site that blocks a task: the task mustn't be inside of it when it switches (the
+    /// kernel's `klp_check_stack_func` looks for it). `None` if the patch in transition has no entry there. The
+    /// cost is the number of entries above the patch's.
     pub fn blocked(&self, site: Site, moving: Transition) -> Option<Version>
         ensures { option_to_list result ≡ blocked_among site moving (entries_at self.now site) }
     {

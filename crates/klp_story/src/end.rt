@@ -8,7 +8,8 @@ ghost use Rattle.klp_timeline.specs.Facts.{is_outdated};
 ghost use Rattle.klp_timeline.specs.Shown.{is_lasting};
 ghost use Rattle.klp_markup.specs.Tasks.{tasks_text};
 ghost use Rattle.klp_story.specs.Words.{link_text};
-ghost use Rattle.klp_story.specs.End.{reason_text, sleeper_text, sleepers_text, tasks_of, first_lasting, others_text, all_sleepers_text, refused_text, first_text, end_text};
+ghost use Rattle.klp_story.specs.End.{reason_text, sleeper_text, sleepers_text, tasks_of, first_lasting, others_text};
+ghost use Rattle.klp_story.specs.End.{all_sleepers_text, refused_text, first_text, end_text};
 
 use crate::lagging::add_all_lagging;
 use crate::state::{add_outdated, add_state};

@@ -4,7 +4,8 @@ ghost use Rattle.std.specs.Fmt.{decimal};
 ghost use Rattle.klp_markup.specs.Adds.{Adds};
 ghost use Rattle.klp_timeline.specs.Course.{course_of};
 ghost use Rattle.klp_story.specs.Words.{link_text, quoted_text};
-ghost use Rattle.klp_story.specs.End.{way, since_text, forced_text, is_holding, held_text, also_text, enabled_text, rest_text, state_text, outdated_text};
+ghost use Rattle.klp_story.specs.End.{way, since_text, forced_text, is_holding, held_text, also_text, enabled_text};
+ghost use Rattle.klp_story.specs.End.{rest_text, state_text, outdated_text};
 
 use crate::words::{add_counted, add_link, add_patch};
 use klp_catalog::Catalog;

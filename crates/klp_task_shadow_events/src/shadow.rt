@@ -1,15 +1,15 @@
 //! The events that change shadow variables (shadow-vars, Implementation details).
 //!
-//! An event that is accepted empties the log, and logs each variable that it changes, as it was. One that
-//! is refused changes nothing. A function of its own answers why an event is refused, or `None` where
-//! nothing refuses it, because a full journal has to know without taking it; the removals have none, since
-//! nothing refuses them.
+//! An accepted event first empties the log, and then logs each variable that it changes, as it was before. A refused
+//! event changes nothing. For each event that can be refused, a function `.._refusal` returns why it would be refused,
+//! or None. A full journal asks it without taking the event.
 ghost use Rattle.std.specs.Prelude.{◌≡◌, ◌<◌, None, IfNone};
 ghost use Rattle.std.specs.FinMap as finite;
 ghost use Rattle.klp_types.specs.declared.limits.TheConstants.{MAX_VARIABLES};
 ghost use Rattle.klp_types.specs.World.{ShadowValue as AnyValue, variable};
 ghost use Rattle.klp_model.specs.Refusals.{is_full, refusal};
-ghost use Rattle.klp_model.specs.declared.event.Event.TheVariants.{ShadowAlloc, ShadowGetOrAlloc, ShadowFree, ShadowFreeAll};
+ghost use Rattle.klp_model.specs.declared.event.Event.TheVariants.{ShadowAlloc, ShadowGetOrAlloc, ShadowFree};
+ghost use Rattle.klp_model.specs.declared.event.Event.TheVariants.{ShadowFreeAll};
 ghost use Rattle.klp_catalog.specs.Catalog.{Catalog as AnyCatalog};
 ghost use Rattle.klp_manager_state.specs.Managed.{refused_in};
 ghost use Rattle.klp_manager_state.specs.Invariant.{Invariant};
@@ -22,8 +22,8 @@ use klp_model::{Refusal, Reply};
 use klp_types::{MAX_VARIABLES, ShadowKey, ShadowValue};
 use klp_world::NotAdded;
 
-/// A variable that isn't there is added. One that is there is a refusal, where the kernel warns and gives
-/// nothing (`klp_shadow_alloc`).
+/// Adds a shadow variable. If it exists already the event is refused with `Exists`, while the kernel warns and returns
+/// nothing (`klp_shadow_alloc`). If no more variables fit it is refused with `Full`.
 pub fn shadow_alloc(
     state: &mut ManagerState,
     catalog: &Catalog,
@@ -45,7 +45,7 @@ pub fn shadow_alloc(
     }
 }
 
-/// Why a variable isn't added, whatever its value: that it is there comes before want of room.
+/// Returns why a variable can't be added, whatever its value, or None. `Exists` takes precedence over `Full`.
 pub fn shadow_alloc_refusal(state: &ManagerState, key: ShadowKey) -> Option<Refusal>
     ensures refusal { (catalog : AnyCatalog) (value : AnyValue)
         → result ≡ refused_in state.now catalog (ShadowAlloc key value) }
@@ -60,8 +60,8 @@ pub fn shadow_alloc_refusal(state: &ManagerState, key: ShadowKey) -> Option<Refu
     }
 }
 
-/// The value of a variable, which is added where it isn't there (`klp_shadow_get_or_alloc`). Where it is,
-/// nothing changes, and the event is accepted all the same.
+/// Returns the value of a variable, and adds the variable with this value if it doesn't exist
+/// (`klp_shadow_get_or_alloc`). If it exists, nothing changes, and the event is accepted too.
 pub fn shadow_get_or_alloc(
     state: &mut ManagerState,
     catalog: &Catalog,
@@ -84,7 +84,7 @@ pub fn shadow_get_or_alloc(
     Ok(Reply::Value(there))
 }
 
-/// Why a variable that isn't there isn't added, whatever its value. One that is there needs no room.
+/// Returns `Full` if the variable doesn't exist and there is no room for it, else None. One that exists needs no room.
 pub fn shadow_get_or_alloc_refusal(state: &ManagerState, key: ShadowKey) -> Option<Refusal>
     ensures refusal { (catalog : AnyCatalog) (value : AnyValue)
         → result ≡ refused_in state.now catalog (ShadowGetOrAlloc key value) }
@@ -98,8 +98,8 @@ pub fn shadow_get_or_alloc_refusal(state: &ManagerState, key: ShadowKey) -> Opti
     }
 }
 
-/// A variable is removed, where it is there (`klp_shadow_free`). To remove what isn't there is no fault, as
-/// in the kernel.
+/// Removes a variable if it exists (`klp_shadow_free`). As in the kernel, removing one that doesn't exist is no fault.
+/// The reply says how many were removed: 0 or 1.
 pub fn shadow_free(
     state: &mut ManagerState,
     catalog: &Catalog,
@@ -118,8 +118,8 @@ pub fn shadow_free(
     Ok(BriefReply(Brief::Freed(u16::from(was_there))))
 }
 
-/// All variables of the id are removed (`klp_shadow_free_all`), whatever their parent objects. It walks
-/// over all variables.
+/// Removes all variables of this id (`klp_shadow_free_all`), whatever their parent objects. The reply says how many.
+/// The cost grows with the number of all variables.
 pub fn shadow_free_all(
     state: &mut ManagerState,
     catalog: &Catalog,
@@ -139,7 +139,7 @@ pub fn shadow_free_all(
     Ok(BriefReply(Brief::Freed(freed)))
 }
 
-/// Whether no shadow variable can be added. The limit is our own: it is what memory is in a kernel.
+/// Whether no more shadow variables can be added. The limit is this project's own: a kernel has its memory for one.
 fn is_full(state: &ManagerState) -> bool
     ensures { result ≡ is_full state.now.world }
 {

@@ -1,16 +1,18 @@
-//! The events of tasks (livepatch, Consistency model). Each costs the same whatever is installed.
+//! The events of tasks (livepatch, Consistency model). The cost of each is the same whatever is installed.
 //!
-//! An event that is accepted changes one task's row, and the log has that row alone afterwards, as it was.
-//! One that is refused changes nothing. A function of its own answers why an event is refused, or `None`
-//! where nothing refuses it, because a full journal has to know without taking it.
-ghost use Rattle.std.specs.Prelude.{◌≡◌, ◌<◌, not, true, false, ℕ, List, [], ◌∷◌, length, is_some, option_map, IfOk, IfNone};
+//! An accepted event changes one task's row, and leaves a log with that row alone, as it was before. A refused event
+//! changes nothing. For each event a function `.._refusal` returns why it would be refused, or None. A full journal
+//! asks it without taking the event.
+ghost use Rattle.std.specs.Prelude.{◌≡◌, ◌<◌, not, true, false, ℕ, List, [], ◌∷◌, length, is_some, option_map, IfOk};
+ghost use Rattle.std.specs.Prelude.{IfNone};
 ghost use Rattle.std.specs.List.{list_any};
 ghost use Rattle.klp_types.specs.declared.limits.TheConstants.{MAX_RECORDS, MAX_TASKS};
 ghost use Rattle.klp_types.specs.declared.task.Task.{Task as AnyTask};
 ghost use Rattle.klp_types.specs.FirstOf.{first_of};
 ghost use Rattle.klp_types.specs.Frames.{frames_of};
 ghost use Rattle.klp_types.specs.declared.task.Mode.TheVariants.{User, Kernel, Asleep};
-ghost use Rattle.klp_model.specs.declared.event.Event.TheVariants.{NewTask, Fork, EndTask, EnterKernel, ExitToUser, Sleep, Wake};
+ghost use Rattle.klp_model.specs.declared.event.Event.TheVariants.{NewTask, Fork, EndTask, EnterKernel, ExitToUser};
+ghost use Rattle.klp_model.specs.declared.event.Event.TheVariants.{Sleep, Wake};
 ghost use Rattle.klp_model.specs.declared.event.Refusal.TheVariants.{NoTask, WrongMode};
 ghost use Rattle.klp_model.specs.Task.{task_at, is_in};
 ghost use Rattle.klp_model.specs.TaskStep.{state_wanted};
@@ -30,7 +32,7 @@ use klp_model::{Refusal, Reply};
 use klp_tasks::{Tasks, target_state};
 use klp_types::{Frames, MAX_TASKS, Mode, PatchState, TaskId, Transition, Version};
 
-/// A task begins, in user space, at the target of whatever moves, since it has run nothing yet.
+/// Begins a task in user space. It is at the target of the transition, if there is one, since it has run nothing yet.
 pub fn new_task(state: &mut ManagerState, task: TaskId) -> Result<BriefReply, Refusal>
     requires room { state.old.log.room ≡ MAX_RECORDS }
     ensures taken { TakesEventAlone state.old state.new (NewTask task) result }
@@ -48,7 +50,7 @@ pub fn new_task(state: &mut ManagerState, task: TaskId) -> Result<BriefReply, Re
     Ok(BriefReply(Brief::Done))
 }
 
-/// Why a task doesn't begin, if it doesn't: there can't be such a number, or the task is there.
+/// Returns why a task can't begin, or None: the number is too large, or a task of this number exists.
 pub fn new_task_refusal(state: &ManagerState, task: TaskId) -> Option<Refusal>
     ensures refusal { (catalog : AnyCatalog) → result ≡ refused_in state.now catalog (NewTask task) }
     ensures number { IfNone result (task < MAX_TASKS) }
@@ -64,7 +66,7 @@ pub fn new_task_refusal(state: &ManagerState, task: TaskId) -> Option<Refusal>
     }
 }
 
-/// A task in the kernel, the first one, makes another, with its own state: both are in the middle of the
+/// Makes a second task from one that is in the kernel, with the same patch state, since both are in the middle of the
 /// same functions (the kernel's `klp_copy_process`).
 pub fn fork(state: &mut ManagerState, parent: TaskId, child: TaskId) -> Result<BriefReply, Refusal>
     requires room { state.old.log.room ≡ MAX_RECORDS }
@@ -83,8 +85,7 @@ pub fn fork(state: &mut ManagerState, parent: TaskId, child: TaskId) -> Result<B
     Ok(BriefReply(Brief::Done))
 }
 
-/// Why a task doesn't make another, if it doesn't. Both numbers are looked at before the mode, as for other
-/// events.
+/// Returns why a task can't make another, or None. Both numbers are checked before the mode, as for other events.
 pub fn fork_refusal(state: &ManagerState, parent: TaskId, child: TaskId) -> Option<Refusal>
     ensures refusal { (catalog : AnyCatalog) → result ≡ refused_in state.now catalog (Fork parent child) }
     ensures there { IfNone result (is_some (task_at state.now.tasks parent) ≡ true) }
@@ -103,7 +104,7 @@ pub fn fork_refusal(state: &ManagerState, parent: TaskId, child: TaskId) -> Opti
     }
 }
 
-/// A task that isn't asleep ends. A sleeper has to wake up first, since it is inside of functions.
+/// Ends a task that isn't asleep. A sleeper must wake up first, since it is inside of functions.
 pub fn end_task(state: &mut ManagerState, task: TaskId) -> Result<BriefReply, Refusal>
     requires room { state.old.log.room ≡ MAX_RECORDS }
     ensures taken { TakesEventAlone state.old state.new (EndTask task) result }
@@ -121,7 +122,7 @@ pub fn end_task(state: &mut ManagerState, task: TaskId) -> Result<BriefReply, Re
     Ok(BriefReply(Brief::Done))
 }
 
-/// Why a task doesn't end, if it doesn't: it isn't there, or asleep.
+/// Returns why a task can't end, or None: it doesn't exist, or it sleeps.
 pub fn end_task_refusal(state: &ManagerState, task: TaskId) -> Option<Refusal>
     ensures refusal { (catalog : AnyCatalog) → result ≡ refused_in state.now catalog (EndTask task) }
     ensures there { IfNone result (is_some (task_at state.now.tasks task) ≡ true) }
@@ -135,7 +136,7 @@ pub fn end_task_refusal(state: &ManagerState, task: TaskId) -> Option<Refusal>
     }
 }
 
-/// A task enters the kernel. Its state stays as it is: it switches when it leaves.
+/// Lets a task enter the kernel. Its patch state stays: the task switches when it leaves the kernel.
 pub fn enter_kernel(state: &mut ManagerState, task: TaskId) -> Result<BriefReply, Refusal>
     requires room { state.old.log.room ≡ MAX_RECORDS }
     ensures taken { TakesEventAlone state.old state.new (EnterKernel task) result }
@@ -154,7 +155,7 @@ pub fn enter_kernel(state: &mut ManagerState, task: TaskId) -> Result<BriefReply
     Ok(BriefReply(Brief::Done))
 }
 
-/// Why a task doesn't enter the kernel, if it doesn't: it isn't there, or is in the kernel already.
+/// Returns why a task can't enter the kernel, or None: it doesn't exist, or isn't in user space.
 pub fn enter_kernel_refusal(state: &ManagerState, task: TaskId) -> Option<Refusal>
     ensures refusal { (catalog : AnyCatalog) → result ≡ refused_in state.now catalog (EnterKernel task) }
     ensures there { IfNone result (is_some (task_at state.now.tasks task) ≡ true) }
@@ -163,8 +164,8 @@ pub fn enter_kernel_refusal(state: &ManagerState, task: TaskId) -> Option<Refusa
     refusal_unless_in(state, task, Mode::User)
 }
 
-/// A task goes back to user space. It is brought to the target of whatever moves, because it is inside of
-/// no function any more.
+/// Lets a task return to user space, and switches it to the target of the transition, if there is one, because it is
+/// inside of no function any more.
 pub fn exit_to_user(state: &mut ManagerState, task: TaskId) -> Result<BriefReply, Refusal>
     requires room { state.old.log.room ≡ MAX_RECORDS }
     ensures taken { TakesEventAlone state.old state.new (ExitToUser task) result }
@@ -183,7 +184,7 @@ pub fn exit_to_user(state: &mut ManagerState, task: TaskId) -> Result<BriefReply
     Ok(BriefReply(Brief::Done))
 }
 
-/// Why a task doesn't go back to user space, if it doesn't: a sleeper has to wake up first.
+/// Returns why a task can't return to user space, or None. A sleeper must wake up first.
 pub fn exit_to_user_refusal(state: &ManagerState, task: TaskId) -> Option<Refusal>
     ensures refusal { (catalog : AnyCatalog) → result ≡ refused_in state.now catalog (ExitToUser task) }
     ensures there { IfNone result (is_some (task_at state.now.tasks task) ≡ true) }
@@ -192,8 +193,8 @@ pub fn exit_to_user_refusal(state: &ManagerState, task: TaskId) -> Option<Refusa
     refusal_unless_in(state, task, Mode::Kernel)
 }
 
-/// A task falls asleep inside of these functions, which are believed: that a task is in them is a premise
-/// of the consistency laws. It looks at each of them.
+/// Puts a task to sleep inside of these functions. That it is really inside of them isn't checked: it is a premise of
+/// the consistency laws. The cost grows with the number of frames.
 pub fn sleep(
     state: &mut ManagerState,
     catalog: &Catalog,
@@ -217,8 +218,8 @@ pub fn sleep(
     Ok(BriefReply(Brief::Done))
 }
 
-/// Why a task doesn't fall asleep inside of these functions, if it doesn't. The functions are looked at
-/// last, since they cost most.
+/// Returns why a task can't fall asleep inside of these functions, or None. The functions are checked last, since that
+/// costs most.
 pub fn sleep_refusal(
     state: &ManagerState,
     catalog: &Catalog,
@@ -241,7 +242,7 @@ pub fn sleep_refusal(
     }
 }
 
-/// A task wakes up in the kernel. The reply has what it was inside of, since afterwards nobody knows.
+/// Wakes a task up in the kernel. The reply has the functions that it slept inside of, since its row doesn't keep them.
 pub fn wake(state: &mut ManagerState, task: TaskId) -> Result<Reply, Refusal>
     requires room { state.old.log.room ≡ MAX_RECORDS }
     ensures taken { TakesEventAlone state.old state.new (Wake task) result }
@@ -261,7 +262,7 @@ pub fn wake(state: &mut ManagerState, task: TaskId) -> Result<Reply, Refusal>
     Ok(Reply::Woken(frames))
 }
 
-/// Why a task doesn't wake up, if it doesn't: only a sleeper does.
+/// Returns why a task can't wake up, or None: it doesn't exist, or doesn't sleep.
 pub fn wake_refusal(state: &ManagerState, task: TaskId) -> Option<Refusal>
     ensures refusal { (catalog : AnyCatalog) → result ≡ refused_in state.now catalog (Wake task) }
     ensures there { IfNone result (is_some (task_at state.now.tasks task) ≡ true) }
@@ -270,7 +271,7 @@ pub fn wake_refusal(state: &ManagerState, task: TaskId) -> Option<Refusal>
     refusal_unless_in(state, task, Mode::Asleep)
 }
 
-/// Why a task isn't there in this mode: that it isn't there comes first.
+/// Returns `NoTask` if the task doesn't exist, else `WrongMode` if it isn't in this mode, else None.
 fn refusal_unless_in(state: &ManagerState, task: TaskId, mode: Mode) -> Option<Refusal>
     ensures refusal { result
         ≡ first_of ((not (is_some (task_at state.now.tasks task)), NoTask)
@@ -287,7 +288,7 @@ fn refusal_unless_in(state: &ManagerState, task: TaskId, mode: Mode) -> Option<R
     }
 }
 
-/// The log has the row of this number alone, as it is before the event: an event of a task is one record.
+/// Empties the log and logs the row of this task as it is before the event, since an event of a task is one record.
 fn log_alone(tasks: &Tasks, task: TaskId, log: &mut Records)
     requires { log.old.room ≡ MAX_RECORDS }
     ensures { log.new ≡ record log.old { logged = record_of task (task_at tasks.now task) ∷ [] } }
@@ -296,7 +297,7 @@ fn log_alone(tasks: &Tasks, task: TaskId, log: &mut Records)
     tasks.log_row(task, log);
 }
 
-/// The state of a task that is brought to whatever moves: -1 where nothing does.
+/// Returns the patch state of a task that switches now: the target of the transition, or -1 without one.
 fn state_wanted(moving: Option<Transition>) -> PatchState
     ensures { result ≡ state_wanted moving }
 {
@@ -306,7 +307,7 @@ fn state_wanted(moving: Option<Transition>) -> PatchState
     }
 }
 
-/// Whether there is a task of this number, of which there are 64 at most.
+/// Whether a task of this number exists.
 fn is_there(state: &ManagerState, task: TaskId) -> bool
     ensures value { result ≡ is_some (task_at state.now.tasks task) }
     ensures limit { length state.now.tasks ≡ MAX_TASKS }
@@ -314,7 +315,7 @@ fn is_there(state: &ManagerState, task: TaskId) -> bool
     state.tasks.get(task).is_some()
 }
 
-/// Whether a task is there and in this mode; one that isn't there is in none.
+/// Whether a task exists and is in this mode.
 fn is_in(state: &ManagerState, task: TaskId, mode: Mode) -> bool
     ensures { result ≡ is_in mode (task_at state.now.tasks task) }
 {
@@ -324,7 +325,7 @@ fn is_in(state: &ManagerState, task: TaskId, mode: Mode) -> bool
     }
 }
 
-/// What a task is inside of, copied before it wakes; nothing where it isn't there.
+/// Returns a copy of the frames of a task, none if the task doesn't exist. Taken before the task wakes up.
 fn frames_of(state: &ManagerState, task: TaskId) -> Frames
     ensures { result ≡ frames_of (task_at state.now.tasks task) }
 {
@@ -334,7 +335,8 @@ fn frames_of(state: &ManagerState, task: TaskId) -> Frames
     }
 }
 
-/// Whether image or catalog don't have a version. Whether its object is loaded isn't asked.
+/// Whether a version doesn't exist: the image has no such site, or the catalog no such function. Its object need not be
+/// loaded.
 fn is_bad(state: &ManagerState, catalog: &Catalog, version: Version) -> bool
     requires { Invariant state.now catalog.now }
     ensures { result ≡ is_bad (setting_in state.now catalog.now) version }
@@ -345,7 +347,7 @@ fn is_bad(state: &ManagerState, catalog: &Catalog, version: Version) -> bool
     }
 }
 
-/// Whether image or catalog don't have one of these versions: one is enough to refuse all.
+/// Whether one of these versions doesn't exist. One is enough to refuse the sleep.
 fn has_bad(state: &ManagerState, catalog: &Catalog, frames: &Frames) -> bool
     requires { Invariant state.now catalog.now }
     ensures { result ≡ list_any (is_bad (setting_in state.now catalog.now)) frames.now }

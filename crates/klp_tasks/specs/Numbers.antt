@@ -1,14 +1,14 @@
--- The numbers that a task has, by a bit each.
+-- The task numbers in use, one bit each.
 use Rattle.std.specs.Prelude.{◌≡◌, ◌≢◌, ℕ, ◌<◌, is_some, if◌then◌else◌}
 use Rattle.std.specs.Int.{bit_at}
 use Rattle.klp_types.specs.declared.limits.TheConstants.{MAX_TASKS}
 use Rattle.klp_model.specs.Task.{Tasks, task_at}
 
--- the bits that are set are those of the numbers that have a task
+-- the set bits are exactly those of the numbers that have a task
 pub record AreTaken (bits : ℕ) (tasks : Tasks) : Type 0 where
   pub each : (number : ℕ) → bit_at bits number ≡ if is_some (task_at tasks number) then 1 else 0
 
--- the number is the lowest of those before, and alone is gone after
+-- `number` is the lowest set bit of `before`, and `after` has all the others
 pub record IsLowest (number before after : ℕ) : Type 0 where
   pub within : number < MAX_TASKS
   pub there : bit_at before number ≡ 1

@@ -1,5 +1,5 @@
-//! What is proved of the definitions themselves. Each law is the contract of a function that does nothing:
-//! a crate above may rely on it.
+//! What is proved of the definitions themselves. Each law is the contract of a function that does nothing; a crate
+//! above may rely on it.
 ghost use Rattle.std.specs.Prelude.{◌≡◌, ℕ, ◌≤◌, List, length};
 ghost use Rattle.klp_types.specs.declared.task.Task.{Task as AnyTask};
 ghost use Rattle.klp_types.specs.declared.version.Version.{Version as AnyVersion};
@@ -9,27 +9,27 @@ ghost use Rattle.klp_model.specs.TaskStep.{change};
 ghost use Rattle.klp_tasks.specs.Changes.{changed, records_switched, HaveEffects};
 ghost use Rattle.klp_tasks.specs.Members.{VersionFlags, IsSetOf};
 
-/// A change of one task's row is that of the step of a task event: so the table and the definition of an
-/// event can't drift apart.
+/// Changing one task's row in the table is the same as the step that the model defines for a task event. So the
+/// table and the model's events can't drift apart.
 pub fn rows_change_as_the_step_says()
     ensures { (state : State) (number : ℕ) (f : AnyTask → AnyTask)
         → change state number f ≡ with_tasks state (changed state.tasks number f) }
 {}
 
-/// No more rows are logged than there are tasks' numbers, so 64 records are room enough for any switch.
+/// Switching tasks logs at most one record for each task number. So room for 64 records is enough for any switch.
 pub fn records_are_few()
     ensures { (number : ℕ) (before : Tasks) (after : Tasks)
         → length (records_switched number before after) ≤ length before }
 {}
 
-/// A switch logs no task that had the state: each record, put back in its turn, changes its task's row.
+/// A switch logs only tasks whose state it changes: each record, put back in its turn, changes its task's row.
 #[tactic(auto, using(crate::proofs::EffectLemmas::switched_effective))]
 pub fn switches_tell_what_they_change()
     ensures { (before : Tasks) (after : Tasks) → HaveEffects after (records_switched 0 before after) }
 {}
 
-/// Each set has exactly the versions of some list: so what is proved of sets over their lists holds of
-/// every set.
+/// Every set of versions has exactly the versions of some list. So a fact that is proved of the sets of all lists
+/// holds of every set.
 pub fn every_set_is_that_of_a_list()
     ensures { (flags : VersionFlags) → (versions : List AnyVersion) × IsSetOf flags versions }
 {}

@@ -3,21 +3,21 @@ ghost use Rattle.std.specs.Int.{bit_at};
 ghost use Rattle.klp_types.specs.declared.limits.TheConstants.{MAX_TASKS};
 ghost use Rattle.klp_tasks.specs.Numbers.{IsLowest};
 
-/// The numbers that a task has, by a bit each: who walks over them looks at no row without a task.
+/// The task numbers in use, one bit each. A walk over them visits no row without a task.
 #[derive(Clone, Copy)]
 pub(crate) struct TaskNumbers {
     bits: u64,
 }
 
 impl TaskNumbers {
-    /// None of them.
+    /// Creates the empty set.
     pub(crate) fn new() -> Self
         ensures { result.bits ≡ 0 }
     {
         Self { bits: 0 }
     }
 
-    /// Puts a number in, or takes it out.
+    /// Marks a number as in use, or as free.
     #[inline(always)]
     pub(crate) fn set(&mut self, number: u8, is_taken: bool)
         requires { number < MAX_TASKS }
@@ -32,7 +32,7 @@ impl TaskNumbers {
         }
     }
 
-    /// Takes the lowest number out, until none is left.
+    /// Removes the lowest number from the set, and returns it. `None` if the set is empty.
     #[inline(always)]
     pub(crate) fn take_lowest(&mut self) -> Option<u8>
         ensures some { IfSome result (λ number. IsLowest number self.old.bits self.new.bits) }

@@ -1,4 +1,6 @@
-ghost use Rattle.std.specs.Prelude.{◌≡◌, ◌<◌, ◌≤◌, ◌++◌, ◌&&◌, not, Bool, true, false, List, [], ◌∷◌, Some, None, length, map, replicate, is_some, option_map, option_copied, option_to_list, IfOk, IfSome, IfNone};
+ghost use Rattle.std.specs.Prelude.{◌≡◌, ◌<◌, ◌≤◌, ◌++◌, ◌&&◌, not, Bool, true, false, List, [], ◌∷◌, Some, None};
+ghost use Rattle.std.specs.Prelude.{length, map, replicate, is_some, option_map, option_copied, option_to_list, IfOk};
+ghost use Rattle.std.specs.Prelude.{IfSome, IfNone};
 ghost use Rattle.std.specs.List.{count_by, list_any};
 ghost use Rattle.std.specs.Ordering.{int_eq};
 ghost use Rattle.klp_types.specs.Records.{spare_of};
@@ -12,7 +14,8 @@ ghost use Rattle.klp_model.specs.Blocked.{switched, lags};
 ghost use Rattle.klp_types.specs.Frames.{frames_of};
 ghost use Rattle.klp_tasks.specs.Members.{has, ArePassing, IsSetOf};
 ghost use Rattle.klp_tasks.specs.Sleepers.{sleeps_where};
-ghost use Rattle.klp_tasks.specs.Changes.{Changes, changed, record_of, record_if_switched, records_switched, IsSwitchLogged, put_back, undone};
+ghost use Rattle.klp_tasks.specs.Changes.{Changes, changed, record_of, record_if_switched, records_switched};
+ghost use Rattle.klp_tasks.specs.Changes.{IsSwitchLogged, put_back, undone};
 
 use crate::numbers::TaskNumbers;
 use crate::version_set::VersionSet;
@@ -22,18 +25,18 @@ use klp_types::{Frames, MAX_TASKS, Mode, PatchState, Record, Task, TaskId, Trans
 use std::alloc::{AllocError, Global};
 use std::marker::Model;
 
-/// The tasks by their numbers, of which there are [`MAX_TASKS`].
+/// The tasks by their numbers, from 0 to [`MAX_TASKS`] - 1.
 ///
-/// All room is taken by [`Tasks::new`]. Each change of one task takes the same time however many tasks there are; who
-/// makes it logs the row before, by [`Tasks::log_row`]. What goes over the tasks costs what those that are there cost,
-/// and next to nothing where there is none; [`Tasks::states`] alone looks at all rows.
+/// [`Tasks::new`] takes all room. A change of one task takes the same time however many tasks there are; its caller
+/// logs the old row first, by [`Tasks::log_row`]. A walk over the tasks costs one step for each task that exists.
+/// Only [`Tasks::states`] reads all rows.
 #[derive(Drop)]
 pub struct Tasks {
     rows: Vec<Option<Task>>,
-    /// For each number the words of the task's frames. They are put together when it falls asleep, so that to log it and
-    /// to put it back takes them as they are.
+    /// For each number, the words of its task's frames. They are made when the task falls asleep, so that logging
+    /// the task and putting it back needn't make them again.
     frames: Vec<FrameWords>,
-    /// The numbers that a task has, so that a walk over all tasks costs what those that are there cost.
+    /// The numbers in use, so that a walk over all tasks visits only these.
     numbers: TaskNumbers,
 }
 
@@ -52,7 +55,7 @@ impl Model for Tasks {
         × (t.frames.items ≡ map frames_of t.rows.items) × AreTaken t.numbers.bits t.rows.items };
 }
 
-/// Whether a task isn't at the target. A number without a task never lags, so an empty table lets every
+/// Whether a task isn't at the target yet. A number without a task never lags, so an empty table lets every
 /// transition complete.
 fn lags(row: &Option<Task>, target: bool) -> bool
     ensures { result ≡ lags target row.now }
@@ -63,8 +66,8 @@ fn lags(row: &Option<Task>, target: bool) -> bool
     }
 }
 
-/// The state of a task that is brought to this target: 1 to run the patch, 0 to leave it. At rest it is -1,
-/// which no target is.
+/// Returns the patch state of a task that is at this target: 1 if the target is to run the patch, 0 if it is to
+/// leave it. It is never -1, the state outside of a transition.
 pub fn target_state(target: bool) -> PatchState
     ensures { result ≡ at_target target }
 {
@@ -75,7 +78,7 @@ pub fn target_state(target: bool) -> PatchState
     }
 }
 
-/// Whether a task sleeps inside of one of the versions. Any other has no frames to be asked for.
+/// Whether a task sleeps inside of one of the versions. A task that isn't asleep has no frames to look at.
 fn sleeps_inside(row: &Option<Task>, versions: &VersionSet) -> bool
     ensures { result ≡ sleeps_where (has versions.now) row.now }
 {
@@ -85,22 +88,22 @@ fn sleeps_inside(row: &Option<Task>, versions: &VersionSet) -> bool
     }
 }
 
-/// Whether a task sleeps and is inside of nothing that is blocked. One that doesn't sleep is never free,
-/// since what it runs isn't known.
+/// Whether a task sleeps, and isn't inside of a blocked version. A task that isn't asleep is never free, since it
+/// isn't known what it runs.
 fn is_free(task: &Task, blocked: &VersionSet) -> bool
     ensures { result ≡ (is_mode task.now.mode Asleep && not (list_any (has blocked.now) task.now.frames)) }
 {
     task.mode == Mode::Asleep && !blocked.holds(&task.frames)
 }
 
-/// Whether a task has the state: then to set it changes nothing, and nothing is logged.
+/// Whether a task has this state already. Setting it again would change nothing, so nothing is logged then.
 fn has_state(task: &Task, state: PatchState) -> bool
     ensures { result ≡ int_eq task.now.state state }
 {
     task.state == state
 }
 
-/// The words are those of the row's frames from now on: none, where it has no task.
+/// Sets the stored words to those of the row's frames. A row without a task has no words.
 fn set_words(words: &mut FrameWords, row: &Option<Task>)
     ensures { words.new ≡ frames_of row.now }
 {
@@ -111,7 +114,7 @@ fn set_words(words: &mut FrameWords, row: &Option<Task>)
 }
 
 impl Tasks {
-    /// No task, with a row for each number that there may be. An error is want of memory.
+    /// Creates a table without tasks, with a row for each possible number. `Err` if memory is refused.
     pub fn new(alloc: Global) -> Result<Self, AllocError>
         ensures { IfOk result (λ tasks. tasks ≡ replicate MAX_TASKS None) }
     {
@@ -122,7 +125,8 @@ impl Tasks {
         })
     }
 
-    /// A task, if it is there. No number from [`MAX_TASKS`] on is a task's.
+    /// Returns the task with this number. `None` if there is no such task; numbers from [`MAX_TASKS`] on never have
+    /// one.
     pub fn get(&self, task: TaskId) -> Option<&Task>
         ensures task { option_copied result ≡ task_at self.now task }
         ensures limit { length self.now ≡ MAX_TASKS }
@@ -130,8 +134,8 @@ impl Tasks {
         self.rows.get(usize::from(task.0))?.as_ref()
     }
 
-    /// For each number the state of the task, if it is there, as `/proc/<pid>/patch_state` shows it. It
-    /// looks at all rows.
+    /// Returns the patch state of the task with each number, as `/proc/<pid>/patch_state` shows it. `None` if a
+    /// number has no task. It reads all rows.
     pub fn states(&self) -> ArrayVec<Option<i8>, MAX_TASKS>
         ensures { result.items ≡ map (option_map (λ (t : AnyTask). t.state)) self.now }
     {
@@ -145,7 +149,8 @@ impl Tasks {
         states
     }
 
-    /// How many tasks aren't at the target: 0 is what completes a transition. It looks at no row without a task.
+    /// Returns how many tasks aren't at the target. A transition completes when this is 0. It reads no row without
+    /// a task.
     pub fn lagging(&self, target: bool) -> u8
         ensures { result ≡ count_by (lags target) self.now }
     {
@@ -159,17 +164,17 @@ impl Tasks {
         count
     }
 
-    /// Whether a task sleeps inside of one of the versions, asked without switching anybody. It looks at no row without
-    /// a task, and at the frames of sleepers alone.
+    /// Whether any task sleeps inside of one of the versions. It switches no task. It reads only the rows of tasks,
+    /// and only sleepers' frames.
     pub fn sleeps_in(&self, versions: &VersionSet) -> bool
         ensures { (test : AnyVersion → Bool) → ArePassing versions.now test
             → result ≡ list_any (sleeps_where test) self.now }
     {
-        self.holds_sleeper(versions)
+        self.any_sleeps_in(versions)
     }
 
-    /// Logs the row of a number as it is, before it changes, with a task or without one. It is lent to the list, and
-    /// so not copied, but for what it says.
+    /// Logs the row of a number before it changes, with or without a task. The row is lent to the log, which
+    /// encodes it without making a copy first.
     #[inline(always)]
     pub fn log_row(&self, task: TaskId, log: &mut Records)
         requires { 0 < spare_of log.old }
@@ -181,8 +186,8 @@ impl Tasks {
         }
     }
 
-    /// A new task is there. It runs in user space. Its state is its caller's to say, since the table
-    /// doesn't know what moves.
+    /// Adds a task, which runs in user space. The caller chooses its patch state, since the table doesn't know the
+    /// transition.
     pub fn add(&mut self, task: TaskId, state: PatchState)
         requires number { task < MAX_TASKS }
         requires free { is_some (task_at self.old task) ≡ false }
@@ -199,8 +204,8 @@ impl Tasks {
         );
     }
 
-    /// A task starts another, which takes its state over and runs in the kernel (the kernel's
-    /// `klp_copy_process`): it is in the middle of what its parent runs.
+    /// Adds a task that another one starts. It takes over its parent's patch state (the kernel's
+    /// `klp_copy_process`), and runs in the kernel: it is in the middle of what its parent runs.
     pub fn fork(&mut self, parent: TaskId, child: TaskId)
         requires there { is_some (task_at self.old parent) ≡ true }
         requires number { child < MAX_TASKS }
@@ -224,15 +229,17 @@ impl Tasks {
         );
     }
 
-    /// A task ends: its number is free again.
+    /// Removes a task. Its number is free again.
     pub fn end(&mut self, task: TaskId)
         requires { is_some (task_at self.old task) ≡ true }
-        ensures { Changes self.old self.new task (record_of task (task_at self.old task)) (with_task self.old task None) }
+        ensures { Changes self.old self.new task (record_of task (task_at self.old task))
+            (with_task self.old task None) }
     {
         self.replace(task, None);
     }
 
-    /// A task enters the kernel. Its state stays, because it switches when it leaves and not when it comes.
+    /// Moves a task into the kernel. Its patch state doesn't change: a task switches when it leaves the kernel, not
+    /// when it enters.
     #[inline(always)]
     pub fn enter(&mut self, task: TaskId)
         requires { is_some (task_at self.old task) ≡ true }
@@ -245,12 +252,13 @@ impl Tasks {
         entered.mode = Mode::Kernel;
     }
 
-    /// A task leaves the kernel, and is brought to the target of whatever moves (kernel exit switching),
-    /// since outside of the kernel it is inside of no function.
+    /// Moves a task to user space, and switches it to the target of the transition, if there is one (kernel exit
+    /// switching). Outside of the kernel it is inside of no function.
     #[inline(always)]
     pub fn leave(&mut self, task: TaskId, moving: Option<Transition>)
         requires { is_some (task_at self.old task) ≡ true }
-        ensures { Changes self.old self.new task (record_of task (task_at self.old task)) (changed self.old task (exited moving)) }
+        ensures { Changes self.old self.new task (record_of task (task_at self.old task))
+            (changed self.old task (exited moving)) }
     {
         let Some(row) = &mut self.rows[usize::from(task.0)] else {
             unreachable!();
@@ -261,7 +269,7 @@ impl Tasks {
         row.mode = Mode::User;
     }
 
-    /// A task falls asleep inside of these frames, by which alone it can be switched while it sleeps.
+    /// Puts a task to sleep inside of these frames. While it sleeps, they alone decide whether it can be switched.
     #[inline(always)]
     pub fn sleep(&mut self, task: TaskId, frames: Frames)
         requires { is_some (task_at self.old task) ≡ true }
@@ -276,7 +284,7 @@ impl Tasks {
         self.frames[usize::from(task.0)].set(&frames);
     }
 
-    /// A task wakes up in the kernel, and its frames are known no more.
+    /// Wakes a task, which then runs in the kernel. Its frames aren't known any more.
     #[inline(always)]
     pub fn wake(&mut self, task: TaskId)
         requires { is_some (task_at self.old task) ≡ true }
@@ -291,9 +299,9 @@ impl Tasks {
         self.frames[usize::from(task.0)].clear();
     }
 
-    /// A sleeping task is brought to the target where none of its frames is blocked (stack checking of
-    /// sleeping tasks). Nothing is logged of a task that stays as it was, nor of a number that no task has.
-    /// It looks at no more than the task's frames, and at none of a task that is at the target.
+    /// Switches a sleeping task to the target if none of its frames is blocked (stack checking of sleeping tasks).
+    /// Nothing is logged if the task doesn't change, or if no task has the number. It reads only the task's frames,
+    /// and not even these if the task is at the target.
     pub fn switch_if_clear(
         &mut self,
         task: TaskId,
@@ -310,7 +318,7 @@ impl Tasks {
         let Some(row) = self.get(task) else {
             return;
         };
-        // first, since it costs less than to look at the frames
+        // This check comes first, since it costs less than reading the frames.
         if has_state(row, state) {
             return;
         }
@@ -320,9 +328,9 @@ impl Tasks {
         self.set_state(task, state, log);
     }
 
-    /// Each sleeping task that is inside of nothing blocked is brought to the target (the kernel's
-    /// `klp_try_switch_task`, for sleepers). Each task that changed is logged, in the order of their
-    /// numbers. It looks at no row without a task, and at the frames of those sleepers alone that aren't at the target.
+    /// Switches each sleeping task that isn't inside of a blocked version to the target (the kernel's
+    /// `klp_try_switch_task`, for sleepers). Logs each task that changes, in the order of their numbers. It reads
+    /// only the rows of tasks, and only the frames of sleepers that aren't at the target.
     pub fn try_all(&mut self, blocked: &VersionSet, target: bool, log: &mut Records)
         requires { length self.old ≤ spare_of log.old }
         ensures tasks { (versions : List AnyVersion) → IsSetOf blocked.now versions
@@ -336,9 +344,8 @@ impl Tasks {
         }
     }
 
-    /// Every task gets the state, whatever it is inside of: at a transition's start and end, and where one
-    /// is forced. Each task whose state was another is logged, in the order of their numbers. It looks at
-    /// no row without a task.
+    /// Gives every task the state, whatever it is inside of: when a transition starts, when it ends, and when it is
+    /// forced. Logs each task whose state changes, in the order of their numbers. It reads only the rows of tasks.
     pub fn set_all(&mut self, state: PatchState, log: &mut Records)
         requires { length (records_switched 0 self.old (all_in state self.old)) ≤ spare_of log.old }
         ensures tasks { self.new ≡ all_in state self.old }
@@ -352,8 +359,8 @@ impl Tasks {
         }
     }
 
-    /// Gives one row what the record has. A record of a number that no task can have, or of a row that
-    /// isn't the tasks', changes nothing, so that all parts can be handed each record.
+    /// Restores the one row that the record names. A record of a number that no task can have changes nothing, nor
+    /// does a record of another part of the state: so every part can be given every record.
     pub fn put_back(&mut self, row: Record)
         ensures { self.new ≡ put_back self.old row }
     {
@@ -364,13 +371,13 @@ impl Tasks {
         }
     }
 
-    /// Gives the row of a number a task that is inside of nothing, as `put_back` of its record does. A number that no
-    /// task can have changes nothing. Where the task is inside of nothing as it is, its frames aren't written anew.
+    /// Gives a number a task that is inside of nothing, as `put_back` of its record does. A number that no task can
+    /// have changes nothing. If the task there is inside of nothing already, its frames aren't written again.
     #[inline(always)]
-    pub fn put_resting(&mut self, task: TaskId, state: PatchState, mode: Mode)
+    pub fn put_without_frames(&mut self, task: TaskId, state: PatchState, mode: Mode)
         ensures { self.new ≡ with_task self.old task (Some (record { state = state; mode = mode; frames = [] })) }
     {
-        if self.rests(task) {
+        if self.has_no_frames(task) {
             self.put_switched(task, state, mode);
             return;
         }
@@ -382,9 +389,9 @@ impl Tasks {
         self.put(task, Some(was));
     }
 
-    /// Whether a task is there, and inside of nothing.
+    /// Whether the number has a task, and that task is inside of nothing.
     #[inline(always)]
-    fn rests(&self, task: TaskId) -> bool
+    fn has_no_frames(&self, task: TaskId) -> bool
         ensures { result ≡ true → (now : AnyTask) × ((task_at self.now task ≡ Some now) × (now.frames ≡ [])) }
     {
         match self.get(task) {
@@ -393,9 +400,9 @@ impl Tasks {
         }
     }
 
-    /// Takes the newest record out of the log, where it is that of a task which is inside of what it was inside of, as the
-    /// words of both tell: what is left of the record is what `put_switched` takes. `None` takes nothing out, and says
-    /// nothing of the newest record.
+    /// Removes the newest record from the log if it is of a task whose frames are the same now as in the record, as
+    /// their words show. Returns what `put_switched` needs of that record. `None` leaves the log as it was, and
+    /// doesn't say that there is no such record.
     #[inline(always)]
     pub fn take_switched(&self, log: &mut Records) -> Option<SwitchedTask>
         ensures newest { IfSome result (λ was. (now : AnyTask) × ((task_at self.now was.task ≡ Some now)
@@ -407,8 +414,8 @@ impl Tasks {
         log.take_switched(&self.rows, &self.frames)
     }
 
-    /// Gives a task that is there its state and its mode back, as `put_back` of its record does where its frames didn't
-    /// change.
+    /// Restores the patch state and the mode of an existing task. This is what `put_back` of its record does if the
+    /// frames didn't change.
     #[inline(always)]
     pub fn put_switched(&mut self, task: TaskId, state: PatchState, mode: Mode)
         requires { is_some (task_at self.old task) ≡ true }
@@ -421,9 +428,9 @@ impl Tasks {
         row.mode = mode;
     }
 
-    /// Whether a task sleeps inside of one of the versions, by the set itself; `sleeps_in` promises it by
-    /// any test that the set passes.
-    fn holds_sleeper(&self, versions: &VersionSet) -> bool
+    /// Whether any task sleeps inside of a version of the set. This contract names the set itself; that of
+    /// `sleeps_in` allows any test that agrees with the set.
+    fn any_sleeps_in(&self, versions: &VersionSet) -> bool
         ensures { result ≡ list_any (sleeps_where (has versions.now)) self.now }
     {
         let mut left = self.numbers;
@@ -435,7 +442,7 @@ impl Tasks {
         false
     }
 
-    /// A task that is there. The other case can't come up, by what the caller has to show.
+    /// Copies a task that exists. The other arm is never reached, by the precondition.
     fn there(&self, task: TaskId) -> Task
         requires { is_some (task_at self.now task) ≡ true }
         ensures { task_at self.now task ≡ Some result }
@@ -446,7 +453,7 @@ impl Tasks {
         }
     }
 
-    /// The words of the frames of a task that is there.
+    /// Returns the words of an existing task's frames.
     #[inline(always)]
     fn words(&self, task: TaskId) -> &FrameWords
         requires { is_some (task_at self.now task) ≡ true }
@@ -455,8 +462,7 @@ impl Tasks {
         &self.frames[usize::from(task.0)]
     }
 
-    /// The row of a number is this from now on. A number that there can't be has no row, and nothing
-    /// changes.
+    /// Replaces the row of a number. A number that no task can have has no row, and nothing changes.
     fn put(&mut self, task: TaskId, row: Option<Task>)
         ensures { self.new ≡ with_task self.old task row }
     {
@@ -468,16 +474,17 @@ impl Tasks {
         }
     }
 
-    /// The same, as a change that the record of the row as it was undoes.
+    /// Replaces a row, as `put` does. Its contract adds that the record of the old row undoes the change.
     fn replace(&mut self, task: TaskId, row: Option<Task>)
-        ensures { Changes self.old self.new task (record_of task (task_at self.old task)) (with_task self.old task row) }
+        ensures { Changes self.old self.new task (record_of task (task_at self.old task))
+            (with_task self.old task row) }
     {
         self.put(task, row);
     }
 
-    /// A task gets the state, if it is there. Its row is logged before, and only where its state was another, since no
-    /// record is kept of an unchanged row. It is lent to the list, and so not copied, but for what it says. It is called
-    /// for each task that is there, of which most have the state.
+    /// Gives a task the state, if the task exists. Logs the old row if the state changes, since an unchanged row
+    /// has no record. The row is lent to the log, which encodes it without making a copy first. `set_all` calls
+    /// this for every task, and most tasks have the state already.
     #[inline(always)]
     fn set_state(&mut self, task: TaskId, state: PatchState, log: &mut Records)
         requires { is_some (record_if_switched task (task_at self.old task)
@@ -495,7 +502,7 @@ impl Tasks {
         self.put_state(task, state);
     }
 
-    /// A task that is there gets the state.
+    /// Gives an existing task the state, without logging.
     fn put_state(&mut self, task: TaskId, state: PatchState)
         requires { is_some (task_at self.old task) ≡ true }
         ensures { self.new ≡ changed self.old task (in_state state) }

@@ -7,15 +7,15 @@ ghost use Rattle.klp_tasks.specs.Members.{has, IsSetOf, IsWithin};
 use klp_types::{Frames, MAX_FUNCTIONS, MAX_PATCHES, MAX_SITES, Version};
 use std::marker::Model;
 
-/// A set of versions, as of those that hold a sleeping task back. It is flags and no list, so that to ask
-/// for a version takes the same time whatever the set has. No call takes memory: the flags are 1,280 bytes,
-/// which `new` and `clear` write.
+/// A set of versions, for example of those that block a sleeping task. It has a flag for each possible version
+/// instead of a list, so that a look-up takes the same time whatever the set has. No call takes memory: the flags
+/// are 1,280 bytes, which `new` and `clear` write.
 #[derive(Drop)]
 pub struct VersionSet {
-    /// By site, whether its original is in the set. All sites that there may be have a flag, so that none
-    /// is looked up.
+    /// By site, whether its original is in the set. Every possible site has a flag, so no look-up is needed.
     originals: [bool; MAX_SITES],
-    /// By patch and function, whether the new function is in the set, whatever the catalog has.
+    /// By patch and function, whether that new function is in the set. Every possible function has a flag, whatever
+    /// the catalog has.
     functions: [[bool; MAX_FUNCTIONS]; MAX_PATCHES],
 }
 
@@ -27,14 +27,14 @@ impl Model for VersionSet {
     ghost view = { λ s. record { originals = s.originals; functions = s.functions } };
 }
 
-/// The flag of a number; one that there can't be isn't set, so that frames of any numbers may be asked for.
+/// Returns the flag of a number. An impossible number isn't set, so that frames with any numbers can be asked for.
 fn is_set(flags: &[bool], number: u16) -> bool
     ensures { result ≡ slice_index_or flags.now number false }
 {
     flags.get(usize::from(number)).copied().unwrap_or(false)
 }
 
-/// Sets the flag of a number, which has to be in range: what is put in comes from the catalog.
+/// Sets the flag of a number. The number must be in range, as every number from the catalog is.
 fn set(flags: &mut [bool], number: u16)
     requires { number < length flags.old }
     ensures { (other : ℕ) → slice_index_or flags.new other false ≡ (slice_index_or flags.old other false
@@ -44,7 +44,7 @@ fn set(flags: &mut [bool], number: u16)
 }
 
 impl VersionSet {
-    /// The empty set, which holds nobody back.
+    /// Creates the empty set, which blocks no task.
     pub fn new() -> Self
         ensures { IsSetOf result [] }
     {
@@ -54,7 +54,7 @@ impl VersionSet {
         }
     }
 
-    /// Puts a version into the set, where it may be already, so callers needn't ask first.
+    /// Puts a version into the set. It may be there already, so callers needn't ask first.
     pub fn insert(&mut self, version: Version)
         requires { IsWithin version }
         ensures version { (other : AnyVersion) → has self.new other ≡ (has self.old other || is_version other version) }
@@ -69,15 +69,15 @@ impl VersionSet {
         }
     }
 
-    /// Takes all versions out: writes all flags, since it isn't kept which are set.
+    /// Removes all versions. It writes all flags, since the set doesn't know which are set.
     pub fn clear(&mut self)
         ensures { IsSetOf self.new [] }
     {
         *self = Self::new();
     }
 
-    /// Whether the version is in the set. One of a site, patch or function that there can't be isn't, so
-    /// that frames needn't be checked first.
+    /// Whether a version is in the set. False for a site, patch or function that can't exist, so frames needn't be
+    /// checked first.
     pub fn contains(&self, version: Version) -> bool
         ensures { result ≡ has self.now version }
     {
@@ -92,13 +92,15 @@ impl VersionSet {
         }
     }
 
-    /// Whether one of the frames is in the set. It looks at no more than the frames.
+    /// Whether one of the frames is in the set. Looks at the innermost frame first, since a sleeper mostly waits in one of
+    /// the functions that it called last. The cost is one look-up for each frame up to the first that is in the set.
     pub(crate) fn holds(&self, frames: &Frames) -> bool
         ensures { result ≡ list_any (has self.now) frames.now }
     {
         frames
             .as_slice()
             .iter()
+            .rev()
             .any(|version| self.contains(*version))
     }
 }

@@ -6,40 +6,40 @@ use Rattle.klp_types.specs.Bytes.{entry_end, entry_address, can_reach}
 use Rattle.klp_text.specs.declared.fault.ImageFault.{ImageFault}
 use Rattle.klp_text.specs.declared.fault.ImageFault.TheVariants.{Overlap, ShortSymbol, Displacement, DuplicateObject, TooMany, NoKernel}
 
--- a body is longer than any may be
+-- whether a symbol's body is longer than allowed
 abbrev pub is_long : Symbol → Bool
 is_long symbol = nat_lt 256 (length symbol.body)
 
--- more objects, more sites or longer bodies than the limits allow
+-- whether there are more objects, more sites or longer bodies than the limits allow
 abbrev pub is_too_many : List Object → Bool
 is_too_many objects =
     nat_lt 17 (length objects) || nat_lt 256 (length (symbols_of objects)) || list_any is_long (symbols_of objects)
 
--- the first object is `vmlinux`
+-- whether the first object is `vmlinux`
 abbrev pub begins_with_kernel : List Object → Bool
 begins_with_kernel [] = false
 begins_with_kernel (object ∷ objects) = bytes_eq object.name (codes "vmlinux")
 
--- two objects have one name
+-- whether two objects have the same name
 abbrev pub has_duplicate : List Object → Bool
 has_duplicate [] = false
 has_duplicate (object ∷ objects) = list_any (λ (later : Object). bytes_eq later.name object.name) objects || has_duplicate objects
 
--- some address lies in both symbols
+-- whether some address is in both symbols
 abbrev pub share_address : Symbol → Symbol → Bool
 share_address a b = nat_lt a.address (b.address + length b.body) && nat_lt b.address (a.address + length a.body)
 
--- a symbol ends beyond the last address, or lies on one that comes before it
+-- whether a symbol ends beyond the last address, or shares an address with an earlier one
 abbrev pub is_in_the_way : List Symbol → Symbol → Bool
 is_in_the_way earlier symbol =
     nat_le (2 ^ 64) (symbol.address + length symbol.body) || list_any (share_address symbol) earlier
 
--- what is looked at in the objects, and the faults, in this order
+-- the checks of the objects with their faults, in this order
 abbrev pub object_tests : List Object → List (Bool × ImageFault)
 object_tests objects =
     (is_too_many objects, TooMany) ∷ (not (begins_with_kernel objects), NoKernel) ∷ (has_duplicate objects, DuplicateObject) ∷ []
 
--- the same of a symbol, with the symbols that come before it
+-- the checks of one symbol with their faults, given the symbols before it
 abbrev pub symbol_tests : ℕ → List Symbol → Symbol → List (Bool × ImageFault)
 symbol_tests handler earlier symbol =
     (nat_lt (length symbol.body) (entry_end symbol.body), ShortSymbol)
@@ -47,13 +47,13 @@ symbol_tests handler earlier symbol =
     ∷ (is_in_the_way earlier symbol, Overlap)
     ∷ []
 
--- the same of symbols in order
+-- the checks of these symbols in order, given the symbols before them
 abbrev pub symbols_tests : ℕ → List Symbol → List Symbol → List (Bool × ImageFault)
 symbols_tests handler earlier [] = []
 symbols_tests handler earlier (symbol ∷ symbols) =
     symbol_tests handler earlier symbol ++ symbols_tests handler (earlier ++ symbol ∷ []) symbols
 
--- the fault of the first test that holds
+-- the fault of the first check that fails
 abbrev pub first_fault : List (Bool × ImageFault) → Option ImageFault
 first_fault [] = None
 first_fault (test ∷ tests) = if test.0 then Some test.1 else first_fault tests

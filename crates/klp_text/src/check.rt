@@ -7,11 +7,11 @@ use crate::entry_site::{can_reach, entry_offset};
 use crate::fault::ImageFault;
 use klp_types::{ENTRY_SITE_LEN, MAX_BODY, MAX_OBJECTS, MAX_SITES, ObjectText, SymbolText};
 
-/// The name of the first object, the kernel itself: all others are modules.
+/// The name of the first object, which is the kernel itself. All other objects are modules.
 const KERNEL: &str = "vmlinux";
 
-/// The fault of these objects, if they make no image. The limits are looked at first, since they bound what
-/// the rest costs.
+/// Returns why these objects make no image. `None` if they do. The limits are checked first, since they bound the
+/// cost of the other checks.
 pub fn image_fault(handler: u64, objects: &[ObjectText]) -> Option<ImageFault>
     ensures { result ≡ faults.image_fault handler objects.now }
 {
@@ -26,12 +26,14 @@ pub fn image_fault(handler: u64, objects: &[ObjectText]) -> Option<ImageFault>
     }
 }
 
+/// Whether there are too many objects or sites, or a body is too long.
 fn is_too_many(objects: &[ObjectText]) -> bool
     ensures { result ≡ faults.is_too_many objects.now }
 {
     objects.len() > MAX_OBJECTS || has_too_many_sites(objects) || has_long_body(objects)
 }
 
+/// Whether the objects have more symbols together than an image may have sites.
 fn has_too_many_sites(objects: &[ObjectText]) -> bool
     ensures { result ≡ nat_lt 256 (length (symbols_of objects.now)) }
 {
@@ -45,6 +47,7 @@ fn has_too_many_sites(objects: &[ObjectText]) -> bool
     false
 }
 
+/// Whether a symbol of any object has a body that is too long.
 fn has_long_body(objects: &[ObjectText]) -> bool
     ensures { result ≡ list_any faults.is_long (symbols_of objects.now) }
 {
@@ -56,12 +59,14 @@ fn has_long_body(objects: &[ObjectText]) -> bool
     false
 }
 
+/// Whether one of the symbols has a body that is too long.
 fn has_long_symbol(symbols: &[SymbolText]) -> bool
     ensures { result ≡ list_any faults.is_long symbols.now }
 {
     symbols.iter().any(|symbol| symbol.body.len() > MAX_BODY)
 }
 
+/// Whether the first object is `vmlinux`. False if there is no object.
 fn begins_with_kernel(objects: &[ObjectText]) -> bool
     ensures { result ≡ faults.begins_with_kernel objects.now }
 {
@@ -71,6 +76,7 @@ fn begins_with_kernel(objects: &[ObjectText]) -> bool
     }
 }
 
+/// Whether two objects have the same name.
 fn has_duplicate(objects: &[ObjectText]) -> bool
     ensures { result ≡ faults.has_duplicate objects.now }
 {
@@ -82,14 +88,15 @@ fn has_duplicate(objects: &[ObjectText]) -> bool
     false
 }
 
+/// Whether one of the objects has this name.
 fn has_name(objects: &[ObjectText], name: &str) -> bool
     ensures { result ≡ list_any (λ (other : Object). bytes_eq other.name name.now) objects.now }
 {
     objects.iter().any(|object| object.name.as_str() == name)
 }
 
-/// The fault of the first symbol that has one, in the image's order, so that the first line to mend is
-/// reported.
+/// Returns the fault of the first symbol that has one. Symbols are checked in the image's order, so that the report
+/// names the first line that needs mending.
 fn symbols_fault(handler: u64, objects: &[ObjectText]) -> Option<ImageFault>
     ensures { result ≡ faults.first_fault (faults.symbols_tests handler [] (symbols_of objects.now)) }
 {
@@ -101,7 +108,7 @@ fn symbols_fault(handler: u64, objects: &[ObjectText]) -> Option<ImageFault>
     None
 }
 
-/// The fault of the first symbol of one object that has one. The objects before it are asked for, since a
+/// Returns the fault of the first symbol of an object that has one. `earlier` are the objects before it, since a
 /// symbol may share an address with one of theirs.
 fn object_fault(handler: u64, earlier: &[ObjectText], symbols: &[SymbolText]) -> Option<ImageFault>
     ensures { result ≡ faults.first_fault (faults.symbols_tests handler (symbols_of earlier.now) symbols.now) }
@@ -114,8 +121,8 @@ fn object_fault(handler: u64, earlier: &[ObjectText], symbols: &[SymbolText]) ->
     None
 }
 
-/// The fault of one symbol. The objects and the symbols of its own object that come before it are asked
-/// for, since a symbol may share an address with any of them.
+/// Returns the fault of one symbol. `objects` and `symbols` are the objects before its own, and the symbols before
+/// it in its own, since it may share an address with any of them.
 fn symbol_fault(
     handler: u64,
     objects: &[ObjectText],
@@ -137,21 +144,22 @@ fn symbol_fault(
     }
 }
 
-/// Whether a symbol ends beyond the last address, or shares an address with one of these others.
+/// Whether a symbol ends beyond the last address, or shares an address with one of the earlier symbols.
 ///
-/// Each symbol is compared with all before it, and not sorted: at most 256 * 255 / 2 times for an image.
-/// The fault is that of the first symbol in the image's order, which a sort by address would lose, and a
-/// sort takes memory (docs/DECISIONS.md, "Overlaps by pairs").
+/// Each symbol is compared with all before it: at most 256 * 255 / 2 times for an image. They aren't sorted by
+/// address, since sorting takes memory, and loses which symbol is first in the image's order (docs/DECISIONS.md,
+/// "Overlaps by pairs").
 fn is_in_the_way(objects: &[ObjectText], symbols: &[SymbolText], symbol: &SymbolText) -> bool
     ensures { result ≡ faults.is_in_the_way (symbols_of objects.now ++ symbols.now) symbol.now }
 {
-    // A symbol that ends at 2^64 sharp is in the way too, since the address behind it has more than 64 bits
+    // A symbol that ends exactly at 2^64 is refused too, since the address after it doesn't fit in 64 bits
     // (docs/DECISIONS.md, "The last address").
     end_of(symbol) > u128::from(u64::MAX)
         || lies_on_objects(objects, symbol)
         || lies_on_symbols(symbols, symbol)
 }
 
+/// Whether a symbol shares an address with a symbol of one of these objects.
 fn lies_on_objects(objects: &[ObjectText], symbol: &SymbolText) -> bool
     ensures { result ≡ list_any (faults.share_address symbol.now) (symbols_of objects.now) }
 {
@@ -163,19 +171,21 @@ fn lies_on_objects(objects: &[ObjectText], symbol: &SymbolText) -> bool
     false
 }
 
+/// Whether a symbol shares an address with one of these symbols.
 fn lies_on_symbols(symbols: &[SymbolText], symbol: &SymbolText) -> bool
     ensures { result ≡ list_any (faults.share_address symbol.now) symbols.now }
 {
     symbols.iter().any(|other| share_address(symbol, other))
 }
 
+/// Whether two symbols share an address.
 fn share_address(a: &SymbolText, b: &SymbolText) -> bool
     ensures { result ≡ faults.share_address a.now b.now }
 {
     u128::from(a.address) < end_of(b) && u128::from(b.address) < end_of(a)
 }
 
-/// The address behind a symbol. It has 128 bits, because it may be above all of 64.
+/// Returns the address after a symbol, in 128 bits, because it may not fit in 64.
 fn end_of(symbol: &SymbolText) -> u128
     ensures { result ≡ symbol.now.address + length symbol.now.body }
 {

@@ -5,18 +5,18 @@ ghost use Rattle.klp_types.specs.Bytes.{can_reach};
 
 use klp_types::ENTRY_SITE_LEN;
 
-/// What an entry site that isn't hooked holds: `nopl 0x0(%rax,%rax,1)`, one instruction of five bytes, so
-/// that no task can be in the middle of what a call is written over.
+/// The bytes of an entry site that isn't hooked: `nopl 0x0(%rax,%rax,1)`. It is one instruction of five bytes, so
+/// no task can be in the middle of the bytes over which a call is written.
 pub const NOP: [u8; ENTRY_SITE_LEN] = [0x0f, 0x1f, 0x44, 0x00, 0x00];
 
-/// The opcode of a near call, behind which its displacement is.
+/// The opcode of a near call. Its displacement follows.
 const CALL: u8 = 0xe8;
 
-/// ENDBR64, which a function begins with that may be called through a pointer while the processor tracks
-/// such calls. It has to stay there, so a hook goes behind it.
+/// ENDBR64, the first instruction of a function that may be called through a pointer while the processor tracks
+/// such calls. It has to stay the first, so a hook goes after it.
 const ENDBR64: [u8; 4] = [0xf3, 0x0f, 0x1e, 0xfa];
 
-/// Where in a body its entry site begins.
+/// Returns the offset in a body at which its entry site begins.
 pub fn entry_offset(body: &[u8]) -> usize
     ensures value { result ≡ bytes.entry_offset body.now }
     ensures limit { result ≤ 4 }
@@ -28,8 +28,8 @@ pub fn entry_offset(body: &[u8]) -> usize
     }
 }
 
-/// How far the handler is from the instruction behind the call at this address, as the processor counts it.
-/// 128 bits have room for any two addresses.
+/// Returns the displacement of a call at this address: the distance from the instruction after the call to the
+/// handler, as the processor counts it. 128 bits have room for any two addresses.
 pub fn displacement(handler: u64, address: u128) -> i128
     requires { address < 2 ^ 65 }
     ensures { result ≡ bytes.displacement handler address }
@@ -37,7 +37,7 @@ pub fn displacement(handler: u64, address: u128) -> i128
     i128::from(handler) - (address as i128 + ENTRY_SITE_LEN as i128)
 }
 
-/// Whether a call at this address reaches the handler: a near call has 32 bits with a sign.
+/// Whether a call at this address reaches the handler. The displacement of a near call has 32 bits with a sign.
 pub fn can_reach(handler: u64, address: u128) -> bool
     requires { address < 2 ^ 65 }
     ensures { result ≡ can_reach handler address }
@@ -45,7 +45,8 @@ pub fn can_reach(handler: u64, address: u128) -> bool
     i32::try_from(displacement(handler, address)).is_ok()
 }
 
-/// A call of the handler from this address: the opcode and the displacement, lowest byte first.
+/// Returns the bytes of a call from this address to the handler: the opcode and the displacement, lowest byte
+/// first.
 pub fn call(handler: u64, address: u64) -> [u8; ENTRY_SITE_LEN]
     requires { FitsSigned w32 (bytes.displacement handler address) }
     ensures { result ≡ bytes.call handler address }

@@ -1,4 +1,5 @@
-ghost use Rattle.std.specs.Prelude.{◌≡◌, ◌+◌, ◌^◌, ◌<◌, ◌≤◌, ◌⊎◌, true, false, length, slice_get, slice_set, slice_index_or, option_map, IfOk, IfErr, OnOk, None};
+ghost use Rattle.std.specs.Prelude.{◌≡◌, ◌+◌, ◌^◌, ◌<◌, ◌≤◌, ◌⊎◌, true, false, length, slice_get, slice_set};
+ghost use Rattle.std.specs.Prelude.{slice_index_or, option_map, IfOk, IfErr, OnOk, None};
 ghost use Rattle.klp_types.specs.Image.{Symbol, Object, given_symbol, symbol_of, symbols_of};
 ghost use Rattle.klp_types.specs.Bytes.{entry_address};
 ghost use Rattle.klp_text.specs.TextImage.{opening, bytes_at, site_count, IsWithinLimits};
@@ -15,23 +16,21 @@ use klp_types::{ObjId, ObjectText, Site};
 use std::alloc::{AllocError, Global};
 use std::marker::Model;
 
-/// The text of all objects, loaded or not: their names and symbols, and the bytes of each body as they are
-/// now.
+/// The text of all objects, loaded or not: their names and symbols, and the bytes of each body at this moment.
 ///
-/// Sites are numbered over all objects in order. The objects are fixed from the start; what changes is
-/// which of them are loaded and which sites are hooked. All calls but `new` cost the same however many
-/// sites there are, and take no memory.
+/// Sites are numbered over all objects in order. The objects never change; only which of them are loaded, and which
+/// sites are hooked, does. All calls but `new` cost the same however many sites there are, and take no memory.
 #[derive(Drop)]
 pub struct Image {
     handler: u64,
-    /// As they were given, since contracts speak of the image that was handed in (docs/DECISIONS.md,
+    /// The objects as they were given, since contracts speak of the image that was handed in (docs/DECISIONS.md,
     /// "Bodies as they were given").
     objects: Vec<ObjectText>,
-    /// By object, whether it is loaded: `bytes` shows nothing of one that isn't.
+    /// By object, whether it is loaded. `bytes` returns nothing of an object that isn't.
     loaded: Vec<bool>,
-    /// By object, the site of its first symbol, so that a symbol's bytes are found without counting.
+    /// By object, the site of its first symbol, so that a symbol's site is found without counting.
     first_sites: Vec<u16>,
-    /// By site, the symbol as it is in the text now.
+    /// By site, the symbol with the bytes that it has now.
     sites: Vec<StoredSymbol>,
 }
 
@@ -51,12 +50,12 @@ impl Model for Image {
 }
 
 impl Image {
-    /// Makes an image of these objects, for hooked sites to call this handler. Object 0 is loaded and
-    /// nothing is hooked: each entry site holds the NOP, whatever was there.
+    /// Makes an image of these objects, whose hooked sites call this handler. At first only object 0 is loaded, and
+    /// nothing is hooked: each entry site has the NOP, whatever bytes it was given with.
     ///
-    /// Faults are looked for in this order: `TooMany`, `NoKernel`, `DuplicateObject`, and then symbol by
-    /// symbol `ShortSymbol`, `Displacement` and `Overlap`. `NoMemory` may come in place of any of them. The
-    /// objects are dropped on a fault.
+    /// Faults are checked in this order: `TooMany`, `NoKernel`, `DuplicateObject`, and then, symbol by symbol,
+    /// `ShortSymbol`, `Displacement` and `Overlap`. `NoMemory` may be reported in place of any of them. The objects
+    /// are dropped on a fault.
     ///
     /// Each symbol is compared with all before it, and each body is copied.
     pub fn new(alloc: Global, objects: Vec<ObjectText>, handler: u64) -> Result<Image, ImageFault>
@@ -82,8 +81,8 @@ impl Image {
         })
     }
 
-    /// Puts a call of the handler at an entry site, in one write of five bytes. A site that is hooked may
-    /// be hooked again, since that writes the same bytes (docs/DECISIONS.md, "Hooking twice").
+    /// Writes a call of the handler over an entry site, in one write of five bytes. A hooked site may be hooked
+    /// again, which writes the same bytes (docs/DECISIONS.md, "Hooking twice").
     pub fn hook(&mut self, site: Site)
         requires { site < site_count self.old.image }
         ensures { self.new ≡ record self.old { hooked = slice_set self.old.hooked site true } }
@@ -91,8 +90,8 @@ impl Image {
         self.set_hooked(site, true);
     }
 
-    /// Puts the NOP back at an entry site, in one write of five bytes, so that the function is its own
-    /// again. A site that isn't hooked may be unhooked.
+    /// Writes the NOP over an entry site, in one write of five bytes, so that a call runs the original again. A
+    /// site that isn't hooked may be unhooked.
     pub fn unhook(&mut self, site: Site)
         requires { site < site_count self.old.image }
         ensures { self.new ≡ record self.old { hooked = slice_set self.old.hooked site false } }
@@ -100,7 +99,7 @@ impl Image {
         self.set_hooked(site, false);
     }
 
-    /// Puts a call of the handler at an entry site, or the NOP.
+    /// Writes a call of the handler over an entry site, or the NOP.
     fn set_hooked(&mut self, site: Site, hooked: bool)
         requires { site < site_count self.old.image }
         ensures { self.new ≡ record self.old { hooked = slice_set self.old.hooked site hooked } }
@@ -108,9 +107,9 @@ impl Image {
         self.sites[usize::from(site.0)].set_hooked(hooked);
     }
 
-    /// Makes an object loaded: from now on `bytes` shows the bodies of its symbols. Its sites stay hooked
-    /// or unhooked as they are, because hooks follow entries and not modules. Writes one flag, whatever the
-    /// object has; one that is loaded already may be loaded again.
+    /// Marks an object as loaded: from now on `bytes` returns the bodies of its symbols. Its sites stay hooked or
+    /// unhooked, because hooks follow entries and not modules. It writes one flag, whatever the object has. A
+    /// loaded object may be loaded again.
     pub fn load(&mut self, object: ObjId)
         requires { object < length self.old.image.objects }
         ensures { self.new ≡ record self.old { loaded = slice_set self.old.loaded object true } }
@@ -118,10 +117,10 @@ impl Image {
         self.loaded[usize::from(object.0)] = true;
     }
 
-    /// Makes an object one that isn't loaded: from now on `bytes` shows nothing of it. Its sites stay
-    /// hooked or unhooked as they are, also for when it is loaded again, so the caller unhooks them
-    /// first. Writes one flag, whatever the object has; one that isn't loaded may be unloaded. That
-    /// `vmlinux` is never unloaded is the caller's rule.
+    /// Marks an object as not loaded: from now on `bytes` returns nothing of it. Unloading changes no hook of its
+    /// sites, and neither does loading it again, so the caller unhooks them first. It writes one flag, whatever the
+    /// object has.
+    /// An object that isn't loaded may be unloaded. The caller must not unload `vmlinux`.
     pub fn unload(&mut self, object: ObjId)
         requires { object < length self.old.image.objects }
         ensures { self.new ≡ record self.old { loaded = slice_set self.old.loaded object false } }
@@ -129,8 +128,8 @@ impl Image {
         self.loaded[usize::from(object.0)] = false;
     }
 
-    /// Whether an object is loaded. An object that isn't there isn't, so that a number which has no meaning
-    /// has an answer (docs/DECISIONS.md, "Numbers out of range").
+    /// Whether an object is loaded. False if there is no such object, so that every number has an answer
+    /// (docs/DECISIONS.md, "Numbers out of range").
     pub fn is_loaded(&self, object: ObjId) -> bool
         ensures { result ≡ slice_index_or self.now.loaded object false }
     {
@@ -140,9 +139,9 @@ impl Image {
             .unwrap_or(false)
     }
 
-    /// The bytes of a symbol of a loaded object, as a processor would run them. Symbols count from 0 in
-    /// each object. There is none where the object isn't loaded or has no such symbol (docs/DECISIONS.md,
-    /// "Numbers out of range").
+    /// Returns the bytes of a symbol of a loaded object, as a processor would run them. `number` counts the symbols
+    /// of the object, from 0. `None` if the object isn't loaded or has no such symbol (docs/DECISIONS.md, "Numbers
+    /// out of range").
     pub fn bytes(&self, object: ObjId, number: u16) -> Option<&[u8]>
         ensures { option_map (λ b. b.now) result ≡ bytes_at self.now object number }
     {
@@ -157,28 +156,29 @@ impl Image {
         Some(self.sites[site].body.as_slice())
     }
 
-    /// The address of an entry site: that of its symbol, or four bytes behind it where the body begins with
+    /// Returns the address of an entry site: its symbol's address, or four bytes more if the body begins with
     /// ENDBR64.
     pub fn address(&self, site: Site) -> u64
         requires { site < site_count self.now.image }
         ensures value { option_map entry_address (symbol_of self.now.image site) ≡ Some result }
-        // the entry site is within 64 bits, and there is an address behind it, so the original can be
-        // jumped to
+        // The entry site is within 64 bits, and there is an address after it, to which the handler can jump to run
+        // the original.
         ensures end { result + ENTRY_SITE_LEN < 2 ^ 64 }
     {
         self.sites[usize::from(site.0)].address
     }
 
-    /// How many objects there are, loaded or not: each keeps its number while it comes and goes.
+    /// Returns how many objects there are, loaded or not. Each keeps its number while it is loaded and unloaded.
     pub fn objects(&self) -> u8
         ensures count { result ≡ length self.now.image.objects }
-        // what every image has, so that tables above need no check of their own
+        // Every image is within these limits, so tables of crates above needn't check them.
         ensures limits { IsWithinLimits self.now.image.objects }
     {
         self.objects.len() as u8
     }
 
-    /// How many symbols an object has, loaded or not: the catalog is resolved before modules come.
+    /// Returns how many symbols an object has, loaded or not, since a catalog is resolved before modules are
+    /// loaded. `None` if there is no such object.
     pub fn symbols(&self, object: ObjId) -> Option<u16>
         ensures { result ≡ option_map (λ (found : Object). length found.symbols)
             (slice_get self.now.image.objects object) }
@@ -187,7 +187,7 @@ impl Image {
         Some(object.symbols.len() as u16)
     }
 
-    /// The name of an object, loaded or not, as the catalog's text has it.
+    /// Returns the name of an object, loaded or not, as in the catalog's text. `None` if there is no such object.
     pub fn object_name(&self, object: ObjId) -> Option<&str>
         ensures { option_map (λ name. name.now) result
             ≡ option_map (λ (found : Object). found.name) (slice_get self.now.image.objects object) }
@@ -196,8 +196,8 @@ impl Image {
         Some(object.name.as_str())
     }
 
-    /// The name and the address of a symbol, loaded or not. Several symbols of an object may have one name,
-    /// so it is found by its number.
+    /// Returns the name and the address of a symbol, whether its object is loaded or not. `number` counts the
+    /// symbols of the object, from 0, since several may have the same name. `None` if there is no such symbol.
     pub fn symbol(&self, object: ObjId, number: u16) -> Option<(&str, u64)>
         ensures name { option_map (λ found. found.0.now) result
             ≡ option_map (λ (s : Symbol). s.name) (given_symbol self.now.image object number) }
@@ -214,7 +214,7 @@ impl Image {
     }
 }
 
-/// By object, the site of its first symbol. 16 bits do, since there are at most 256 sites.
+/// Makes a list with the site of each object's first symbol. 16 bits are enough, since there are at most 256 sites.
 fn first_sites(alloc: Global, objects: &[ObjectText]) -> Result<Vec<u16>, AllocError>
     requires { length (symbols_of objects.now) ≤ MAX_SITES }
     ensures { IfOk result (λ sites. sites.items ≡ first_sites_from 0 objects.now) }
@@ -228,8 +228,8 @@ fn first_sites(alloc: Global, objects: &[ObjectText]) -> Result<Vec<u16>, AllocE
     Ok(sites)
 }
 
-/// By site, the symbol with a NOP at its entry site, whatever bytes it was given with, and with its call of the
-/// handler.
+/// Makes a list of all symbols, by site. Each has a NOP at its entry site, whatever bytes it was given with, and
+/// the bytes of its call of the handler.
 fn stored_symbols(
     alloc: Global,
     objects: &[ObjectText],

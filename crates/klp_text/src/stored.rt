@@ -8,23 +8,23 @@ use crate::entry_site::{NOP, call, entry_offset};
 use klp_types::{ENTRY_SITE_LEN, SymbolText};
 use std::alloc::{AllocError, Global};
 
-/// A symbol as it is in the text now. Where its entry site is stands beside the body, and so does the call that
-/// is put there each time that the site is hooked: it is made once.
+/// A symbol with the bytes that it has now. The position of its entry site and the call for it are computed once,
+/// and written there each time that the site is hooked.
 #[derive(Drop)]
 pub struct StoredSymbol {
     /// The address of the entry site.
     pub address: u64,
-    /// Where in the body the entry site begins.
+    /// The offset in the body at which the entry site begins.
     pub offset: usize,
     pub hooked: bool,
-    /// A call of the handler from the entry site.
+    /// The bytes of a call from the entry site to the handler.
     pub call: [u8; ENTRY_SITE_LEN],
     pub body: Vec<u8>,
 }
 
 impl StoredSymbol {
-    /// The symbol with a NOP at its entry site, in a copy of its body, so that the one given stays as it
-    /// was.
+    /// Copies the symbol, with a NOP at its entry site; the given symbol stays as it was. `Err` if memory is
+    /// refused.
     pub fn new(alloc: Global, symbol: &SymbolText, handler: u64) -> Result<StoredSymbol, AllocError>
         requires long { entry_end symbol.now.body ≤ length symbol.now.body }
         requires near { FitsSigned w32 (displacement handler (entry_address symbol.now)) }
@@ -48,8 +48,8 @@ impl StoredSymbol {
         })
     }
 
-    /// Puts a call of the handler at the entry site, or the NOP, and sets the flag with it, so that the two
-    /// can't differ.
+    /// Writes a call of the handler over the entry site, or the NOP, and sets the flag with it, so that both always
+    /// agree.
     pub fn set_hooked(&mut self, hooked: bool)
         requires { self.old.offset + 5 ≤ length self.old.body.items }
         ensures address { self.new.address ≡ self.old.address }
@@ -65,7 +65,7 @@ impl StoredSymbol {
     }
 }
 
-/// Writes over the entry site that begins there in a body.
+/// Writes these five bytes over the entry site that begins at `offset` in a body.
 fn write_entry(body: &mut [u8], offset: usize, entry: &[u8; ENTRY_SITE_LEN])
     requires { offset + 5 ≤ length body.old }
     ensures { body.new ≡ with_entry_at offset entry.now body.old }
@@ -73,8 +73,8 @@ fn write_entry(body: &mut [u8], offset: usize, entry: &[u8; ENTRY_SITE_LEN])
     write_site(&mut body[offset..offset + ENTRY_SITE_LEN], entry);
 }
 
-/// All five bytes of an entry site change in one step, so no task runs a half of them. They are one array that is
-/// assigned, since a copy from slice to slice goes over its bytes one by one, and reads them back from memory.
+/// Writes all five bytes of an entry site in one step, so that no task runs half of them. They are assigned as one
+/// array: a copy from slice to slice would write them one by one.
 fn write_site(site: &mut [u8], entry: &[u8; ENTRY_SITE_LEN])
     requires { length site.old ≡ 5 }
     ensures { site.new ≡ entry.now }

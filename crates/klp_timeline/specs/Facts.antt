@@ -11,30 +11,33 @@ use Rattle.klp_timeline.specs.declared.moment.Fact.{Fact}
 use Rattle.klp_timeline.specs.declared.moment.Fact.TheVariants.{Undoes, Starts, Reverses, Completes, Leaves}
 use Rattle.klp_timeline.specs.Stays.{is_transition}
 
+-- whether the line undid events
 abbrev pub is_undone : Option Fact → Bool
 is_undone (Some (Undoes from to)) = true
 is_undone other = false
 
+-- whether a task sleeps inside of code that it wouldn't call now
 abbrev pub is_outdated : Option Stay → Bool
 is_outdated (Some (Outdated version)) = true
 is_outdated other = false
 
--- what becomes of a transition by an event, where these stays are seen afterwards
+-- what happens to a transition by an event; `stays` are the stays after it
 abbrev pub turn : Option Transition → Option Transition → List (Option Stay) → Option Fact
 turn None None stays = None
 turn None (Some move) stays = Some (Starts move)
 turn (Some move) None stays = Some (Completes move (count_by is_outdated stays))
 turn (Some move) (Some other) stays = if is_transition move other then None else Some (Reverses other)
 
-abbrev pub is_of : Option Transition → ℕ → Bool
-is_of None patch = false
-is_of (Some move) patch = move.patch == patch
+-- whether the patch is the one in transition
+abbrev pub is_moving_patch : Option Transition → ℕ → Bool
+is_moving_patch None patch = false
+is_moving_patch (Some move) patch = move.patch == patch
 
--- that a patch left, where these are installed now; of the one that moved its completion tells
+-- the fact that a patch left, if it isn't installed now; for the patch in transition, its completion says so
 abbrev pub leave_of : Option Transition → List ℕ → ℕ → List Fact
-leave_of moved installed patch = if is_of moved patch || list_any (λ other. other == patch) installed then [] else Leaves patch ∷ []
+leave_of moved installed patch = if is_moving_patch moved patch || list_any (λ other. other == patch) installed then [] else Leaves patch ∷ []
 
--- what a line did: where it undid events, that alone
+-- the facts of a line: if it undid events, only that
 abbrev pub facts : View → Moment → List Fact
 facts before moment = option_to_list moment.act ++ (if is_undone moment.act then [] else
     option_to_list (turn before.moving moment.view.moving moment.view.stays)

@@ -1,4 +1,4 @@
--- What the sentences claim of a run, and that nothing is missing.
+-- What sentences claim about a run, and that none is missing.
 use Rattle.std.specs.Prelude.{◌≡◌, ℕ, zero, suc, ◌<◌, ◌≤◌, List, [], ◌∷◌, length, Option, Some, None, IfSome, Contains}
 use Rattle.klp_types.specs.declared.version.Transition.{Transition}
 use Rattle.klp_timeline.specs.declared.course.Since.{Since}
@@ -16,19 +16,19 @@ use Rattle.klp_timeline.specs.Facts.{facts}
 use Rattle.klp_timeline.specs.Sentences.{sentences_of}
 use Rattle.klp_timeline.specs.Course.{course_of}
 
--- what is seen of a task after a line of a run, before which there are so many
+-- the stay of a task after a line of a run; `index` counts lines from 0
 abbrev pub seen_after : List Moment → ℕ → ℕ → Option Stay
 seen_after [] index task = None
 seen_after (moment ∷ run) zero task = stay_at moment.view.stays task
 seen_after (moment ∷ run) (suc index) task = seen_after run index task
 
--- what a line did
+-- the facts of a line of a run
 abbrev pub facts_at : View → List Moment → ℕ → List Fact
 facts_at before [] index = []
 facts_at before (moment ∷ run) zero = facts before moment
 facts_at before (moment ∷ run) (suc index) = facts_at moment.view run index
 
--- a sentence of sleepers that begins with one line spans the lines up to the last one of their stay
+-- a sentence about a stay spans the lines from its first to the last one of the stay
 pub record Spans (from : ℕ) (sleepers : Sleepers) (line : ℕ) : Type 0 where
   pub begun : from ≤ line
   pub lasts : IfSome sleepers.to (λ to. line ≤ to)
@@ -42,30 +42,31 @@ pub record IsShown (sentences : List Sentence) (task : ℕ) (stay : Stay) (line 
   pub stay_is : sleepers.stay ≡ stay
   pub spans : Spans from sleepers line
 
--- where a run begins nobody sleeps where it matters
+-- at the beginning of a run no task is in a stay
 abbrev pub IsQuiet : View → Type 0
 IsQuiet opening = (task : ℕ) → stay_at opening.stays task ≡ None
 
--- each stay of each task after each line is told
+-- each stay of each task after each line has a sentence
 abbrev pub IsAllShown : View → List Moment → Type 0
 IsAllShown opening run = (index task : ℕ) (stay : Stay) → seen_after run index task ≡ Some stay → IsShown (sentences_of opening run) task stay (suc index)
 
--- and so is each fact of each line
+-- each fact of each line has a sentence
 abbrev pub IsEachFactShown : View → List Moment → Type 0
 IsEachFactShown opening run = (index : ℕ) (fact : Fact) → Contains (facts_at opening run index) fact
     → Contains (sentences_of opening run) (record { line = suc index; said = Did fact })
 
--- what a line is said to have done it did
+-- the line did this
 pub record IsFactOf (opening : View) (run : List Moment) (line : ℕ) (fact : Fact) : Type 0 where
   pub index : ℕ
   pub line_is : line ≡ suc index
   pub among : Contains (facts_at opening run index) fact
 
--- after each line that a sentence of sleepers spans, each task that it names is seen so
+-- after each line that a sentence about a stay spans, each task that it names is in that stay
 abbrev pub AreSeen : List Moment → ℕ → Sleepers → Type 0
 AreSeen run from sleepers = (task index : ℕ) → Contains sleepers.tasks task → index < length run → Spans from sleepers (suc index)
     → seen_after run index task ≡ Some sleepers.stay
 
+-- what a sentence says is true of the run
 abbrev pub IsTrueOf : View → List Moment → ℕ → Said → Type 0
 IsTrueOf opening run line (Did fact) = IsFactOf opening run line fact
 IsTrueOf opening run line (Slept sleepers) = AreSeen run line sleepers
@@ -74,24 +75,24 @@ IsTrueOf opening run line (Slept sleepers) = AreSeen run line sleepers
 abbrev pub IsAllTrue : View → List Moment → Type 0
 IsAllTrue opening run = (sentence : Sentence) → Contains (sentences_of opening run) sentence → IsTrueOf opening run sentence.line sentence.said
 
--- the line since which a transition goes its way; 0 where it did so before the run
+-- the line since which a transition has its target; 0 if it had it before the run
 abbrev pub first_line : Option Since → ℕ
 first_line None = 0
 first_line (Some (Turned line)) = line
 first_line (Some (Undone line)) = line
 
--- what moves after a line of a run, before which there are so many
+-- the transition after a line of a run; `index` counts lines from 0
 abbrev pub moving_after : List Moment → ℕ → Option Transition
 moving_after [] index = None
 moving_after (moment ∷ run) zero = moment.view.moving
 moving_after (moment ∷ run) (suc index) = moving_after run index
 
--- what moves at the end of a run, if this moves where it begins
+-- the transition at the end of a run, if `moving` is the one at its beginning
 abbrev pub moving_end : Option Transition → List Moment → Option Transition
 moving_end moving [] = moving
 moving_end moving (moment ∷ run) = moving_end moment.view.moving run
 
--- what moves at the end has moved that way since then
+-- the transition at the end has had its target since the line of its course
 abbrev pub IsGoingSince : View → List Moment → Type 0
 IsGoingSince opening run = (move : Transition) → moving_end opening.moving run ≡ Some move → (index : ℕ) → index < length run
     → first_line (course_of (sentences_of opening run)).since ≤ suc index → moving_after run index ≡ Some move

@@ -1,27 +1,28 @@
-//! How a transition went.
+//! The course of a transition: since which line it moves to its target, and whether it was forced.
 ghost use Rattle.std.specs.Prelude.{◌≡◌};
 ghost use Rattle.klp_timeline.specs.Course.{after_said, course_of};
 
 use crate::moment::{Fact, Said, Sentence};
 
-/// Since when a transition goes the way that it goes.
+/// The line since which a transition moves to its present target.
 #[derive(Clone, Copy)]
 pub enum Since {
-    /// It started with this line, or turned.
+    /// The transition started with this line, or was reversed by it.
     Turned(u64),
-    /// This line undid events, and the transition goes this way since then, if not for longer.
+    /// This line undid events. The transition has had its present target at least since then.
     Undone(u64),
 }
 
-/// How the transition went that goes on at the end of a run, or went last.
+/// The course of the transition at the end of a run. If there is none then, the course of the last one.
 #[derive(Clone, Copy)]
 pub struct Course {
-    /// `None` where it went this way before the run.
+    /// None if the transition had its present target already before the run.
     pub since: Option<Since>,
-    /// Whether it was forced, as far as that wasn't undone.
+    /// Whether it was forced, unless that was undone.
     pub is_forced: bool,
 }
 
+/// Returns the course after one more sentence. Only a fact about the transition changes it.
 fn after_said(course: Course, sentence: &Sentence) -> Course
     ensures { result ≡ after_said course sentence.now.line sentence.now.said }
 {
@@ -50,7 +51,7 @@ fn after_said(course: Course, sentence: &Sentence) -> Course
     }
 }
 
-/// How the transition went of which these sentences tell last.
+/// Returns the course of the last transition that these sentences mention.
 pub fn latest_course(sentences: &[Sentence]) -> Course
     ensures { result ≡ course_of sentences.now }
 {

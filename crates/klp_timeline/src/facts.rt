@@ -1,8 +1,8 @@
-//! What a line did.
+//! The facts of a line: what it did.
 ghost use Rattle.std.specs.Prelude.{◌≡◌, ◌++◌, ◌==◌, map, OnOk, ◌∷◌, []};
 ghost use Rattle.std.specs.List.{list_any, count_by, flat_map};
 ghost use Rattle.std.specs.Option.{option_to_list};
-ghost use Rattle.klp_timeline.specs.Facts.{is_outdated, turn, is_of, leave_of, facts};
+ghost use Rattle.klp_timeline.specs.Facts.{is_outdated, turn, is_moving_patch, leave_of, facts};
 ghost use Rattle.klp_timeline.specs.Sentences.{did};
 
 use crate::moment::{Fact, Moment, Said, Sentence, Stay, View};
@@ -10,7 +10,7 @@ use crate::stays::is_transition;
 use klp_types::{PatchId, Transition};
 use std::alloc::AllocError;
 
-/// How many tasks sleep inside of code that isn't called now.
+/// Returns how many tasks sleep inside of code that they wouldn't call now.
 pub fn outdated(stays: &[Option<Stay>]) -> usize
     ensures { result ≡ count_by is_outdated stays.now }
 {
@@ -23,7 +23,8 @@ pub fn outdated(stays: &[Option<Stay>]) -> usize
     count
 }
 
-/// What became of the transition between two views.
+/// Returns what happened to the transition between two views: it started, completed, or was reversed. None if it is the
+/// same.
 fn turn(before: &View, after: &View) -> Option<Fact>
     ensures { result ≡ turn before.now.moving after.now.moving after.now.stays }
 {
@@ -36,8 +37,9 @@ fn turn(before: &View, after: &View) -> Option<Fact>
     }
 }
 
-fn is_of(moving: &Option<Transition>, patch: PatchId) -> bool
-    ensures { result ≡ is_of moving.now patch }
+/// Whether the patch is the one in transition.
+fn is_moving_patch(moving: &Option<Transition>, patch: PatchId) -> bool
+    ensures { result ≡ is_moving_patch moving.now patch }
 {
     match moving {
         Some(moving) => moving.patch == patch,
@@ -45,6 +47,7 @@ fn is_of(moving: &Option<Transition>, patch: PatchId) -> bool
     }
 }
 
+/// Whether the patch is in the list.
 fn is_among(patch: PatchId, patches: &[PatchId]) -> bool
     ensures { result ≡ list_any (λ other. other == patch) patches.now }
 {
@@ -56,17 +59,19 @@ fn is_among(patch: PatchId, patches: &[PatchId]) -> bool
     false
 }
 
-/// That a patch left, if it isn't among those that are installed now, and isn't the one that moved.
+/// Returns the fact that a patch left, unless it is still installed, or was the one in transition (whose completion is
+/// a fact of its own).
 fn leave_of(patch: PatchId, moved: &Option<Transition>, installed: &[PatchId]) -> Option<Fact>
     ensures { option_to_list result ≡ leave_of moved.now installed.now patch }
 {
-    if is_of(moved, patch) || is_among(patch, installed) {
+    if is_moving_patch(moved, patch) || is_among(patch, installed) {
         None
     } else {
         Some(Fact::Leaves(patch))
     }
 }
 
+/// Appends the sentence that a line did this, if there is such a fact.
 fn add_fact(sentences: &mut Vec<Sentence>, fact: Option<Fact>, line: u64) -> Result<(), AllocError>
     ensures { OnOk result (sentences.new.items
         ≡ sentences.old.items ++ map (did line) (option_to_list fact)) }
@@ -78,7 +83,7 @@ fn add_fact(sentences: &mut Vec<Sentence>, fact: Option<Fact>, line: u64) -> Res
     Ok(())
 }
 
-/// Adds the patches of the first list that left.
+/// Appends a sentence for each patch of the list `before` that left.
 fn add_leaving(
     sentences: &mut Vec<Sentence>,
     moved: &Option<Transition>,
@@ -95,7 +100,7 @@ fn add_leaving(
     Ok(())
 }
 
-/// Adds what a line did.
+/// Appends a sentence for each fact of a line. If the line undid events, that is its only fact.
 pub(crate) fn add_facts(
     sentences: &mut Vec<Sentence>,
     before: &View,

@@ -1,4 +1,4 @@
-//! Who merely lags behind a transition.
+//! The tasks that lag without blocking the transition.
 ghost use Rattle.std.specs.Prelude.{◌≡◌, [], ◌∷◌, ◌++◌, ◌<◌, length};
 ghost use Rattle.klp_types.specs.declared.limits.TheConstants.{MAX_TASKS};
 ghost use Rattle.klp_timeline.specs.Lagging.{is_in, lagging};
@@ -6,7 +6,7 @@ ghost use Rattle.klp_timeline.specs.Lagging.{is_in, lagging};
 use klp_types::{MAX_TASKS, Mode, TaskId};
 use std::marker::Model;
 
-/// Tasks that merely lag, in the order of their numbers.
+/// Tasks that lag without blocking the transition, in the order of their numbers.
 #[derive(Drop)]
 pub struct Laggards {
     tasks: [TaskId; MAX_TASKS],
@@ -25,6 +25,7 @@ impl Model for Laggards {
 }
 
 impl Laggards {
+    /// Makes an empty list.
     fn new() -> Laggards
         ensures { result ≡ [] }
     {
@@ -34,6 +35,7 @@ impl Laggards {
         }
     }
 
+    /// Appends a task.
     fn push(&mut self, task: TaskId)
         requires { length self.old < MAX_TASKS }
         ensures { self.new ≡ self.old ++ task ∷ [] }
@@ -42,6 +44,7 @@ impl Laggards {
         self.count += 1;
     }
 
+    /// Returns the tasks.
     pub fn as_slice(&self) -> &[TaskId]
         ensures { result.now ≡ self.now }
     {
@@ -49,6 +52,7 @@ impl Laggards {
     }
 }
 
+/// Whether a task lags in this mode.
 fn is_in(mode: Mode, wait: &Option<Mode>) -> bool
     ensures { result ≡ is_in mode wait.now }
 {
@@ -60,7 +64,8 @@ fn is_in(mode: Mode, wait: &Option<Mode>) -> bool
     }
 }
 
-/// The tasks that merely lag in this mode, where these are all that do.
+/// Returns the tasks that lag in this mode without blocking the transition. `waits` has for each task its mode, if it
+/// lags in this way.
 pub fn lagging(mode: Mode, waits: &[Option<Mode>; MAX_TASKS]) -> Laggards
     ensures { result ≡ lagging mode waits.now }
 {

@@ -1,4 +1,5 @@
-//! What is said of a run is all of it, and true.
+//! Laws about the sentences on a run: none is missing, and all are true. A function here does nothing: its contract is
+//! the law.
 ghost use Rattle.klp_timeline.specs.declared.moment.Moment.{Moment as AnyMoment};
 ghost use Rattle.klp_timeline.specs.declared.moment.View.{View as AnyView};
 ghost use Rattle.klp_timeline.specs.declared.moment.Sentence.{Sentence as AnySentence};
@@ -9,28 +10,29 @@ ghost use Rattle.klp_timeline.specs.Lagging.{is_in, lagging, IsEachLaggardThere,
 ghost use Rattle.klp_timeline.specs.Telling.{IsQuiet, IsAllShown, IsEachFactShown, IsAllTrue, IsGoingSince};
 ghost use Rattle.klp_timeline.specs.Shown.{is_lasting, shown, left_out};
 
-/// Whoever holds a transition up, or sleeps inside of code that isn't called now, after any line of a run is named by a
-/// sentence that spans the line.
+/// After any line of a run, if a task blocks the transition or sleeps inside of code that it wouldn't call now, then a
+/// sentence that spans the line names the task.
 pub fn no_sleeper_is_left_out()
     ensures { (opening : AnyView) → (run : List AnyMoment) → IsQuiet opening → IsAllShown opening run }
 {}
 
-/// Whatever a line did is told.
+/// Each fact of each line has a sentence.
 pub fn no_fact_is_left_out()
     ensures { (opening : AnyView) → (run : List AnyMoment) → IsEachFactShown opening run }
 {}
 
-/// Each sentence is true: of what a line did, or of each task that it names after each line that it spans.
+/// Each sentence is true: of the facts of its line, or of each task that it names after each line that it spans.
 pub fn no_sentence_is_made_up()
     ensures { (opening : AnyView) → (run : List AnyMoment) → IsAllTrue opening run }
 {}
 
-/// What moves at the end of a run has moved that way since the line that its course names.
+/// If there is a transition at the end of a run, it has had its patch and target after every line since the one that
+/// its course names.
 pub fn what_moves_has_moved_since()
     ensures { (opening : AnyView) → (run : List AnyMoment) → IsGoingSince opening run }
 {}
 
-/// Of many sentences some are left out and counted, but none that is still so at the end.
+/// Of a long list some sentences are left out and counted, but none that still lasts at the end of the run.
 pub fn what_lasts_is_shown()
     ensures lasting { (all : List AnySentence) → (one : AnySentence) → Contains all one → is_lasting one ≡ true
         → Contains (shown all) one }
@@ -39,7 +41,7 @@ pub fn what_lasts_is_shown()
         → (length (shown all) ≤ MAX_SENTENCES) ⊎ All (λ one. is_lasting one ≡ true) (shown all) }
 {}
 
-/// Whoever merely lags is among those that lag where the task is, nobody else is, and there are as many as are counted.
+/// The list of tasks that lag in a mode has each task that lags in it and no other, and its length is their number.
 pub fn who_lags_is_named()
     ensures named { (waits : List (Option AnyMode)) → IsEachLaggardThere waits }
     ensures lags { (waits : List (Option AnyMode)) → IsNoLaggardMadeUp waits }

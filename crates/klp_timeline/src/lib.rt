@@ -1,9 +1,10 @@
-//! What a page says of a run: what each line did, and from which line to which a sleeper stayed where it matters.
+//! What a page says of a run: what each line did, and from which line to which a sleeper blocked the transition or
+//! slept inside of replaced code.
 //!
-//! A run is seen as a moment a line ([`Moment`]): what was done, and what the manager shows afterwards. What is said of it
-//! is one list of sentences, in the order of the lines where each begins ([`sentences`], `specs/Sentences`). No stay of a
-//! task is missing, none is made up, and what a line is said to have done it did (`laws`, `specs/Telling`). Of a long list
-//! the oldest sentences are left out, but none that is still so at the end (`shown`, `specs/Shown`).
+//! A run is a list of moments, one for each line ([`Moment`]): what the line did, and what the manager shows after it.
+//! The page says a list of sentences on the run, in the order of the lines where they begin ([`sentences`],
+//! `specs/Sentences`). No stay of a task is missing, none is made up, and each fact is true (`laws`, `specs/Telling`).
+//! From a long list the oldest sentences are left out, but none that still lasts at the end (`shown`, `specs/Shown`).
 #![tactic(auto)]
 
 mod course;

@@ -2,44 +2,44 @@ use crate::task_list::TaskList;
 use arrayvec::ArrayVec;
 use klp_types::{MAX_PATCHES, MAX_TASKS, Mode, ObjId, PatchId, TaskId, Transition, Version};
 
-/// Why it matters what a task sleeps inside of.
+/// A stay of a task: what it sleeps inside of, and why that matters.
 #[derive(Clone, Copy)]
 pub enum Stay {
     /// The version is blocked and the task isn't at the target, so the transition can't complete.
     Holds(Transition, Version),
-    /// A call by this task wouldn't run the version now, so the code is in use though it isn't called: it was replaced while
-    /// the task slept, which only a force does, or the task was told to sleep in what isn't there yet.
+    /// The task sleeps in this version, but wouldn't run it if it called it now. Either the version was replaced while
+    /// the task slept, which only a force does, or the task was put to sleep in a version that isn't there yet.
     Outdated(Version),
 }
 
-/// What the manager shows after a line. Arrays go by the number of the task.
+/// What the manager shows after a line. The arrays have an element for each task number.
 #[derive(Drop)]
 pub struct View {
     pub moving: Option<Transition>,
     /// The installed patches, oldest first.
     pub installed: ArrayVec<PatchId, MAX_PATCHES>,
     pub stays: [Option<Stay>; MAX_TASKS],
-    /// Where those are that merely lag: not at the target, though they hold nothing up.
+    /// The modes of the tasks that lag without blocking the transition.
     pub waits: [Option<Mode>; MAX_TASKS],
 }
 
-/// What a line did.
+/// A fact: something that a line did.
 #[derive(Clone, Copy)]
 pub enum Fact {
     /// The transition was forced.
     Forces(Transition),
-    /// The pre-patch callback of this patch for this object answered this status, so the event came to nothing.
+    /// The pre-patch callback of this patch for this object returned this status, so the event had no effect but this.
     PreFailed(PatchId, ObjId, i32),
     /// The module is loaded.
     Comes(ObjId),
     /// The module is unloaded.
     Goes(ObjId),
-    /// Events were undone: from so many to so many.
+    /// Events were undone: the journal had the first number before, and has the second now.
     Undoes(u32, u32),
     Starts(Transition),
-    /// The transition goes the other way from here on: this one.
+    /// The transition was reversed. This is what it is now.
     Reverses(Transition),
-    /// The transition is over, and so many tasks still sleep inside of code that isn't called now.
+    /// The transition completed, and this many tasks still sleep inside of code that they wouldn't call now.
     Completes(Transition, usize),
     /// The patch left, since a cumulative one replaced it.
     Leaves(PatchId),
@@ -48,7 +48,7 @@ pub enum Fact {
 /// A line of a run.
 #[derive(Drop)]
 pub struct Moment {
-    /// What it did, where views don't show it.
+    /// What the line did, if views don't show it.
     pub act: Option<Fact>,
     pub view: View,
 }
@@ -58,32 +58,33 @@ pub struct Moment {
 pub(crate) struct Sleep {
     pub task: TaskId,
     pub stay: Stay,
-    /// The last line after which the stay is seen. `None` where that is the last of the run.
+    /// The last line of the stay. None if it lasts until the end of the run.
     pub to: Option<u64>,
 }
 
-/// Tasks that begin the same stay with a line, and end it with the same.
+/// Tasks that begin the same stay with the same line, and end it with the same line.
 #[derive(Drop)]
 pub struct Sleepers {
     pub stay: Stay,
-    /// One at least.
+    /// At least one.
     pub tasks: TaskList,
-    /// The last line after which the stay is seen. `None` where it is still so at the end of the run.
+    /// The last line of the stay. None if it lasts until the end of the run.
     pub to: Option<u64>,
 }
 
+/// What a sentence says.
 #[derive(Drop)]
 pub enum Said {
-    /// What the line did.
+    /// The line did this.
     Did(Fact),
-    /// Who sleeps where it matters, from this line on.
+    /// These tasks begin a stay with this line.
     Slept(Sleepers),
 }
 
 /// A sentence about a run.
 #[derive(Drop)]
 pub struct Sentence {
-    /// The line with which it begins, where lines are counted from 1.
+    /// The line with which it begins. Lines count from 1.
     pub line: u64,
     pub said: Said,
 }

@@ -1,13 +1,13 @@
-//! Which sentences are told of, where there are too many.
+//! Choosing the sentences to show if there are too many.
 ghost use Rattle.std.specs.Prelude.{◌≡◌};
 ghost use Rattle.klp_timeline.specs.Shown.{is_lasting, is_left_out, excess, left_out};
 
 use crate::moment::{Said, Sentence};
 
-/// How many sentences are told of at most, unless more of them last.
+/// How many sentences are shown, unless more of them last until the end of the run.
 pub const MAX_SENTENCES: usize = 100;
 
-/// Whether it is still so at the end of the run.
+/// Whether a sentence is about a stay that lasts until the end of the run.
 pub fn is_lasting(sentence: &Sentence) -> bool
     ensures { result ≡ is_lasting sentence.now }
 {
@@ -17,21 +17,21 @@ pub fn is_lasting(sentence: &Sentence) -> bool
     }
 }
 
-/// How many sentences there are too many.
+/// Returns by how many the sentences exceed the limit.
 pub fn excess(sentences: &[Sentence]) -> usize
     ensures { result ≡ excess sentences.now }
 {
     sentences.len().saturating_sub(MAX_SENTENCES)
 }
 
-/// Whether the first of some sentences is left out, where there are so many too many.
+/// Whether the first of some sentences is left out, if `excess` of them are too many.
 pub fn is_left_out(excess: usize, sentence: &Sentence) -> bool
     ensures { result ≡ is_left_out excess sentence.now }
 {
     excess > 0 && !is_lasting(sentence)
 }
 
-/// How many sentences are left out.
+/// Returns how many sentences are left out.
 pub fn left_out(sentences: &[Sentence]) -> usize
     ensures { result ≡ left_out sentences.now }
 {

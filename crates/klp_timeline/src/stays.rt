@@ -8,6 +8,7 @@ use crate::moment::{Moment, Sleep, Stay};
 use klp_types::{MAX_TASKS, TaskId, Transition, Version};
 use std::alloc::{AllocError, Global};
 
+/// Whether two versions are the same.
 fn is_version(own: &Version, other: &Version) -> bool
     ensures { result ≡ is_version own.now other.now }
 {
@@ -19,12 +20,14 @@ fn is_version(own: &Version, other: &Version) -> bool
     }
 }
 
+/// Whether two transitions have the same patch and target.
 pub(crate) fn is_transition(own: &Transition, other: &Transition) -> bool
     ensures { result ≡ is_transition own.now other.now }
 {
     own.patch == other.patch && own.target == other.target
 }
 
+/// Whether two stays are the same.
 pub(crate) fn is_stay(own: &Stay, other: &Stay) -> bool
     ensures { result ≡ is_stay own.now other.now }
 {
@@ -37,6 +40,7 @@ pub(crate) fn is_stay(own: &Stay, other: &Stay) -> bool
     }
 }
 
+/// Whether a task is in this stay, if it is in one.
 pub(crate) fn is_seen(stay: &Stay, other: &Option<Stay>) -> bool
     ensures { result ≡ is_seen stay.now other.now }
 {
@@ -46,8 +50,8 @@ pub(crate) fn is_seen(stay: &Stay, other: &Option<Stay>) -> bool
     }
 }
 
-/// The last line after which a stay is seen, where it is seen after `line` and these lines follow. `None` where it still is at
-/// the end. It looks at as many lines as the stay lasts.
+/// Returns the last line of a stay that a task is in after `line`, if the lines `rest` follow. None if the stay lasts
+/// until the end. The cost grows with the length of the stay.
 fn until(task: usize, stay: &Stay, line: u64, rest: &[Moment]) -> Option<u64>
     requires task { task < MAX_TASKS }
     requires lines { line + length rest.now < 2 ^ 64 }
@@ -63,7 +67,7 @@ fn until(task: usize, stay: &Stay, line: u64, rest: &[Moment]) -> Option<u64>
     None
 }
 
-/// Adds the stay of a task that begins with a line, if one does.
+/// Adds the stay that a task begins with a line, if it begins one.
 fn add_sleep(
     sleeps: &mut Vec<Sleep>,
     task: usize,
@@ -90,7 +94,7 @@ fn add_sleep(
     Ok(())
 }
 
-/// The stays that begin with a line, before which these were seen.
+/// Returns the stays that begin with a line: those in `stays` that the same task doesn't have in `before`.
 pub(crate) fn sleeps_begun(
     alloc: Global,
     before: &[Option<Stay>],

@@ -1,4 +1,4 @@
-//! Lines of which there is nothing to be said.
+//! Lines without anything to say.
 ghost use Rattle.std.specs.Prelude.{◌≡◌, ◌<◌};
 ghost use Rattle.klp_timeline.specs.Still.{is_same_move, is_same_stay, are_same, are_equal, is_still};
 
@@ -6,6 +6,7 @@ use crate::moment::{Moment, Stay, View};
 use crate::stays::{is_seen, is_transition};
 use klp_types::{PatchId, Transition};
 
+/// Whether both views show the same transition, or both none.
 fn is_same_move(before: &Option<Transition>, after: &Option<Transition>) -> bool
     ensures { result ≡ is_same_move before.now after.now }
 {
@@ -16,6 +17,7 @@ fn is_same_move(before: &Option<Transition>, after: &Option<Transition>) -> bool
     }
 }
 
+/// Whether a task is in the same stay before and after, or in none both times.
 fn is_same_stay(before: &Option<Stay>, after: &Option<Stay>) -> bool
     ensures { result ≡ is_same_stay before.now after.now }
 {
@@ -25,7 +27,7 @@ fn is_same_stay(before: &Option<Stay>, after: &Option<Stay>) -> bool
     }
 }
 
-/// Whether each task sleeps where it did, as far as that matters.
+/// Whether each task is in the same stay before and after, or in none both times.
 pub fn are_same(before: &[Option<Stay>], after: &[Option<Stay>]) -> bool
     ensures { result ≡ are_same before.now after.now }
 {
@@ -38,6 +40,7 @@ pub fn are_same(before: &[Option<Stay>], after: &[Option<Stay>]) -> bool
     }
 }
 
+/// Whether two lists have the same patches in the same order.
 fn are_equal(before: &[PatchId], after: &[PatchId]) -> bool
     ensures { result ≡ are_equal before.now after.now }
 {
@@ -50,8 +53,8 @@ fn are_equal(before: &[PatchId], after: &[PatchId]) -> bool
     }
 }
 
-/// Whether there is nothing to be said of a line: it did nothing that views don't show, and what they show of patches and of
-/// who sleeps where it matters is as it was.
+/// Whether a line has nothing to say: it did nothing that views don't show, and in the views the transition, the
+/// patches and the stays are as before.
 pub fn is_still(before: &View, moment: &Moment) -> bool
     ensures { result ≡ is_still before.now moment.now }
 {

@@ -19,6 +19,7 @@ impl Model for TaskList {
 }
 
 impl TaskList {
+    /// Makes an empty list.
     pub(crate) fn new(alloc: Global) -> TaskList
         ensures { result ≡ [] }
     {
@@ -27,6 +28,7 @@ impl TaskList {
         }
     }
 
+    /// Appends a task.
     pub(crate) fn push(&mut self, task: TaskId) -> Result<(), AllocError>
         ensures { OnOk result (self.new ≡ self.old ++ task ∷ []) }
     {
@@ -34,6 +36,7 @@ impl TaskList {
         Ok(())
     }
 
+    /// Returns the tasks.
     pub fn as_slice(&self) -> &[TaskId]
         ensures { result.now ≡ self.now }
     {

@@ -1,4 +1,4 @@
-//! All that is said of a run.
+//! Making the sentences on a run.
 ghost use Rattle.std.specs.Prelude.{◌≡◌, ◌++◌, ◌∷◌, [], ◌≤◌, ◌<◌, ◌+◌, ◌^◌, ◌==◌, map, length, IfOk, OnOk};
 ghost use Rattle.std.specs.List.{list_any};
 ghost use Rattle.klp_timeline.specs.Sentences.{is_end, is_alike, tasks_alike, slept, slept_from, said_of, sentences_of};
@@ -9,6 +9,7 @@ use crate::stays::{is_stay, sleeps_begun};
 use crate::task_list::TaskList;
 use std::alloc::{AllocError, Global};
 
+/// Whether two stays end with the same line, or both last until the end.
 fn is_end(own: &Option<u64>, other: &Option<u64>) -> bool
     ensures { result ≡ is_end own.now other.now }
 {
@@ -19,12 +20,14 @@ fn is_end(own: &Option<u64>, other: &Option<u64>) -> bool
     }
 }
 
+/// Whether two stays that begin with the same line are alike: they are the same, and end with the same line.
 fn is_alike(own: &Sleep, other: &Sleep) -> bool
     ensures { result ≡ is_alike own.now other.now }
 {
     is_stay(&own.stay, &other.stay) && is_end(&own.to, &other.to)
 }
 
+/// Whether the list has a stay that is alike to this one.
 fn has_alike(own: &Sleep, sleeps: &[Sleep]) -> bool
     ensures { result ≡ list_any (is_alike own.now) sleeps.now }
 {
@@ -36,6 +39,7 @@ fn has_alike(own: &Sleep, sleeps: &[Sleep]) -> bool
     false
 }
 
+/// Returns the tasks of all stays in the list that are alike to this one.
 fn tasks_alike(alloc: Global, own: &Sleep, sleeps: &[Sleep]) -> Result<TaskList, AllocError>
     ensures { IfOk result (λ tasks. tasks ≡ tasks_alike own.now sleeps.now) }
 {
@@ -48,7 +52,7 @@ fn tasks_alike(alloc: Global, own: &Sleep, sleeps: &[Sleep]) -> Result<TaskList,
     Ok(tasks)
 }
 
-/// Adds the sentence of all that are alike to one of these.
+/// Appends one sentence for all stays in the list that are alike to `own`.
 fn add_alike(
     sentences: &mut Vec<Sentence>,
     alloc: Global,
@@ -67,7 +71,7 @@ fn add_alike(
     Ok(())
 }
 
-/// Adds a sentence for each of these that none before it is alike to.
+/// Appends one sentence for each group of alike stays in the list, in the order of the groups' first stays.
 fn add_slept(
     sentences: &mut Vec<Sentence>,
     alloc: Global,
@@ -85,7 +89,7 @@ fn add_slept(
     Ok(())
 }
 
-/// Adds what is said of a line.
+/// Appends the sentences of a line: its facts, and then the stays that begin with it.
 fn add_line(
     sentences: &mut Vec<Sentence>,
     alloc: Global,
@@ -103,9 +107,9 @@ fn add_line(
     add_slept(sentences, alloc, &sleeps, line)
 }
 
-/// All that is said of a run which begins with this view: for each line in order what it did, and then who sleeps where it
-/// matters from this line on, those that are alike in one sentence. A line looks at as many lines behind it as its stays
-/// last.
+/// Returns all sentences on a run that begins with the view `opening`: for each line in order its facts, and then the
+/// stays that begin with it. Stays that are alike share a sentence. The cost of a line grows with the length of its
+/// stays. An error means that memory ran out.
 pub fn sentences(alloc: Global, opening: &View, run: &[Moment]) -> Result<Vec<Sentence>, AllocError>
     ensures { IfOk result (λ sentences. sentences.items ≡ sentences_of opening.now run.now) }
 {

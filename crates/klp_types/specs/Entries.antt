@@ -1,4 +1,4 @@
--- The entries that patches put on a site, by their list alone.
+-- The entries that patches put on a site, computed from the list of patches alone.
 use Rattle.std.specs.Prelude.{ℕ, Bool, true, false, ◌&&◌, List, [], ◌∷◌, ◌++◌, Option, Some, None, is_some}
 use Rattle.std.specs.List.{list_any}
 use Rattle.klp_types.specs.declared.version.Entry.{Entry}
@@ -8,7 +8,8 @@ use Rattle.klp_types.specs.Setting.{Setting, functions_of, function_for, replace
 abbrev pub patches_site : Setting → ℕ → ℕ → Bool
 patches_site setting site patch = is_some (function_for (functions_of setting patch) site)
 
--- what one patch puts on the site: its function, or a nop where it replaces and an older patch has a function for the site
+-- the entry of one patch: its function for the site, or a nop if it is cumulative and an older patch has a function
+-- for the site
 abbrev pub entry_of : ℕ → Option ℕ → Bool → List Entry
 entry_of patch (Some function) undoes = record { patch = patch; func = Some function } ∷ []
 entry_of patch None true = record { patch = patch; func = None } ∷ []

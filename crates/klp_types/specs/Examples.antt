@@ -13,7 +13,7 @@ use Rattle.klp_types.specs.World.{Installed, World}
 use Rattle.klp_types.specs.Setting.{Callback, PatchObject, Patch, Setting, objects_of}
 use Rattle.klp_types.specs.Callbacks.{Call}
 
--- f and h of the kernel (sites 0 and 1), and g of a module (site 2); their names play no part
+-- f and h of the kernel (sites 0 and 1), and g of a module (site 2); their names don't matter
 abbrev pub f : Symbol
 f = record { name = 102 ∷ []; address = 0xffff_ffff_8100_1000; body = 232 ∷ 0 ∷ 0 ∷ 0 ∷ 0 ∷ 144 ∷ 195 ∷ [] }
 
@@ -29,7 +29,7 @@ kernel = record {
   objects = record { name = []; symbols = f ∷ h ∷ [] } ∷ record { name = 109 ∷ []; symbols = g ∷ [] } ∷ [];
 }
 
--- p has a function for each site; c is a cumulative patch with one for f alone
+-- p has a function for each site; c is a cumulative patch with a function only for f
 abbrev pub p : Patch
 p = record {
   replace = false;
@@ -49,7 +49,7 @@ c = record {
 abbrev pub patched_kernel : Setting
 patched_kernel = record { image = kernel; patches = p ∷ c ∷ [] }
 
--- a function that begins with ENDBR64, and a kernel that has it alone
+-- a function that begins with ENDBR64, and a kernel that has only this function
 abbrev pub tracked : Symbol
 tracked = record {
   name = 101 ∷ [];
@@ -63,11 +63,11 @@ tracked_kernel = record {
   patches = [];
 }
 
--- a script without edits that answers this status
+-- a script without edits that has this status
 abbrev pub answering : ℤ → Script
 answering status = record { edits = []; status = status }
 
--- pre-patch, which refuses in the object of this number, and the other callbacks of an object
+-- all four callbacks of an object; pre-patch refuses if the object has the number `refusing`
 abbrev pub callbacks_for : ℕ → ℕ → List Callback
 callbacks_for refusing object =
     record { which = PostUn; script = answering (pos 0) } ∷ record { which = Pre; script = answering (if object == refusing then negsuc 11 else pos 0) }
@@ -76,22 +76,22 @@ callbacks_for refusing object =
 abbrev pub object_with : ℕ → ℕ → PatchObject
 object_with refusing object = record { object = object; functions = []; callbacks = callbacks_for refusing object }
 
--- three objects, which a patch names in the order 2, 0, 1; its pre-patch refuses in one of them
+-- three objects, which a patch names in the order 2, 0, 1; its pre-patch refuses in the object with this number
 abbrev pub refusing_in : ℕ → Setting
 refusing_in object = record {
   image = record { handler = 0; objects = record { name = []; symbols = [] } ∷ record { name = []; symbols = [] } ∷ record { name = []; symbols = [] } ∷ [] };
   patches = record { replace = false; objects = object_with object 2 ∷ object_with object 0 ∷ object_with object 1 ∷ []; states = [] } ∷ [];
 }
 
--- its objects, each with its place
+-- the patch's objects, each with its index
 abbrev pub objects_refusing_in : ℕ → List (ℕ × PatchObject)
 objects_refusing_in object = enumerate_from 0 (objects_of (refusing_in object) 0)
 
--- which callbacks run: of which of the patch's objects, and of which kind
+-- which callbacks run: the index of the object in the patch, and the kind
 abbrev pub ran : List Call → List (ℕ × Which)
 ran calls = map {B = ℕ × Which} (λ (call : Call). (call.place, call.which)) calls
 
--- an object of which only this callback is there
+-- an object that has only this callback
 abbrev pub object_calling : Which → ℤ → PatchObject
 object_calling which status = record { object = 0; functions = []; callbacks = record { which = which; script = answering status } ∷ [] }
 

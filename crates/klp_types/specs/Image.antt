@@ -16,7 +16,7 @@ pub record Image : Type 0 where
   pub handler : ℕ
   pub objects : List Object
 
--- the symbols of all objects in order: site s is the s-th of them
+-- the symbols of all objects in order: site s is the s-th of them, from 0
 abbrev pub symbols_of : List Object → List Symbol
 symbols_of [] = []
 symbols_of (object ∷ objects) = object.symbols ++ symbols_of objects
@@ -25,7 +25,7 @@ symbols_of (object ∷ objects) = object.symbols ++ symbols_of objects
 abbrev pub symbol_of : Image → ℕ → Option Symbol
 symbol_of image site = slice_get (symbols_of image.objects) site
 
--- the object that a site lies in
+-- the object of a site
 abbrev pub object_of : List Object → ℕ → Option ℕ
 object_of [] site = None
 object_of (object ∷ objects) site =
@@ -37,6 +37,6 @@ first_site [] number = 0
 first_site (object ∷ objects) zero = 0
 first_site (object ∷ objects) (suc number) = length object.symbols + first_site objects number
 
--- the symbol of an object with this number, as it was built
+-- the symbol with this number in an object, as it was built
 abbrev pub given_symbol : Image → ℕ → ℕ → Option Symbol
 given_symbol image object number = option_and_then (λ (found : Object). slice_get found.symbols number) (slice_get image.objects object)

@@ -1,4 +1,4 @@
--- The states of a task, as the kernel numbers them.
+-- The patch states of a task, numbered as in the kernel.
 use Rattle.std.specs.Prelude.{◌≡◌, ◌≤◌, ℤ, pos, negsuc}
 
 -- -1, 0 or 1

@@ -1,5 +1,5 @@
--- Records in the order in which they were logged, oldest first: those of the event that is under way, and how many there is room for in all. Behind
--- those of earlier events they stand in one list.
+-- Records, oldest first: `logged` are those of the current event, `room` is how many it may log, and `older` are
+-- those of earlier events, which come first in the same list.
 use Rattle.std.specs.Prelude.{ℕ, ◌-◌, List, length}
 use Rattle.klp_types.specs.declared.record.Record.{Record}
 
@@ -8,6 +8,6 @@ pub record RecordList : Type 0 where
   pub room : ℕ
   pub older : List Record
 
--- how many more there is room for
+-- how many more records the current event may log
 abbrev pub spare_of : RecordList → ℕ
 spare_of records = records.room - length records.logged

@@ -1,17 +1,14 @@
-/// When a callback of a patch runs for an object (callbacks, Callbacks). The kinds go in pairs, since what
-/// one sets up the other has to clean up: pre-patch with post-unpatch, post-patch with pre-unpatch.
+/// When a callback of a patch runs for an object (callbacks, Callbacks). The kinds make two pairs, in which the
+/// second has to clean up what the first set up: pre-patch and post-unpatch, post-patch and pre-unpatch.
 #[derive(Clone, Copy)]
 pub enum Which {
-    /// Before the object is patched. A status other than 0 stops the patch, and this is the only kind that
-    /// can, since nothing has been patched yet.
+    /// Pre-patch: before the object is patched. A status other than 0 refuses the patch. No other kind can refuse,
+    /// since only here nothing has been patched yet.
     Pre,
-    /// After the object has been patched and all tasks run the patch, so that it may rely on the new
-    /// functions.
+    /// Post-patch: after the object was patched and all tasks run the patch, so that it may use the new functions.
     Post,
-    /// Before the object is unpatched, while all tasks still run the patch: it makes undone what `Post`
-    /// did.
+    /// Pre-unpatch: before the object is unpatched, while all tasks still run the patch. It undoes what `Post` did.
     PreUn,
-    /// After the object has been unpatched and no task runs the patch: it makes undone what `Pre`
-    /// did.
+    /// Post-unpatch: after the object was unpatched and no task runs the patch any more. It undoes what `Pre` did.
     PostUn,
 }

@@ -1,5 +1,5 @@
-//! Worked examples of the definitions, by computation. A function here does nothing: its contract is the
-//! example, so a definition that comes to something else isn't proved.
+//! Worked examples of the definitions. A function here does nothing: its contract is the example, and it is proved
+//! by computing the definition.
 ghost use Rattle.std.specs.Prelude.{◌≡◌, ℕ, pos, negsuc, Bool, true, false, List, [], ◌∷◌, ◌++◌, Some, None, Ok, Err};
 ghost use Rattle.std.specs.declared.cmp.Ordering.TheVariants.{Less, Greater};
 ghost use Rattle.klp_types.specs.declared.callback.Which.TheVariants.{Pre, Post, PreUn, PostUn};
@@ -20,13 +20,17 @@ ghost use Rattle.klp_types.specs.PatchStates.{IsPatchState};
 ghost use Rattle.klp_types.specs.Records.{spare_of};
 ghost use Rattle.klp_types.specs.Script.{alloc_count, edited_at, edits_made, effect, touches, Undoes};
 ghost use Rattle.klp_types.specs.Setting.{named_states, state_ids, function_for, replaces};
-ghost use Rattle.klp_types.specs.World.{key_cmp, number_of, state_value, previous_value, with_patch, without_patch, with_variable};
-ghost use Rattle.klp_types.specs.Examples.{kernel, patched_kernel, tracked, tracked_kernel, objects_refusing_in, ran, object_calling, object_without_callbacks, editing, refusing, call_by, key_of, patch_4, patch_5, patch_6, patch_3, world_of, four_installed, state_of, naming_kernel};
+ghost use Rattle.klp_types.specs.World.{key_cmp, number_of, state_value, previous_value, with_patch, without_patch};
+ghost use Rattle.klp_types.specs.World.{with_variable};
+ghost use Rattle.klp_types.specs.Examples.{kernel, patched_kernel, tracked, tracked_kernel, objects_refusing_in, ran};
+ghost use Rattle.klp_types.specs.Examples.{object_calling, object_without_callbacks, editing, refusing, call_by};
+ghost use Rattle.klp_types.specs.Examples.{key_of, patch_4, patch_5, patch_6, patch_3, world_of, four_installed};
+ghost use Rattle.klp_types.specs.Examples.{state_of, naming_kernel};
 
 use crate::task::PatchState;
 
-/// A cumulative patch puts a nop on a site for which it has no function and an older patch has one, because
-/// it takes the older one's function back; and nothing where no older patch has one.
+/// A cumulative patch puts a nop on a site for which it has no function but an older patch has one, because it
+/// takes the older one's function back. It puts no nop where no older patch has a function.
 pub fn a_nop_stands_over_an_older_patch()
     ensures nop { entries_from patched_kernel 1 (1 ∷ 0 ∷ [])
         ≡ record { patch = 1; func = None } ∷ record { patch = 0; func = Some 1 } ∷ [] }
@@ -36,8 +40,8 @@ pub fn a_nop_stands_over_an_older_patch()
     ensures newer { entries_from patched_kernel 1 (0 ∷ 1 ∷ []) ≡ record { patch = 0; func = Some 1 } ∷ [] }
 {}
 
-/// A task that isn't brought to the moving patch passes over its entry; another one doesn't, and runs
-/// the original where that is a nop.
+/// A task that isn't switched to the patch in transition passes over that patch's entry. Any other task doesn't,
+/// and runs the original if that entry is a nop.
 pub fn tasks_pass_over_the_moving_entry()
     ensures older { newest_version 0
         (entries_for (Some (record { patch = 1; target = true })) (pos 0) (entries_from patched_kernel 0 (1 ∷ 0 ∷ [])))
@@ -62,8 +66,8 @@ pub fn tasks_pass_over_the_moving_entry()
     ensures no_entry { newest_version 1 [] ≡ Original 1 }
 {}
 
-/// A new function begins at its own address, an original behind its entry site, so that it doesn't call the
-/// handler again. What isn't there begins nowhere.
+/// A new function begins at its own address. An original begins after its entry site, so that it doesn't call the
+/// handler again. A version that doesn't exist has no address.
 pub fn versions_begin_where_their_code_does()
     ensures new { target_of patched_kernel (New 0 1)
         ≡ Some (record { version = New 0 1; address = 0xffff_ffff_c000_1100 }) }
@@ -73,8 +77,9 @@ pub fn versions_begin_where_their_code_does()
     ensures no_function { target_of patched_kernel (New 0 3) ≡ None }
 {}
 
-/// An entry site is behind an ENDBR64, which stays: hooked or not, the function begins with it. The call is
-/// reckoned from where it stands, and the original goes on behind it. Any other beginning is the entry site.
+/// An ENDBR64 stays the first instruction of a function, hooked or not, and the entry site is after it. The call's
+/// displacement counts from there, and the original begins after the call. With any other beginning the entry site
+/// is the first five bytes.
 pub fn entry_sites_are_behind_endbr64()
     ensures resting { (resting tracked).body
         ≡ 0xf3 ∷ 0x0f ∷ 0x1e ∷ 0xfa ∷ 0x0f ∷ 0x1f ∷ 0x44 ∷ 0x00 ∷ 0x00 ∷ 0x90 ∷ 0xc3 ∷ [] }
@@ -83,12 +88,12 @@ pub fn entry_sites_are_behind_endbr64()
     ensures original { target_of tracked_kernel (Original 0)
         ≡ Some (record { version = Original 0; address = 0xffff_ffff_8100_5009 }) }
     ensures cut_short { entry_offset (0xf3 ∷ 0x0f ∷ 0x1e ∷ []) ≡ 0 }
-    // ENDBR32 is another instruction
+    // ENDBR32 is another instruction.
     ensures other { entry_offset (0xf3 ∷ 0x0f ∷ 0x1e ∷ 0xfb ∷ 0xe8 ∷ []) ≡ 0 }
 {}
 
-/// Pre-patch runs in the order of the patch's objects up to the one that refuses, and those before it
-/// get post-unpatch.
+/// Enabling runs pre-patch in the order of the patch's objects, up to the first that refuses; then post-unpatch
+/// runs for the objects before it.
 pub fn enabling_stops_at_the_object_that_refuses()
     ensures first { ran (enable_calls 0 (objects_refusing_in 2)) ≡ (0, Pre) ∷ [] }
     ensures last { ran (enable_calls 0 (objects_refusing_in 1))
@@ -96,16 +101,16 @@ pub fn enabling_stops_at_the_object_that_refuses()
     ensures none { ran (enable_calls 0 (objects_refusing_in 3)) ≡ (0, Pre) ∷ (1, Pre) ∷ (2, Pre) ∷ [] }
 {}
 
-/// A transition ends with post-patch at the target 1 and with post-unpatch at the target 0, in the
-/// order of the patch's objects.
+/// A transition to target 1 ends with post-patch, one to target 0 with post-unpatch, in the order of the patch's
+/// objects.
 pub fn transitions_end_with_the_callbacks_of_their_target()
     ensures patched { ran (calls_of 0 (end_of true) (objects_refusing_in 3)) ≡ (0, Post) ∷ (1, Post) ∷ (2, Post) ∷ [] }
     ensures withdrawn { ran (calls_of 0 (end_of false) (objects_refusing_in 3))
         ≡ (0, PostUn) ∷ (1, PostUn) ∷ (2, PostUn) ∷ [] }
 {}
 
-/// The callbacks that run are those of the kind, where the object has one. An object without pre-patch
-/// refuses nothing, and only pre-patch's status counts: any but 0 refuses, whatever its sign.
+/// Of each object the callback of the kind runs, if the object has one. An object without pre-patch refuses
+/// nothing. Only the status of pre-patch counts: any other than 0 refuses, whatever its sign.
 pub fn callbacks_run_where_they_are()
     ensures pre_unpatch { ran (calls_of 0 PreUn (objects_refusing_in 3)) ≡ (0, PreUn) ∷ (1, PreUn) ∷ (2, PreUn) ∷ [] }
     ensures of_the_patch { calls_of 6 Post ((2, object_calling Post (pos 0)) ∷ [])
@@ -119,8 +124,8 @@ pub fn callbacks_run_where_they_are()
     ensures other_kind { refuses (0, object_calling Post (negsuc 15)) ≡ false }
 {}
 
-/// Callbacks change the world one after another, each for its own patch, and there has to be room for what
-/// all of them add.
+/// Callbacks change the world one after another, each for its own patch. There must be room for what all of them
+/// add.
 pub fn callbacks_run_one_after_another()
     ensures last { (after_calls four_installed (call_by 3 (SetData 7 1 ∷ []) ∷ call_by 3 (SetData 7 2 ∷ []) ∷ [])).installed
         ≡ patch_4 ∷ patch_5 ∷ patch_6 ∷ patch_3 2 ∷ [] }
@@ -131,8 +136,8 @@ pub fn callbacks_run_one_after_another()
         ∷ call_by 3 (Alloc (key_of 1 2) [] ∷ []) ∷ []) ≡ 3 }
 {}
 
-/// A call reaches as far as a signed number of 32 bits says, from the instruction behind it: 2^31 - 1 bytes
-/// forward and 2^31 back, and no byte further.
+/// A call reaches 2^31 - 1 bytes forward and 2^31 bytes back, counted from the instruction after it, and no byte
+/// further: its displacement is a signed number of 32 bits.
 pub fn calls_reach_32_bits_far()
     ensures forward { can_reach 0xffff_ffff_8100_0000 0xffff_ffff_00ff_fffc ≡ true }
     ensures farthest { call 0xffff_ffff_8100_0000 0xffff_ffff_00ff_fffc ≡ 0xe8 ∷ 0xff ∷ 0xff ∷ 0xff ∷ 0x7f ∷ [] }
@@ -142,8 +147,8 @@ pub fn calls_reach_32_bits_far()
     ensures too_far_back { can_reach 0x1000 0x8000_0ffc ≡ false }
 {}
 
-/// A patch is compatible where it names each state of each installed patch with the same version or a
-/// higher one. A state that it doesn't name it leaves alone, unless it replaces the patch that has it.
+/// A patch is compatible if it names each state of each installed patch with the same or a higher version. It may
+/// leave a state out, unless it is cumulative.
 pub fn patches_are_compatible_by_their_states()
     ensures same { is_compatible true (state_of 7 2 ∷ []) ((state_of 7 2 ∷ []) ∷ []) ≡ true }
     ensures higher { is_compatible false (state_of 7 3 ∷ []) ((state_of 7 2 ∷ []) ∷ []) ≡ true }
@@ -154,8 +159,8 @@ pub fn patches_are_compatible_by_their_states()
     ensures each_state { is_compatible false (state_of 7 2 ∷ state_of 8 1 ∷ []) ((state_of 7 2 ∷ state_of 8 2 ∷ []) ∷ []) ≡ false }
 {}
 
-/// The previous state is that of the newest patch which was installed before this one and names it: not
-/// this one's own, nor that of an older patch or of one behind it.
+/// The previous state of a patch is in the newest patch that was installed before it and names the state: not in
+/// the patch itself, nor in an older or a later one.
 pub fn the_previous_state_is_of_the_newest_patch_before()
     ensures newest { previous_value four_installed 3 7 ≡ Some 50 }
     ensures behind { previous_value four_installed 5 7 ≡ Some 40 }
@@ -168,8 +173,8 @@ pub fn the_previous_state_is_of_the_newest_patch_before()
     ensures no_patch { state_value four_installed 2 7 ≡ None }
 {}
 
-/// A patch is put last with its states at 0, and takes them along when it leaves: the others stay, newer
-/// ones too.
+/// A patch is added as the newest, with its states at 0, and takes its states along when it is removed. All other
+/// patches stay, also newer ones.
 pub fn states_come_at_0_and_go_with_their_patch()
     ensures last { (with_patch (world_of (patch_4 ∷ [])) 2 (7 ∷ 9 ∷ [])).installed
         ≡ patch_4 ∷ record { patch = 2; values = (7, 0) ∷ (9, 0) ∷ [] } ∷ [] }
@@ -177,7 +182,7 @@ pub fn states_come_at_0_and_go_with_their_patch()
     ensures away { (without_patch four_installed 2).installed ≡ four_installed.installed }
 {}
 
-/// A script sets states of its own patch alone, and only those that the patch names. To take over what no
+/// A script sets only states of its own patch, and only those that the patch names. Taking over a state that no
 /// older patch has changes nothing.
 pub fn scripts_set_states_of_their_patch()
     ensures set { (effect 3 four_installed (editing (TakePrev 7 ∷ SetData 7 1 ∷ []))).installed
@@ -192,8 +197,8 @@ pub fn scripts_set_states_of_their_patch()
     ensures refused { (effect 3 four_installed (refusing (SetData 7 1 ∷ []))).installed ≡ four_installed.installed }
 {}
 
-/// An edit adds a shadow variable only where it isn't there, and removes those that it names. To remove
-/// one counts nothing against those that are added, and a script that refuses makes no edit.
+/// An edit adds a shadow variable only if it doesn't exist, and removes the variables that it names. Removals don't
+/// reduce the number of variables for which there must be room, and a script that refuses makes no edit.
 pub fn scripts_change_the_variables_that_they_name()
     ensures added { edited_at (key_of 1 2) None (Alloc (key_of 1 2) (5 ∷ [])) ≡ Some (5 ∷ []) }
     ensures kept { edited_at (key_of 1 2) (Some (4 ∷ [])) (Alloc (key_of 1 2) (5 ∷ [])) ≡ Some (4 ∷ []) }
@@ -209,7 +214,7 @@ pub fn scripts_change_the_variables_that_they_name()
     ensures refused { edits_made (refusing (Free (key_of 1 2) ∷ [])) ≡ [] }
 {}
 
-/// Keys go by the parent object first, and then by the id. Only eight bytes are a number.
+/// Keys are ordered by the parent object first, and then by the id. Only a value of eight bytes is a number.
 pub fn keys_go_by_their_parent_first()
     ensures parent { key_cmp (key_of 1 9) (key_of 2 3) ≡ Less }
     ensures id { key_cmp (key_of 2 9) (key_of 2 3) ≡ Greater }
@@ -217,8 +222,8 @@ pub fn keys_go_by_their_parent_first()
     ensures nine { number_of (1 ∷ 0 ∷ 0 ∷ 0 ∷ 0 ∷ 0 ∷ 0 ∷ 0 ∷ 0 ∷ []) ≡ None }
 {}
 
-/// Sites are counted over all objects in order, and each lies in the object whose symbol it is. A function
-/// whose symbol isn't there stands in for none.
+/// Sites are counted over all objects in order, and each is in the object of its symbol. A function whose symbol
+/// isn't found is for no site.
 pub fn sites_lie_in_their_objects()
     ensures last_of_the_kernel { object_of kernel.objects 1 ≡ Some 0 }
     ensures first_of_the_module { object_of kernel.objects 2 ≡ Some 1 }
@@ -228,7 +233,7 @@ pub fn sites_lie_in_their_objects()
         ≡ Some 2 }
 {}
 
-/// What is looked at first decides, and an outcome stands where there is no reason against it.
+/// The first case that holds gives the reason of a refusal. If no case holds, the result is the outcome.
 pub fn the_first_reason_decides()
     ensures first { first_of {R = ℕ} ((false, 1) ∷ (true, 2) ∷ (true, 3) ∷ []) ≡ Some 2 }
     ensures none { first_of {R = ℕ} ((false, 1) ∷ []) ≡ None }
@@ -236,8 +241,8 @@ pub fn the_first_reason_decides()
     ensures done { unless {A = ℕ} {R = ℕ} None 2 ≡ Ok 2 }
 {}
 
-/// A script undoes another where each variable that one of them touches is what it was before both, and
-/// so not at a world where the first finds a variable that the second removes.
+/// A script undoes another if each variable that one of them touches is afterwards what it was before both. So
+/// freeing a variable undoes adding it only if the variable didn't exist before.
 pub fn a_script_undoes_another_where_all_is_as_before()
     ensures undone { Undoes 0 (editing (Free (key_of 1 2) ∷ [])) (editing (Alloc (key_of 1 2) [] ∷ [])) (world_of []) }
     ensures there_before { Undoes 0 (editing (Free (key_of 1 2) ∷ [])) (editing (Alloc (key_of 1 2) [] ∷ []))
@@ -247,14 +252,14 @@ pub fn a_script_undoes_another_where_all_is_as_before()
         (with_variable (world_of []) (key_of 1 2) (5 ∷ [])) → ⊥ }
 {}
 
-/// What is found has the property and nothing else has it; where nothing is found, nothing has it.
+/// What is found has the property, and nothing else has it. If nothing is found, nothing has it.
 pub fn what_is_found_is_all_there_is()
     ensures has { (has : ℕ → Bool) (x : ℕ) → Finds (λ n. has n ≡ true) (Some x) → has x ≡ true }
     ensures alone { (has : ℕ → Bool) (x y : ℕ) → Finds (λ n. has n ≡ true) (Some x) → has y ≡ true → y ≡ x }
     ensures none { (has : ℕ → Bool) (y : ℕ) → Finds (λ n. has n ≡ true) None → has y ≡ true → ⊥ }
 {}
 
-/// What a patch of the catalog names and does; a patch that isn't there names nothing and replaces nothing.
+/// What a patch of the catalog names and replaces. A patch that doesn't exist names nothing and replaces nothing.
 pub fn patches_are_what_the_catalog_tells()
     ensures states { named_states naming_kernel 1 ≡ state_of 7 1 ∷ state_of 9 2 ∷ [] }
     ensures ids { state_ids naming_kernel 1 ≡ 7 ∷ 9 ∷ [] }
@@ -264,7 +269,7 @@ pub fn patches_are_what_the_catalog_tells()
     ensures no_patch { replaces naming_kernel 2 ≡ false }
 {}
 
-/// A task's state is -1, 0 or 1, and a task that isn't there is inside of nothing.
+/// A patch state is -1, 0 or 1. A number without a task is inside of nothing.
 pub fn tasks_have_one_of_three_states()
     ensures at_rest { IsPatchState (negsuc 0) }
     ensures unpatched { IsPatchState (pos 0) }
@@ -276,7 +281,8 @@ pub fn tasks_have_one_of_three_states()
     ensures nobody { frames_of None ≡ [] }
 {}
 
-/// A task's states are numbered as the kernel numbers them: nothing moves, it doesn't run the patch, it does.
+/// Returns the three patch states. They have the kernel's numbers: -1 for no transition, 0 for a task that doesn't
+/// run the patch, 1 for a task that does.
 pub fn states_are_numbered_as_the_kernel_does() -> (PatchState, PatchState, PatchState)
     ensures nothing_moves { result.0 ≡ negsuc 0 }
     ensures unpatched { result.1 ≡ pos 0 }
@@ -289,7 +295,7 @@ pub fn states_are_numbered_as_the_kernel_does() -> (PatchState, PatchState, Patc
     )
 }
 
-/// Records of the event that is under way take room, and those of earlier events none.
+/// Only the records of the current event take up its room, not those of earlier events.
 pub fn records_of_one_event_take_room()
     ensures { spare_of (record { logged = NothingMoving ∷ NothingMoving ∷ []; room = 5; older = NothingMoving ∷ [] }) ≡ 3 }
 {}

@@ -1,6 +1,8 @@
-//! What is proved of the definitions themselves. Each law is the contract of a function that does
-//! nothing: it keeps the definitions honest, and a crate above may rely on it.
-ghost use Rattle.std.specs.Prelude.{◌≡◌, ℕ, ◌+◌, ◌-◌, ◌^◌, ◌<◌, ◌≤◌, Bool, ◌==◌, ◌&&◌, ◌||◌, true, false, not, List, [], ◌∷◌, ◌++◌, length, map, take, drop, get_or, slice_get, Option, Some, is_some, option_map, IfSome};
+//! What is proved of the definitions themselves. Each law is the contract of a function that does nothing. The laws
+//! show that the definitions mean what they should, and a crate above may rely on them.
+ghost use Rattle.std.specs.Prelude.{◌≡◌, ℕ, ◌+◌, ◌-◌, ◌^◌, ◌<◌, ◌≤◌, Bool, ◌==◌, ◌&&◌, ◌||◌, true, false, not, List};
+ghost use Rattle.std.specs.Prelude.{[], ◌∷◌, ◌++◌, length, map, take, drop, get_or, slice_get, Option, Some, is_some};
+ghost use Rattle.std.specs.Prelude.{option_map, IfSome};
 ghost use Rattle.std.specs.Int.{w64, to_le_bytes};
 ghost use Rattle.std.specs.List.{All, list_any};
 ghost use Rattle.std.specs.Cmp.{IsTotalOrder};
@@ -14,7 +16,8 @@ ghost use Rattle.klp_types.specs.Setting.{Setting, functions_of, function_for, r
 ghost use Rattle.klp_types.specs.Entries.{patches_site, entry_of, entries_from, is_empty};
 ghost use Rattle.klp_types.specs.Bytes.{symbol_in, patched, resting, text_where};
 ghost use Rattle.klp_types.specs.World.{Installed, World, Shadow, ShadowValue, key_cmp, number_of, variable, states_of};
-ghost use Rattle.klp_types.specs.Script.{Script, alloc_count, is_key, value_taken, edited, edited_at, edited_by, made_of, edits_made, effect, edit_touches, touches};
+ghost use Rattle.klp_types.specs.Script.{Script, alloc_count, is_key, value_taken, edited, edited_at, edited_by};
+ghost use Rattle.klp_types.specs.Script.{made_of, edits_made, effect, edit_touches, touches};
 ghost use Rattle.klp_types.specs.Callbacks.{Call, after_calls};
 
 use crate::limits::{
@@ -27,8 +30,8 @@ use crate::limits::{
     RECORDS_AFTER_SITES, RECORDS_BEFORE_SITES,
 };
 
-/// In the text of an object each function reads as it was built, but for its entry site: so nothing that
-/// hooks come to can change what is behind it.
+/// In the text of an object each function reads as it was built, except for its entry site. So hooks never change
+/// what is after it.
 pub fn text_is_as_built_but_for_entry_sites()
     ensures { (image : Image) (hooked : ℕ → Bool) (object : ℕ) (number : ℕ)
         → symbol_in (text_where image hooked object) number
@@ -36,16 +39,16 @@ pub fn text_is_as_built_but_for_entry_sites()
         (given_symbol image object number) }
 {}
 
-/// A function whose site isn't hooked reads the NOP, and behind it as it was built: so a function that no
-/// patch has runs its own body.
+/// A function whose site isn't hooked reads as it was built, with the NOP at its entry site. So a function that no
+/// patch changes runs its own body.
 pub fn text_has_a_nop_where_not_hooked()
     ensures { (image : Image) (hooked : ℕ → Bool) (object : ℕ) (number : ℕ)
         → hooked (first_site image.objects object + number) ≡ false
         → symbol_in (text_where image hooked object) number ≡ option_map resting (given_symbol image object number) }
 {}
 
-/// The keys of shadow variables are in a total order, in which those that tie are the same. Finite maps ask
-/// for it, since what they hold mustn't depend on the order of insertions.
+/// The keys of shadow variables are in a total order, and keys that compare as equal are equal. Finite maps need
+/// this, since their value mustn't depend on the order of insertions.
 pub fn keys_are_in_order()
     ensures total { IsTotalOrder key_cmp }
     ensures antisymmetric { finite.IsAntisymmetric key_cmp }
@@ -53,14 +56,14 @@ pub fn keys_are_in_order()
     ensures one { (own key : ShadowKey) → is_key own key ≡ true → own ≡ key }
 {}
 
-/// Where shadow variables are taken out, no more are left than there were: so a removal never wants room.
+/// Removing shadow variables never leaves more than there were. So a removal never lacks room.
 pub fn no_more_variables_are_left()
     ensures { (shadow : Shadow) (keep : ShadowKey → Bool)
         → finite.len (finite.retain_keys shadow keep) ≤ finite.len shadow }
 {}
 
-/// An edit changes each shadow variable by itself, and so do edits one after another. What a script does to
-/// one variable so follows without all others.
+/// An edit changes each shadow variable independently of the others, and so does a list of edits. So what a script
+/// does to one variable can be computed without the others.
 pub fn edits_go_key_by_key()
     ensures each { (patch : ℕ) (world : World) (edit : Edit) (key : ShadowKey)
         → variable (edited patch world edit) key ≡ edited_at key (variable world key) edit }
@@ -68,8 +71,8 @@ pub fn edits_go_key_by_key()
         → variable (edited_by patch world edits) key ≡ made_of key (variable world key) edits }
 {}
 
-/// A shadow variable that no edit touches stays as it is, and one that a script doesn't touch. So what a
-/// patch's callbacks can have changed is known from their scripts.
+/// A shadow variable that no edit touches doesn't change, and so for one that a script doesn't touch. So scripts
+/// show which variables a patch's callbacks can have changed.
 pub fn untouched_variables_stay()
     ensures edits { (edits : List Edit) (key : ShadowKey) (was : Option ShadowValue)
         → list_any (edit_touches key) edits ≡ false → made_of key was edits ≡ was }
@@ -77,50 +80,50 @@ pub fn untouched_variables_stay()
         → variable (effect patch world script) key ≡ variable world key }
 {}
 
-/// Two scripts that touch no common shadow variable leave the same shadow variables in either order. Of the
-/// values of system states this isn't so, since the later of two scripts of one patch decides.
+/// Two scripts that touch no common shadow variable leave the same shadow variables in either order. This doesn't
+/// hold for the values of system states: of two scripts of one patch the later decides.
 pub fn scripts_apart_commute()
     ensures { (p q : ℕ) (a b : Script) (world : World) → ((key : ShadowKey) → (touches a key && touches b key) ≡ false)
         → (effect q (effect p world a) b).shadow ≡ (effect p (effect q world b) a).shadow }
 {}
 
-/// A script leaves the states of every patch but its own: no edit names another patch.
+/// A script doesn't change the states of other patches: no edit names another patch.
 pub fn states_of_others_stay()
     ensures { (patch other : ℕ) (world : World) (script : Script) → (other ≡ patch → ⊥)
         → states_of other (effect patch world script).installed ≡ states_of other world.installed }
 {}
 
-/// A script leaves which patches are installed, and in which order, so callbacks can't enable or disable.
+/// A script doesn't change which patches are installed, or their order. So callbacks can't enable or disable
+/// patches.
 pub fn installed_patches_stay()
     ensures { (patch : ℕ) (world : World) (script : Script)
         → map (λ (i : Installed). i.patch) (effect patch world script).installed
         ≡ map (λ (i : Installed). i.patch) world.installed }
 {}
 
-/// Where there is room for the shadow variables that edits add, the first of them leaves room for those
-/// that the others add. So room is asked for once, before the first edit.
+/// If there is room for the shadow variables that some edits add, then after the first edit there is still room for
+/// what the others add. So room is checked once, before the first edit.
 pub fn edits_keep_to_their_room()
     ensures { (patch : ℕ) (world : World) (edit : Edit) (edits : List Edit)
         → finite.len (edited patch world edit).shadow + alloc_count edits ≤ finite.len world.shadow + alloc_count (edit
         ∷ edits) }
 {}
 
-/// A script adds no more shadow variables than it has edits that add one; fewer where a variable is there
-/// already, or a later edit removes it.
+/// A script adds at most as many shadow variables as it has edits that add one. It adds fewer if a variable exists
+/// already, or if a later edit removes it.
 pub fn variables_are_few()
     ensures { (patch : ℕ) (world : World) (script : Script)
         → finite.len (effect patch world script).shadow ≤ finite.len world.shadow + alloc_count script.edits }
 {}
 
-/// An edit adds at most one shadow variable, and a script makes no more edits than it has: none where its
-/// status isn't 0.
+/// At most every edit adds a shadow variable. A script makes only its own edits, and none if its status isn't 0.
 pub fn allocs_are_edits()
     ensures each { (edits : List Edit) → alloc_count edits ≤ length edits }
     ensures made { (script : Script) → alloc_count (edits_made script) ≤ alloc_count script.edits }
 {}
 
-/// Which shadow variables callbacks leave depends on those that were there, and on nothing else of
-/// the world: a value that is taken over is a state's, and leaves them.
+/// Which shadow variables callbacks leave depends only on the variables before, and on nothing else of the world.
+/// Taking over a value changes a system state, and no shadow variable.
 pub fn variables_go_by_variables_alone()
     ensures taken { (world : World) (patch id : ℕ) (value : Option ℕ)
         → (value_taken world patch id value).shadow ≡ world.shadow }
@@ -128,7 +131,7 @@ pub fn variables_go_by_variables_alone()
         → (after_calls a calls).shadow ≡ (after_calls b calls).shadow }
 {}
 
-/// The sites of an image are the symbols of its objects, one object after another: so an object's sites are
+/// The sites of an image are the symbols of its objects, one object after another. So the sites of an object are
 /// known from its first one.
 pub fn sites_go_object_by_object()
     ensures both { (first others : List Object) → symbols_of (first ++ others) ≡ symbols_of first ++ symbols_of others }
@@ -138,8 +141,7 @@ pub fn sites_go_object_by_object()
         → symbols_of (drop index objects) ≡ (get_or objects index at).symbols ++ symbols_of (drop (index + 1) objects) }
 {}
 
-/// The sites of an object are next to each other, from its first site on, so that a walk over them is a
-/// count.
+/// The sites of an object are consecutive, from its first site on. So a walk over them just counts up.
 pub fn sites_of_an_object_stand_together()
     ensures symbols { (objects : List Object) (index place : ℕ) (object : Object)
         → slice_get objects index ≡ Some object → place < length object.symbols
@@ -148,19 +150,19 @@ pub fn sites_of_an_object_stand_together()
         → first_site objects index + length object.symbols ≤ length (symbols_of objects) }
 {}
 
-/// A number is what is read of its eight bytes, so that a variable shows the number that it was given.
+/// Reading the eight bytes of a number returns the number. So a variable shows the number that it was given.
 pub fn numbers_are_read_as_written()
     ensures { (number : ℕ) → number < 2 ^ 64 → number_of (to_le_bytes w64 number) ≡ Some number }
 {}
 
-/// Patches put an entry on a site exactly where one of them has a function for it: nops alone hook nothing.
+/// Patches put an entry on a site exactly when one of them has a function for it. So nops alone never hook a site.
 pub fn entries_stand_where_functions_are()
     ensures { (setting : Setting) (site : ℕ) (patches : List ℕ)
         → not (is_empty (entries_from setting site patches)) ≡ list_any (patches_site setting site) patches }
 {}
 
-/// A patch that is put last gets its entry on top of those of the older patches: its function, or a nop
-/// where it replaces and there is an entry below it.
+/// The newest patch has its entry on top of those of the older patches: its function, or a nop if it is cumulative
+/// and there is an entry below.
 pub fn the_newest_entry_is_on_top()
     ensures { (setting : Setting) (site patch : ℕ) (older : List ℕ)
         → entries_from setting site (patch ∷ older)
@@ -169,7 +171,7 @@ pub fn the_newest_entry_is_on_top()
         ++ entries_from setting site older }
 {}
 
-/// An entry is that of one of the patches. Its patch has a function for the site, or replaces, and an
+/// Each entry is of one of the patches. The entry's patch has a function for the site or is cumulative, and an
 /// entry that isn't a nop names a function that its patch has.
 pub fn entries_are_of_their_patches()
     ensures installed { (setting : Setting) (site patch : ℕ) (patches : List ℕ)
@@ -183,8 +185,8 @@ pub fn entries_are_of_their_patches()
         (entries_from setting site patches) }
 {}
 
-/// How much there may be of everything, and how long an entry site is. Definitions and code name the limits
-/// apart, and this is where a changed one is found.
+/// The value of each limit, and the length of an entry site. Some definitions write these numbers out, so this law
+/// fails if a constant changes.
 pub fn limits_are_these()
     ensures objects { MAX_OBJECTS ≡ 17 }
     ensures sites { MAX_SITES ≡ 256 }

@@ -1,24 +1,23 @@
 //! The numbers and names of the live patching manager, and the rows of its state.
 //!
-//! `specs/` has the definitions that every crate of this repository is proved against: the image, the
-//! patches, the scripts of callbacks and the world that they change, the entries that patches put on a
-//! site, the version that is the newest of some entries, and the bytes of the text. Begin with
-//! `specs/Setting`, then `World`, `Script`, `Entries` and `Bytes`. The state of the whole machine and its
-//! events are above, in `klp_model`, so that the crates of the image, the world and the catalog don't
-//! depend on the machine (docs/DECISIONS.md, "Definitions without a state").
+//! `specs/` has the definitions that every crate of this repository is proved against: the image, the patches, the
+//! scripts of callbacks and the world that they change, the entries that patches put on a site, the version of the
+//! newest entry, and the bytes of the text. Begin with `specs/Setting`, then read `World`, `Script`, `Entries` and
+//! `Bytes`. The state of the whole machine and its events are in `klp_model`, a crate above, so that the crates of
+//! the image, the world and the catalog don't depend on them (docs/DECISIONS.md, "Definitions without a state").
 //!
-//! `laws` has what is proved of the definitions themselves. Of entries: when patches put an entry on a
-//! site, and whose it is. Of the text: how a function reads by which sites are hooked, and that sites go
-//! object by object. Of scripts: that an edit changes each shadow variable by itself, which variables,
-//! system states and patches a script leaves, how few variables it adds, and which scripts may change
-//! places. Also what each limit is. `examples` has what definitions come to over a small kernel: nops, the
-//! version of the newest entry, where versions begin and how far a call reaches; which callbacks run, what
-//! they do to states and variables, and which status refuses; the previous state, and which patches may live
-//! beside which. A body and its clause cite the same definition, so these say apart from both what it means.
+//! `laws` has what is proved of the definitions themselves. Of entries: when patches put an entry on a site, and
+//! whose it is. Of the text: which bytes a function has, given which sites are hooked, and that sites are counted
+//! object by object. Of scripts: that an edit changes each shadow variable independently, which variables, system
+//! states and patches a script doesn't change, how few variables it adds, and which scripts may be run in either
+//! order. It also has the value of each limit. `examples` computes the definitions over a small kernel: nops, the
+//! version of the newest entry, where versions begin and how far a call reaches; which callbacks run, what they do
+//! to states and variables, and which status refuses; the previous state, and which patches are compatible. Since a
+//! body and its clause use the same definition, only these examples show independently what it means.
 //!
-//! The code is small. [`Frames`] has at most 32 versions: `push` puts one last, or leaves a full list as it is.
-//! [`ShadowValue`] has 0 to 64 bytes, and takes no more.
-//! [`Script`] is here, below the world that it changes, so that the catalog's text doesn't wait for that.
+//! There is little code. [`Frames`] has at most 32 versions; `push` appends one, or changes nothing if the list is
+//! full. [`ShadowValue`] has 0 to 64 bytes. [`Script`] is here, below the crate of the world that it changes, so
+//! that the catalog's text can have scripts without that crate.
 #![tactic(auto)]
 
 mod callback;

@@ -5,8 +5,8 @@ use crate::limits::MAX_EDITS;
 use arrayvec::ArrayVec;
 use std::marker::Model;
 
-/// What a callback does and answers: edits of the world in order, and a status. A script with a status
-/// other than 0 makes no edit, so that a pre-patch which refuses leaves nothing to undo. (Scripts are this
+/// What a callback does: it makes edits of the world in order, and returns a status. A script with a status other
+/// than 0 makes no edit, so that a pre-patch callback which refuses leaves nothing to undo. (Scripts are this
 /// project's own, since a kernel's callback is code.)
 #[derive(Drop)]
 pub struct Script {
@@ -27,7 +27,7 @@ impl Model for Script {
 }
 
 impl Script {
-    /// The same edits and status, since an array of edits isn't copied by itself.
+    /// Copies the edits and the status, since an array of edits isn't `Copy`.
     pub fn copy(&self) -> Script
         ensures { result ≡ self.now }
     {

@@ -7,16 +7,16 @@ ghost use Rattle.klp_types.specs.World.{number_of};
 use crate::limits::MAX_VALUE_BYTES;
 use std::marker::Model;
 
-/// The key of a shadow variable: the number of its parent object, and its id (shadow-vars, Brief
-/// summary). Keys are ordered by the parent object, then by the id.
+/// The key of a shadow variable: the number of its parent object, and its id (shadow-vars, Brief summary). Keys are
+/// ordered by the parent object, then by the id.
 #[derive(Clone, Copy, Default, PartialEq, Eq, PartialOrd, Ord)]
 pub struct ShadowKey {
     pub obj: u64,
     pub id: u64,
 }
 
-/// The value of a shadow variable: 0 to 64 bytes, since a kernel's has any data and scripts only copy it
-/// (shadow-vars, Brief summary). Most are a number's eight bytes, the lowest first, as x86-64 keeps it.
+/// The value of a shadow variable: 0 to 64 bytes. A kernel's has any data, and scripts only copy it (shadow-vars,
+/// Brief summary). Most values are the eight bytes of a number, the lowest first, as on x86-64.
 #[derive(Clone, Copy, Debug, PartialEq, Eq)]
 pub struct ShadowValue {
     bytes: [u8; MAX_VALUE_BYTES],
@@ -40,8 +40,8 @@ impl Model for ShadowValue {
 }
 
 impl ShadowValue {
-    /// A value of these bytes, unless there are more than [`MAX_VALUE_BYTES`]. The unused places hold 0, so
-    /// that equal values are equal in every byte.
+    /// Returns a value of these bytes. `None` if there are more than [`MAX_VALUE_BYTES`]. The unused bytes are 0,
+    /// so that equal values are equal in every byte.
     pub fn new(bytes: &[u8]) -> Option<Self>
         ensures { result ≡ (if nat_le (length bytes.now) MAX_VALUE_BYTES then Some bytes.now else None) }
     {
@@ -56,7 +56,7 @@ impl ShadowValue {
         })
     }
 
-    /// The eight bytes of a number, the lowest first.
+    /// Returns the value of a number: its eight bytes, the lowest first.
     pub fn of(number: u64) -> Self
         ensures { result ≡ to_le_bytes w64 number }
     {
@@ -68,7 +68,7 @@ impl ShadowValue {
         }
     }
 
-    /// The bytes, without the places that aren't used.
+    /// Returns the bytes of the value, without the unused ones.
     pub fn bytes(&self) -> &[u8]
         ensures { result.now ≡ self.now }
     {
@@ -76,7 +76,7 @@ impl ShadowValue {
         &bytes[..self.count as usize]
     }
 
-    /// How many there are, for a count of words.
+    /// Returns how many bytes the value has.
     pub fn count(&self) -> usize
         ensures value { result ≡ length self.now }
         ensures limit { result ≤ MAX_VALUE_BYTES }
@@ -84,14 +84,14 @@ impl ShadowValue {
         usize::from(self.count)
     }
 
-    /// The bytes with zeros behind them, as many as the longest value has.
+    /// Returns the bytes with zeros after them, up to the length of the longest value.
     pub fn padded(&self) -> &[u8]
         ensures { result.now ≡ padded MAX_VALUE_BYTES 0 self.now }
     {
         &self.bytes
     }
 
-    /// The value of the first bytes, where the others are zeros.
+    /// Returns the value of the first `count` bytes. `None` unless all other bytes are zeros.
     pub fn unpadded(bytes: [u8; MAX_VALUE_BYTES], count: u8) -> Option<Self>
         requires { count ≤ MAX_VALUE_BYTES }
         ensures { Finds (λ value. (length value ≡ count) × (padded MAX_VALUE_BYTES 0 value ≡ bytes)) result }
@@ -103,7 +103,7 @@ impl ShadowValue {
         }
     }
 
-    /// The number that these eight bytes are, the lowest first; a value of another length is no number.
+    /// Returns the number whose eight bytes these are, the lowest first. `None` for a value of another length.
     pub fn number(&self) -> Option<u64>
         ensures { result ≡ number_of self.now }
     {
@@ -117,6 +117,7 @@ impl ShadowValue {
     }
 }
 
+/// Whether all bytes are 0.
 fn are_zeros(bytes: &[u8]) -> bool
     ensures { IsTrue result ↔ (bytes.now ≡ replicate (length bytes.now) 0) }
 {

@@ -6,7 +6,7 @@ use crate::number::Site;
 use crate::version::Version;
 use std::marker::Model;
 
-/// A task, by its number, which is free again when the task ends.
+/// A task, by its number. The number is free again when the task ends.
 #[derive(Clone, Copy, PartialEq, Eq)]
 pub struct TaskId(pub u8);
 
@@ -20,8 +20,8 @@ impl Model for TaskId {
     ghost inverse = { λ n. record { 0 = n } };
 }
 
-/// How far a task is brought to the patch in transition, as `/proc/<pid>/patch_state` shows it: a number
-/// that is -1, 0 or 1 by its type, so that no state of the machine asks for it.
+/// The patch state of a task, as `/proc/<pid>/patch_state` shows it: -1, 0 or 1. Its type excludes any other
+/// number, so the definitions of states needn't.
 #[derive(Clone, Copy, PartialEq, Eq)]
 pub struct PatchState(i8);
 
@@ -39,7 +39,7 @@ impl Model for PatchState {
 }
 
 impl PatchState {
-    /// No patch moves, so there is nothing to bring the task to (the kernel's `KLP_UNDEFINED`).
+    /// There is no transition (the kernel's `KLP_UNDEFINED`).
     pub const UNDEFINED: PatchState = PatchState(-1);
 
     /// The task doesn't run the patch in transition (the kernel's `KLP_UNPATCHED`).
@@ -48,7 +48,7 @@ impl PatchState {
     /// The task runs the patch in transition (the kernel's `KLP_PATCHED`).
     pub const PATCHED: PatchState = PatchState(1);
 
-    /// The number that the kernel shows.
+    /// Returns the number that the kernel shows.
     pub fn number(self) -> i8
         ensures value { result ≡ self }
         ensures range { IsPatchState self }
@@ -57,20 +57,20 @@ impl PatchState {
     }
 }
 
-/// Where a task is. There are three because a transition switches each in its own way: a sleeper by its
-/// frames, the others when they next leave the kernel.
+/// Where a task is. There are three modes because a transition switches each in another way: a sleeper by its
+/// frames, a task in the kernel when it leaves, and one in user space when it has entered and leaves again.
 #[derive(Clone, Copy, PartialEq, Eq)]
 pub enum Mode {
-    /// In user space: it runs no function of the kernel, and switches when it next leaves the kernel.
+    /// In user space: it runs no function of the kernel. It is switched when it next leaves the kernel.
     User,
-    /// It runs in the kernel. What it is inside of isn't known, so no poll switches it.
+    /// Running in the kernel. Its frames aren't known, so no poll switches it.
     Kernel,
-    /// It sleeps in the kernel, inside of functions that are known, so it can be switched while it sleeps.
+    /// Sleeping in the kernel. Its frames are known, so it can be switched while it sleeps.
     Asleep,
 }
 
-/// The functions that a sleeping task is inside of, innermost last. There are at most 32 by the type, which
-/// an allowed state doesn't ask for (docs/DECISIONS.md, "Frames in allowed states").
+/// The functions that a sleeping task is inside of, innermost last. The type has room for 32, so an allowed state
+/// needn't require that (docs/DECISIONS.md, "Frames in allowed states").
 #[derive(Clone, Copy, Debug, PartialEq, Eq)]
 pub struct Frames {
     versions: [Version; MAX_FRAMES],
@@ -88,15 +88,17 @@ impl Model for Frames {
 
     ghost view = { λ f. take f.count f.versions };
 
-    ghost inverse = { λ versions. record { versions = padded MAX_FRAMES (Original 0) versions; count = length versions } };
+    ghost inverse = { λ versions.
+        record { versions = padded MAX_FRAMES (Original 0) versions; count = length versions } };
 
     ghost invariant = { λ f. IsPadded MAX_FRAMES (Original 0) f.versions f.count };
 
-    ghost inverse_ok = { λ f h i. record { versions = is_padded MAX_FRAMES (Original 0) f.versions f.count h i; count = h.0 i } };
+    ghost inverse_ok = { λ f h i.
+        record { versions = is_padded MAX_FRAMES (Original 0) f.versions f.count h i; count = h.0 i } };
 }
 
 impl Frames {
-    /// No frames: the unused places hold the original of site 0, so that equal frames are equal values.
+    /// Returns no frames. The unused elements are the original of site 0, so that equal frames are equal values.
     pub fn new() -> Self
         ensures { result ≡ [] }
     {
@@ -106,14 +108,14 @@ impl Frames {
         }
     }
 
-    /// How many there are, at most [`MAX_FRAMES`]: 0 for a task that doesn't sleep.
+    /// Returns how many frames there are, at most [`MAX_FRAMES`]. It is 0 for a task that doesn't sleep.
     pub fn len(&self) -> u8
         ensures { result ≡ length self.now }
     {
         self.count
     }
 
-    /// How many there are, for a count of words.
+    /// Returns how many frames there are, as a `usize`.
     pub fn count(&self) -> usize
         ensures value { result ≡ length self.now }
         ensures limit { result ≤ MAX_FRAMES }
@@ -122,7 +124,7 @@ impl Frames {
         versions[..usize::from(self.count)].len()
     }
 
-    /// The frames, outermost first, without the places that aren't used.
+    /// Returns the frames, outermost first, without the unused elements.
     pub fn as_slice(&self) -> &[Version]
         ensures { result.now ≡ self.now }
     {
@@ -130,8 +132,8 @@ impl Frames {
         &versions[..self.count as usize]
     }
 
-    /// Puts a frame innermost. Where there is no room nothing changes, and the answer is `false`: the
-    /// caller decides what a list that is too long is.
+    /// Appends a frame as the innermost, and returns true. If there is no room, returns false and changes nothing;
+    /// the caller decides which fault that is.
     pub fn push(&mut self, version: Version) -> bool
         ensures full { result ≡ nat_lt (length self.old) MAX_FRAMES }
         ensures pushed { result ≡ true → self.new ≡ self.old ++ version ∷ [] }
@@ -146,7 +148,7 @@ impl Frames {
         }
     }
 
-    /// Takes the innermost frame out, if there is one: the task has returned from it.
+    /// Removes the innermost frame, if there is one: the task returned from it.
     pub fn pop(&mut self)
         ensures { self.new ≡ take (length self.old - 1) self.old }
     {
@@ -157,14 +159,13 @@ impl Frames {
     }
 }
 
-/// A task: how far it is brought to the patch in transition, where it is, and what it is inside of. It is a
-/// row of the state, and copied whole into the record that undoes a change of it.
+/// A task: its patch state, its mode, and the functions that it is inside of. It is one row of the state, and its
+/// undo record is a copy of it.
 #[derive(Clone, Copy)]
 pub struct Task {
-    /// -1 where no patch moves, else 1 where the task runs the patch in transition, and 0 where it
-    /// doesn't.
+    /// -1 if there is no transition, else 1 if the task runs the patch in transition, and 0 if it doesn't.
     pub state: PatchState,
     pub mode: Mode,
-    /// What a sleeping task is inside of. Any other has none, since its frames change all the time.
+    /// The frames of a sleeping task. A task that doesn't sleep has none, since they change all the time.
     pub frames: Frames,
 }

@@ -1,8 +1,9 @@
-//! What a page sees of a manager: a view after each line, and what the line did (`specs/Views`).
+//! What a page reads from a manager: a view after each line, and what the line did (`specs/Views`).
 //!
-//! A view shows what moves, what is installed, and of each task why it matters where it sleeps: it holds the transition
-//! up, or its code isn't called now. [`view_of`] looks at a manager, and [`act_of`] at what became of a line. What is said of
-//! a run of views is `klp_timeline`'s, whose laws want a quiet view where the run begins: a booted manager shows one (`laws`).
+//! A view shows the transition, the installed patches, and the stay of each task: why it matters what it sleeps inside
+//! of. Either the task blocks the transition, or its code isn't what it would call now. [`view_of`] reads a manager,
+//! and [`act_of`] the outcome of a line. `klp_timeline` makes sentences of a run of views. Its laws need a quiet view
+//! at the beginning of the run, and a booted manager shows one (`laws`).
 #![tactic(auto)]
 
 mod act;

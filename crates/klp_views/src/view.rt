@@ -8,12 +8,14 @@ ghost use Rattle.klp_model.specs.Task.{task_at};
 ghost use Rattle.klp_types.specs.declared.limits.TheConstants.{MAX_TASKS};
 ghost use Rattle.klp_manager_state.specs.Managed.{setting_of};
 ghost use Rattle.klp_timeline.specs.declared.moment.Stay.TheVariants.{Outdated};
-ghost use Rattle.klp_views.specs.Views.{site_of, is_picked, is_current, innermost_outside, outdated_in, lag_in, stay_by, stay_in, wait_by, IsView};
+ghost use Rattle.klp_views.specs.Views.{site_of, is_picked, is_current, innermost_outside, outdated_in, lag_in};
+ghost use Rattle.klp_views.specs.Views.{stay_by, stay_in, wait_by, IsView};
 
 use klp_core::{Lag, Manager};
 use klp_timeline::{Stay, View};
 use klp_types::{MAX_TASKS, Mode, Site, Target, TaskId, Transition, Version};
 
+/// Whether two versions are the same.
 fn is_same(own: &Version, other: &Version) -> bool
     ensures { result ≡ is_version own.now other.now }
 {
@@ -26,7 +28,7 @@ fn is_same(own: &Version, other: &Version) -> bool
     }
 }
 
-/// The site whose calls a version answers.
+/// Returns the site at which a version is called. None for a function of a patch that has no site.
 fn site_of(manager: &Manager, version: &Version) -> Option<Site>
     ensures { result ≡ site_of (setting_of manager.now.managed) version.now }
 {
@@ -36,6 +38,7 @@ fn site_of(manager: &Manager, version: &Version) -> Option<Site>
     }
 }
 
+/// Whether the version is the one that was picked.
 fn is_picked(version: &Version, target: &Option<Target>) -> bool
     ensures { result ≡ is_picked version.now target.now }
 {
@@ -45,7 +48,7 @@ fn is_picked(version: &Version, target: &Option<Target>) -> bool
     }
 }
 
-/// Whether a call by this task would run the version now.
+/// Whether this task would run the version if it called the version's site now.
 fn is_current(manager: &Manager, task: TaskId, version: &Version) -> bool
     ensures { result ≡ is_current (setting_of manager.now.managed) manager.now.managed.state
         (task_at manager.now.managed.state.tasks task) version.now }
@@ -56,7 +59,7 @@ fn is_current(manager: &Manager, task: TaskId, version: &Version) -> bool
     }
 }
 
-/// The innermost of these versions that a call by this task wouldn't run any more.
+/// Returns the innermost of these versions that this task wouldn't run now. The versions are outermost first.
 fn outdated_among(manager: &Manager, task: TaskId, versions: &[Version]) -> Option<Version>
     ensures { result ≡ innermost_outside (is_current (setting_of manager.now.managed) manager.now.managed.state
         (task_at manager.now.managed.state.tasks task)) versions.now }
@@ -70,7 +73,7 @@ fn outdated_among(manager: &Manager, task: TaskId, versions: &[Version]) -> Opti
     found
 }
 
-/// The innermost version that a task sleeps inside of and wouldn't run any more.
+/// Returns the innermost version that a task sleeps inside of and wouldn't run now.
 fn outdated(manager: &Manager, task: TaskId) -> Option<Version>
     ensures { result ≡ outdated_in (setting_of manager.now.managed) manager.now.managed.state
         (task_at manager.now.managed.state.tasks task) }
@@ -78,7 +81,8 @@ fn outdated(manager: &Manager, task: TaskId) -> Option<Version>
     outdated_among(manager, task, manager.frames(task).as_slice())
 }
 
-/// Why it matters where a task sleeps.
+/// Returns the stay of a task: that it blocks the transition, or else that it sleeps inside of a version that it
+/// wouldn't run now. None if neither is so.
 fn stay_of(
     manager: &Manager,
     task: TaskId,
@@ -97,7 +101,7 @@ fn stay_of(
     }
 }
 
-/// The same, where all lags are known.
+/// Returns the stay of a task, by the lags of all tasks.
 fn stay_in(
     manager: &Manager,
     number: usize,
@@ -110,12 +114,12 @@ fn stay_in(
     ensures { result ≡ stay_in (setting_of manager.now.managed) manager.now.managed.state
         (task_at manager.now.managed.state.tasks number) }
 {
-    // there is a row for each number: the call is made for its contract
+    // called for its contract: there is a row for each number
     let _rows = manager.mode(TaskId(0));
     stay_of(manager, TaskId(number as u8), moving, &lags[number])
 }
 
-/// The same of each number, in order.
+/// Returns for each task number the stay of its task.
 fn stays(manager: &Manager, lags: &[Option<Lag>; MAX_TASKS]) -> [Option<Stay>; MAX_TASKS]
     requires { lags.now ≡ holders (setting_of manager.now.managed) manager.now.managed.state }
     ensures { result ≡ map (stay_in (setting_of manager.now.managed) manager.now.managed.state)
@@ -130,6 +134,7 @@ fn stays(manager: &Manager, lags: &[Option<Lag>; MAX_TASKS]) -> [Option<Stay>; M
     stays
 }
 
+/// Returns the mode of a task that lags without blocking the transition.
 fn wait_of(lag: &Option<Lag>) -> Option<Mode>
     ensures { result ≡ wait_by lag.now }
 {
@@ -139,7 +144,7 @@ fn wait_of(lag: &Option<Lag>) -> Option<Mode>
     }
 }
 
-/// Where tasks are that merely lag.
+/// Returns for each task number the mode of its task, if that lags without blocking the transition.
 fn waits(lags: &[Option<Lag>; MAX_TASKS]) -> [Option<Mode>; MAX_TASKS]
     ensures { result ≡ map wait_by lags.now }
 {
@@ -150,7 +155,8 @@ fn waits(lags: &[Option<Lag>; MAX_TASKS]) -> [Option<Mode>; MAX_TASKS]
     waits
 }
 
-/// What a manager shows. It costs as much as a poll that switches nobody, and a pick for each frame of each sleeper.
+/// Returns what a manager shows. The cost is that of a poll that switches nobody, and of a pick for each frame of each
+/// sleeper.
 pub fn view_of(manager: &Manager) -> View
     ensures { IsView (setting_of manager.now.managed) manager.now.managed.state result }
 {

@@ -29,7 +29,8 @@ pub fn compare(manager: &mut Manager, items: &[Observed]) -> Result<(), Differs>
     ensures consistent { (run : List AnyItem)
         → IsHonestRun (setting_of manager.old.managed) manager.old.managed.state run
         → IsConsistent (setting_of manager.old.managed) manager.old.managed.state run }
-    ensures differs { IfErr result (λ differs. IsDifference manager.old manager.new items.now differs.item differs.cause) }
+    ensures differs { IfErr result
+        (λ differs. IsDifference manager.old manager.new items.now differs.item differs.cause) }
     ensures setting { setting_of manager.new.managed ≡ setting_of manager.old.managed }
     ensures well_formed { IsWellFormed manager.new }
 {

@@ -54,7 +54,7 @@ pub(crate) fn happen(manager: &mut Manager, inside: &mut Inside, event: &Event) 
     ensures well_formed { IsWellFormed manager.new }
 {
     let mark = manager.mark();
-    if manager.apply_unasked(event).is_err() {
+    if manager.apply_without_reply(event).is_err() {
         return Ok(());
     }
     if let Some(cause) = against(manager, inside, event) {

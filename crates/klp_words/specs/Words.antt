@@ -1,4 +1,5 @@
--- How words are spelled: names, addresses, decimal numbers, values of shadow variables, and symbols with their object and position.
+-- How words are spelled: names, addresses, decimal numbers, values of shadow variables, and symbols with their
+-- object and position.
 use Rattle.std.specs.Prelude.{ℕ, ℤ, pos, neg_ℤ, ◌+◌, ◌^◌, ◌==◌, ◌&&◌, ◌||◌, Bool, nat_eq, nat_lt, nat_le, if◌then◌else◌, List, [], ◌∷◌, ◌++◌, length, drop, codes, Option, Some, None, option_map, Result, Ok, Err}
 use Rattle.std.specs.List.{list_all, starts_with, before_first, after_first}
 use Rattle.std.specs.Char.{is_ascii_alphanumeric, is_ascii_digit, is_ascii_hexdigit}
@@ -33,7 +34,7 @@ is_address word = nat_lt 0 (length word) && nat_le (length word) MAX_ADDRESS_DIG
 abbrev pub hexadecimal_of : List ℕ → Option ℕ
 hexadecimal_of word = if is_address word then Some (digits_value 16 word) else None
 
--- decimal digits, of a number below the limit; zeros in front are allowed
+-- decimal digits of a number below the limit; leading zeros are allowed
 abbrev pub is_decimal : ℕ → List ℕ → Bool
 is_decimal limit word = nat_lt 0 (length word) && list_all is_ascii_digit word && nat_lt (digits_value 10 word) limit
 
@@ -47,23 +48,23 @@ status_of (b ∷ bs) =
     if b == 45 then option_map (λ n. neg_ℤ (pos n)) (decimal_of (2 ^ 31 + 1) bs)
     else option_map pos (decimal_of (2 ^ 31) (b ∷ bs))
 
--- bytes where they fit a value, and no error
+-- the bytes, if they could be decoded and fit a value
 abbrev pub fitting : Result (List ℕ) FromHexError → Option ShadowValue
 fitting (Ok bytes) = if nat_le (length bytes) MAX_VALUE_BYTES then Some bytes else None
 fitting (Err error) = None
 
--- bytes that are spelled by two hexadecimal digits each, in either case
+-- the bytes that two hexadecimal digits each spell, in either case
 abbrev pub spelled_bytes : List ℕ → Option ShadowValue
 spelled_bytes digits = fitting (decode_of digits)
 
--- the value of a shadow variable: `x` and its bytes, or a decimal number of 64 bits, which is its eight bytes
+-- the value of a shadow variable: `x` and its bytes, or a decimal number of 64 bits, which means its eight bytes
 abbrev pub shadow_value_of : List ℕ → Option ShadowValue
 shadow_value_of [] = None
 shadow_value_of (first ∷ rest) =
     if first == 120 then spelled_bytes rest
     else option_map (to_le_bytes w64) (decimal_of (2 ^ 64) (first ∷ rest))
 
--- how it is written: a number where it is one, and else its bytes
+-- how a value is written: as a number if it is one, else as its bytes
 abbrev pub written_as : Option ℕ → ShadowValue → List ℕ
 written_as (Some number) value = decimal number
 written_as None value = codes "x" ++ encode_lower value
@@ -75,7 +76,7 @@ value_text value = written_as (number_of value) value
 abbrev pub sympos_of : List ℕ → Option ℕ
 sympos_of word = decimal_of (2 ^ 32) word
 
--- the symbol that a function stands in for, with its object
+-- the symbol that a function replaces, with its object
 pub record Spelling : Type 0 where
   pub object : List ℕ
   pub symbol : List ℕ
@@ -87,12 +88,12 @@ spelling_of_parts object symbol position =
     then option_map (λ n. record { object = object; symbol = symbol; sympos = n }) (sympos_of position)
     else None
 
--- the object's name ends at the first dot, and the symbol's at the first comma behind it
+-- the object's name ends at the first dot, and the symbol's name at the first comma after that dot
 abbrev pub spelling_behind_prefix : List ℕ → Option Spelling
 spelling_behind_prefix text =
     let symbol_on = after_first (λ b. b == 46) text in
     spelling_of_parts (before_first (λ b. b == 46) text) (before_first (λ b. b == 44) symbol_on) (after_first (λ b. b == 44) symbol_on)
 
--- `.klp.sym.objname.symbol_name,sympos`
+-- the symbol that `.klp.sym.objname.symbol_name,sympos` spells
 abbrev pub spelling_of : List ℕ → Option Spelling
 spelling_of word = if starts_with nat_eq word (codes ".klp.sym.") then spelling_behind_prefix (drop 9 word) else None

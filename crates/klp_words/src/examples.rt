@@ -1,13 +1,13 @@
-//! Worked examples of the definitions, by computation. A function here does nothing: its contract is the
-//! example, so a definition that comes to something else isn't proved.
+//! Worked examples of the definitions. A function here does nothing: its contract is the example, and it is proved
+//! by computing the definition.
 ghost use Rattle.std.specs.Prelude.{◌≡◌, ◌^◌, pos, negsuc, true, false, [], ◌∷◌, replicate, codes, Some, None};
 ghost use Rattle.klp_words.specs.declared.split.Separators.TheVariants.{Spaces, SpacesAndTabs};
 ghost use Rattle.klp_words.specs.Seconds.{seconds_of};
 ghost use Rattle.klp_words.specs.Split.{separates, words_between};
-ghost use Rattle.klp_words.specs.Words.{is_name, is_symbol_name, hexadecimal_of, decimal_of, sympos_of, status_of, shadow_value_of, value_text, spelling_of};
+ghost use Rattle.klp_words.specs.Words.{is_name, is_symbol_name, hexadecimal_of, decimal_of, sympos_of, status_of};
+ghost use Rattle.klp_words.specs.Words.{shadow_value_of, value_text, spelling_of};
 
-/// Words are what stands between separators, however many of these there are. A tab is of a word where
-/// spaces alone separate.
+/// Separators are between words; there may be any number of them. If only spaces separate, a tab is part of a word.
 pub fn words_stand_between_separators()
     ensures spaces { words_between (separates Spaces) (codes "  load   p ") ≡ codes "load" ∷ codes "p" ∷ [] }
     ensures tab_of_a_word { words_between (separates Spaces) (codes "a\tb c") ≡ codes "a\tb" ∷ codes "c" ∷ [] }
@@ -37,7 +37,7 @@ pub fn symbols_have_1_to_127_bytes()
     ensures too_long { is_symbol_name (replicate 128 97) ≡ false }
 {}
 
-/// An address is 1 to 16 hexadecimal digits in either case, the highest first.
+/// An address is 1 to 16 hexadecimal digits in either case, the highest digit first.
 pub fn addresses_have_1_to_16_digits()
     ensures either_case { hexadecimal_of (codes "ffffffffC000a10B") ≡ Some 0xffff_ffff_c000_a10b }
     ensures short { hexadecimal_of (codes "1a") ≡ Some 26 }
@@ -48,7 +48,7 @@ pub fn addresses_have_1_to_16_digits()
     ensures letter { hexadecimal_of (codes "1g") ≡ None }
 {}
 
-/// A decimal number is digits alone, and below its limit. Zeros in front don't count.
+/// A decimal number has only digits, and is below its limit. Leading zeros are allowed.
 pub fn decimal_numbers_are_digits()
     ensures zeros_in_front { decimal_of (2 ^ 64) (codes "0070") ≡ Some 70 }
     ensures greatest { decimal_of (2 ^ 64) (codes "18446744073709551615") ≡ Some 0xffff_ffff_ffff_ffff }
@@ -61,7 +61,7 @@ pub fn decimal_numbers_are_digits()
     ensures position_too_great { sympos_of (codes "4294967296") ≡ None }
 {}
 
-/// A status has 32 bits, and one sign at most: a minus.
+/// A status has 32 bits, and at most one sign, which is a minus.
 pub fn a_status_has_a_minus_or_none()
     ensures success { status_of (codes "0") ≡ Some (pos 0) }
     ensures fault { status_of (codes "-16") ≡ Some (negsuc 15) }
@@ -75,8 +75,8 @@ pub fn a_status_has_a_minus_or_none()
     ensures plus { status_of (codes "+1") ≡ None }
 {}
 
-/// A value is a number, which is its eight bytes from the lowest on, or `x` and up to 64 bytes by two digits
-/// each. It is written as a number where it is one.
+/// A value is spelled as a number, which means its eight bytes, the lowest first, or as `x` and two digits for each
+/// of up to 64 bytes. A value of eight bytes is written as a number, any other with `x`.
 pub fn values_are_numbers_or_bytes()
     ensures number { shadow_value_of (codes "513") ≡ Some (1 ∷ 2 ∷ 0 ∷ 0 ∷ 0 ∷ 0 ∷ 0 ∷ 0 ∷ []) }
     ensures too_great { shadow_value_of (codes "18446744073709551616") ≡ None }
@@ -93,8 +93,8 @@ pub fn values_are_numbers_or_bytes()
     ensures nothing_written { value_text [] ≡ codes "x" }
 {}
 
-/// A symbol is spelled `.klp.sym.objname.symbol_name,sympos`: its object ends at the first dot, so that the
-/// symbol may have dots, and its own name ends at the comma.
+/// A symbol is spelled `.klp.sym.objname.symbol_name,sympos`. The object's name ends at the first dot, so the
+/// symbol's name may have dots. The symbol's name ends at the comma.
 pub fn symbols_are_spelled_with_object_and_position()
     ensures plain { spelling_of (codes ".klp.sym.vmlinux.f,0")
         ≡ Some (record { object = codes "vmlinux"; symbol = codes "f"; sympos = 0 }) }

@@ -1,4 +1,4 @@
-//! Bytes that are looked for sixteen at a time.
+//! Searches bytes, sixteen at a time.
 
 ghost use Rattle.std.specs.Prelude.{◌≡◌, map, not};
 ghost use Rattle.std.specs.Char.{is_ascii};
@@ -8,10 +8,10 @@ ghost use Rattle.klp_words.specs.Split.{is_either};
 
 use std::simd::prelude::*;
 
-/// How many bytes are looked at together.
+/// How many bytes are examined together.
 const LANES: usize = 16;
 
-/// Which lanes have one of the two bytes, the first lane in the lowest bit.
+/// Returns a mask of the lanes that have one of the two bytes. The first lane is the lowest bit.
 #[inline(always)]
 fn lanes_with(lanes: u8x16, one: u8, other: u8) -> u64
     ensures { result ≡ mask_l (map (is_either one other) lanes) }
@@ -19,7 +19,7 @@ fn lanes_with(lanes: u8x16, one: u8, other: u8) -> u64
     (lanes.simd_eq(u8x16::splat(one)) | lanes.simd_eq(u8x16::splat(other))).to_bitmask()
 }
 
-/// Where the first of the two bytes is, from 0; the length where there is neither.
+/// Returns the index of the first byte that is `one` or `other`, or the length if there is none.
 pub(crate) fn first_of(bytes: &[u8], one: u8, other: u8) -> usize
     ensures { result ≡ position_or_len (is_either one other) bytes.now }
 {
@@ -31,7 +31,7 @@ pub(crate) fn first_of(bytes: &[u8], one: u8, other: u8) -> usize
         }
         at += LANES;
     }
-    // The last bytes are too few for all lanes.
+    // Too few bytes are left to fill all lanes.
     let mut last = at;
     while last < bytes.len() && bytes[last] != one && bytes[last] != other {
         last += 1;
@@ -39,7 +39,7 @@ pub(crate) fn first_of(bytes: &[u8], one: u8, other: u8) -> usize
     last
 }
 
-/// Which lanes are no ASCII.
+/// Returns a mask of the lanes that aren't ASCII.
 #[inline(always)]
 fn lanes_beyond_ascii(lanes: u8x16) -> u64
     ensures { result ≡ mask_l (map (λ b. not (is_ascii b)) lanes) }
@@ -47,7 +47,7 @@ fn lanes_beyond_ascii(lanes: u8x16) -> u64
     lanes.simd_ge(u8x16::splat(0x80)).to_bitmask()
 }
 
-/// Whether the bytes are ASCII, of which there are too few for all lanes.
+/// Whether the bytes are ASCII, tested one by one. It is used for a rest that doesn't fill all lanes.
 fn are_each_ascii(bytes: &[u8]) -> bool
     ensures { result ≡ list_all is_ascii bytes.now }
 {

@@ -1,12 +1,11 @@
-//! The words of a line, of a catalog's text and of the console alike.
+//! The words of a line, for both a catalog's text and the console.
 //!
-//! [`LineWords`] cuts a line into words, separated by spaces, or by spaces and tabs (`specs/Split`), and [`cut`]
-//! tells what is before the first byte of a kind, and what is behind it. [`number64`] and its like read
-//! numbers, [`shadow_value`] the value of a shadow variable, and [`spelling_of`] what the name of a symbol
-//! spells (`specs/Words`). [`microseconds`] reads the time of a log (`specs/Seconds`). [`is_ascii`] tells whether a
-//! line is ASCII. None of these takes memory, and what is wrong with a word is its reader's to say. [`Names`] is a
-//! table of names, which finds the place of a name and the name at a place. `examples` has what words of each kind
-//! come to, and which are refused.
+//! [`LineWords`] cuts a line into words, separated by spaces, or by spaces and tabs (`specs/Split`). [`cut`] splits
+//! a text at the first byte of a kind. [`number64`] and its like read numbers, [`shadow_value`] reads the value of
+//! a shadow variable, [`spelling_of`] a symbol as a `func` line spells it (`specs/Words`), and [`microseconds`] the
+//! time of a log (`specs/Seconds`). [`is_ascii`] tests whether a line is ASCII. None of these takes memory. They only
+//! say that a word is wrong; the caller decides which fault that is. [`Names`] is a table that finds the number of a
+//! name, and the name of a number. `examples` shows which words of each kind are read as what, and which are refused.
 #![tactic(auto)]
 
 pub mod examples;

@@ -4,8 +4,8 @@ use indexmap::IndexSet;
 use std::alloc::{AllocError, Global};
 use std::marker::Model;
 
-/// Names in the order in which they came, each once. A name is found by its hash, so a text is read in time
-/// that is linear in its length.
+/// Names in the order in which they were added, each once. A name is found by its hash, so reading a text takes
+/// time linear in its length.
 #[derive(Drop)]
 pub struct Names {
     set: IndexSet<String>,
@@ -20,6 +20,7 @@ impl Model for Names {
 }
 
 impl Names {
+    /// Creates the empty table.
     pub fn new(alloc: Global) -> Names
         ensures { result ≡ [] }
     {
@@ -28,14 +29,15 @@ impl Names {
         }
     }
 
-    /// The place of the name, from 0, which is the number of the object or the patch.
+    /// Returns the index of the name, from 0. This is the number of the object or patch with the name. `None` if
+    /// the name isn't in the table.
     pub fn number(&self, name: &str) -> Option<usize>
         ensures { result ≡ position (bytes_eq name.now) self.now }
     {
         self.set.get_index_of(name)
     }
 
-    /// The name at a place: the same table serves both ways.
+    /// Returns the name at this index. `None` if there is none.
     pub fn name(&self, number: usize) -> Option<&str>
         ensures { option_map (λ name. name.now) result ≡ slice_get self.now number }
     {
@@ -43,7 +45,8 @@ impl Names {
         Some(name.as_str())
     }
 
-    /// Adds a name that isn't there, as the last. It is copied, since the object or patch keeps its own.
+    /// Adds a name that isn't in the table, as the last one. It is copied, since the object or patch has its own
+    /// copy.
     pub fn add(&mut self, alloc: Global, name: &str) -> Result<(), AllocError>
         requires { position (bytes_eq name.now) self.old ≡ None }
         ensures ok { OnOk result (self.new ≡ self.old ++ name.now ∷ []) }

@@ -1,9 +1,10 @@
-//! Names, and how the symbol that a function stands in for is spelled.
+//! Which words are names, and how a `func` line spells the symbol that a function replaces.
 
 ghost use Rattle.std.specs.Prelude.{◌≡◌, true};
 ghost use Rattle.std.specs.List.{list_all};
 ghost use Rattle.std.specs.Str.{IsAscii};
-ghost use Rattle.klp_words.specs.Words.{is_name_byte, is_symbol_byte, is_name, is_symbol_name, spelling_of_parts, spelling_behind_prefix, spelling_of};
+ghost use Rattle.klp_words.specs.Words.{is_name_byte, is_symbol_byte, is_name, is_symbol_name, spelling_of_parts};
+ghost use Rattle.klp_words.specs.Words.{spelling_behind_prefix, spelling_of};
 
 use crate::number::number32;
 use crate::split::cut;
@@ -11,10 +12,11 @@ use klp_types::{MAX_NAME, MAX_SYMBOL_NAME};
 use std::marker::Model;
 use std::str;
 
-/// What the spelling of a symbol begins with (livepatch module ELF format, livepatch symbols).
+/// The prefix of a symbol's spelling (livepatch module ELF format, livepatch symbols).
 const SYMBOL_PREFIX: &[u8] = b".klp.sym.";
 
-/// Each byte of a name stands at its own place, and a comma, which is in none, at every other place.
+/// A table of the bytes that a name may have: such a byte is at its own index, and every other index has a comma,
+/// which no name may have.
 static NAME_BYTES: [u8; 256] = *b"\
     ,,,,,,,,,,,,,,,,,,,,,,,,,,,,,,,,\
     ,,,,,,,,,,,,,-,,0123456789,,,,,,\
@@ -25,7 +27,7 @@ static NAME_BYTES: [u8; 256] = *b"\
     ,,,,,,,,,,,,,,,,,,,,,,,,,,,,,,,,\
     ,,,,,,,,,,,,,,,,,,,,,,,,,,,,,,,,";
 
-/// The same of the bytes of a symbol's name.
+/// The table of the bytes that the name of a symbol may have.
 static SYMBOL_BYTES: [u8; 256] = *b"\
     ,,,,,,,,,,,,,,,,,,,,,,,,,,,,,,,,\
     ,,,,$,,,,,,,,,.,0123456789,,,,,,\
@@ -36,32 +38,36 @@ static SYMBOL_BYTES: [u8; 256] = *b"\
     ,,,,,,,,,,,,,,,,,,,,,,,,,,,,,,,,\
     ,,,,,,,,,,,,,,,,,,,,,,,,,,,,,,,,";
 
+/// Whether a name may have this byte.
 fn is_name_byte(byte: u8) -> bool
     ensures { result ≡ is_name_byte byte }
 {
     NAME_BYTES[byte as usize] != b','
 }
 
+/// Whether the name of a symbol may have this byte.
 fn is_symbol_byte(byte: u8) -> bool
     ensures { result ≡ is_symbol_byte byte }
 {
     SYMBOL_BYTES[byte as usize] != b','
 }
 
+/// Whether a name may have all these bytes.
 fn has_only_name_bytes(word: &[u8]) -> bool
     ensures { result ≡ list_all is_name_byte word.now }
 {
     word.iter().all(|b| is_name_byte(*b))
 }
 
+/// Whether the name of a symbol may have all these bytes.
 fn has_only_symbol_bytes(word: &[u8]) -> bool
     ensures { result ≡ list_all is_symbol_byte word.now }
 {
     word.iter().all(|b| is_symbol_byte(*b))
 }
 
-/// Whether the word may name an object, a patch or a new function: 1 to 55 letters, digits, `_` and `-`. It is
-/// ASCII then, so bytes and text are the same.
+/// Whether the word may name an object, a patch or a new function: 1 to 55 letters, digits, `_` and `-`. Such a
+/// word is ASCII, so its bytes are its characters.
 #[tactic(auto, using(crate::proofs::WordLemmas::length_tests, crate::proofs::WordLemmas::ascii_from_name))]
 pub fn is_name(word: &[u8]) -> bool
     ensures value { result ≡ is_name word.now }
@@ -74,7 +80,7 @@ pub fn is_name(word: &[u8]) -> bool
 }
 
 /// Whether the word may name a symbol: 1 to 127 letters, digits, `_`, `.` and `$`, as compilers make them
-/// (`f.constprop.0`). No comma is among them, which the position of a symbol is behind.
+/// (`f.constprop.0`). A comma isn't allowed, since it separates a symbol from its position.
 #[tactic(auto, using(crate::proofs::WordLemmas::length_tests, crate::proofs::WordLemmas::ascii_from_symbol_name))]
 pub fn is_symbol_name(word: &[u8]) -> bool
     ensures value { result ≡ is_symbol_name word.now }
@@ -86,7 +92,7 @@ pub fn is_symbol_name(word: &[u8]) -> bool
     has_only_symbol_bytes(word)
 }
 
-/// The word as text, which it is since it is ASCII: nothing is copied or looked at once more, and nothing can fail.
+/// Returns the word as text. It is ASCII, so nothing is copied or checked again, and nothing can fail.
 pub fn text(word: &[u8]) -> &str
     requires { IsAscii word.now }
     ensures { result.now ≡ word.now }
@@ -95,8 +101,8 @@ pub fn text(word: &[u8]) -> &str
     unsafe { str::from_utf8_unchecked(word) }
 }
 
-/// A symbol with its object and its position, as a `func` line spells it: position 0 asks for the only
-/// symbol of that name, and n for the n-th.
+/// A symbol with its object and its position, as a `func` line spells it. Position n means the n-th symbol of that
+/// name, and 0 the only one.
 #[derive(Drop)]
 pub struct Spelling<'a> {
     pub object: &'a str,
@@ -112,6 +118,7 @@ impl<'a> Model for Spelling<'a> {
     ghost view = { λ s. record { object = s.object.now; symbol = s.symbol.now; sympos = s.sympos } };
 }
 
+/// Makes a spelling of its three parts. `None` if a part is wrong.
 fn spelling_of_parts<'a>(
     object: &'a [u8],
     symbol: &'a [u8],
@@ -130,6 +137,7 @@ fn spelling_of_parts<'a>(
     })
 }
 
+/// Reads `objname.symbol_name,sympos`.
 fn spelling_behind_prefix(text: &[u8]) -> Option<Spelling<'_>>
     ensures { result ≡ spelling_behind_prefix text.now }
 {
@@ -138,8 +146,8 @@ fn spelling_behind_prefix(text: &[u8]) -> Option<Spelling<'_>>
     spelling_of_parts(object, symbol, position)
 }
 
-/// What `.klp.sym.objname.symbol_name,sympos` spells (livepatch module ELF format, livepatch symbols).
-/// `None` for any other word. Nothing is copied: the parts are lent from the word.
+/// Reads a word of the form `.klp.sym.objname.symbol_name,sympos` (livepatch module ELF format, livepatch symbols).
+/// `None` for any other word. Nothing is copied: the parts are borrowed from the word.
 pub fn spelling_of(word: &[u8]) -> Option<Spelling<'_>>
     ensures { result ≡ spelling_of word.now }
 {

@@ -1,4 +1,4 @@
-//! How bytes are cut into words, and at one byte. The lines of catalogs and of the console share it.
+//! Cuts bytes into words, and at one byte. Catalogs and the console use the same functions.
 
 ghost use Rattle.std.specs.Prelude.{◌≡◌, ℕ, ◌==◌, not, position, List, ◌∷◌, [], MatchOption};
 ghost use Rattle.std.specs.List.{position_or_len, before_first, after_first};
@@ -7,7 +7,7 @@ ghost use Rattle.klp_words.specs.Split.{separates, is_either, words_between};
 use crate::lanes::first_of;
 use std::marker::Model;
 
-/// What separates the words of a line: a tab is a byte of a word on the console, and none in a catalog.
+/// What separates the words of a line. On the console a tab is part of a word; in a catalog it separates words.
 #[derive(Clone, Copy)]
 pub enum Separators {
     Spaces,
@@ -15,7 +15,7 @@ pub enum Separators {
 }
 
 impl Separators {
-    /// The byte that separates words beside a space: a space once more where nothing else does.
+    /// Returns the byte that separates words besides a space. If only spaces do, this is a space again.
     fn beside_space(self) -> u8
         ensures { (b : ℕ) → is_either 32 result b ≡ separates self b }
     {
@@ -26,8 +26,8 @@ impl Separators {
     }
 }
 
-/// The words of a line that are still to be read, and what separates them. They are cut off one by one, so
-/// no list of them is kept.
+/// The words of a line that are still to be read, and what separates them. They are cut off one by one, so no list
+/// of them is made.
 #[derive(Drop)]
 pub struct LineWords<'a> {
     rest: &'a [u8],
@@ -44,7 +44,7 @@ impl<'a> Model for LineWords<'a> {
 }
 
 impl<'a> LineWords<'a> {
-    /// All words of the line, which may have any bytes, since nobody has looked at them yet.
+    /// Starts a walk over all words of the line. The line may have any bytes, since it isn't checked yet.
     pub fn new(line: &'a [u8], separators: Separators) -> LineWords<'a>
         ensures { result ≡ words_between (separates separators) line.now }
     {
@@ -54,7 +54,7 @@ impl<'a> LineWords<'a> {
         }
     }
 
-    /// The same words, to be gone over twice.
+    /// Returns a copy of this walk at its present position, so that the words can be read twice.
     pub fn again(&self) -> LineWords<'a>
         ensures { result ≡ self.now }
     {
@@ -64,8 +64,8 @@ impl<'a> LineWords<'a> {
         }
     }
 
-    /// The next word, which is never empty, in time that is linear in its length and that of what
-    /// separates it from the front: words may have any number of separators in between.
+    /// Returns the next word, which is never empty. `None` if no word is left. The time is linear in the length of
+    /// the word and of the separators before it, of which there may be any number.
     pub fn next(&mut self) -> Option<&'a [u8]>
         ensures { MatchOption result (self.old ≡ []) (λ word. self.old ≡ word.now ∷ self.new) }
     {
@@ -79,7 +79,7 @@ impl<'a> LineWords<'a> {
     }
 }
 
-/// Where the first byte `at` is, from 0; nothing where there is none.
+/// Returns the index of the first byte that equals `at`. `None` if there is none.
 pub fn position_of(bytes: &[u8], at: u8) -> Option<usize>
     ensures { result ≡ position (λ b. b == at) bytes.now }
 {
@@ -91,8 +91,8 @@ pub fn position_of(bytes: &[u8], at: u8) -> Option<usize>
     }
 }
 
-/// What is before the first byte `at`, and what is behind it: all and nothing where there is none. So a
-/// text without the byte and one that ends with it come to the same.
+/// Returns the bytes before the first byte `at`, and those after it. Without such a byte it returns the whole text
+/// and an empty rest; so a text without the byte gives the same as one that ends with it.
 pub fn cut(text: &[u8], at: u8) -> (&[u8], &[u8])
     ensures before { result.0.now ≡ before_first (λ b. b == at) text.now }
     ensures after { result.1.now ≡ after_first (λ b. b == at) text.now }

@@ -1,4 +1,4 @@
-//! Values of shadow variables, which catalogs and the console spell alike.
+//! Reads values of shadow variables, which catalogs and the console spell in the same way.
 
 ghost use Rattle.std.specs.Prelude.{◌≡◌};
 ghost use Rattle.klp_words.specs.Words.{spelled_bytes, shadow_value_of};
@@ -6,8 +6,8 @@ ghost use Rattle.klp_words.specs.Words.{spelled_bytes, shadow_value_of};
 use crate::number::number64;
 use klp_types::{MAX_VALUE_BYTES, ShadowValue};
 
-/// Two hexadecimal digits for each byte, in either case. How many bytes they are is asked for first, so that
-/// there is room for them.
+/// Reads bytes from two hexadecimal digits each, in either case. `None` if a digit is wrong or there are too many.
+/// The number of bytes is checked first, so that they fit.
 #[tactic(auto, using(crate::proofs::ValueLemmas::too_many_digits))]
 fn spelled_bytes(digits: &[u8]) -> Option<ShadowValue>
     ensures { result ≡ spelled_bytes digits.now }
@@ -21,8 +21,8 @@ fn spelled_bytes(digits: &[u8]) -> Option<ShadowValue>
     ShadowValue::new(&bytes[..count])
 }
 
-/// The value of a shadow variable: a decimal number, which is its eight bytes, or `x` and the digits of 0 to
-/// 64 bytes. No number begins with an `x`, so no word is both.
+/// Reads the value of a shadow variable: a decimal number, which means its eight bytes, or `x` and the digits of 0
+/// to 64 bytes. `None` for any other word. No number begins with an `x`, so no word has both meanings.
 pub fn shadow_value(word: &[u8]) -> Option<ShadowValue>
     ensures { result ≡ shadow_value_of word.now }
 {

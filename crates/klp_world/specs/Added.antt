@@ -1,4 +1,4 @@
--- What is against a shadow variable that is to be added.
+-- Why a shadow variable can't be added.
 use Rattle.std.specs.Prelude.{[], ◌∷◌, Option, nat_le, is_some}
 use Rattle.std.specs.FinMap as finite
 use Rattle.klp_types.specs.declared.limits.TheConstants.{MAX_VARIABLES}
@@ -8,7 +8,7 @@ use Rattle.klp_types.specs.World.{Shadow}
 use Rattle.klp_world.specs.declared.table.NotAdded.{NotAdded}
 use Rattle.klp_world.specs.declared.table.NotAdded.TheVariants.{Exists, Full}
 
--- the reason against adding it, if there is one: that it is there comes before want of room
+-- the reason why it can't be added, if any: that it exists is reported before that there is no room
 abbrev pub against : Shadow → ShadowKey → Option NotAdded
 against shadow key =
     first_of ((is_some (finite.get shadow key), Exists) ∷ (nat_le MAX_VARIABLES (finite.len shadow), Full) ∷ [])

@@ -1,11 +1,11 @@
--- The slots of the shadow variables in lists by bucket: what the links of the lists are.
+-- The slots of the shadow variables in lists by bucket: which links are right.
 use Rattle.std.specs.Prelude.{◌≡◌, ◌≢◌, ℕ, zero, suc, ◌<◌, ◌≤◌, ◌==◌, Bool, true, false, cond, List, length, get_or, set, Option, Some, None, vec_capacity}
 use Rattle.klp_types.specs.declared.limits.TheConstants.{MAX_VARIABLES}
 use Rattle.klp_world.specs.declared.chains.TheConstants.{BUCKETS}
 use Rattle.klp_world.specs.declared.chains.Link.{Link}
 use Rattle.klp_world.specs.declared.chains.Chains.{Chains}
 
--- what is read where there is no slot
+-- the node that is read if there is no such slot
 abbrev pub no_link : Link
 no_link = record { older = None; bucket = BUCKETS }
 
@@ -15,16 +15,16 @@ link_at links slot = get_or links slot no_link
 abbrev pub bucket_at : Chains → ℕ → ℕ
 bucket_at chains slot = (link_at chains.links.items slot).bucket
 
--- the slot is in the bucket
+-- whether a slot is in the bucket
 abbrev pub is_in : List Link → ℕ → ℕ → Bool
 is_in links bucket slot = (link_at links slot).bucket == bucket
 
--- the last number below this one that passes the test
+-- the highest number below this one that passes the test
 abbrev pub last_below : (ℕ → Bool) → ℕ → Option ℕ
 last_below test zero = None
 last_below test (suc n) = cond (test n) (Some n) (last_below test n)
 
--- each link goes to the last slot of its bucket before, and each bucket has its last slot
+-- each bucket starts with its highest slot, and each slot links to the next lower slot of its bucket
 pub record IsLinked (heads : List (Option ℕ)) (links : List Link) : Type 0 where
   pub buckets : length heads ≡ BUCKETS
   pub newest : (bucket : ℕ) → bucket < BUCKETS → get_or heads bucket None ≡ last_below (is_in links bucket) (length links)
@@ -36,13 +36,13 @@ pub record IsChained (chains : Chains) : Type 0 where
   pub few : length chains.links.items ≤ MAX_VARIABLES
   pub room : MAX_VARIABLES ≤ vec_capacity chains.links
 
--- the lowest number above a slot, and below another, that passes the test
+-- the lowest number above `slot` and below `end` that passes the test, or None if no number does
 abbrev pub IsAbove : (ℕ → Bool) → ℕ → ℕ → Option ℕ → Type 0
 IsAbove test slot end None = (n : ℕ) → slot < n → n < end → test n ≡ false
 IsAbove test slot end (Some above) =
     (slot < above) × (above < end) × (test above ≡ true) × ((n : ℕ) → slot < n → n < above → test n ≡ false)
 
--- the slot that is linked below the slot above, or else the newest of the bucket
+-- the slot that the slot `above` links to; without a slot above, the newest slot of the bucket
 abbrev pub pointed : Chains → ℕ → Option ℕ → Option ℕ
 pointed chains bucket None = get_or chains.newest.items bucket None
 pointed chains bucket (Some above) = (link_at chains.links.items above).older
@@ -55,7 +55,7 @@ abbrev pub with_links : List Link → Option ℕ → Option ℕ → List Link
 with_links links None to = links
 with_links links (Some above) to = set links above (record { older = to; bucket = (link_at links above).bucket })
 
--- one slot is in this bucket now, and the others where they were
+-- slot `slot` is in bucket `to` now, and the other slots are in their old buckets
 pub record IsRehomed (old new : Chains) (slot to : ℕ) : Type 0 where
   pub len : length new.links.items ≡ length old.links.items
   pub moved : bucket_at new slot ≡ to

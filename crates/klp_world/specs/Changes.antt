@@ -1,4 +1,4 @@
--- What a change of the world is, and the room that it needs.
+-- When a change of the world is right, and the room that it needs.
 use Rattle.std.specs.Prelude.{◌≡◌, ℕ, ◌+◌, ◌≤◌, List, length}
 use Rattle.std.specs.FinMap as finite
 use Rattle.klp_types.specs.declared.record.Record.{Record}
@@ -8,20 +8,20 @@ use Rattle.klp_types.specs.World.{World}
 use Rattle.klp_world.specs.StoredEvent.{noting}
 use Rattle.klp_world.specs.Undo.{undone, HaveEffects}
 
--- a change makes this world of the one before, and changes these rows
+-- a change turns the world `before` into `after`, and logs these rows
 pub record Changes (before after : World) (log_before log_after : RecordList) (to : World) (rows : List Record) : Type 0 where
-  -- the world is the one that the change is to make
+  -- the world after is exactly the intended one
   pub world : after ≡ to
-  -- each row that changed is logged as it was, as the newest
+  -- each row that changed is logged as it was, after the older records
   pub records : log_after ≡ noting log_before rows
-  -- these records, put back newest first, give the world before
+  -- these records, put back newest first, restore the world before
   pub undo : undone after rows ≡ before
-  -- each of them, in its turn, changes the world: none is without effect
+  -- each of them, put back in its turn, changes the world
   pub effective : HaveEffects after rows
 
--- there is room for a change that adds no more shadow variables than these, and changes these rows
+-- there is room for a change that adds at most `allocs` shadow variables and logs these rows
 pub record HasRoom (world : World) (log : RecordList) (allocs : ℕ) (rows : List Record) : Type 0 where
-  -- for the variables that are there and for those that are added
+  -- room for the existing variables and those that are added
   pub variables : finite.len world.shadow + allocs ≤ MAX_VARIABLES
-  -- for a record of each row
+  -- room for one record of each row
   pub records : length rows ≤ spare_of log

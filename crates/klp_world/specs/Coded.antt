@@ -1,4 +1,4 @@
--- How the values of this crate's types are told apart.
+-- Codes of this crate's types, by which their values are compared.
 use Rattle.std.specs.Prelude.{ℕ, List, refl}
 use Rattle.std.specs.Coded.{Coded, code_by, coded×, coded_list, coded_ℕ}
 use Rattle.std.specs.FinMap as finite

@@ -1,10 +1,10 @@
--- The table of shadow variables, and the slot in which it keeps the variable of a key.
+-- The table of shadow variables, and in which slot the variable of a key is.
 use Rattle.std.specs.Prelude.{◌≡◌, ℕ, List, [], get_or}
 use Rattle.std.specs.FinMap as finite
 use Rattle.klp_types.specs.declared.shadow.ShadowKey.{ShadowKey}
 use Rattle.klp_types.specs.World.{Shadow, ShadowValue, key_cmp}
 
--- the slot of each key that has a variable
+-- for each key with a variable, its slot
 abbrev pub Slots : Type 0
 Slots = finite.FinMap key_cmp ℕ
 
@@ -12,6 +12,6 @@ Slots = finite.FinMap key_cmp ℕ
 abbrev pub in_slot : List (ShadowKey × ShadowValue) → ℕ → ShadowKey × ShadowValue
 in_slot table slot = get_or table slot (record { obj = 0; id = 0 }, [])
 
--- the keys that have a slot are those that have a value
+-- a key has a slot exactly when it has a value
 abbrev pub SameKeys : Slots → Shadow → Type 0
 SameKeys slots shadow = (key : ShadowKey) → finite.contains_key slots key ≡ finite.contains_key shadow key

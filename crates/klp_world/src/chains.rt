@@ -1,34 +1,34 @@
-//! The slots of the shadow variables in lists by bucket, linked from slot to slot.
+//! The slots of the shadow variables, as one linked list for each bucket.
 ghost use Rattle.std.specs.Prelude.{◌≡◌, ◌≢◌, ℕ, ◌+◌, ◌<◌, ◌≤◌, [], Some, None, length, vec_capacity, IfOk};
-ghost use Rattle.klp_world.specs.Chained.{IsChained, IsAbove, IsRehomed, bucket_at, is_in, pointed, with_newest, with_links};
+ghost use Rattle.klp_world.specs.Chained.{IsChained, IsAbove, IsRehomed, bucket_at, is_in, pointed, with_newest};
+ghost use Rattle.klp_world.specs.Chained.{with_links};
 
 use klp_types::MAX_VARIABLES;
 use std::alloc::{AllocError, Global};
 
-/// How many lists the slots are spread over. It is a power of two, since the hash is the first bits of a
-/// product.
+/// How many buckets the slots are spread over. It is a power of two, since the hash is the top bits of a product.
 pub(crate) const BUCKETS: usize = 64;
 
-/// A slot in the list of its bucket.
+/// The list node of a slot: its bucket, and the next slot of that bucket.
 #[derive(Clone, Copy)]
 pub(crate) struct Link {
-    /// The next older slot of the bucket, which has a lower number, if there is one.
+    /// The next older slot of the bucket, if there is one. Its number is lower.
     pub(crate) older: Option<u16>,
     pub(crate) bucket: u8,
 }
 
-/// For each slot the bucket that it is in, and for each bucket its slots, newest first. A list runs from higher to
-/// lower numbers, so the buckets alone tell all links.
+/// For each slot its bucket, and for each bucket a list of its slots, newest first. A list runs from higher to
+/// lower slot numbers, so the buckets of the slots determine all links.
 #[derive(Drop)]
 pub(crate) struct Chains {
-    /// The newest slot of each bucket that has one.
+    /// By bucket, its newest slot. `None` if the bucket is empty.
     pub(crate) newest: Vec<Option<u16>>,
-    /// By slot.
+    /// By slot, its list node.
     pub(crate) links: Vec<Link>,
 }
 
 impl Chains {
-    /// No slots, with room for [`MAX_VARIABLES`], which no later call has to grow.
+    /// Creates the lists without slots, and takes room for [`MAX_VARIABLES`] of them, so no later call grows it.
     pub(crate) fn new(alloc: Global) -> Result<Self, AllocError>
         ensures chained { IfOk result IsChained }
         ensures none { IfOk result (λ chains. chains.links.items ≡ []) }
@@ -39,7 +39,8 @@ impl Chains {
         })
     }
 
-    /// The slot above this one in the list of a bucket, where this one is or would be.
+    /// Returns the lowest slot of a bucket that is above `slot`: the slot that links to it, or would. `None` if no
+    /// slot of the bucket is above it. `slot` itself need not be in the bucket.
     fn above(&self, bucket: u8, slot: u16) -> Option<u16>
         requires chained { IsChained self.now }
         requires bucket { bucket < BUCKETS }
@@ -57,7 +58,8 @@ impl Chains {
         above
     }
 
-    /// The slot below the slot above, or the newest of the bucket where none is above.
+    /// Returns the slot that the slot `above` links to. If `above` is `None`, returns the newest slot of the
+    /// bucket.
     fn below(&self, bucket: u8, above: Option<u16>) -> Option<u16>
         requires bucket { bucket < length self.now.newest.items }
         requires above { (slot : ℕ) → above ≡ Some slot → slot < length self.now.links.items }
@@ -69,7 +71,7 @@ impl Chains {
         }
     }
 
-    /// Links a slot, or none, below the slot above in the list of a bucket, or as its newest where none is above.
+    /// Makes the slot `above` link to `to`. If `above` is `None`, makes `to` the newest slot of the bucket.
     fn point(&mut self, bucket: u8, above: Option<u16>, to: Option<u16>)
         requires bucket { bucket < length self.old.newest.items }
         requires above { (slot : ℕ) → above ≡ Some slot → slot < length self.old.links.items }
@@ -83,7 +85,7 @@ impl Chains {
         }
     }
 
-    /// Adds the next slot, to a bucket.
+    /// Adds a slot, with the next number, to a bucket. It becomes the newest there.
     pub(crate) fn push(&mut self, bucket: u8)
         requires chained { IsChained self.old }
         requires few { length self.old.links.items < MAX_VARIABLES }
@@ -99,7 +101,7 @@ impl Chains {
         let _ = self.links.push(Link { older, bucket });
     }
 
-    /// Removes the last slot, and answers its bucket, of which it is the newest.
+    /// Removes the slot with the highest number, and returns its bucket. It is the newest of that bucket.
     fn pop(&mut self) -> Option<u8>
         requires chained { IsChained self.old }
         requires some { 0 < length self.old.links.items }
@@ -114,7 +116,7 @@ impl Chains {
         Some(bucket)
     }
 
-    /// Takes a slot out of the list of its bucket, and puts it into that of another.
+    /// Moves a slot from its bucket's list into another bucket's.
     fn rehome(&mut self, slot: u16, to: u8)
         requires chained { IsChained self.old }
         requires there { slot < length self.old.links.items }
@@ -137,7 +139,7 @@ impl Chains {
         };
     }
 
-    /// Removes a slot, whose number then is that of the last one, if it wasn't the last.
+    /// Removes a slot. Unless it was the last, the last slot takes over its number.
     pub(crate) fn swap_remove(&mut self, slot: u16)
         requires chained { IsChained self.old }
         requires there { slot < length self.old.links.items }

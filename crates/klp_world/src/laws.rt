@@ -1,45 +1,46 @@
-//! What is proved of the records of scripts. A function here does nothing: its contract is the law, and
-//! holds of every world, patch and script.
+//! What is proved of the records of scripts. A function here does nothing: its contract is the law, and holds of
+//! every world, patch and script.
 ghost use Rattle.std.specs.Prelude.{◌≡◌, ℕ, ◌+◌, ◌≤◌, true, List, length};
 ghost use Rattle.std.specs.List.{All};
 ghost use Rattle.klp_types.specs.declared.shadow.ShadowKey.{ShadowKey};
 ghost use Rattle.std.specs.FinMap as finite;
 ghost use Rattle.klp_types.specs.World.{World, without_id};
 ghost use Rattle.klp_types.specs.Script.{Script, alloc_count, effect};
-ghost use Rattle.klp_world.specs.StoredEvent.{rows_of_alloc, rows_of_free, rows_of_free_all, rows_of_add, rows_of_drop, rows_of_script};
+ghost use Rattle.klp_world.specs.StoredEvent.{rows_of_alloc, rows_of_free, rows_of_free_all, rows_of_add, rows_of_drop};
+ghost use Rattle.klp_world.specs.StoredEvent.{rows_of_script};
 ghost use Rattle.klp_world.specs.Undo.{undone, is_of_world, HaveEffects};
 
 use klp_types::MAX_VARIABLES;
 
-/// Scripts that touch no common shadow variable, in either order.
+/// Two scripts that touch no common shadow variable leave the same variables in either order.
 pub use klp_types::laws::scripts_apart_commute;
 
-/// How many records a script logs: at most one for each edit, one more for each edit that adds a shadow
-/// variable, and one for each shadow variable that is gone afterwards. The last is because a removal of an
-/// id logs each variable that it takes out.
+/// A script logs at most one record for each edit, one more for each edit that adds a shadow variable, and one for
+/// each variable that the script removes. The last part is there because removing an id logs every variable that it
+/// removes.
 pub fn records_are_few()
     ensures { (patch : ℕ) (world : World) (script : Script)
         → length (rows_of_script patch world script) + finite.len (effect patch world script).shadow
         ≤ finite.len world.shadow + length script.edits + alloc_count script.edits }
 {}
 
-/// The shadow variables of an id, each of which a removal logs, and those that are left are all. So a
-/// removal logs no more than it takes out.
+/// The variables that a removal of an id logs and the variables that are left add up to all variables. So a removal
+/// logs exactly as many records as it removes variables.
 pub fn freed_and_left_are_all()
     ensures { (world : World) (id : ℕ)
         → length (rows_of_free_all world id) + finite.len (without_id world id).shadow ≡ finite.len world.shadow }
 {}
 
-/// The records of a script give back the world before it, where that has room for all that the script adds:
-/// a variable that is put back needs its place too.
+/// Putting back the records of a script restores the world before it, if that world has room for all variables that
+/// the script adds: a variable that is put back needs room too.
 pub fn scripts_are_undone()
     ensures { (patch : ℕ) (world : World) (script : Script)
         → finite.len world.shadow + alloc_count script.edits ≤ MAX_VARIABLES
         → undone (effect patch world script) (rows_of_script patch world script) ≡ world }
 {}
 
-/// Each record of a script tells a row that is another one afterwards, in its turn, where the world before it
-/// has that room: an edit that leaves a row as it was logs nothing.
+/// Each record of a script, put back in its turn, changes its row, if the world before has room for all variables
+/// that the script adds. An edit that leaves a row as it was logs nothing.
 #[tactic(auto, using(crate::proofs::EffectLemmas::effective_script))]
 pub fn scripts_tell_what_they_change()
     ensures { (patch : ℕ) (world : World) (script : Script)
@@ -47,8 +48,7 @@ pub fn scripts_tell_what_they_change()
         → HaveEffects (effect patch world script) (rows_of_script patch world script) }
 {}
 
-/// What changes of the world log is rows of the world and of nothing else, so the other parts of a manager
-/// needn't look at these records.
+/// Changes of the world log rows of the world only. So the other parts of a manager needn't look at these records.
 #[tactic(auto, using(crate::proofs::KindLemmas::of_free_all, crate::proofs::KindLemmas::of_add, crate::proofs::KindLemmas::of_drop, crate::proofs::KindLemmas::of_script))]
 pub fn what_is_logged_is_of_the_world()
     ensures alloc { (world : World) (key : ShadowKey) → All (λ row. is_of_world row ≡ true) (rows_of_alloc world key) }

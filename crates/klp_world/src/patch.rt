@@ -8,8 +8,8 @@ use arrayvec::ArrayVec;
 use klp_types::{MAX_STATES, PatchId};
 use std::marker::Model;
 
-/// A system state of an installed patch: its id and its value. Its version is the catalog's, since it never
-/// changes.
+/// A system state of an installed patch: its id and its value. Its version never changes, so only the catalog has
+/// it.
 #[derive(Clone, Copy, Default)]
 pub(crate) struct SystemState {
     pub(crate) id: u64,
@@ -26,7 +26,7 @@ impl Model for SystemState {
     ghost inverse = { λ p. record { id = p.0; value = p.1 } };
 }
 
-/// An installed patch with its system states, in the order of the patch, which is that of the text.
+/// An installed patch with its system states, in the order in which the catalog's text names them.
 #[derive(Drop)]
 pub(crate) struct InstalledPatch {
     patch: PatchId,
@@ -44,14 +44,15 @@ impl Model for InstalledPatch {
     ghost view = { λ i. record { patch = i.patch; values = i.states.items } };
 }
 
-/// The place of the state of this id. A patch names each id once, so there is one at most.
+/// Returns the index of the state with this id. `None` if there is none. A patch names each id at most once.
 fn place_of_state(states: &[SystemState], id: u64) -> Option<usize>
     ensures { result ≡ position (λ (s : ℕ × ℕ). s.0 == id) states.now }
 {
     states.iter().position(|state| state.id == id)
 }
 
-/// The place of an installed patch, from the oldest, which is what a record of it has.
+/// Returns the index of an installed patch, counted from the oldest. Undo records have this index. `None` if the
+/// patch isn't installed.
 pub(crate) fn place_of_patch(patches: &[InstalledPatch], patch: PatchId) -> Option<usize>
     ensures { result ≡ position (λ (i : Installed). i.patch == patch) patches.now }
 {
@@ -61,7 +62,8 @@ pub(crate) fn place_of_patch(patches: &[InstalledPatch], patch: PatchId) -> Opti
 }
 
 impl InstalledPatch {
-    /// The patch, without states: they are added one by one, since each is a row with a record of its own.
+    /// Creates an installed patch without states. They are added one by one, since each state is a row with its own
+    /// record.
     pub(crate) fn new(patch: PatchId) -> Self
         ensures { result ≡ record { patch = patch; values = [] } }
     {
@@ -71,7 +73,7 @@ impl InstalledPatch {
         }
     }
 
-    /// The states in the order of the patch, as they are logged when the patch goes.
+    /// Returns the states in the order in which the patch names them.
     pub(crate) fn states(&self) -> &[SystemState]
         ensures value { result.now ≡ self.now.values }
         ensures limit { length result.now ≤ MAX_STATES }
@@ -79,7 +81,7 @@ impl InstalledPatch {
         &self.states
     }
 
-    /// Whether it has no states: so it is before they are added, and once all are taken out again.
+    /// Whether the patch has no states: before they are added, and once undo has taken them all out.
     pub(crate) fn is_bare(&self) -> bool
         ensures { result ≡ is_empty self.now.values }
     {
@@ -92,8 +94,8 @@ impl InstalledPatch {
         self.patch
     }
 
-    /// The value of the state of this id, if the patch names it. A patch can't see states of another by
-    /// this.
+    /// Returns the value of the state with this id. `None` if the patch doesn't name it. A patch can't read another
+    /// patch's states this way.
     pub(crate) fn value(&self, id: u64) -> Option<u64>
         ensures { result ≡ value_among id self.now.values }
     {
@@ -104,8 +106,8 @@ impl InstalledPatch {
         Some(state.value)
     }
 
-    /// Sets the state of this id, where the patch names it, and answers the value before, by which the
-    /// caller knows whether anything changed.
+    /// Sets the state with this id, and returns its old value, so that the caller knows whether it changed. `None`,
+    /// with nothing changed, if the patch doesn't name the state.
     pub(crate) fn set_value(&mut self, id: u64, value: u64) -> Option<u64>
         ensures was { result ≡ value_among id self.old.values }
         ensures states { self.new ≡ record self.old { values = set_among id value self.old.values } }
@@ -119,7 +121,7 @@ impl InstalledPatch {
         Some(was)
     }
 
-    /// Adds a state, as the last: so the states have the order in which the patch names them.
+    /// Adds a state after the others. So the states are in the order in which the patch names them.
     pub(crate) fn push(&mut self, id: u64, value: u64)
         requires { length self.old.values < MAX_STATES }
         ensures { self.new ≡ record self.old { values = self.old.values ++ (id, value) ∷ [] } }
@@ -127,7 +129,7 @@ impl InstalledPatch {
         self.states.push(SystemState { id, value });
     }
 
-    /// Takes the state of this id out, where the patch names it. Undoing takes them out last first, so none
+    /// Removes the state with this id, if the patch has it. Undo removes the last state first, so no other state
     /// moves.
     pub(crate) fn remove(&mut self, id: u64)
         ensures { self.new ≡ record self.old { values = state_taken id self.old.values } }
@@ -137,8 +139,8 @@ impl InstalledPatch {
         }
     }
 
-    /// Takes the state of this id out again, or adds it as the last where there is room for it. A record
-    /// that doesn't fit changes nothing; none is met when records go back newest first.
+    /// Removes the state with this id (`None`), or adds it after the others if there is room. A record that
+    /// doesn't fit changes nothing; records that are put back newest first always fit.
     pub(crate) fn put_back(&mut self, id: u64, was: Option<u64>)
         ensures { self.new ≡ record self.old { values = put_state id was self.old.values } }
     {

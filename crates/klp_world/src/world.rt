@@ -1,14 +1,19 @@
-ghost use Rattle.std.specs.Prelude.{◌≡◌, ℕ, ◌+◌, ◌<◌, ◌≤◌, ◌==◌, false, List, [], ◌∷◌, ◌++◌, length, map, reverse, insert, remove, slice_index_or, Some, is_some, is_none, unwrap_or, IfOk, IfSome, IfNone};
+ghost use Rattle.std.specs.Prelude.{◌≡◌, ℕ, ◌+◌, ◌<◌, ◌≤◌, ◌==◌, false, List, [], ◌∷◌, ◌++◌, length, map, reverse};
+ghost use Rattle.std.specs.Prelude.{insert, remove, slice_index_or, Some, is_some, is_none, unwrap_or, IfOk, IfSome};
+ghost use Rattle.std.specs.Prelude.{IfNone};
 ghost use Rattle.std.specs.List.{list_any};
 ghost use Rattle.std.specs.FinMap as finite;
 ghost use Rattle.klp_types.specs.Records.{spare_of};
 ghost use Rattle.klp_types.specs.World.{Installed};
-ghost use Rattle.klp_types.specs.World.{variable, state_value, previous_patch, newest_naming, installed_before, change_states, with_variable, without_variable, without_id, with_value, with_patch, without_patch};
+ghost use Rattle.klp_types.specs.World.{variable, state_value, previous_patch, newest_naming, installed_before};
+ghost use Rattle.klp_types.specs.World.{change_states, with_variable, without_variable, without_id, with_value};
+ghost use Rattle.klp_types.specs.World.{with_patch, without_patch};
 ghost use Rattle.klp_types.specs.Script.{allocated};
 ghost use Rattle.klp_world.specs.Added.{against};
 ghost use Rattle.klp_world.specs.Changes.{Changes};
 ghost use Rattle.klp_world.specs.Undo.{put_variable, put_state, put_patch, put_back};
-ghost use Rattle.klp_world.specs.StoredEvent.{noting, rows_of_alloc, rows_of_free, rows_of_free_all, variable_rows, state_row, rows_of_set, rows_of_add, rows_of_drop};
+ghost use Rattle.klp_world.specs.StoredEvent.{noting, rows_of_alloc, rows_of_free, rows_of_free_all, variable_rows};
+ghost use Rattle.klp_world.specs.StoredEvent.{state_row, rows_of_set, rows_of_add, rows_of_drop};
 
 use crate::patch::{InstalledPatch, SystemState, place_of_patch};
 use crate::shadow::ShadowMap;
@@ -22,13 +27,13 @@ use std::marker::Model;
 /// The installed patches with the values of their system states (system-state), and the shadow variables
 /// (shadow-vars).
 ///
-/// All room is taken by [`World::new`]. Each change logs, in the records handed in, every row that it
-/// changes as it was; a row that it leaves as it was isn't logged. To put these records back, newest first,
-/// gives the world before the change.
+/// [`World::new`] takes all room. Each change logs every row that it changes, as it was, in the records that it is
+/// given; a row that doesn't change isn't logged. These records, put back newest first, restore the world before
+/// the change.
 #[derive(Drop)]
 pub struct World {
     patches: Vec<InstalledPatch>,
-    /// The numbers of `patches`, kept beside it so that `installed` can lend them as a slice
+    /// The numbers of `patches`, kept in a second list so that `installed` can lend them as a slice
     /// (docs/DECISIONS.md, "The list of installed patches").
     installed: ArrayVec<PatchId, MAX_PATCHES>,
     shadow: ShadowMap,
@@ -47,11 +52,12 @@ impl Model for World {
 
     ghost view = { λ w. record { installed = w.patches.items; shadow = w.shadow } };
 
-    ghost invariant = { λ w. (vec_len w.patches ≤ MAX_PATCHES) × (MAX_PATCHES ≤ vec_capacity w.patches) × (map (λ (i : Installed). i.patch) w.patches.items ≡ w.installed.items) };
+    ghost invariant = { λ w. (vec_len w.patches ≤ MAX_PATCHES) × (MAX_PATCHES ≤ vec_capacity w.patches)
+        × (map (λ (i : Installed). i.patch) w.patches.items ≡ w.installed.items) };
 }
 
-/// Logs the states of a patch, the last first, since putting back takes the newest record first and adds
-/// each as the last.
+/// Logs the states of a patch, the last one first. Undo puts the newest record back first and adds each state as
+/// the last, so the states return in their order.
 fn note_states(patch: PatchId, states: &[SystemState], log: &mut Records)
     requires { length states.now ≤ spare_of log.old }
     ensures { log.new ≡ noting log.old (map (state_row patch) (reverse states.now)) }
@@ -66,8 +72,8 @@ fn note_states(patch: PatchId, states: &[SystemState], log: &mut Records)
     }
 }
 
-/// The newest patch before this one that names the state. The walk is from the oldest, because what is
-/// behind the patch itself doesn't count.
+/// Returns the newest patch before `patch` that names the state. `None` if none does. It walks from the oldest
+/// patch and stops at `patch`, since later ones don't count.
 fn newest_before(patches: &[InstalledPatch], patch: PatchId, id: u64) -> Option<PatchId>
     ensures { result ≡ newest_naming id (installed_before patch patches.now) }
 {
@@ -84,8 +90,8 @@ fn newest_before(patches: &[InstalledPatch], patch: PatchId, id: u64) -> Option<
 }
 
 impl World {
-    /// No patch is installed and no shadow variable is there. All room that later changes need is taken
-    /// here. An error is want of memory.
+    /// Creates a world without installed patches and without shadow variables, and takes all room that later
+    /// changes need. `Err` if memory is refused.
     pub fn new(alloc: Global) -> Result<Self, AllocError>
         ensures { IfOk result (λ world. world ≡ record { installed = []; shadow = finite.empty }) }
     {
@@ -96,23 +102,23 @@ impl World {
         })
     }
 
-    /// The value of a shadow variable, if it is there (`klp_shadow_get`). No callback asks for one, since
-    /// scripts have no conditions.
+    /// Returns the value of a shadow variable (`klp_shadow_get`). `None` if there is no such variable. No callback
+    /// reads one, since scripts have no conditions.
     pub fn get(&self, key: ShadowKey) -> Option<ShadowValue>
         ensures { result ≡ variable self.now key }
     {
         self.shadow.get(key)
     }
 
-    /// Whether a shadow variable is there. Its value, which has room for 64 bytes, isn't copied.
+    /// Whether there is a shadow variable with this key. It doesn't copy the value, which may have up to 64 bytes.
     pub fn has(&self, key: ShadowKey) -> bool
         ensures { result ≡ is_some (variable self.now key) }
     {
         self.shadow.has(key)
     }
 
-    /// How many shadow variables there are, at a constant cost: by it room is asked for before callbacks
-    /// run.
+    /// Returns how many shadow variables there are, at a constant cost. Callers use it to check for room before
+    /// callbacks run.
     pub fn count(&self) -> u16
         ensures value { result ≡ finite.len self.now.shadow }
         ensures limit { result ≤ MAX_VARIABLES }
@@ -120,7 +126,7 @@ impl World {
         self.shadow.len() as u16
     }
 
-    /// The installed patches, oldest first, which is the order in which their entries were put on sites.
+    /// Returns the installed patches, oldest first. Their entries were put on sites in this order.
     pub fn installed(&self) -> &[PatchId]
         ensures value { result.now ≡ map (λ (i : Installed). i.patch) self.now.installed }
         ensures limit { length result.now ≤ MAX_PATCHES }
@@ -128,7 +134,8 @@ impl World {
         &self.installed
     }
 
-    /// The same in a list of its own, to be kept while callbacks change the world, or to be shown.
+    /// Copies the installed patches, oldest first, into a list of its own, to be kept while callbacks change the
+    /// world, or to be shown.
     pub fn installed_list(&self) -> ArrayVec<PatchId, MAX_PATCHES>
         ensures value { result.items ≡ map (λ (i : Installed). i.patch) self.now.installed }
         ensures limit { length result.items ≤ MAX_PATCHES }
@@ -138,8 +145,8 @@ impl World {
         list
     }
 
-    /// Whether the patch is installed, also while it is in transition, since it is in the list from its
-    /// start to its end.
+    /// Whether the patch is installed. This includes a patch in transition, which is in the list from its start to
+    /// its end.
     pub fn is_installed(&self, patch: PatchId) -> bool
         ensures { result ≡ list_any (λ (i : Installed). i.patch == patch) self.now.installed }
     {
@@ -148,8 +155,8 @@ impl World {
             .any(|installed| installed.patch() == patch)
     }
 
-    /// The value of a system state of an installed patch. `None` where the patch isn't installed or
-    /// doesn't name the state.
+    /// Returns the value of a system state of an installed patch. `None` if the patch isn't installed or doesn't
+    /// name the state.
     pub fn value(&self, patch: PatchId, id: u64) -> Option<u64>
         ensures { result ≡ state_value self.now patch id }
     {
@@ -159,16 +166,15 @@ impl World {
         self.patches[place].value(id)
     }
 
-    /// The newest patch installed before this one that names the state. Where the patch isn't installed,
-    /// all installed patches count as before it, since it would be the newest. (The rule is this project's
-    /// own.)
+    /// Returns the newest patch installed before this one that names the state. If the patch isn't installed, all
+    /// installed patches count as before it, since it would be the newest. (The rule is this project's own.)
     pub fn previous(&self, patch: PatchId, id: u64) -> Option<PatchId>
         ensures { result ≡ previous_patch self.now patch id }
     {
         newest_before(&self.patches, patch, id)
     }
 
-    /// Adds a shadow variable, and answers whether it did: a variable that is there keeps its value
+    /// Adds a shadow variable, and returns whether it did: an existing variable keeps its value
     /// (`klp_shadow_alloc`).
     pub fn alloc(&mut self, key: ShadowKey, value: ShadowValue, log: &mut Records) -> bool
         requires room { variable self.old key ≡ None → finite.len self.old.shadow < MAX_VARIABLES }
@@ -184,9 +190,10 @@ impl World {
         true
     }
 
-    /// Adds a shadow variable as the only change of an event, and answers what was against it: that it is
-    /// there, or that there is no room, and then all stays as it was, also what is logged. Else that is let
-    /// go, and this change alone is logged. One search does, where to ask first would take another.
+    /// Adds a shadow variable as the only change of an event, and returns `None`; the log then has this change
+    /// alone, and older records in it are dropped. If the variable exists or there is no room, returns that reason
+    /// and changes neither the world nor the log. It searches for the key once; a caller that asked first would
+    /// search twice.
     pub fn alloc_alone(
         &mut self,
         key: ShadowKey,
@@ -207,8 +214,8 @@ impl World {
         None
     }
 
-    /// The value of a shadow variable, which is added with this value where it isn't there
-    /// (`klp_shadow_get_or_alloc`). One that is there needs no room.
+    /// Returns the value of a shadow variable; if it doesn't exist, adds it with this value first
+    /// (`klp_shadow_get_or_alloc`). An existing variable needs no room.
     pub fn get_or_alloc(
         &mut self,
         key: ShadowKey,
@@ -228,8 +235,7 @@ impl World {
         value
     }
 
-    /// Removes a shadow variable, and answers whether it was there (`klp_shadow_free`). Nothing is logged
-    /// where it wasn't.
+    /// Removes a shadow variable, and returns whether it existed (`klp_shadow_free`). Logs nothing if it didn't.
     pub fn free(&mut self, key: ShadowKey, log: &mut Records) -> bool
         requires { length (rows_of_free self.old key) ≤ spare_of log.old }
         ensures answer { result ≡ is_some (variable self.old key) }
@@ -243,9 +249,8 @@ impl World {
         true
     }
 
-    /// Removes all shadow variables of the id, whatever their parent objects, and answers how many
-    /// there were (`klp_shadow_free_all`). It walks over the variables twice, and sorts those of the
-    /// id.
+    /// Removes all shadow variables of the id, whatever their parent objects, and returns how many there were
+    /// (`klp_shadow_free_all`). It walks over all variables twice, and sorts those of the id.
     pub fn free_all(&mut self, id: u64, log: &mut Records) -> u16
         requires { length (rows_of_free_all self.old id) ≤ spare_of log.old }
         ensures answer { result ≡ length (rows_of_free_all self.old id) }
@@ -258,8 +263,7 @@ impl World {
         (before - self.shadow.len()) as u16
     }
 
-    /// Puts a patch last, since it is the newest, with these system states at 0, since nothing is taken
-    /// over before a callback does so.
+    /// Adds a patch as the newest, with these system states. Their values are 0 until a callback takes over others.
     pub fn add_states(&mut self, patch: PatchId, ids: &[u64], log: &mut Records)
         requires fresh { list_any (λ (i : Installed). i.patch == patch) self.old.installed ≡ false }
         requires room { length self.old.installed < MAX_PATCHES }
@@ -281,8 +285,8 @@ impl World {
         self.put_last(installed);
     }
 
-    /// Takes a patch out with its system states, where it is installed. The patches behind it move. The
-    /// states are logged before the patch, so that the patch is back before they are.
+    /// Removes a patch with its system states, if it is installed. The newer patches move down by one. The states
+    /// are logged before the patch, so that undo puts the patch back before its states.
     pub fn drop_states(&mut self, patch: PatchId, log: &mut Records)
         requires { length (rows_of_drop self.old patch) ≤ spare_of log.old }
         ensures changes { Changes self.old self.new log.old log.new (without_patch self.old patch)
@@ -299,8 +303,9 @@ impl World {
         });
     }
 
-    /// How many records [`World::drop_states`] logs: none where the patch isn't installed, else one for
-    /// each of its system states and one for itself. A caller asks first, since records have to have room.
+    /// Returns how many records [`World::drop_states`] logs: one for each system state of the patch and one for the
+    /// patch itself, or 0 if it isn't installed. A caller asks first, to make sure that there is room for the
+    /// records.
     pub fn drop_records(&self, patch: PatchId) -> usize
         ensures value { result ≡ length (rows_of_drop self.now patch) }
         ensures limit { result ≤ MAX_STATES + 1 }
@@ -311,25 +316,24 @@ impl World {
         }
     }
 
-    /// Gives a system state of an installed patch the value. Nothing changes where the patch isn't
-    /// installed or doesn't name the state, since to name a state is what makes it the patch's.
+    /// Sets a system state of an installed patch. Nothing changes if the patch isn't installed or doesn't name the
+    /// state: a patch has only the states that it names.
     pub fn set_value(&mut self, patch: PatchId, id: u64, value: u64, log: &mut Records)
         requires { length (rows_of_set self.old patch id value) ≤ spare_of log.old }
         ensures changes { Changes self.old self.new log.old log.new (with_value self.old patch id value)
             (rows_of_set self.old patch id value) }
     {
         if let Some(was) = self.replace_value(patch, id, value) {
-            // A value that is set again is no change (docs/DECISIONS.md, "No record of an unchanged row").
+            // Setting the same value again is no change (docs/DECISIONS.md, "No record of an unchanged row").
             if was != value {
                 log.note(Record::StateValue { patch, id, was });
             }
         }
     }
 
-    /// Gives one row what the record has; a row that isn't the world's changes nothing. A row for which
-    /// there is no room stays away, so that the limits hold whatever comes, and a patch that still has
-    /// states stays, since they are rows of their own; neither is met where the records of changes are put
-    /// back newest first.
+    /// Restores the one row that the record names; a record of another part of the state changes nothing. A row
+    /// without room is left out, so that the limits hold whatever the record is. A patch is taken out only once its
+    /// states are, since they are rows of their own. Records that are put back newest first never meet either case.
     pub fn put_back(&mut self, row: Record)
         ensures { self.new ≡ put_back self.old row }
     {
@@ -347,6 +351,7 @@ impl World {
         }
     }
 
+    /// Adds an installed patch after the others, to both lists.
     fn put_last(&mut self, installed: InstalledPatch)
         requires { length self.old.installed < MAX_PATCHES }
         ensures { self.new ≡ record self.old { installed = self.old.installed ++ installed ∷ [] } }
@@ -355,6 +360,7 @@ impl World {
         let _ = self.patches.push(installed);
     }
 
+    /// Inserts an installed patch at this index from the oldest, in both lists.
     fn put_at(&mut self, place: usize, installed: InstalledPatch)
         requires within { place ≤ length self.old.installed }
         requires room { length self.old.installed < MAX_PATCHES }
@@ -364,6 +370,7 @@ impl World {
         let _ = self.patches.insert(place, installed);
     }
 
+    /// Takes out and returns the installed patch at this index from the oldest, from both lists.
     fn take_out(&mut self, place: usize) -> InstalledPatch
         requires { place < length self.old.installed }
         ensures patch { result ≡ slice_index_or self.old.installed place result }
@@ -373,6 +380,7 @@ impl World {
         self.patches.remove(place)
     }
 
+    /// Sets a shadow variable back to its old value, if there is room for one more.
     fn put_variable(&mut self, key: ShadowKey, was: ShadowValue)
         ensures { self.new ≡ put_variable self.old key (Some was) }
     {
@@ -381,8 +389,8 @@ impl World {
         }
     }
 
-    /// Sets a state of an installed patch, where it is there, and answers the value before. It logs
-    /// nothing, because undoing uses it too.
+    /// Sets a state of an installed patch, and returns its old value. `None`, with nothing changed, if the patch
+    /// isn't installed or doesn't name the state. It logs nothing, because undo uses it too.
     fn replace_value(&mut self, patch: PatchId, id: u64, value: u64) -> Option<u64>
         ensures was { result ≡ state_value self.old patch id }
         ensures world { self.new ≡ with_value self.old patch id value }
@@ -393,6 +401,7 @@ impl World {
         self.patches[place].set_value(id, value)
     }
 
+    /// Undoes a change of one state row of an installed patch: adds the state with its old value, or removes it.
     fn put_state(&mut self, patch: PatchId, id: u64, was: Option<u64>)
         ensures { self.new ≡ record self.old { installed = change_states patch (put_state id was) self.old.installed } }
     {
@@ -401,13 +410,15 @@ impl World {
         }
     }
 
+    /// Undoes that a patch was installed or removed: takes it out if it has no states left, or inserts it without
+    /// states at its old index.
     fn put_patch(&mut self, patch: PatchId, place: Option<u8>)
         ensures { self.new ≡ record self.old { installed = put_patch patch place self.old.installed } }
     {
         match place {
             None => {
                 if let Some(place) = place_of_patch(&self.patches, patch) {
-                    // Each state is a row of its own, which this record doesn't tell.
+                    // Each state is a row of its own, so this record can't undo it.
                     if self.patches[place].is_bare() {
                         self.take_out(place);
                     }

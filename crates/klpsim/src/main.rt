@@ -41,7 +41,8 @@ fn race<R: Threads + Wait + Sync + Files + Print + AllocGlobal, E: Write>(
     steps: &str,
     err: &mut E,
 ) -> u8
-    ensures { (result ≡ 1) ⊎ ((first : List ℕ) × (second : List ℕ) × (before : Option (List ℕ)) × (after : Option (List ℕ))
+    ensures { (result ≡ 1) ⊎ ((first : List ℕ) × (second : List ℕ) × (before : Option (List ℕ))
+        × (after : Option (List ℕ))
         × Exits first second before after result) }
 {
     match bytes_in_both(rt, catalog, steps) {

@@ -44,7 +44,7 @@ loop-number-preserved g c =
     let step : slice_get c.args.steps.now (length far.0) ≡ Some c.index-steps-number.result =
     subst (λ k. slice_get c.args.steps.now k ≡ Some c.index-steps-number.result) (sym far.1.1) (slice_get_read c.args.steps.now (length c.args.steps.now) c.loop-number.number c.index-steps-number.result refl c.loop-number-test.true c.index-steps-number.is) in
     let lets : g.G.Gate.answers c.args.gate.now c.args.pass.now.task (length far.0) true =
-    subst (λ t. g.G.Gate.answers c.args.gate.now t (length far.0) true) c.task-task.ensures (subst (λ k. g.G.Gate.answers c.args.gate.now c.task-task.result k true) (sym far.1.1) c.if-not-is_let_in.ensures) in (
+    subst (λ t. g.G.Gate.answers c.args.gate.now t (length far.0) true) c.task-task.ensures (subst (λ k. g.G.Gate.answers c.args.gate.now c.task-task.result k true) (sym far.1.1) c.if-not-waits_for_gate.ensures) in (
       far.0 ++ c.in-Some.outcome ∷ [],
       (
         rw c.push_reserved.ensures.items (more_so_far _ _ _ _ c.loop-number.pass _ _ _ _ _ _ _ c.index-steps-number.result c.in-Some.outcome far.1.0 step lets c.in-Some.ensures.done),

@@ -11,13 +11,13 @@ use Rattle.klp_patch.proofs.module_callbacks.may_run_coming.Goals as goal
 pub loop-patch-init : goal.loop-patch-init
 loop-patch-init g c = refl
 
-pub returns-then-a_coming_may_run : goal.returns-then-a_coming_may_run
-returns-then-a_coming_may_run g c =
+pub returns-then-has_coming_callback : goal.returns-then-has_coming_callback
+returns-then-has_coming_callback g c =
     let f = coming_may_run c.args.moving in
     let next = may_run-next f c.args.catalog.now c.args.object c.args.installed.now c.loop-patch.patch-index c.patch-item.result c.loop-patch-test.true c.patch-item.is in
     some-first (flat_map f (parts_at c.args.catalog.now c.args.object c.patch-item.result))
     (flat_map f (parts_in c.args.catalog.now c.args.object (drop (c.loop-patch.patch-index + 1) c.args.installed.now)))
-    (sym c.a_coming_may_run.ensures ∙ c.if-a_coming_may_run.true)
+    (sym c.has_coming_callback.ensures ∙ c.if-has_coming_callback.true)
     ∙ sym (ap are_some next) ∙ c.loop-patch.invariant
 
 pub loop-patch-preserved : goal.loop-patch-preserved
@@ -26,7 +26,7 @@ loop-patch-preserved g c =
     let next = may_run-next f c.args.catalog.now c.args.object c.args.installed.now c.loop-patch.patch-index c.patch-item.result c.loop-patch-test.true c.patch-item.is in
     sym (some-behind (flat_map f (parts_at c.args.catalog.now c.args.object c.patch-item.result))
     (flat_map f (parts_in c.args.catalog.now c.args.object (drop (c.loop-patch.patch-index + 1) c.args.installed.now)))
-    (sym c.a_coming_may_run.ensures ∙ c.if-a_coming_may_run.false))
+    (sym c.has_coming_callback.ensures ∙ c.if-has_coming_callback.false))
     ∙ sym (ap are_some next) ∙ c.loop-patch.invariant
 
 pub returns : goal.returns

@@ -4,7 +4,7 @@ use Rattle.klp_types.specs.declared.callback.Which.TheVariants.{Pre, Post, PreUn
 use Rattle.klp_types.specs.Callbacks.{Call, allocs_of}
 use Rattle.klp_model.specs.EventCalls.{coming_may_run}
 use Rattle.klp_patch.specs.Calls.{records_of}
-use Rattle.klp_patch.specs.Places.{call_at, still_at}
+use Rattle.klp_patch.specs.Places.{call_at, call_unless_moving}
 use Rattle.klp_patch.proofs.CallLemmas.{allocs-append}
 use Rattle.klp_patch.proofs.RanLemmas.{records-append}
 use Rattle.klp_patch.proofs.ModulePartLemmas.{no_part, one_part, may_come}
@@ -23,9 +23,9 @@ returns-in-Some-clause-value g c =
     in
     let sum = ap allocs_of calls
     ∙ allocs_of_four (call_at c.args.catalog.now c.args.patch c.in-Some.place Pre) (call_at c.args.catalog.now c.args.patch c.in-Some.place PostUn)
-    (still_at c.args.moving.now c.args.catalog.now c.args.patch c.in-Some.place Post) (still_at c.args.moving.now c.args.catalog.now c.args.patch c.in-Some.place PreUn)
+    (call_unless_moving c.args.moving.now c.args.catalog.now c.args.patch c.in-Some.place Post) (call_unless_moving c.args.moving.now c.args.catalog.now c.args.patch c.in-Some.place PreUn)
     in
-    omega (arith, sum, c.allocs_at-comes.ensures.value, c.allocs_at-goes.ensures.value, c.allocs_still-came.ensures.value, c.allocs_still-leaves.ensures.value)
+    omega (arith, sum, c.allocs_at-comes.ensures.value, c.allocs_at-goes.ensures.value, c.allocs_unless_moving-came.ensures.value, c.allocs_unless_moving-leaves.ensures.value)
 
 pub returns-in-Some-clause-records : goal.returns-in-Some-clause-records
 returns-in-Some-clause-records g c =
@@ -34,9 +34,9 @@ returns-in-Some-clause-records g c =
     in
     let sum = ap records_of calls
     ∙ records_of_four (call_at c.args.catalog.now c.args.patch c.in-Some.place Pre) (call_at c.args.catalog.now c.args.patch c.in-Some.place PostUn)
-    (still_at c.args.moving.now c.args.catalog.now c.args.patch c.in-Some.place Post) (still_at c.args.moving.now c.args.catalog.now c.args.patch c.in-Some.place PreUn)
+    (call_unless_moving c.args.moving.now c.args.catalog.now c.args.patch c.in-Some.place Post) (call_unless_moving c.args.moving.now c.args.catalog.now c.args.patch c.in-Some.place PreUn)
     in
-    omega (arith, sum, c.allocs_at-comes.ensures.records, c.allocs_at-goes.ensures.records, c.allocs_still-came.ensures.records, c.allocs_still-leaves.ensures.records)
+    omega (arith, sum, c.allocs_at-comes.ensures.records, c.allocs_at-goes.ensures.records, c.allocs_unless_moving-came.ensures.records, c.allocs_unless_moving-leaves.ensures.records)
 
 pub returns-in-None-clause-value : goal.returns-in-None-clause-value
 returns-in-None-clause-value g c =

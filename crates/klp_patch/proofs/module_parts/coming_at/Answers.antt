@@ -4,7 +4,7 @@ use Rattle.klp_types.specs.Callbacks.{Call, is_refusing}
 use Rattle.klp_catalog.specs.Catalog.{Catalog}
 use Rattle.klp_catalog.specs.Runs.{script_at}
 use Rattle.klp_patch.specs.Calls.{HaveRun}
-use Rattle.klp_patch.specs.Places.{call_at, still_at}
+use Rattle.klp_patch.specs.Places.{call_at, call_unless_moving}
 use Rattle.klp_model.specs.Callbacks.{status_of}
 use Rattle.klp_patch.specs.Refusing.{refusal_of}
 use Rattle.klp_patch.proofs.LoopLemmas.{refusing-none}
@@ -18,14 +18,14 @@ returns-in-None-clause-ran g c =
     let next = c.run_pre_at.new.catalog in
     let script = script_at first c.args.patch c.args.place Pre in
     let before = call_at first c.args.patch c.args.place Pre in
-    let post = still_at c.args.moving.now next c.args.patch c.args.place Post in
-    let same = ap (λ (k : Catalog). still_at c.args.moving.now k c.args.patch c.args.place Post) c.run_pre_at.ensures.ran.catalog in
+    let post = call_unless_moving c.args.moving.now next c.args.patch c.args.place Post in
+    let same = ap (λ (k : Catalog). call_unless_moving c.args.moving.now k c.args.patch c.args.place Post) c.run_pre_at.ensures.ran.catalog in
     let none : refusal_of (status_of script) ≡ None = sym c.run_pre_at.ensures.refused ∙ c.in-None.is in
     let goes_on : is_refusing script ≡ false = refusing-none script none in
-    let both : HaveRun first c.run_still.new.catalog c.args.world.now c.run_still.new.world c.args.log.now c.run_still.new.log
-    (before ++ still_at c.args.moving.now first c.args.patch c.args.place Post) =
-    subst (λ (calls : List Call). HaveRun first c.run_still.new.catalog c.args.world.now c.run_still.new.world c.args.log.now c.run_still.new.log (before ++ calls)) same
-    (then_ran c.runs_add_up.ensures first next c.run_still.new.catalog c.args.world.now c.run_pre_at.new.world c.run_still.new.world
-    c.args.log.now c.run_pre_at.new.log c.run_still.new.log before post c.run_pre_at.ensures.ran c.run_still.ensures) in
-    subst (λ (b : Bool). HaveRun first c.run_still.new.catalog c.args.world.now c.run_still.new.world c.args.log.now c.run_still.new.log
-    (before ++ cond b [] (still_at c.args.moving.now first c.args.patch c.args.place Post))) (sym goes_on) both
+    let both : HaveRun first c.run_unless_moving.new.catalog c.args.world.now c.run_unless_moving.new.world c.args.log.now c.run_unless_moving.new.log
+    (before ++ call_unless_moving c.args.moving.now first c.args.patch c.args.place Post) =
+    subst (λ (calls : List Call). HaveRun first c.run_unless_moving.new.catalog c.args.world.now c.run_unless_moving.new.world c.args.log.now c.run_unless_moving.new.log (before ++ calls)) same
+    (then_ran c.runs_add_up.ensures first next c.run_unless_moving.new.catalog c.args.world.now c.run_pre_at.new.world c.run_unless_moving.new.world
+    c.args.log.now c.run_pre_at.new.log c.run_unless_moving.new.log before post c.run_pre_at.ensures.ran c.run_unless_moving.ensures) in
+    subst (λ (b : Bool). HaveRun first c.run_unless_moving.new.catalog c.args.world.now c.run_unless_moving.new.world c.args.log.now c.run_unless_moving.new.log
+    (before ++ cond b [] (call_unless_moving c.args.moving.now first c.args.patch c.args.place Post))) (sym goes_on) both

@@ -4,7 +4,7 @@ use Rattle.klp_types.specs.declared.callback.Which.TheVariants.{PreUn, PostUn}
 use Rattle.klp_types.specs.Callbacks.{allocs_of}
 use Rattle.klp_model.specs.EventCalls.{going_may_run}
 use Rattle.klp_patch.specs.Calls.{records_of}
-use Rattle.klp_patch.specs.Places.{call_at, still_at}
+use Rattle.klp_patch.specs.Places.{call_at, call_unless_moving}
 use Rattle.klp_patch.proofs.CallLemmas.{allocs-append}
 use Rattle.klp_patch.proofs.RanLemmas.{records-append}
 use Rattle.klp_patch.proofs.ModulePartLemmas.{no_part, one_part, may_go}
@@ -16,9 +16,9 @@ returns-in-Some-clause-value g c =
     (one_part c.args.catalog.now c.args.object c.args.patch c.place.ensures.once c.in-Some.place c.in-Some.ensures.place) c.args.moving.now
     in
     let sum = ap allocs_of calls
-    ∙ allocs-append (call_at c.args.catalog.now c.args.patch c.in-Some.place PostUn) (still_at c.args.moving.now c.args.catalog.now c.args.patch c.in-Some.place PreUn)
+    ∙ allocs-append (call_at c.args.catalog.now c.args.patch c.in-Some.place PostUn) (call_unless_moving c.args.moving.now c.args.catalog.now c.args.patch c.in-Some.place PreUn)
     in
-    omega (arith, sum, c.allocs_at.ensures.value, c.allocs_still.ensures.value)
+    omega (arith, sum, c.allocs_at.ensures.value, c.allocs_unless_moving.ensures.value)
 
 pub returns-in-Some-clause-records : goal.returns-in-Some-clause-records
 returns-in-Some-clause-records g c =
@@ -26,9 +26,9 @@ returns-in-Some-clause-records g c =
     (one_part c.args.catalog.now c.args.object c.args.patch c.place.ensures.once c.in-Some.place c.in-Some.ensures.place) c.args.moving.now
     in
     let sum = ap records_of calls
-    ∙ records-append (call_at c.args.catalog.now c.args.patch c.in-Some.place PostUn) (still_at c.args.moving.now c.args.catalog.now c.args.patch c.in-Some.place PreUn)
+    ∙ records-append (call_at c.args.catalog.now c.args.patch c.in-Some.place PostUn) (call_unless_moving c.args.moving.now c.args.catalog.now c.args.patch c.in-Some.place PreUn)
     in
-    omega (arith, sum, c.allocs_at.ensures.records, c.allocs_still.ensures.records)
+    omega (arith, sum, c.allocs_at.ensures.records, c.allocs_unless_moving.ensures.records)
 
 pub returns-in-None-clause-value : goal.returns-in-None-clause-value
 returns-in-None-clause-value g c =

@@ -27,19 +27,19 @@ pub run_callbacks-requires : goal.run_callbacks-requires
 run_callbacks-requires g c =
     let before = c.args.state.now in
     let catalog = c.args.catalog.now in
-    let mid = c.settle_sites.new.state in
+    let mid = c.remove_leaving_entries.new.state in
     let move = c.args.moving.now in
     let end = end_calls (setting_in before catalog) (state_in before catalog) (Some move) in
     let calls : calls_of move.patch c.end_of.result (loaded_in catalog mid.modules move.patch) ≡ end =
     ap (λ which. calls_of move.patch which (loaded_in catalog mid.modules move.patch)) c.end_of.ensures
-    ∙ ap (λ (p : ManagerState). calls_of move.patch (end_of move.target) (loaded_in catalog p.modules move.patch)) c.settle_sites.ensures.parts
+    ∙ ap (λ (p : ManagerState). calls_of move.patch (end_of move.target) (loaded_in catalog p.modules move.patch)) c.remove_leaving_entries.ensures.parts
     ∙ ap (calls_of move.patch (end_of move.target)) (same_objects before catalog move.patch c.requires.kept) in
-    let world : mid.world ≡ before.world = ap (λ (p : ManagerState). p.world) c.settle_sites.ensures.parts in
+    let world : mid.world ≡ before.world = ap (λ (p : ManagerState). p.world) c.remove_leaving_entries.ensures.parts in
     let count = ap (λ (w : World). finite.len w.shadow) world in
     let few = c.requires.kept.allowed.room in
-    let logged = c.settle_sites.ensures.records in
+    let logged = c.remove_leaving_entries.ensures.records in
     let short = c.requires.calls in
-    let room = c.settle_sites.ensures.log in
+    let room = c.remove_leaving_entries.ensures.log in
     record {
       room = subst (λ cs. HasRoomFor mid.world mid.log cs) (sym calls) (record {
         variables = subst (λ (w : World). finite.len w.shadow + allocs_of end ≤ MAX_VARIABLES) (sym world) c.requires.variables;
@@ -49,25 +49,25 @@ run_callbacks-requires g c =
 
 pub rest-requires-clause-moves : goal.rest-requires-clause-moves
 rest-requires-clause-moves g c = λ none.
-    let still : c.settle_list.new.state.moving ≡ Some c.args.moving.now =
-    ap (λ (p : ManagerState). p.moving) c.settle_list.ensures.parts ∙ ap (λ (p : ManagerState). p.moving) c.settle_sites.ensures.parts ∙ c.requires.moving in
+    let still : c.remove_leaving_patches.new.state.moving ≡ Some c.args.moving.now =
+    ap (λ (p : ManagerState). p.moving) c.remove_leaving_patches.ensures.parts ∙ ap (λ (p : ManagerState). p.moving) c.remove_leaving_entries.ensures.parts ∙ c.requires.moving in
     let no : ⊥ = cc (sym none ∙ still) in
     no
 
-pub settle_list-requires-clause-records : goal.settle_list-requires-clause-records
-settle_list-requires-clause-records g c =
+pub remove_leaving_patches-requires-clause-records : goal.remove_leaving_patches-requires-clause-records
+remove_leaving_patches-requires-clause-records g c =
     let before = c.args.state.now in
     let catalog = c.args.catalog.now in
-    let mid = c.settle_sites.new.state in
+    let mid = c.remove_leaving_entries.new.state in
     let move = c.args.moving.now in
     let end = end_calls (setting_in before catalog) (state_in before catalog) (Some move) in
     let calls : calls_of move.patch c.end_of.result (loaded_in catalog mid.modules move.patch) ≡ end =
     ap (λ which. calls_of move.patch which (loaded_in catalog mid.modules move.patch)) c.end_of.ensures
-    ∙ ap (λ (p : ManagerState). calls_of move.patch (end_of move.target) (loaded_in catalog p.modules move.patch)) c.settle_sites.ensures.parts
+    ∙ ap (λ (p : ManagerState). calls_of move.patch (end_of move.target) (loaded_in catalog p.modules move.patch)) c.remove_leaving_entries.ensures.parts
     ∙ ap (calls_of move.patch (end_of move.target)) (same_objects before catalog move.patch c.requires.kept) in
-    let count = ap (λ (p : ManagerState). finite.len p.world.shadow) c.settle_sites.ensures.parts in
+    let count = ap (λ (p : ManagerState). finite.len p.world.shadow) c.remove_leaving_entries.ensures.parts in
     let few = c.requires.kept.allowed.room in
-    let logged = c.settle_sites.ensures.records in
+    let logged = c.remove_leaving_entries.ensures.records in
     let short = c.requires.calls in
     let more = ap records_of calls in
     let ran = c.run_callbacks.ensures.records in
@@ -78,44 +78,44 @@ returns-clause-completed g c =
     let before = c.args.state.now in
     let catalog = c.args.catalog.now in
     let now = c.run_callbacks.new.catalog in
-    let mid = c.settle_sites.new.state in
+    let mid = c.remove_leaving_entries.new.state in
     let move = c.args.moving.now in
     let setting = setting_in before catalog in
     let state = state_in before catalog in
     let after = c.rest.new.state in
     let calls : calls_of move.patch c.end_of.result (loaded_in catalog mid.modules move.patch) ≡ end_calls setting state (Some move) =
     ap (λ which. calls_of move.patch which (loaded_in catalog mid.modules move.patch)) c.end_of.ensures
-    ∙ ap (λ (p : ManagerState). calls_of move.patch (end_of move.target) (loaded_in catalog p.modules move.patch)) c.settle_sites.ensures.parts
+    ∙ ap (λ (p : ManagerState). calls_of move.patch (end_of move.target) (loaded_in catalog p.modules move.patch)) c.remove_leaving_entries.ensures.parts
     ∙ ap (calls_of move.patch (end_of move.target)) (same_objects before catalog move.patch c.requires.kept) in
     let runs : now ≡ after_runs catalog (end_calls setting state (Some move)) = c.run_callbacks.ensures.catalog ∙ ap (after_runs catalog) calls in
     let world : c.run_callbacks.new.world ≡ after_calls before.world (end_calls setting state (Some move)) =
-    c.run_callbacks.ensures.world ∙ ap (after_calls mid.world) calls ∙ ap (λ (p : ManagerState). after_calls p.world (end_calls setting state (Some move))) c.settle_sites.ensures.parts in
+    c.run_callbacks.ensures.world ∙ ap (after_calls mid.world) calls ∙ ap (λ (p : ManagerState). after_calls p.world (end_calls setting state (Some move))) c.remove_leaving_entries.ensures.parts in
     let same : (record setting { image = mid.sites.image; patches = patches_of now }) ≡ setting =
-    ap (λ i. record setting { image = i; patches = patches_of now }) c.settle_sites.ensures.image
+    ap (λ i. record setting { image = i; patches = patches_of now }) c.remove_leaving_entries.ensures.image
     ∙ ap (λ (k : Catalog). record setting { patches = patches_of k }) runs in
     let left : ManagerState = record before { sites = mid.sites; world = settled setting c.run_callbacks.new.world move; tasks = all_in at_rest before.tasks; moving = None; log = after.log } in
     let is : after ≡ left =
     c.rest.ensures.parts
-    ∙ ap (λ (p : ManagerState). record p { tasks = all_in at_rest p.tasks; moving = None; log = after.log }) c.settle_list.ensures.parts
-    ∙ ap (λ (p : ManagerState). record p { sites = mid.sites; world = settled (record setting { image = mid.sites.image; patches = patches_of now }) c.run_callbacks.new.world move; tasks = all_in at_rest p.tasks; moving = None; log = after.log }) c.settle_sites.ensures.parts
+    ∙ ap (λ (p : ManagerState). record p { tasks = all_in at_rest p.tasks; moving = None; log = after.log }) c.remove_leaving_patches.ensures.parts
+    ∙ ap (λ (p : ManagerState). record p { sites = mid.sites; world = settled (record setting { image = mid.sites.image; patches = patches_of now }) c.run_callbacks.new.world move; tasks = all_in at_rest p.tasks; moving = None; log = after.log }) c.remove_leaving_entries.ensures.parts
     ∙ ap (λ (s : Setting). record left { world = settled s c.run_callbacks.new.world move }) same in
-    let loaded = c.settle_sites.ensures.loaded in
+    let loaded = c.remove_leaving_entries.ensures.loaded in
     record {
       state = ap (λ (p : ManagerState). state_in p now) is ∙ ap (λ l. record (state_in left now) { loaded = l }) loaded
           ∙ ap (λ w. record state { world = settled setting w move; moving = None; tasks = all_in at_rest before.tasks }) world;
       runs = runs;
-      image = ap (λ (p : ManagerState). p.sites.image) is ∙ c.settle_sites.ensures.image;
+      image = ap (λ (p : ManagerState). p.sites.image) is ∙ c.remove_leaving_entries.ensures.image;
       modules = ap (λ (p : ManagerState). p.modules) is;
-      entries = λ site. ap (λ (p : ManagerState). entries_at p.sites.stacks site) is ∙ c.settle_sites.ensures.entries site
+      entries = λ site. ap (λ (p : ManagerState). entries_at p.sites.stacks site) is ∙ c.remove_leaving_entries.ensures.entries site
           ∙ same_entries setting (with_world state (settled setting before.world move)) (state_in left now) (sym loaded)
-          (settled_numbers setting move before.world c.run_callbacks.new.world (sym (c.run_callbacks.ensures.installed ∙ ap (λ (p : ManagerState). patches_in p.world) c.settle_sites.ensures.parts))) site
+          (settled_numbers setting move before.world c.run_callbacks.new.world (sym (c.run_callbacks.ensures.installed ∙ ap (λ (p : ManagerState). patches_in p.world) c.remove_leaving_entries.ensures.parts))) site
           ∙ ap (λ (p : ManagerState). entries_of setting (state_in p now) site) (sym is);
       room = c.rest.ensures.log;
     }
 
 pub returns-clause-logged : goal.returns-clause-logged
 returns-clause-logged g c =
-    c.rest.ensures.logged ∙ c.settle_list.ensures.logged
-    ∙ callbacks_back c.args.catalog.now c.run_callbacks.new.catalog c.settle_sites.new.state.world c.run_callbacks.new.world c.settle_sites.new.state.log c.run_callbacks.new.log _
-    c.run_callbacks.ensures (rows_in c.settle_sites.new.state)
-    ∙ c.settle_sites.ensures.logged
+    c.rest.ensures.logged ∙ c.remove_leaving_patches.ensures.logged
+    ∙ callbacks_back c.args.catalog.now c.run_callbacks.new.catalog c.remove_leaving_entries.new.state.world c.run_callbacks.new.world c.remove_leaving_entries.new.state.log c.run_callbacks.new.log _
+    c.run_callbacks.ensures (rows_in c.remove_leaving_entries.new.state)
+    ∙ c.remove_leaving_entries.ensures.logged

@@ -104,7 +104,7 @@ start-requires-clause-records g c =
     let catalog = c.args.catalog.now in
     let modules = ap (λ (p : ManagerState). records_of (enable_calls c.args.patch (loaded_in catalog p.modules c.args.patch))) c.put_last.ensures.parts in
     let same = ap (λ os. records_of (enable_calls c.args.patch os)) (same_objects parts catalog c.args.patch c.requires.kept) in
-    let few = c.those_that_run_note_no_more_than_those_that_may.ensures.enabling c.args.patch (loaded_objects (setting_in parts catalog) (state_in parts catalog) c.args.patch) in
+    let few = c.runs_log_no_more_than_may_run.ensures.enabling c.args.patch (loaded_objects (setting_in parts catalog) (state_in parts catalog) c.args.patch) in
     let shadow = ap (λ (p : ManagerState). finite.len p.world.shadow) c.put_last.ensures.parts in
     omega (arith, c.run_pre_patch.ensures.ran.records, modules, same, few, shadow, c.requires.records, c.put_last.ensures.records, c.requires.kept.allowed.room)
 
@@ -114,7 +114,7 @@ take_out-requires g c =
     let catalog = c.args.catalog.now in
     let modules = ap (λ (p : ManagerState). records_of (enable_calls c.args.patch (loaded_in catalog p.modules c.args.patch))) c.put_last.ensures.parts in
     let same = ap (λ os. records_of (enable_calls c.args.patch os)) (same_objects parts catalog c.args.patch c.requires.kept) in
-    let few = c.those_that_run_note_no_more_than_those_that_may.ensures.enabling c.args.patch (loaded_objects (setting_in parts catalog) (state_in parts catalog) c.args.patch) in
+    let few = c.runs_log_no_more_than_may_run.ensures.enabling c.args.patch (loaded_objects (setting_in parts catalog) (state_in parts catalog) c.args.patch) in
     let shadow = ap (λ (p : ManagerState). finite.len p.world.shadow) c.put_last.ensures.parts in
     omega (
       arith,

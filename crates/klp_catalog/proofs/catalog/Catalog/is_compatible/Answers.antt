@@ -2,7 +2,7 @@
 use Rattle.std.proofs.Common.{◌≡◌, ◌+◌, ◌<◌, ℕ, suc, List, ◌∷◌, drop, length, get_or, sym, ap, ◌∙◌, arith}
 use Rattle.std.specs.List.{list_all}
 use Rattle.std.proofs.Math.Seq.{drop-cons}
-use Rattle.klp_types.specs.Compatible.{SystemState, version_among, can_live_with}
+use Rattle.klp_types.specs.Compatible.{SystemState, version_among, is_compatible_with}
 use Rattle.klp_catalog.specs.States.{is_compatible}
 use Rattle.klp_catalog.specs.Stored.{StoredPatch}
 use Rattle.klp_catalog.proofs.PatchLemmas.{lives_with, lives_by, lives_with_none, compatible_next}
@@ -21,8 +21,8 @@ loop-other-preserved g c =
     let split = next_other installed i (i + 1) other c.loop-other-test.true (omega arith) c.other-item.is in
     let lives : c.match-get-2.lives ≡ lives_with catalog c.args.patch other =
     elim c.match-get-2.branch [
-      | in-Some-get w ↦ w.lives-is ∙ w.can_live_with_all-lives.ensures
-          ∙ ap (list_all (λ (s : SystemState). can_live_with c.in-Some.own.now.replace s (version_among s.id c.in-Some.own.now.states))) (w.deref.ensures.value ∙ ap (λ (p : StoredPatch). p.states) w.other.view_is)
+      | in-Some-get w ↦ w.lives-is ∙ w.is_compatible_with_all-lives.ensures
+          ∙ ap (list_all (λ (s : SystemState). is_compatible_with c.in-Some.own.now.replace s (version_among s.id c.in-Some.own.now.states))) (w.deref.ensures.value ∙ ap (λ (p : StoredPatch). p.states) w.other.view_is)
           ∙ lives_by catalog c.args.patch other c.in-Some.own.now w.in-Some-get.other.now c.in-Some.ensures.found w.in-Some-get.ensures.found
       | in-None w ↦ w.lives-is ∙ sym (lives_with_none catalog c.args.patch other w.in-None.ensures.found)
     ]

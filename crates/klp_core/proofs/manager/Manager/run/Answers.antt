@@ -10,32 +10,32 @@ loop-event-preserved g c =
     let events = c.args.events.now in
     let first = c.args.self.now in
     let now = c.loop-event.self in
-    let new = c.apply_unasked.new.self in
+    let new = c.apply_without_reply.new.self in
     let event = c.event-item.result in
     let so_far = c.loop-event.invariant in
     let done = take c.loop-event.event-index events in
     let next = next_event events c.loop-event.event-index event c.loop-event-test.true c.event-item.is in
-    let setting = c.apply_unasked.ensures.setting ∙ so_far.setting in
+    let setting = c.apply_without_reply.ensures.setting ∙ so_far.setting in
     let accepted = c.loop-event.accepted in
     let refused = c.loop-event.refused in
-    elim c.match-apply_unasked.branch [
+    elim c.match-apply_without_reply.branch [
       | in-Ok w ↦ record {
         taken = recounted first new (take (c.loop-event.event-index + 1) events) (accepted + 1) _ refused _ w.accepted-is w.refused-is
             (subst (λ es. AreTaken first new es (accepted + 1, refused)) (sym next)
-            (one_accepted c.runs_add_up.ensures first now new done event _ accepted refused so_far.taken so_far.setting (subst (IsTaken now new event) w.in-Ok.is c.apply_unasked.ensures.taken)));
+            (one_accepted c.runs_add_up.ensures first now new done event _ accepted refused so_far.taken so_far.setting (subst (IsTaken now new event) w.in-Ok.is c.apply_without_reply.ensures.taken)));
         accepted = omega (arith, w.accepted-is, so_far.accepted);
         refused = omega (arith, w.refused-is, so_far.refused);
         setting = setting;
-        well_formed = c.apply_unasked.ensures.well_formed;
+        well_formed = c.apply_without_reply.ensures.well_formed;
       }
       | in-Err w ↦ record {
         taken = recounted first new (take (c.loop-event.event-index + 1) events) accepted _ (refused + 1) _ w.accepted-is w.refused-is
             (subst (λ es. AreTaken first new es (accepted, refused + 1)) (sym next)
-            (one_refused first now new done event _ accepted refused so_far.taken so_far.setting (subst (IsTaken now new event) w.in-Err.is c.apply_unasked.ensures.taken)));
+            (one_refused first now new done event _ accepted refused so_far.taken so_far.setting (subst (IsTaken now new event) w.in-Err.is c.apply_without_reply.ensures.taken)));
         accepted = omega (arith, w.accepted-is, so_far.accepted);
         refused = omega (arith, w.refused-is, so_far.refused);
         setting = setting;
-        well_formed = c.apply_unasked.ensures.well_formed;
+        well_formed = c.apply_without_reply.ensures.well_formed;
       }
     ]
 
