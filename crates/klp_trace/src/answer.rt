@@ -119,7 +119,10 @@ fn reply_in(text: &[u8], manager: &Manager) -> Option<Reply>
 fn is_line_of(text: &[u8], line: &str) -> bool
     ensures { result ≡ is_line_of text.now line.now }
 {
-    line.as_bytes().strip_suffix(b"\n".as_slice()) == Some(text)
+    match line.as_bytes().strip_suffix(b"\n".as_slice()) {
+        Some(front) => front == text,
+        None => false,
+    }
 }
 
 /// The reply, if the console writes this text of it.

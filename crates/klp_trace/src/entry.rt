@@ -58,7 +58,7 @@ pub(crate) fn entry_behind(
     let Some(entry) = entry_of(alloc, line, manager)? else {
         return Err(TraceFaultKind::BadItem);
     };
-    if entry.time.unwrap_or(last).0 < last.0 {
+    if entry.time.unwrap_or(last).is_before(last) {
         return Err(TraceFaultKind::OutOfOrder);
     }
     Ok(entry)

@@ -71,12 +71,10 @@ impl Trace {
         let mut lines = Lines::new(text);
         let mut last = Microseconds(0);
         while let Some(line) = lines.next() {
+            let number = trace.items.len() as u64 + 1;
             match trace.read_line(alloc, last, line, manager) {
                 Ok(time) => last = time,
-                Err(kind) => {
-                    let line = trace.items.len() as u64 + 1;
-                    return Err(TraceFault { line, kind });
-                }
+                Err(kind) => return Err(TraceFault { line: number, kind }),
             }
         }
         Ok(trace)
