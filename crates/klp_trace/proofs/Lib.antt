@@ -1,3 +1,4 @@
 pub mod LineLemmas
 pub mod FrameLemmas
 pub mod TraceLemmas
+pub mod AnswerLemmas

@@ -12,8 +12,10 @@
 
 mod answer;
 mod entry;
+pub mod examples;
 mod fault;
 mod item;
+pub mod laws;
 mod line;
 mod names;
 mod sight;
