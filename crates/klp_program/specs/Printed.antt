@@ -1,5 +1,5 @@
 -- What klpwatch prints of a verdict, and its exit status.
-use Rattle.std.specs.Prelude.{◌≡◌, ℕ, ◌==◌, List, [], ◌++◌, codes, if◌then◌else◌, Option, Result, Ok, Err}
+use Rattle.std.specs.Prelude.{◌≡◌, ℕ, ◌==◌, List, ◌++◌, codes, if◌then◌else◌, Option, Result, Ok, Err}
 use Rattle.std.specs.Fmt.{decimal}
 use Rattle.std.specs.Io.KnownBytes.{Appends}
 use Rattle.klp_watch.specs.declared.cause.Cause.{Cause}
@@ -9,6 +9,7 @@ use Rattle.klp_watch.specs.declared.difference.Difference.TheVariants.{Premise, 
 use Rattle.klp_console.specs.declared.served.ServeFault.TheVariants.{Write}
 use Rattle.klp_program.specs.declared.fault.Fault.{Fault}
 use Rattle.klp_program.specs.declared.fault.Fault.TheVariants.{Serve}
+use Rattle.klp_program.specs.declared.verdict.Counts.{Counts}
 use Rattle.klp_program.specs.declared.verdict.Verdict.{Verdict}
 use Rattle.klp_program.specs.declared.verdict.Verdict.TheVariants.{Honest, Dishonest, Differs}
 use Rattle.klp_program.specs.Watches.{Watches}
@@ -31,15 +32,15 @@ difference_text Files = codes "Files"
 difference_text Version = codes "Version"
 difference_text Text = codes "Text"
 
--- how much was compared, where something was
-abbrev pub compared_text : ℕ → List ℕ
-compared_text compared = if compared == 0 then [] else codes " " ++ decimal compared
+-- how many items of each kind there are
+abbrev pub counts_text : Counts → List ℕ
+counts_text counts = codes "honest " ++ decimal counts.events ++ codes " " ++ decimal counts.calls ++ codes " " ++ decimal counts.returns
 
--- the line of a verdict: how many items of each kind there are, or which line is the first that isn't as the rules say, and why
+-- the line of a verdict: how many items of each kind there are, and how many were compared, if any were; or which line is the first that isn't
+-- as the rules say, and why
 abbrev pub verdict_text : Verdict → List ℕ
 verdict_text (Honest counts) =
-    codes "honest " ++ decimal counts.events ++ codes " " ++ decimal counts.calls ++ codes " " ++ decimal counts.returns
-    ++ compared_text counts.compared ++ codes "\n"
+    if counts.compared == 0 then counts_text counts ++ codes "\n" else counts_text counts ++ codes " " ++ decimal counts.compared ++ codes "\n"
 verdict_text (Dishonest fault) = codes "line " ++ decimal fault.item ++ codes ": " ++ cause_text fault.cause ++ codes "\n"
 verdict_text (Differs differs) = codes "line " ++ decimal differs.item ++ codes ": " ++ difference_text differs.cause ++ codes "\n"
 

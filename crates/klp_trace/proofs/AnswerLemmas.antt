@@ -14,12 +14,13 @@ use Rattle.klp_console.specs.Replies.{answer_text, reply_text}
 use Rattle.klp_trace.specs.Answers.{is_line_of, as_written, refusals, refusal_of, reply_in, answer_with, answer_of}
 
 found_passes : (p : Refusal → Bool) (refusals : List Refusal) (refusal : Refusal) → find p refusals ≡ Some refusal → p refusal ≡ true
-found_passes p [] refusal is = let no : ⊥ = cc in absurd no
-found_passes p (first ∷ refusals) refusal is = by (p first) refl is
+found_passes p [] refusal is = let none : ⊥ = cc in absurd none
+found_passes p (first ∷ refusals) refusal is = by (p first) refl is (found_passes p refusals refusal)
   where
-    by : (b : Bool) → p first ≡ b → (if b then Some first else find p refusals) ≡ Some refusal → p refusal ≡ true
-    by true passes here = let same : first ≡ refusal = cc in ap p (sym same) ∙ passes
-    by false fails later = found_passes p refusals refusal later
+    by : (b : Bool) → p first ≡ b → (if b then Some first else find p refusals) ≡ Some refusal
+        → (find p refusals ≡ Some refusal → p refusal ≡ true) → p refusal ≡ true
+    by true passes here later = let same : first ≡ refusal = cc in ap p (sym same) ∙ passes
+    by false fails here later = later here
 
 written_so : (manager : Journaled) (text : List ℕ) (reply : Option Reply) (answer : Result Reply Refusal) → as_written manager text reply ≡ Some answer
     → answer_text manager.managed.catalog answer ≡ text ++ codes "\n"
