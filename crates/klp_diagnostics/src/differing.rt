@@ -1,5 +1,5 @@
-//! The item of a trace at which a kernel differs from the rules: a manager does what is in front of it once more, and tells
-//! what the rules have there.
+//! The item of a trace at which a kernel differs from the rules: a manager does what is in front of it once
+//! more, and tells what the rules have there.
 ghost use Rattle.std.specs.Prelude.{◌≤◌, length};
 ghost use Rattle.klp_catalog_text.specs.Within.{AreTargetsWithin};
 ghost use Rattle.klp_core.specs.Journaled.{IsWellFormed};
@@ -169,7 +169,8 @@ fn write_plan<E: Write>(
     Ok(write_by(manager, alloc, trace, count, err))
 }
 
-/// Writes to the end of a line what the rules have at the item of this number, counted from 1, at which the kernel differs.
+/// Writes to the end of a line what the rules have at the item of this number, counted from 1, at which the
+/// kernel differs.
 pub(crate) fn write_rules<E: Write>(
     alloc: Global,
     catalog: &[u8],

@@ -17,27 +17,27 @@ use Rattle.klp_program.specs.declared.fault.Fault.TheVariants.{CannotRead, NoMem
 use Rattle.klp_program.specs.declared.verdict.Verdict.{Verdict}
 use Rattle.klp_program.specs.declared.verdict.Verdict.TheVariants.{Honest}
 use Rattle.klp_program.specs.Booted.{IsBootedOver, IsBootFault}
-use Rattle.klp_program.specs.Watches.{counted, told_as, told_of, IsFound, WatchesBy, WatchesPlan, Watches}
+use Rattle.klp_program.specs.Watches.{counted, reported_as, reported, IsFound, WatchesBy, WatchesPlan, Watches}
 
 -- what is told of the first item that isn't so is what was found
-told_by : (before after : Managed) (items : List Observed) (item : ℕ) (difference : Difference)
-    → IsDifferenceOfWhole before after items item difference → IsFound before after items (told_as item difference)
-told_by before after items item (Premise cause) is = is
-told_by before after items item Answer is = is
-told_by before after items item State is = is
-told_by before after items item Files is = is
-told_by before after items item Version is = is
-told_by before after items item OtherText is = is
+reported_so : (before after : Managed) (items : List Observed) (item : ℕ) (difference : Difference)
+    → IsDifferenceOfWhole before after items item difference → IsFound before after items (reported_as item difference)
+reported_so before after items item (Premise cause) is = is
+reported_so before after items item Answer is = is
+reported_so before after items item State is = is
+reported_so before after items item Files is = is
+reported_so before after items item Version is = is
+reported_so before after items item OtherText is = is
 
 -- the verdict is what comparing came to
 pub found_by : {A : Type 0} (before after : Managed) (items : List Observed) (ended : Result A FirstDifference) (verdict : Verdict)
     → IfOk ended (λ _. AreAllSo before after items) → IfOk ended (λ _. IsConsistent (setting_of before) before.state (taken_from items))
     → IfErr ended (λ (differs : FirstDifference). IsDifferenceOfWhole before after items differs.item differs.cause)
-    → MatchResult ended (λ _. verdict ≡ Honest (counted items)) (λ differs. verdict ≡ told_of differs) → IsFound before after items verdict
-found_by before after items (Ok value) verdict so consistent reported is =
+    → MatchResult ended (λ _. verdict ≡ Honest (counted items)) (λ differs. verdict ≡ reported differs) → IsFound before after items verdict
+found_by before after items (Ok value) verdict so consistent found is =
     subst (IsFound before after items) (sym is) (record { so = so; consistent = consistent; counts_are = refl })
-found_by before after items (Err differs) verdict so consistent reported is =
-    subst (IsFound before after items) (sym is) (told_by before after items differs.item differs.cause reported)
+found_by before after items (Err differs) verdict so consistent found is =
+    subst (IsFound before after items) (sym is) (reported_so before after items differs.item differs.cause found)
 
 -- what is watched by a booted manager is watched over its plan
 pub watches_plan : (plan : Plan) (booted : Journaled) (trace : List ℕ) (result : Result Verdict Fault)

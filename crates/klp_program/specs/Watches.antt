@@ -56,12 +56,12 @@ pub record IsHonestBy (before after : Managed) (items : List Observed) (counts :
   pub counts_are : counts ≡ counted items
 
 -- an item that breaks a premise isn't honest, and any other differs
-abbrev pub told_as : ℕ → Difference → Verdict
-told_as item (Premise cause) = Dishonest (record { item = item; cause = cause })
-told_as item difference = Differs (record { item = item; cause = difference })
+abbrev pub reported_as : ℕ → Difference → Verdict
+reported_as item (Premise cause) = Dishonest (record { item = item; cause = cause })
+reported_as item difference = Differs (record { item = item; cause = difference })
 
-abbrev pub told_of : FirstDifference → Verdict
-told_of differs = told_as differs.item differs.cause
+abbrev pub reported : FirstDifference → Verdict
+reported differs = reported_as differs.item differs.cause
 
 -- the manager was held beside the kernel over the items, all of them, however many they are
 abbrev pub IsFound : Managed → Managed → List Observed → Verdict → Type 0

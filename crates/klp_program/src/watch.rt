@@ -6,7 +6,7 @@ ghost use Rattle.klp_manager_state.specs.Managed.{Managed};
 ghost use Rattle.klp_program.specs.declared.verdict.Verdict.TheVariants.{Honest, Dishonest, Differs};
 ghost use Rattle.klp_program.specs.Asked.{two_files};
 ghost use Rattle.klp_program.specs.Printed.{cause_text, difference_text, verdict_text, verdict_status, Prints};
-ghost use Rattle.klp_program.specs.Watches.{counted, told_of, IsFound, WatchesBy, WatchesPlan, Watches};
+ghost use Rattle.klp_program.specs.Watches.{counted, reported, IsFound, WatchesBy, WatchesPlan, Watches};
 
 use crate::arguments::file_words;
 use crate::booted::boot;
@@ -59,8 +59,8 @@ fn counted(items: &[Observed]) -> Counts
 }
 
 /// What is told of the first item that isn't as the rules say.
-fn told_of(differs: Differs) -> Verdict
-    ensures { result ≡ told_of differs }
+fn reported(differs: Differs) -> Verdict
+    ensures { result ≡ reported differs }
 {
     match differs.cause {
         Difference::Premise(cause) => Verdict::Dishonest(NotHonest {
@@ -72,11 +72,11 @@ fn told_of(differs: Differs) -> Verdict
 }
 
 fn verdict_of(ended: Result<(), Differs>, items: &[Observed]) -> Verdict
-    ensures { MatchResult ended (λ _. result ≡ Honest (counted items.now)) (λ differs. result ≡ told_of differs) }
+    ensures { MatchResult ended (λ _. result ≡ Honest (counted items.now)) (λ differs. result ≡ reported differs) }
 {
     match ended {
         Ok(()) => Verdict::Honest(counted(items)),
-        Err(differs) => told_of(differs),
+        Err(differs) => reported(differs),
     }
 }
 

@@ -46,30 +46,30 @@ answer_written manager text answer is = by (refusal_of text) refl is
         ∙ (bytes_eq-Decides (refusal_text refusal) (text ++ codes "\n")).0 (found_passes (λ r. is_line_of text (refusal_text r)) refusals refusal found)
 
 -- the refusal that a line of the console tells
-abbrev told_by : List ℕ → Option Refusal
-told_by line = find (λ refusal. bytes_eq (refusal_text refusal) line) refusals
+abbrev refusal_in : List ℕ → Option Refusal
+refusal_in line = find (λ refusal. bytes_eq (refusal_text refusal) line) refusals
 
-told_back : (refusal : Refusal) → told_by (refusal_text refusal) ≡ Some refusal
-told_back NoPatch = refl
-told_back Busy = refl
-told_back AlreadyThere = refl
-told_back Pinned = refl
-told_back Incompatible = refl
-told_back NoSymbol = refl
-told_back NoModule = refl
-told_back InUse = refl
-told_back NoTask = refl
-told_back TaskThere = refl
-told_back WrongMode = refl
-told_back BadFrame = refl
-told_back Full = refl
-told_back JournalFull = refl
-told_back NotMoving = refl
-told_back Exists = refl
-told_back NotFound = refl
-told_back SameValue = refl
+refusal_in-text : (refusal : Refusal) → refusal_in (refusal_text refusal) ≡ Some refusal
+refusal_in-text NoPatch = refl
+refusal_in-text Busy = refl
+refusal_in-text AlreadyThere = refl
+refusal_in-text Pinned = refl
+refusal_in-text Incompatible = refl
+refusal_in-text NoSymbol = refl
+refusal_in-text NoModule = refl
+refusal_in-text InUse = refl
+refusal_in-text NoTask = refl
+refusal_in-text TaskThere = refl
+refusal_in-text WrongMode = refl
+refusal_in-text BadFrame = refl
+refusal_in-text Full = refl
+refusal_in-text JournalFull = refl
+refusal_in-text NotMoving = refl
+refusal_in-text Exists = refl
+refusal_in-text NotFound = refl
+refusal_in-text SameValue = refl
 
 pub refusal_back : (manager : Journaled) (text : List ℕ) (refusal : Refusal) → refusal_text refusal ≡ text ++ codes "\n" → answer_of manager text ≡ Some (Err refusal)
 refusal_back manager text refusal is =
-    let found : refusal_of text ≡ Some refusal = ap told_by (sym is) ∙ told_back refusal in
+    let found : refusal_of text ≡ Some refusal = ap refusal_in (sym is) ∙ refusal_in-text refusal in
     ap (answer_with manager text) found

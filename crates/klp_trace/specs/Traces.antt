@@ -70,7 +70,8 @@ pub record IsTraceFault (manager : Journaled) (lines : List (List ℕ)) (number 
   pub why : IsLineFault manager (last_time 0 entries) bad kind
 
 -- one more line is an entry behind those of this last time; that time is the last one now
-pub record IsReadOn (manager : Journaled) (before : ℕ) (line : List ℕ) (items : List Observed) (times : List (Option ℕ)) (items-now : List Observed) (times-now : List (Option ℕ)) (time : ℕ) : Type 0 where
+pub record IsReadOn (manager : Journaled) (before : ℕ) (line : List ℕ) (items : List Observed) (times : List (Option ℕ))
+    (items-now : List Observed) (times-now : List (Option ℕ)) (time : ℕ) : Type 0 where
   pub entry : Entry
   pub is : entry_of manager line ≡ Some entry
   pub in_order : before ≤ unwrap_or entry.time before

@@ -32,15 +32,20 @@ pub fn answers_are_spelled_as_on_the_console()
 /// A line is an event, perhaps with its answer, a return, or what was seen.
 pub fn lines_are_items()
     ensures event { (manager : Journaled) → item_of manager (codes "poll") ≡ Some (Item (Happens Poll)) }
-    ensures answered { (manager : Journaled) → item_of manager (codes "poll => pending 1") ≡ Some (Answered Poll (Ok (Pending 1))) }
-    ensures refused { (manager : Journaled) → item_of manager (codes "poll => error 16 Busy") ≡ Some (Answered Poll (Err Busy)) }
+    ensures answered { (manager : Journaled) → item_of manager (codes "poll => pending 1")
+        ≡ Some (Answered Poll (Ok (Pending 1))) }
+    ensures refused { (manager : Journaled) → item_of manager (codes "poll => error 16 Busy")
+        ≡ Some (Answered Poll (Err Busy)) }
     ensures unknown { (manager : Journaled) → item_of manager (codes "poll => ?") ≡ Some (Item (Happens Poll)) }
     ensures no_answer { (manager : Journaled) → item_of manager (codes "poll => yes") ≡ None }
     ensures no_event { (manager : Journaled) → item_of manager (codes "return 1 => ok") ≡ None }
     ensures returned { (manager : Journaled) → item_of manager (codes "return 1") ≡ Some (Item (Returns 1)) }
-    ensures none { (manager : Journaled) → item_of manager (codes "saw 1 -1") ≡ Some (Saw (StateSeen 1 (Some (negsuc 0)))) }
-    ensures unpatched { (manager : Journaled) → item_of manager (codes "saw 1 0") ≡ Some (Saw (StateSeen 1 (Some (pos 0)))) }
-    ensures patched { (manager : Journaled) → item_of manager (codes "saw 1 1") ≡ Some (Saw (StateSeen 1 (Some (pos 1)))) }
+    ensures none { (manager : Journaled) → item_of manager (codes "saw 1 -1")
+        ≡ Some (Saw (StateSeen 1 (Some (negsuc 0)))) }
+    ensures unpatched { (manager : Journaled) → item_of manager (codes "saw 1 0")
+        ≡ Some (Saw (StateSeen 1 (Some (pos 0)))) }
+    ensures patched { (manager : Journaled) → item_of manager (codes "saw 1 1")
+        ≡ Some (Saw (StateSeen 1 (Some (pos 1)))) }
     ensures no_state { (manager : Journaled) → item_of manager (codes "saw 1 2") ≡ None }
     ensures no_task { (manager : Journaled) → item_of manager (codes "saw 64 0") ≡ None }
 {}
@@ -49,7 +54,8 @@ pub fn lines_are_items()
 pub fn a_line_may_have_its_time()
     ensures time { (manager : Journaled) → entry_of manager (codes "@12.345 poll")
         ≡ Some (record { item = Item (Happens Poll); time = Some 12_345_000 }) }
-    ensures none { (manager : Journaled) → entry_of manager (codes "poll") ≡ Some (record { item = Item (Happens Poll); time = None }) }
+    ensures none { (manager : Journaled) → entry_of manager (codes "poll")
+        ≡ Some (record { item = Item (Happens Poll); time = None }) }
     ensures no_seconds { (manager : Journaled) → entry_of manager (codes "@ poll") ≡ None }
     ensures unit { (manager : Journaled) → entry_of manager (codes "@12s poll") ≡ None }
     ensures alone { (manager : Journaled) → entry_of manager (codes "@12") ≡ None }

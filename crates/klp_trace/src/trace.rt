@@ -61,8 +61,8 @@ impl Trace {
         Ok(time)
     }
 
-    /// The items of a text, one a line, or its first line that is at fault. Names are those of the manager's catalog, and
-    /// nothing of its state is asked. Memory is taken for the items as they come.
+    /// The items of a text, one a line, or its first line that is at fault. Names are those of the manager's
+    /// catalog, and nothing of its state is asked. Memory is taken for the items as they come.
     pub fn read(alloc: Global, text: &[u8], manager: &Manager) -> Result<Trace, TraceFault>
         ensures read { IfOk result (λ trace. IsTraceOf manager.now text.now trace.items.items trace.times.items) }
         ensures fault { IfErr result (λ fault. IsTraceFault manager.now (lines text.now) fault.line fault.kind) }
