@@ -78,10 +78,10 @@ pub(crate) fn site_of_version(version: Version, manager: &Manager) -> Option<Sit
 {
     match version {
         Version::Original(site) => Some(site),
-        Version::New(patch, function) => {
-            let (site, _, _) = manager.catalog().function(patch, function)?;
-            site
-        }
+        Version::New(patch, function) => match manager.catalog().function(patch, function) {
+            Some((site, _, _)) => site,
+            None => None,
+        },
     }
 }
 

@@ -59,8 +59,10 @@ pub(crate) fn saw_of(words: &mut LineWords<'_>, manager: &Manager) -> Option<Sig
 fn version_seen(task: TaskId, version: Version, manager: &Manager) -> Option<Sight>
     ensures { result ≡ version_seen manager.now task version }
 {
-    let site = site_of_version(version, manager)?;
-    Some(Sight::Version(task, site, version))
+    match site_of_version(version, manager) {
+        Some(site) => Some(Sight::Version(task, site, version)),
+        None => None,
+    }
 }
 
 /// The words behind `ran`: a task, and the version that it ran.
