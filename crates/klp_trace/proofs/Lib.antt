@@ -2,3 +2,4 @@ pub mod LineLemmas
 pub mod FrameLemmas
 pub mod TraceLemmas
 pub mod AnswerLemmas
+pub mod ReadExamples

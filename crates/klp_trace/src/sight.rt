@@ -59,10 +59,7 @@ pub(crate) fn saw_of(words: &mut LineWords<'_>, manager: &Manager) -> Option<Sig
 fn version_seen(task: TaskId, version: Version, manager: &Manager) -> Option<Sight>
     ensures { result ≡ version_seen manager.now task version }
 {
-    match site_of_version(version, manager) {
-        Some(site) => Some(Sight::Version(task, site, version)),
-        None => None,
-    }
+    site_of_version(version, manager).map(|site| Sight::Version(task, site, version))
 }
 
 /// The words behind `ran`: a task, and the version that it ran.

@@ -1,7 +1,8 @@
 //! An answer as the console writes it: the same text, by its own definitions.
 ghost use Rattle.std.specs.Prelude.{◌≡◌, ◌++◌, codes, string_bytes, IfOk};
+ghost use Rattle.std.specs.Fmt.{decimal, signed_decimal};
 ghost use Rattle.klp_types.specs.declared.version.Version.TheVariants.{Original};
-ghost use Rattle.klp_model.specs.declared.event.Reply.TheVariants.{PreFailed, Woken};
+ghost use Rattle.klp_model.specs.declared.event.Reply.TheVariants.{Woken};
 ghost use Rattle.klp_words.specs.Words.{value_text};
 ghost use Rattle.klp_console.specs.Names.{patch_name, object_name};
 ghost use Rattle.klp_console.specs.Refusals.{refusal_text};
@@ -51,6 +52,20 @@ fn object_name(manager: &Manager, object: ObjId) -> &str
     manager.modules().object_name(object).unwrap_or("")
 }
 
+/// ` .klp.sym.OBJECT.SYMBOL,POSITION`
+fn symbol_text(alloc: Global, object: &str, symbol: &str, position: u32) -> Result<String, AllocError>
+    ensures { IfOk result (λ text. string_bytes text
+        ≡ codes " .klp.sym." ++ object.now ++ codes "." ++ symbol.now ++ codes "," ++ decimal position) }
+{
+    let position = format!(in alloc; ",{position}")?;
+    let mut text = String::from_str(alloc, " .klp.sym.")?;
+    text.push_str(object)?;
+    text.push_str(".")?;
+    text.push_str(symbol)?;
+    text.push_str(position.as_str())?;
+    Ok(text)
+}
+
 /// An original function, by its symbol and the position from 1.
 fn original_text(alloc: Global, manager: &Manager, site: Site) -> Result<String, AllocError>
     ensures { IfOk result (λ text. string_bytes text ≡ frame_text manager.now.managed.catalog (Original site)) }
@@ -58,11 +73,21 @@ fn original_text(alloc: Global, manager: &Manager, site: Site) -> Result<String,
     let _for_its_clause = manager.catalog();
     match manager.modules().symbol(site) {
         Some((object, symbol, position)) => {
-            let object = object_name(manager, object);
-            format!(in alloc; " .klp.sym.{object}.{symbol},{position}")
+            symbol_text(alloc, object_name(manager, object), symbol, position)
         }
         None => Ok(String::new(alloc)),
     }
+}
+
+/// ` PATCH:INDEX`
+fn new_text(alloc: Global, patch: &str, function: u16) -> Result<String, AllocError>
+    ensures { IfOk result (λ text. string_bytes text ≡ codes " " ++ patch.now ++ codes ":" ++ decimal function) }
+{
+    let function = format!(in alloc; ":{function}")?;
+    let mut text = String::from_str(alloc, " ")?;
+    text.push_str(patch)?;
+    text.push_str(function.as_str())?;
+    Ok(text)
 }
 
 /// A function that a task was inside of, behind a space.
@@ -71,10 +96,7 @@ fn frame_text(alloc: Global, manager: &Manager, version: Version) -> Result<Stri
 {
     match version {
         Version::Original(site) => original_text(alloc, manager, site),
-        Version::New(patch, function) => {
-            let patch = patch_name(manager, patch);
-            format!(in alloc; " {patch}:{function}")
-        }
+        Version::New(patch, function) => new_text(alloc, patch_name(manager, patch), function),
     }
 }
 
@@ -110,17 +132,20 @@ fn value_text(alloc: Global, value: &ShadowValue) -> Result<String, AllocError>
 
 fn pre_failed_text(
     alloc: Global,
-    manager: &Manager,
-    patch: PatchId,
-    object: ObjId,
+    patch: &str,
+    object: &str,
     status: i32,
 ) -> Result<String, AllocError>
-    ensures { IfOk result (λ text.
-        string_bytes text ≡ reply_text manager.now.managed.catalog (PreFailed patch object status)) }
+    ensures { IfOk result (λ text. string_bytes text
+        ≡ codes "prefailed " ++ patch.now ++ codes " " ++ object.now ++ codes " " ++ signed_decimal status ++ codes "\n") }
 {
-    let patch = patch_name(manager, patch);
-    let object = object_name(manager, object);
-    format!(in alloc; "prefailed {patch} {object} {status}\n")
+    let status = format!(in alloc; " {status}\n")?;
+    let mut text = String::from_str(alloc, "prefailed ")?;
+    text.push_str(patch)?;
+    text.push_str(" ")?;
+    text.push_str(object)?;
+    text.push_str(status.as_str())?;
+    Ok(text)
 }
 
 /// The line of a reply, with its line feed.
@@ -139,7 +164,8 @@ pub(crate) fn reply_text(
         Reply::Completed(true) => String::from_str(alloc, "completed 1\n"),
         Reply::Completed(false) => String::from_str(alloc, "completed 0\n"),
         Reply::PreFailed(patch, object, status) => {
-            pre_failed_text(alloc, manager, patch, object, status)
+            let (patch, object) = (patch_name(manager, patch), object_name(manager, object));
+            pre_failed_text(alloc, patch, object, status)
         }
         Reply::Value(ref value) => value_text(alloc, value),
         Reply::Freed(count) => format!(in alloc; "freed {count}\n"),
