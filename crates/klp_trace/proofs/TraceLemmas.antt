@@ -1,15 +1,15 @@
 -- The lines of a trace, read one after another.
 use Rattle.std.proofs.Common.{◌≡◌, ℕ, suc, ◌+◌, ◌≤◌, ◌&&◌, Bool, true, false, nat_le, List, [], ◌∷◌, ◌++◌, map, length, Option, Some, None, refl, sym, ap, subst, ◌∙◌, append-nil, append_assoc, arith}
-use Rattle.std.specs.Prelude.{unwrap_or}
+use Rattle.std.specs.Prelude.{unwrap_or, Result, Ok, Err, IfOk, MatchResult}
 use Rattle.std.specs.Str.Lines.{lines}
 use Rattle.std.proofs.lemmas.Bool.{and_parts}
 use Rattle.std.proofs.lemmas.Bool.Decides.{nat_tests}
 use Rattle.std.proofs.lemmas.List.{map-append, length-map}
 use Rattle.klp_core.specs.Journaled.{Journaled}
 use Rattle.klp_watch.specs.declared.observed.Observed.{Observed}
-use Rattle.klp_trace.specs.declared.entry.Entry.{Entry}
 use Rattle.klp_trace.specs.declared.fault.TraceFaultKind.{TraceFaultKind}
-use Rattle.klp_trace.specs.Traces.{entry_of, last_time, are_in_order, AreEntries, items_in, times_in, IsTraceOf, IsReadOn, IsLineFault, IsTraceFault}
+use Rattle.klp_trace.specs.declared.fault.TraceFaultKind.TheVariants.{NoMemory}
+use Rattle.klp_trace.specs.Traces.{Entry, entry_of, last_time, are_in_order, AreEntries, items_in, times_in, IsTraceOf, IsReadOn, IsLineFault, IsTraceFault}
 
 -- of these lines those are left, and the ones before them are entries with these items and times
 pub record IsReadTo (manager : Journaled) (lines left : List (List ℕ)) (items : List Observed) (times : List (Option ℕ)) (last : ℕ) : Type 0 where
@@ -71,6 +71,29 @@ one_read manager lines left items items-now times times-now last time line so_fa
   times_are = on.times_are ∙ ap (λ ts. ts ++ on.entry.time ∷ []) so_far.times_are ∙ sym (map-append (λ (e : Entry). e.time) so_far.entries (on.entry ∷ []));
   last_is = on.time_is ∙ ap (λ n. unwrap_or on.entry.time n) so_far.last_is ∙ sym (last_time-append 0 so_far.entries on.entry);
 }
+
+-- what was read of a line, and put behind the others
+pub put_behind : (manager : Journaled) (last : ℕ) (line : List ℕ) (read : Result Entry TraceFaultKind) (result : Result ℕ TraceFaultKind)
+    (items items-now : List Observed) (times times-now : List (Option ℕ)) (now : ℕ)
+    → IfOk read (λ (entry : Entry). (entry_of manager line ≡ Some entry) × (last ≤ unwrap_or entry.time last))
+    → MatchResult read
+        (λ (entry : Entry). MatchResult result
+            (λ n. (items-now ≡ items ++ entry.item ∷ []) × (times-now ≡ times ++ entry.time ∷ []) × (n ≡ unwrap_or entry.time last))
+            (λ kind. kind ≡ NoMemory))
+        (λ kind. result ≡ Err kind)
+    → result ≡ Ok now → IsReadOn manager last line items times items-now times-now now
+put_behind manager last line (Ok entry) (Ok n) items items-now times times-now now is put same =
+    let own : n ≡ now = cc in
+    record {
+      entry = entry;
+      is = is.0;
+      in_order = is.1;
+      time_is = sym own ∙ put.2;
+      items_are = put.0;
+      times_are = put.1;
+    }
+put_behind manager last line (Ok entry) (Err kind) items items-now times times-now now is put same = let no : ⊥ = cc in absurd no
+put_behind manager last line (Err kind) result items items-now times times-now now is put same = let no : ⊥ = cc in absurd no
 
 pub all_read : (manager : Journaled) (text : List ℕ) (items : List Observed) (times : List (Option ℕ)) (last : ℕ)
     → IsReadTo manager (lines text) [] items times last → IsTraceOf manager text items times

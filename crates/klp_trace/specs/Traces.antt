@@ -5,10 +5,14 @@ use Rattle.std.specs.Str.Lines.{lines}
 use Rattle.klp_words.specs.Seconds.{seconds_of}
 use Rattle.klp_core.specs.Journaled.{Journaled}
 use Rattle.klp_watch.specs.declared.observed.Observed.{Observed}
-use Rattle.klp_trace.specs.declared.entry.Entry.{Entry}
+use Rattle.klp_trace.specs.declared.entry.Timed.{Timed}
 use Rattle.klp_trace.specs.declared.fault.TraceFaultKind.{TraceFaultKind}
 use Rattle.klp_trace.specs.declared.fault.TraceFaultKind.TheVariants.{BadItem, OutOfOrder, NoMemory}
 use Rattle.klp_trace.specs.Items.{item_of}
+
+-- what a line says: an item, and its time if it has one
+abbrev pub Entry : Type 0
+Entry = Timed Observed
 
 abbrev pub entry_at : Journaled → List ℕ → Option ℕ → Option Entry
 entry_at manager text time = option_map (λ item. record { item = item; time = time }) (item_of manager text)

@@ -1,5 +1,5 @@
 //! What one line of a trace says.
-ghost use Rattle.std.specs.Prelude.{◌≡◌, ◌≤◌, Some, IfOk, IfErr, unwrap_or};
+ghost use Rattle.std.specs.Prelude.{◌≡◌, ◌≤◌, Some, IfOk, IfErr, option_map, unwrap_or};
 ghost use Rattle.klp_trace.specs.Traces.{entry_at, entry_of, IsLineFault};
 
 use crate::fault::TraceFaultKind;
@@ -11,11 +11,24 @@ use klp_watch::Observed;
 use klp_words::microseconds;
 use std::alloc::{AllocError, Global};
 
-/// What a line says: its item, and its time if there is one in front.
+/// An item, and its time if its line has one in front.
 #[derive(Clone, Copy)]
-pub struct Entry {
-    pub item: Observed,
+pub struct Timed<T> {
+    pub item: T,
     pub time: Option<Microseconds>,
+}
+
+/// What a line says.
+pub type Entry = Timed<Observed>;
+
+// Generic, as the borrow checker doesn't cover it for what is seen.
+fn with_time<T: Drop>(item: Option<T>, time: Option<Microseconds>) -> Option<Timed<T>>
+    ensures { result ≡ option_map (λ own. record { item = own; time = time }) item }
+{
+    match item {
+        Some(item) => Some(Timed { item, time }),
+        None => None,
+    }
 }
 
 /// What a text says that has this time, if any.
@@ -28,7 +41,7 @@ fn entry_at(
     ensures { IfOk result (λ entry. entry ≡ entry_at manager.now text.now time) }
 {
     let item = item_of(alloc, text, manager)?;
-    Ok(item.map(|item| Entry { item, time }))
+    Ok(with_time(item, time))
 }
 
 /// What a line says, if it is an item.

@@ -24,7 +24,7 @@ mod text;
 mod time;
 mod trace;
 
-pub use entry::Entry;
+pub use entry::{Entry, Timed};
 pub use fault::{TraceFault, TraceFaultKind};
 pub use line::LineParts;
 pub use text::answer_text;
