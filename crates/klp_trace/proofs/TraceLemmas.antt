@@ -77,10 +77,10 @@ pub put_behind : (manager : Journaled) (last : ℕ) (line : List ℕ) (read : Re
     (items items-now : List Observed) (times times-now : List (Option ℕ)) (now : ℕ)
     → IfOk read (λ (entry : Entry). (entry_of manager line ≡ Some entry) × (last ≤ unwrap_or entry.time last))
     → MatchResult read
-        (λ (entry : Entry). MatchResult result
-            (λ n. (items-now ≡ items ++ entry.item ∷ []) × (times-now ≡ times ++ entry.time ∷ []) × (n ≡ unwrap_or entry.time last))
-            (λ kind. kind ≡ NoMemory))
-        (λ kind. result ≡ Err kind)
+    (λ (entry : Entry). MatchResult result
+    (λ n. (items-now ≡ items ++ entry.item ∷ []) × (times-now ≡ times ++ entry.time ∷ []) × (n ≡ unwrap_or entry.time last))
+    (λ kind. kind ≡ NoMemory))
+    (λ kind. result ≡ Err kind)
     → result ≡ Ok now → IsReadOn manager last line items times items-now times-now now
 put_behind manager last line (Ok entry) (Ok n) items items-now times times-now now is put same =
     let own : n ≡ now = cc in

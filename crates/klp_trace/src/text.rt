@@ -53,7 +53,12 @@ fn object_name(manager: &Manager, object: ObjId) -> &str
 }
 
 /// ` .klp.sym.OBJECT.SYMBOL,POSITION`
-fn symbol_text(alloc: Global, object: &str, symbol: &str, position: u32) -> Result<String, AllocError>
+fn symbol_text(
+    alloc: Global,
+    object: &str,
+    symbol: &str,
+    position: u32,
+) -> Result<String, AllocError>
     ensures { IfOk result (λ text. string_bytes text
         ≡ codes " .klp.sym." ++ object.now ++ codes "." ++ symbol.now ++ codes "," ++ decimal position) }
 {

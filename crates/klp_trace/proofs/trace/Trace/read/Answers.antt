@@ -13,5 +13,5 @@ loop-line-preserved g c =
     let last = c.loop-line.last in
     let so_far = subst (λ (left : List (List ℕ)). IsReadTo manager all left items times last) c.in-Some.ensures c.loop-line.invariant in
     let more = put_behind manager last line c.entry_behind-read.result c.take.result items c.take.new.items.items times c.take.new.times.items c.in-Ok.time
-        c.entry_behind-read.ensures.entry c.take.ensures c.in-Ok.is in
+    c.entry_behind-read.ensures.entry c.take.ensures c.in-Ok.is in
     one_read manager all c.next.new.self items c.take.new.items.items times c.take.new.times.items last c.in-Ok.time line so_far more
