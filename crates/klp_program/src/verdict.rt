@@ -6,16 +6,17 @@ pub struct Counts {
     pub events: usize,
     pub calls: usize,
     pub returns: usize,
-    /// The answers and what was seen, which were compared with the rules. An event counts beside its answer.
+    /// The answers and sights, which were compared with the rules. An event with an answer counts here and as an event.
     pub compared: usize,
 }
 
-/// What a trace comes to. Each line is an item, so an item's number tells its line too.
+/// What a trace comes to. Each line is an item, so an item's number is that of its line.
 #[derive(Clone, Copy)]
 pub enum Verdict {
+    /// All items keep the premises, and the kernel does as the rules say.
     Honest(Counts),
-    /// The first item that isn't honest. What it tells of the kernel isn't compared.
+    /// The first item that breaks a premise. What the kernel answered to it isn't compared.
     Dishonest(NotHonest),
-    /// The first item at which the kernel differs from the rules. It breaks no premise.
+    /// The first item at which the kernel differs from the rules. The item breaks no premise.
     Differs(Differs),
 }

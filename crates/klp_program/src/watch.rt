@@ -34,6 +34,7 @@ const HONEST: u8 = 0;
 
 const REFUTED: u8 = 3;
 
+/// Counts the items of each kind.
 fn counted(items: &[Observed]) -> Counts
     ensures { result ≡ counted items.now }
 {
@@ -58,7 +59,7 @@ fn counted(items: &[Observed]) -> Counts
     counts
 }
 
-/// What is told of the first item that isn't as the rules say.
+/// Returns the verdict on a trace with an item that breaks a premise, or at which the kernel differs from the rules.
 fn reported(differs: Differs) -> Verdict
     ensures { result ≡ reported differs }
 {
@@ -71,6 +72,7 @@ fn reported(differs: Differs) -> Verdict
     }
 }
 
+/// Returns the verdict on items of which this came when they were compared.
 fn verdict_of(ended: Result<(), Differs>, items: &[Observed]) -> Verdict
     ensures { MatchResult ended (λ _. result ≡ Honest (counted items.now)) (λ differs. result ≡ reported differs) }
 {
@@ -80,7 +82,7 @@ fn verdict_of(ended: Result<(), Differs>, items: &[Observed]) -> Verdict
     }
 }
 
-// The manager goes then, here and where the trace isn't read.
+// Compares all items with what the manager does, and drops it then.
 fn watch_items(mut manager: Manager, items: &[Observed]) -> Verdict
     ensures { (left : Managed) × IsFound manager.managed left items.now result }
 {
@@ -89,6 +91,8 @@ fn watch_items(mut manager: Manager, items: &[Observed]) -> Verdict
     verdict_of(ended, items)
 }
 
+// Reads a trace by the names of the manager's catalog, and compares it with what the manager does. The manager is
+// dropped then, also if the trace can't be read.
 fn watch_over_manager(alloc: Global, manager: Manager, trace: &[u8]) -> Result<Verdict, Fault>
     ensures { WatchesBy manager trace.now result }
 {
@@ -101,8 +105,8 @@ fn watch_over_manager(alloc: Global, manager: Manager, trace: &[u8]) -> Result<V
     }
 }
 
-// Boots a manager over a plan, and watches it. The callbacks are made here, as where the console is served, but all of
-// one kind.
+// Boots a manager over a plan, and judges the trace by it. The boxes of the callbacks are made here, as where the
+// console is served (`over_plan` in serve.rt), but all are of one kind.
 fn watch_over_plan(alloc: Global, plan: Plan, trace: &[u8]) -> Result<Verdict, Fault>
     requires { AreTargetsWithin (length plan.objects) plan.patches }
     ensures { WatchesPlan plan trace.now result }
@@ -115,9 +119,10 @@ fn watch_over_plan(alloc: Global, plan: Plan, trace: &[u8]) -> Result<Verdict, F
     watch_over_manager(alloc, manager, trace)
 }
 
-/// Boots a manager over the catalog's text, and by it holds the trace against the consistency model, and what the kernel
-/// answered and showed against the rules. The verdict is that of the whole trace, however long it is: no event is refused
-/// for want of room in the journal.
+/// Boots a manager over the catalog's text, and judges a trace by it: whether each item keeps the premises of the
+/// consistency model, and whether the kernel answered and showed what the rules say. The verdict is that of the whole
+/// trace, however long it is: no event is refused for want of room in the journal. `Err` if the catalog or the trace
+/// has a fault, or if memory runs out.
 pub fn watch_over_text(alloc: Global, catalog: &[u8], trace: &[u8]) -> Result<Verdict, Fault>
     ensures { Watches catalog.now trace.now result }
 {
@@ -125,6 +130,7 @@ pub fn watch_over_text(alloc: Global, catalog: &[u8], trace: &[u8]) -> Result<Ve
     watch_over_plan(alloc, plan, trace)
 }
 
+/// Returns the word for a premise that is broken.
 fn name_of(cause: Cause) -> &'static str
     ensures { result.now ≡ cause_text cause }
 {
@@ -140,6 +146,7 @@ fn name_of(cause: Cause) -> &'static str
     }
 }
 
+/// Returns the word for what the kernel differs in, or for the premise that is broken.
 fn name_of_difference(difference: Difference) -> &'static str
     ensures { result.now ≡ difference_text difference }
 {
@@ -153,7 +160,7 @@ fn name_of_difference(difference: Difference) -> &'static str
     }
 }
 
-/// Writes the verdict as one line. How much was compared stands there where something was.
+/// Writes the verdict as one line. It has the number of what was compared only if something was.
 fn print<W: Write>(verdict: Verdict, out: &mut W) -> io::Result<()>
     ensures { OnOk result (Appends (W.contents out.old) (W.contents out.new) (verdict_text verdict)) }
 {
@@ -178,7 +185,7 @@ fn print<W: Write>(verdict: Verdict, out: &mut W) -> io::Result<()>
     }
 }
 
-/// The exit status of a verdict: 0 for an honest trace of a kernel that does as the rules say, and 3 for any other.
+/// Returns the exit status of a verdict: 0 if the trace is honest and the kernel does as the rules say, and else 3.
 pub fn status_of(verdict: Verdict) -> u8
     ensures { result ≡ verdict_status verdict }
 {
@@ -188,7 +195,8 @@ pub fn status_of(verdict: Verdict) -> u8
     }
 }
 
-/// Watches, and writes the verdict to `out` as one line. Where that can't be written, the fault is that of the write.
+/// Judges a trace, and writes the verdict to `out` as one line. `Err` if there is no verdict, or if the line can't be
+/// written.
 pub fn watch_trace<W: Write>(
     alloc: Global,
     catalog: &[u8],
@@ -207,8 +215,8 @@ pub fn watch_trace<W: Write>(
     }
 }
 
-/// The two words behind the program's name: the files of a catalog and of a trace. Others are refused on
-/// `err`, with their exit status.
+/// Returns the two words behind klpwatch's name, which are the files of a catalog and of a trace. Refuses other words:
+/// then writes a line to `err` and returns the exit status, 2.
 pub fn trace_words<'a, W: Write>(given: &'a [String], err: &mut W) -> Result<(&'a str, &'a str), u8>
     ensures { MatchResult result
         (λ files. two_files (map string_bytes given.now) ≡ Some (files.0.now ∷ files.1.now ∷ []))
