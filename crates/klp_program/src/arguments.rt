@@ -29,14 +29,14 @@ const USAGE: u8 = 2;
 /// The status of any other fault.
 const FAULT: u8 = 1;
 
-// The console's words: a catalog, or none.
+// Returns the command `console`, which takes one catalog or none.
 fn console_command<'a>(alloc: Global) -> Result<Command<'a>, AllocError>
     ensures { IfOk result (λ command. IsCommand command console_app) }
 {
     Command::new(alloc, "console").arg(Arg::new(alloc, CATALOG))
 }
 
-// Those of two task threads: a catalog and steps.
+// Returns the command `live`, which takes a catalog and steps.
 fn live_command<'a>(alloc: Global) -> Result<Command<'a>, AllocError>
     ensures { IfOk result (λ command. IsCommand command live_app) }
 {
@@ -45,6 +45,7 @@ fn live_command<'a>(alloc: Global) -> Result<Command<'a>, AllocError>
         .arg(Arg::new(alloc, STEPS).required(true))
 }
 
+// Returns all of klpsim's commands.
 fn command<'a>(alloc: Global) -> Result<Command<'a>, AllocError>
     ensures { IfOk result (λ command. IsCommand command klpsim_app) }
 {
@@ -55,7 +56,7 @@ fn command<'a>(alloc: Global) -> Result<Command<'a>, AllocError>
     command.subcommand(live_command(alloc)?)
 }
 
-// The path that is given under this name.
+// Returns the path that was given for the argument of this name. `None` if none was.
 fn path_of(
     alloc: Global,
     matches: &ArgMatches<'_>,
@@ -69,7 +70,7 @@ fn path_of(
     }
 }
 
-// What words ask for that were read.
+// Returns what the words ask for, once they are matched. `None` if a file is missing.
 fn wanted(alloc: Global, matches: &ArgMatches<'_>) -> Result<Option<Wanted>, AllocError>
     ensures { IfOk result (λ words. option_map meaning words ≡ asked_in (subcommand_rows_of matches.now)) }
 {
@@ -86,7 +87,7 @@ fn wanted(alloc: Global, matches: &ArgMatches<'_>) -> Result<Option<Wanted>, All
     }
 }
 
-// The words behind a program's name.
+// Returns the words behind the program's name. `Err` if one isn't text, or if memory runs out.
 fn words_given<R: Env + AllocGlobal>(rt: &R) -> io::Result<Vec<String>> {
     let mut given = Vec::new(rt.alloc());
     for word in env::args(rt)?.skip(1) {
@@ -95,8 +96,8 @@ fn words_given<R: Env + AllocGlobal>(rt: &R) -> io::Result<Vec<String>> {
     Ok(given)
 }
 
-/// The words behind the program's name, which is this. Where they aren't text, or memory runs out, a line on `err` says
-/// so, and the answer is the exit status: 2 for words, 1 for memory.
+/// Returns the words behind the program's name. If one isn't text, or if memory runs out, writes a line to `err` and
+/// returns the exit status: 2 for words, 1 for memory. `name` is what the program calls itself.
 pub fn program_arguments<R: Env + AllocGlobal, W: Write>(
     rt: &R,
     name: &str,
@@ -113,7 +114,7 @@ pub fn program_arguments<R: Env + AllocGlobal, W: Write>(
     }
 }
 
-// The words are read, or refused; or memory ran out.
+// Reads klpsim's words. `Err(None)` if they are refused, `Err` with a fault if memory runs out.
 fn parse(alloc: Global, given: &[String]) -> Result<Wanted, Option<Fault>>
     ensures meant { IfOk result (λ words. asked_of (map string_bytes given.now) ≡ Some (meaning words)) }
     ensures refused { IfErr result (λ fault. fault ≡ None → asked_of (map string_bytes given.now) ≡ None) }
@@ -130,9 +131,8 @@ fn parse(alloc: Global, given: &[String]) -> Result<Wanted, Option<Fault>>
     }
 }
 
-/// Reads the words behind the program's name. Where they are refused, or memory runs out, a line on
-/// `err` says so, and the answer is the exit status: 2 for words (`--help` is refused too), 1 for
-/// memory.
+/// Reads the words behind klpsim's name. If they are refused, as `--help` is, or if memory runs out, writes a line to
+/// `err` and returns the exit status: 2 for words, 1 for memory.
 pub fn parse_arguments<W: Write>(alloc: Global, given: &[String], err: &mut W) -> Result<Wanted, u8>
     ensures meant { IfOk result (λ words. asked_of (map string_bytes given.now) ≡ Some (meaning words)) }
     ensures refused { IfErr result (λ status. status ≡ 2 → asked_of (map string_bytes given.now) ≡ None) }
@@ -145,13 +145,16 @@ pub fn parse_arguments<W: Write>(alloc: Global, given: &[String], err: &mut W) -
     }
 }
 
+/// Whether a word begins with `-`, as options do.
 fn begins_with_dash(word: &str) -> bool
     ensures { result ≡ begins_with_dash word.now }
 {
     word.as_bytes().first() == Some(&b'-')
 }
 
-/// The two words behind a program's name: its files, in their places. Others are refused on `err`, with their exit status.
+/// Returns the two words behind a program's name, which are its files. Refuses any other number of words, and words
+/// that begin with `-`: then writes a line to `err` and returns the exit status, 2. `name` is what the program calls
+/// itself.
 pub fn file_words<'a, W: Write>(
     name: &str,
     given: &'a [String],
@@ -170,22 +173,22 @@ pub fn file_words<'a, W: Write>(
     }
 }
 
-/// Writes the fault down, and answers its exit status.
+/// Writes a fault to `err` as a line of klpsim, and returns its exit status, 1.
 pub fn report_fault<W: Write>(fault: Fault, err: &mut W) -> u8
     ensures { result ≡ 1 }
 {
     report_fault_as(NAME, fault, err)
 }
 
-/// Says that words are refused, and answers their exit status.
+/// Writes to `err` that klpsim's words are refused, and returns the exit status, 2.
 pub fn report_usage<W: Write>(err: &mut W) -> u8
     ensures { result ≡ 2 }
 {
     report_usage_as(NAME, err)
 }
 
-/// How the program of this name is called, and where that is explained. Scripts ask for the line of klpsim, which so has
-/// the one word alone.
+/// Returns what a program says of refused words: how it is called, and where that is explained. klpsim says the word
+/// `usage` alone, for which scripts wait.
 fn usage_of(name: &str) -> &'static str {
     match name.as_bytes() {
         b"klpwatch" => "usage: klpwatch CATALOG TRACE (man klpwatch)",
@@ -194,7 +197,7 @@ fn usage_of(name: &str) -> &'static str {
     }
 }
 
-/// The same of the program of this name.
+/// Writes a fault to `err` as a line of the program of this name, and returns its exit status, 1.
 pub fn report_fault_as<W: Write>(name: &str, fault: Fault, err: &mut W) -> u8
     ensures { result ≡ 1 }
 {
@@ -202,6 +205,7 @@ pub fn report_fault_as<W: Write>(name: &str, fault: Fault, err: &mut W) -> u8
     FAULT
 }
 
+/// Writes to `err` how the program of this name is called, and returns the exit status of refused words, 2.
 pub fn report_usage_as<W: Write>(name: &str, err: &mut W) -> u8
     ensures { result ≡ 2 }
 {

@@ -8,8 +8,8 @@ use std::fs;
 use std::io::ErrorKind;
 use std::rt::Files;
 
-/// The catalog in the file at this path, whole, or the built-in one where no file is named. No clause
-/// can say what a file has.
+/// Returns the whole text in the file at this path, or the built-in catalog if there is no path. `Err` if the file
+/// can't be read, or if memory runs out. No clause can say what a file has.
 pub fn catalog_in<R: Files + AllocGlobal>(rt: &R, path: Option<String>) -> Result<Vec<u8>, Fault>
     ensures built_in { path ≡ None → IfOk result (λ catalog. catalog.items ≡ CATALOG.now) }
     ensures fault { IfErr result (λ fault. (fault ≡ NoMemory) ⊎ ((fault ≡ CannotRead) × IsSome path)) }
@@ -20,7 +20,7 @@ pub fn catalog_in<R: Files + AllocGlobal>(rt: &R, path: Option<String>) -> Resul
     bytes_in(rt, path.as_str())
 }
 
-/// The bytes of the file at this path.
+/// Returns the bytes of the file at this path. `Err` if it can't be read, or if memory runs out.
 pub fn bytes_in<R: Files + AllocGlobal>(rt: &R, path: &str) -> Result<Vec<u8>, Fault>
     ensures { IfErr result (λ fault. (fault ≡ NoMemory) ⊎ (fault ≡ CannotRead)) }
 {
@@ -30,7 +30,7 @@ pub fn bytes_in<R: Files + AllocGlobal>(rt: &R, path: &str) -> Result<Vec<u8>, F
     })
 }
 
-/// The bytes of two files.
+/// Returns the bytes of two files. `Err` if one can't be read, or if memory runs out.
 pub fn bytes_in_both<R: Files + AllocGlobal>(
     rt: &R,
     first: &str,

@@ -8,10 +8,10 @@ use klp_catalog_text::Plan;
 use klp_world::Script;
 use std::alloc::{AllocError, Global};
 
-/// A callback of one of the kinds that scripts get, in its box.
+/// A callback for a script, in a box that names its kind.
 ///
-/// The box names the kind: what a function makes for a box of any callback that leaves with its
-/// result, the check can't follow. So who boots a manager turns the one box into the other.
+/// A manager takes boxes that name no kind. But the check can't follow such a box if a function makes it and hands it
+/// out. So whoever boots a manager turns one box into the other.
 #[derive(Drop)]
 pub(crate) enum Kind {
     Scripted(Box<Scripted>),
@@ -19,7 +19,7 @@ pub(crate) enum Kind {
     Quiet(Box<Quiet>),
 }
 
-// A callback of the simplest kind that means the script.
+// Makes a callback that means the script, of the simplest kind that can. `Err` if memory runs out.
 fn kind_of(alloc: Global, script: &Script) -> Result<Kind, AllocError>
     ensures { IfOk result (λ kind. lent_by kind ≡ never_ran script.now) }
 {
@@ -34,8 +34,8 @@ fn kind_of(alloc: Global, script: &Script) -> Result<Kind, AllocError>
     }
 }
 
-/// A callback of the kind that runs any script, for the script of this number, in the order of the text. `None` where
-/// the plan has no such script. Who wants few kinds of callbacks takes this one for each script.
+/// Makes a callback for the script of this number, in the order of the text. `None` if the plan has no such script. The
+/// callback is always of the kind that runs any script, for callers that want to handle one kind alone.
 pub fn scripted(
     alloc: Global,
     plan: &Plan,
@@ -50,8 +50,8 @@ pub fn scripted(
     }
 }
 
-/// A callback for the script of this number, in the order of the text. `None` where the plan has no
-/// such script.
+/// Makes a callback for the script of this number, in the order of the text, of the simplest kind that can mean it.
+/// `None` if the plan has no such script.
 pub(crate) fn callback_of(
     alloc: Global,
     plan: &Plan,

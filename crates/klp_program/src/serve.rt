@@ -18,11 +18,11 @@ use std::io::{Read, Write};
 use std::marker::Brand;
 use std::sync::ledger::{Blank, Ledger};
 
-/// Drops a manager. Who owns one ends with this call, since what a drop does to all that a manager owns
-/// is dear to prove, and is proved here once.
+/// Drops a manager. Each function that owns one ends with this call: a manager's drop is dear to prove, so it is proved
+/// here alone.
 pub fn close(_manager: Manager) {}
 
-// Serves the console by a manager, which goes then.
+// Serves the console by a manager, and drops it then.
 fn over_manager<R: Source, W: Sink>(
     mut manager: Manager,
     reader: &mut R,
@@ -41,9 +41,8 @@ fn over_manager<R: Source, W: Sink>(
 
 // Boots a manager over a plan, and serves the console by it.
 //
-// Each script of the text gets a callback of the simplest kind that means it. The boxes of any
-// callback are made here, and the manager lives here and where it serves, since a function that hands
-// out such a box which it made hides what is proved of boxes.
+// Each script of the text gets a callback of the simplest kind that means it. The boxes are made here, and none leaves
+// with the result: what is proved of a box is lost if the function that makes it hands it out.
 fn over_plan<R: Source, W: Sink>(
     alloc: Global,
     plan: Plan,
@@ -67,7 +66,7 @@ fn over_plan<R: Source, W: Sink>(
     over_manager(manager, reader, writer)
 }
 
-/// Boots a manager over the catalog's text, and serves the console by it. Nothing is read or written
+/// Boots a manager over the catalog's text, and serves the console by it until the input ends. Reads and writes nothing
 /// before the text is known to have no fault.
 pub fn over_text<R: Source, W: Sink>(
     alloc: Global,
@@ -82,7 +81,8 @@ pub fn over_text<R: Source, W: Sink>(
     over_plan(alloc, plan, reader, writer)
 }
 
-// The same over streams of std.
+// Serves the console over streams of std. `reads` and `writes` are tokens, by which the proof knows all that was read
+// and written.
 fn over_std<R: Read, W: Write, L: Ledger, M: Ledger>(
     alloc: Global,
     catalog: &[u8],
@@ -100,10 +100,9 @@ fn over_std<R: Read, W: Write, L: Ledger, M: Ledger>(
     over_text(alloc, catalog, &mut reader, &mut writer)
 }
 
-/// Serves the input over a catalog's text, until it ends. The answer is the exit status: 0, or 1
-/// where a line on `err` tells the fault. Nothing is written to `out` before the catalog is known
-/// to have none. What the streams have afterwards no clause says (docs/DECISIONS.md, "What gathers
-/// answers, and its sink"): tests do.
+/// Serves the input over a catalog's text until it ends, and returns the exit status: 0, or 1 if there is a fault, of
+/// which a line on `err` tells. Writes nothing to `out` before the catalog is known to have no fault. What the streams
+/// have afterwards, no clause says (docs/DECISIONS.md, "What gathers answers, and its sink"); tests show it.
 pub fn console<R: Read, W: Write, E: Write>(
     alloc: Global,
     catalog: &[u8],

@@ -1,4 +1,4 @@
-/// What the words of the program ask for.
+/// What klpsim's words ask for.
 #[derive(Drop)]
 pub enum Wanted {
     /// To serve standard input over the catalog in this file, or over the built-in one.
