@@ -1,0 +1,5 @@
+pub mod ActingLemmas
+pub mod ApartLemmas
+pub mod FailsLemmas
+pub mod JudgedLemmas
+pub mod UndoneLemmas
