@@ -3,7 +3,7 @@ use Rattle.std.proofs.Common.{◌≡◌, ℕ, suc, ◌+◌, Bool, true, false, c
 use Rattle.std.specs.Prelude.{slice_get, option_map, filter}
 use Rattle.std.specs.List.{before_first, position_or_len, enumerate_from}
 use Rattle.std.proofs.lemmas.Option.{slice_get-map}
-use Rattle.klp_types.specs.Setting.{Setting, Patch, PatchObject, patch_objects, objects_of}
+use Rattle.klp_types.specs.Setting.{Setting, Patch, PatchObject, patch_objects}
 use Rattle.klp_types.specs.Callbacks.{refuses}
 use Rattle.klp_modules.specs.Names.{ModuleTable, ObjectNames, names_of}
 use Rattle.klp_catalog_text.specs.Plan.{PlanTarget, PlanPatch}

@@ -1,15 +1,15 @@
 -- Edits and objects that touch no common variable.
 use Rattle.std.proofs.lemmas.Grind.{common_steps}
-use Rattle.std.proofs.Common.{◌≡◌, ◌⊎◌, ℕ, ◌≤◌, ◌-◌, take, Bool, true, false, ◌||◌, List, [], ◌∷◌, ◌++◌, length, drop, get_or, Option, Some, None, refl, sym, ap, ◌∙◌, inl, inr, subst, arith}
+use Rattle.std.proofs.Common.{◌≡◌, ℕ, ◌≤◌, ◌-◌, take, Bool, true, false, ◌||◌, List, [], ◌∷◌, ◌++◌, length, drop, get_or, Option, Some, None, refl, sym, ap, ◌∙◌, inl, inr, subst, arith}
 use Rattle.std.specs.Prelude.{MatchOption}
 use Rattle.klp_types.specs.declared.shadow.ShadowKey.{ShadowKey}
 use Rattle.klp_types.specs.declared.edit.Edit.{Edit}
 use Rattle.klp_types.specs.Script.{edit_touches}
 use Rattle.klp_types.specs.declared.callback.Which.TheVariants.{Pre, Post, PreUn, PostUn}
 use Rattle.klp_types.specs.Setting.{PatchObject}
-use Rattle.klp_model.specs.Company.{object_touches, one_touches, AreApart}
+use Rattle.klp_model.specs.Company.{object_touches, one_touches}
 use Rattle.klp_lint.specs.Scripts.{edits_for, all_edits, one_edit_touches}
-use Rattle.klp_lint.specs.Premises.{AreApartFrom, OneOf, TwoTouch}
+use Rattle.klp_lint.specs.Premises.{AreApartFrom, OneOf}
 use Rattle.klp_lint.specs.Apart.{AreEditsApart, BothTouch}
 
 or_case : (a b : Bool) {P : Type 0} → (a ≡ true → P) → (b ≡ true → P) → (a || b) ≡ true → P

@@ -1,16 +1,16 @@
 -- What fails one variable at a time fails in the words of the model.
-use Rattle.std.proofs.Common.{◌≡◌, ◌⊎◌, ℕ, Bool, true, false, ◌||◌, List, [], ◌∷◌, Option, Some, None, refl, sym, ap, ◌∙◌, inl, inr, subst}
+use Rattle.std.proofs.Common.{◌≡◌, ℕ, Bool, true, false, ◌||◌, List, [], ◌∷◌, None, refl, sym, ap, ◌∙◌, inl, inr, subst}
 use Rattle.std.specs.Prelude.{IsTrue}
 use Rattle.klp_types.specs.declared.shadow.ShadowKey.{ShadowKey}
 use Rattle.klp_types.specs.declared.callback.Which.{Which}
 use Rattle.klp_types.specs.declared.callback.Which.TheVariants.{Pre, Post, PreUn, PostUn}
 use Rattle.klp_types.specs.declared.edit.Edit.{Edit}
 use Rattle.klp_types.specs.Setting.{Setting, PatchObject}
-use Rattle.klp_types.specs.World.{World, ShadowValue, variable}
+use Rattle.klp_types.specs.World.{World, variable}
 use Rattle.klp_types.specs.Script.{Script, edits_made, made_of, edited_by, effect, touches, Undoes}
 use Rattle.klp_model.specs.State.{State}
-use Rattle.klp_model.specs.Company.{taking_part, script_of, one_touches, company_keys, object_touches, EachUndoes, UndoesItself, AreApart, IsFairStart}
-use Rattle.klp_lint.specs.Undone.{Values, IsRestored, AreRestored, EachRestores}
+use Rattle.klp_model.specs.Company.{taking_part, script_of, one_touches, object_touches, EachUndoes, UndoesItself, AreApart, IsFairStart}
+use Rattle.klp_lint.specs.Undone.{IsRestored, AreRestored, EachRestores}
 use Rattle.klp_lint.specs.Premises.{OneOf, IsNotUndone, TwoTouch, Fails, FailsOf, IsKnown}
 use Rattle.klp_lint.specs.declared.premise.Pair.{Pair}
 use Rattle.klp_lint.specs.declared.premise.Pair.TheVariants as pair

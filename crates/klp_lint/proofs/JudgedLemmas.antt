@@ -1,5 +1,5 @@
 -- What is judged target by target is judged of the objects that take part.
-use Rattle.std.proofs.Common.{◌≡◌, ℕ, true, false, List, Option, None, Result, Ok, Err, sym, ap, ◌∙◌, subst}
+use Rattle.std.proofs.Common.{◌≡◌, ℕ, false, List, None, Result, Ok, Err, sym, ap, ◌∙◌, subst}
 use Rattle.std.specs.Prelude.{slice_get, IfOk, IfErr}
 use Rattle.klp_types.specs.Setting.{Setting, PatchObject}
 use Rattle.klp_types.specs.World.{variable}

@@ -1,5 +1,5 @@
 -- The objects of a patch whose callbacks make changes, as a plan has them.
-use Rattle.std.specs.Prelude.{◌≡◌, ℕ, ◌+◌, List, [], ◌∷◌, if◌then◌else◌}
+use Rattle.std.specs.Prelude.{ℕ, ◌+◌, List, [], ◌∷◌, if◌then◌else◌}
 use Rattle.klp_types.specs.Setting.{PatchObject}
 use Rattle.klp_types.specs.Callbacks.{refuses}
 use Rattle.klp_modules.specs.Names.{ModuleTable}

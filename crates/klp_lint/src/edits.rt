@@ -118,8 +118,8 @@ pub(crate) fn edit_touches(key: ShadowKey, edit: &Edit) -> bool
     }
 }
 
-/// A variable that two edits might both touch, if there is one that they do: one that either names, or else one of the id
-/// that both free.
+/// A variable that two edits might both touch, if there is one that they do: one that either names, or else one of the
+/// id that both free.
 fn candidate(one: &Edit, other: &Edit) -> ShadowKey
     ensures { (key : AnyKey) → scripts.edit_touches key one.now ≡ true → scripts.edit_touches key other.now ≡ true
         → (scripts.edit_touches result one.now ≡ true) × (scripts.edit_touches result other.now ≡ true) }

@@ -1,5 +1,5 @@
-//! Whether the premises of the round trip hold of a patch: in the state of a manager, or wherever none of its variables is
-//! there.
+//! Whether the premises of the round trip hold of a patch: in the state of a manager, or wherever none of its variables
+//! is there.
 ghost use Rattle.std.specs.Prelude.{◌≡◌, slice_get, IfOk, IfErr};
 ghost use Rattle.klp_catalog.specs.Catalog.{targets_of_patch};
 ghost use Rattle.klp_manager_state.specs.Managed.{setting_of};
@@ -49,7 +49,8 @@ fn judge<V: Variables>(
 /// Whether a patch that is enabled now and withdrawn later leaves no trace: whether it is at a fair start of the round
 /// trip (docs/ROUND_TRIP.md). `Err` has a premise that fails, or of which it isn't known whether it holds.
 ///
-/// `patches` are those of the plan over which the manager was booted: a manager doesn't tell the scripts of its callbacks.
+/// `patches` are those of the plan over which the manager was booted: a manager doesn't tell the scripts of its
+/// callbacks.
 pub fn leaves_no_trace(
     manager: &Manager,
     patches: &[PlanPatch],
@@ -72,8 +73,8 @@ pub fn leaves_no_trace(
     )
 }
 
-/// Whether the callbacks of a patch undo each other, and those of its objects touch no common variable, in each world that
-/// has none of the variables which they touch. The objects are those that are loaded now.
+/// Whether the callbacks of a patch undo each other, and those of its objects touch no common variable, in each world
+/// that has none of the variables which they touch. The objects are those that are loaded now.
 pub fn holds_everywhere(
     manager: &Manager,
     patches: &[PlanPatch],

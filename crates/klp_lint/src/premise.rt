@@ -21,8 +21,8 @@ pub enum Left {
     Id(u64),
 }
 
-/// A premise of the round trip that a patch doesn't keep (docs/ROUND_TRIP.md). An object is told by its index among those
-/// of the patch, from 0.
+/// A premise of the round trip that a patch doesn't keep (docs/ROUND_TRIP.md). An object is told by its index among
+/// those of the patch, from 0.
 #[derive(Clone, Copy, PartialEq, Eq)]
 pub enum Premise {
     /// A patch is in transition.

@@ -104,7 +104,8 @@ pub fn found_by(
     }
 }
 
-/// The value that the variable has behind both callbacks of the pair. The pair restores it where both values are the same.
+/// The value that the variable has behind both callbacks of the pair. The pair restores it where both values are the
+/// same.
 pub fn left_behind(
     callbacks: &[PlanCallback],
     pair: Pair,
