@@ -161,7 +161,7 @@ impl Told<'_> {
         let object = self.object(place);
         write!(
             out,
-            "leaves a trace: {back} for {object} doesn't undo {done}"
+            "may leave a trace: {back} for {object} doesn't undo {done}"
         )?;
         if second != 0 && first != 0 {
             write!(out, " of line {first}")?;
