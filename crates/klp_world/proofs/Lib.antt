@@ -10,6 +10,7 @@ pub mod LoggedLemmas
 pub mod ChainLemmas
 pub mod TableLemmas
 pub mod GatherLemmas
+pub mod ParentLemmas
 pub mod FreedLemmas
 pub mod ScriptLemmas
 pub mod KindLemmas

@@ -9,3 +9,4 @@ pub mod Added
 pub mod Changes
 pub mod Chained
 pub mod Filed
+pub mod Parents
