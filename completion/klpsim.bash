@@ -1,4 +1,4 @@
-# Completion of klpsim, klpwatch and klppage for bash: what they do, and files of the kind that they take in this place.
+# Completion of klpsim, klpwatch, klppage and klplint for bash: what they do, and files of the kind that they take in this place.
 # Folders are completed too, and behind `<` or `>` files of any kind. To have it without installing: source
 # completion/klpsim.bash
 
@@ -59,6 +59,16 @@ _klppage() {
   esac
 }
 
+_klplint() {
+  local klp_words
+  _klp_words || return 0
+  case "${#klp_words[@]}" in
+    1) _klp_files catalog "${klp_words[0]}" ;;
+    2) _klp_files script "${klp_words[1]}" ;;
+  esac
+}
+
 complete -F _klpsim klpsim
 complete -F _klpwatch klpwatch
 complete -F _klppage klppage
+complete -F _klplint klplint

@@ -11,8 +11,8 @@ import tempfile
 import testing.run
 from testing.run import EXAMPLES, TOP, fault, read, run, run_itself
 
-# What klpwatch ends with where a trace isn't honest.
-DISHONEST = 3
+# What klpwatch ends with where a trace isn't honest, and klplint where there are findings.
+DISHONEST, FINDINGS = 3, 3
 
 
 def index(name):
@@ -108,6 +108,22 @@ def pages():
     return [(f"pages/{name}.html", functools.partial(page, f"pages/{name}")) for name in names]
 
 
+def lint(name):
+    """What klplint finds in a catalog, behind a script where there is one."""
+    words = [f"lint/{name}.catalog"]
+    if os.path.exists(f"{EXAMPLES}/lint/{name}.script"):
+        words.append(f"lint/{name}.script")
+    stored = read(f"lint/{name}.output")
+    clean = (b"leaves no trace", b"not judged")
+    wanted = 0 if all(any(it in line for it in clean) for line in stored.splitlines()) else FINDINGS
+    return fault(run(["klplint", *words]), (wanted, stored, ""))
+
+
+def lints():
+    names = sorted(it for it, ending in map(os.path.splitext, os.listdir(f"{EXAMPLES}/lint")) if ending == ".catalog")
+    return [(f"lint/{name}.catalog", functools.partial(lint, name)) for name in names]
+
+
 def refused(catalog, said, run=run):
     """A catalog is refused before anything is answered."""
     with tempfile.NamedTemporaryFile(suffix=".catalog") as it:
@@ -161,7 +177,7 @@ def unreadable_paths():
 
 def original(path):
     """The example that a file of a crate's data is a copy of, or None where it is the crate's own."""
-    folder = f"{EXAMPLES}/pages" if "/klppage/" in path else EXAMPLES
+    folder = f"{EXAMPLES}/pages" if "/klppage/" in path else f"{EXAMPLES}/lint" if "/klplint/" in path else EXAMPLES
     name = f"{folder}/{os.path.basename(path)}"
     return name if os.path.exists(name) else None
 
@@ -174,5 +190,6 @@ def copies():
 
 
 def cases():
-    kinds = (scripts, traces, long_traces, cut_traces, lives, pages, refused_catalogs, faulty_lines, unreadable_paths, copies)
+    kinds = (scripts, traces, long_traces, cut_traces, lives, pages, lints, refused_catalogs, faulty_lines, unreadable_paths)
+    kinds += (copies,)
     return [case for kind in kinds for case in kind()]

@@ -1,0 +1,6 @@
+pub mod ActingLemmas
+pub mod ApartLemmas
+pub mod FailsLemmas
+pub mod JudgedLemmas
+pub mod PlanLemmas
+pub mod UndoneLemmas

@@ -1,0 +1,5 @@
+use Rattle.std.proofs.Common.{length}
+use Rattle.klp_lint.proofs.objects.+first_left.Given as goal
+
+abbrev pub decreases-first_left : goal.decreases-first_left
+decreases-first_left g l = length l.targets.now

@@ -1,0 +1,5 @@
+pub mod Acting
+pub mod Apart
+pub mod Premises
+pub mod Scripts
+pub mod Undone

@@ -1,0 +1,47 @@
+//! What the premises come to. A function here does nothing: its contract is the law.
+ghost use Rattle.std.specs.Prelude.{◌≡◌, ℕ, false, List, map};
+ghost use Rattle.klp_types.specs.declared.shadow.ShadowKey.{ShadowKey};
+ghost use Rattle.klp_types.specs.Setting.{Setting};
+ghost use Rattle.klp_model.specs.State.{State, is_installed};
+ghost use Rattle.klp_model.specs.Company.{IsFairStart, AreFair, company_keys};
+ghost use Rattle.klp_model.specs.Footprint.{SameFootprint};
+ghost use Rattle.klp_modules.specs.Names.{names_of};
+ghost use Rattle.klp_catalog_text.specs.Plan.{PlanPatch};
+ghost use Rattle.klp_catalog_text.specs.Scripts.{scripts_of};
+ghost use Rattle.klp_catalog.specs.Assembled.{without_scripts};
+ghost use Rattle.klp_manager_state.specs.Managed.{Managed, setting_of};
+ghost use Rattle.klp_core.specs.Journaled.{Journaled};
+ghost use Rattle.klp_core.specs.Withdrawal.{LeavesNoTrace, appended};
+ghost use Rattle.klp_lint.specs.declared.premise.Premise.{Premise as AnyPremise};
+ghost use Rattle.klp_lint.specs.Premises.{ArePatchesOf, Fails, IsKnown};
+
+/// A manager that is booted over a plan has its patches, which `leaves_no_trace` takes: it has the names of its image,
+/// the plan's patches but for the scripts, and the plan's scripts in order (klp_program/specs/Booted). Events leave the
+/// setting.
+pub fn a_booted_manager_has_the_patches_of_its_plan()
+    ensures { (managed : Managed) (patches : List PlanPatch)
+        → managed.catalog.names ≡ names_of managed.image.objects
+        → map without_scripts managed.catalog.patches ≡ map without_scripts patches
+        → scripts_of managed.catalog.patches ≡ scripts_of patches → ArePatchesOf (setting_of managed) patches }
+{}
+
+/// Where one of the premises fails that are known to, the patch isn't at a fair start.
+pub fn what_fails_is_no_fair_start()
+    ensures { (setting : Setting) (patch : ℕ) (state : State) (premise : AnyPremise) → IsKnown premise
+        → Fails setting patch state premise → IsFairStart setting patch state → ⊥ }
+{
+    klp_types::laws::untouched_variables_stay();
+}
+
+/// Where the premises hold before fair events, and the patch isn't installed behind them, no trace of it is left: this
+/// is what `Manager::run` promises, of whom `leaves_no_trace` says that it is at a fair start.
+pub fn what_is_fair_leaves_no_trace()
+    ensures { (before after : Journaled) (patch : ℕ) → LeavesNoTrace before after
+        → IsFairStart (setting_of before.managed) patch before.managed.state
+        → AreFair (setting_of before.managed) patch
+        (company_keys (setting_of before.managed) before.managed.state patch) before.managed.state
+        (appended before after)
+        → is_installed after.managed.state patch ≡ false
+        → SameFootprint (setting_of before.managed)
+        (company_keys (setting_of before.managed) before.managed.state patch) after.managed.state before.managed.state }
+{}

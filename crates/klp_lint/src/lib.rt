@@ -1,0 +1,26 @@
+//! Whether a patch would leave no trace: the premises of the round trip (docs/ROUND_TRIP.md), decided.
+//!
+//! [`leaves_no_trace`] says of a patch of a manager whether it is at a fair start, or which premise fails
+//! (`specs/Premises`). [`holds_everywhere`] says so of every world in which none of the patch's variables is there.
+//! Both take the scripts of the callbacks from the plan over which the manager was booted.
+//!
+//! `src/edits.rt` follows one variable through edits, and finds a variable that two lists of edits touch.
+//! `src/undone.rt` judges the callbacks of one object by the variables that they name (`specs/Undone`): all other
+//! variables stay as they are. `src/objects.rt` goes over the objects of a patch (`specs/Acting`). Neither knows a
+//! manager: what variables there are is a trait ([`variables`]).
+//!
+//! `laws` says that what is told to fail does, and what `Manager::run` then promises of a patch at a fair start.
+#![tactic(auto)]
+
+mod edits;
+mod judged;
+pub mod laws;
+mod objects;
+mod premise;
+mod there;
+mod undone;
+mod variables;
+
+pub use judged::{holds_everywhere, leaves_no_trace};
+pub use premise::{Pair, Premise};
+pub use undone::{found_by, left_behind};

@@ -1,0 +1,59 @@
+ghost use Rattle.std.specs.Prelude.{◌≡◌};
+ghost use Rattle.klp_lint.specs.Premises.{premise_of};
+
+use klp_types::ShadowKey;
+
+/// Two callbacks of an object, the second of which has to undo the first.
+#[derive(Clone, Copy, Debug, PartialEq, Eq)]
+pub enum Pair {
+    /// Post-unpatch undoes pre-patch.
+    Pre,
+    /// Pre-unpatch undoes post-patch.
+    Post,
+}
+
+/// What stays changed of what an object's callbacks name.
+#[derive(Clone, Copy, PartialEq, Eq)]
+pub enum Left {
+    /// The second callback of the pair leaves this variable with another value than the first found.
+    Variable(Pair, ShadowKey),
+    /// A callback frees all variables of this id, and there may be one that nothing adds again.
+    Id(u64),
+}
+
+/// A premise of the round trip that a patch doesn't keep (docs/ROUND_TRIP.md). An object is told by its index among
+/// those of the patch, from 0.
+#[derive(Clone, Copy, PartialEq, Eq)]
+pub enum Premise {
+    /// A patch is in transition.
+    Moving,
+    /// The patch is installed.
+    Installed,
+    /// The callbacks of this pair leave the variable with another value than it had.
+    NotUndone {
+        place: usize,
+        pair: Pair,
+        key: ShadowKey,
+    },
+    /// A callback frees all variables of this id, and it isn't known that there is none: no query lists them.
+    FreesAll {
+        place: usize,
+        id: u64,
+    },
+    /// The callbacks of both objects touch the variable.
+    NotApart {
+        first: usize,
+        second: usize,
+        key: ShadowKey,
+    },
+}
+
+/// The premise that an object of this index doesn't keep, since its callbacks leave this.
+pub(crate) fn premise_of(place: usize, left: Left) -> Premise
+    ensures { result ≡ premise_of place left }
+{
+    match left {
+        Left::Variable(pair, key) => Premise::NotUndone { place, pair, key },
+        Left::Id(id) => Premise::FreesAll { place, id },
+    }
+}

@@ -1,0 +1,126 @@
+//! Whether the callbacks of an object undo each other.
+ghost use Rattle.std.specs.Prelude.{◌≡◌, ◌↔◌, [], ◌∷◌, IsTrue, MatchOption};
+ghost use Rattle.klp_types.specs.declared.shadow.ShadowKey.{ShadowKey as AnyKey};
+ghost use Rattle.klp_lint.specs.Scripts.{all_edits};
+ghost use Rattle.klp_lint.specs.Undone.{AreRestored, AreHarmless, IsHarmless, IsLeft, IsRestored, found_by, left_behind};
+
+use crate::edits::{all_edits, edits_for, made_of};
+use crate::premise::{Left, Pair};
+use crate::variables::Variables;
+use klp_catalog_text::PlanCallback;
+use klp_types::{Edit, ShadowKey, ShadowValue, Which};
+
+fn is_same(a: &Option<ShadowValue>, b: &Option<ShadowValue>) -> bool
+    ensures { IsTrue result ↔ (a.now ≡ b.now) }
+{
+    match (a, b) {
+        (None, None) => true,
+        (Some(a), Some(b)) => a.bytes() == b.bytes(),
+        _ => false,
+    }
+}
+
+/// The first pair of an object's callbacks that doesn't restore a variable which has this value.
+pub(crate) fn first_unrestored(
+    callbacks: &[PlanCallback],
+    key: ShadowKey,
+    was: Option<ShadowValue>,
+) -> Option<Pair>
+    ensures { MatchOption result (AreRestored callbacks.now key was)
+        (λ pair. IsRestored pair callbacks.now key was → ⊥) }
+{
+    let there = made_of(key, was, edits_for(Which::Pre, callbacks));
+    let end = made_of(key, there, edits_for(Which::PostUn, callbacks));
+    if !is_same(&end, &was) {
+        return Some(Pair::Pre);
+    }
+    let patched = made_of(key, there, edits_for(Which::Post, callbacks));
+    let unpatched = made_of(key, patched, edits_for(Which::PreUn, callbacks));
+    if !is_same(&unpatched, &there) {
+        return Some(Pair::Post);
+    }
+    None
+}
+
+/// What an edit names that may stay changed once all callbacks of its object ran.
+fn left_of<V: Variables>(variables: &V, callbacks: &[PlanCallback], edit: &Edit) -> Option<Left>
+    ensures { MatchOption result (IsHarmless (V.values variables.now) callbacks.now edit.now)
+        (λ left. IsLeft (V.values variables.now) callbacks.now (edit.now ∷ []) left) }
+{
+    match *edit {
+        Edit::Alloc(key, _) | Edit::Free(key) => {
+            match first_unrestored(callbacks, key, variables.get(key)) {
+                Some(pair) => Some(Left::Variable(pair, key)),
+                None => None,
+            }
+        }
+        Edit::FreeAll(id) if !variables.has_none_of(id) => Some(Left::Id(id)),
+        Edit::FreeAll(_) | Edit::SetData(_, _) | Edit::TakePrev(_) => None,
+    }
+}
+
+/// The same of the first of these edits that names such a thing.
+fn first_left<V: Variables>(
+    variables: &V,
+    callbacks: &[PlanCallback],
+    edits: &[Edit],
+) -> Option<Left>
+    ensures { MatchOption result (AreHarmless (V.values variables.now) callbacks.now edits.now)
+        (λ left. IsLeft (V.values variables.now) callbacks.now edits.now left) }
+{
+    let [edit, rest @ ..] = edits else {
+        return None;
+    };
+    match left_of(variables, callbacks, edit) {
+        Some(left) => Some(left),
+        None => first_left(variables, callbacks, rest),
+    }
+}
+
+/// What an object's callbacks may leave changed. None if they restore every variable.
+pub(crate) fn left_by<V: Variables>(variables: &V, callbacks: &[PlanCallback]) -> Option<Left>
+    ensures { MatchOption result ((key : AnyKey) → AreRestored callbacks.now key (V.values variables.now key))
+        (λ left. IsLeft (V.values variables.now) callbacks.now (all_edits callbacks.now) left) }
+{
+    klp_types::laws::keys_are_in_order();
+    match first_left(variables, callbacks, &all_edits(callbacks)) {
+        Some(left) => Some(left),
+        None => None,
+    }
+}
+
+/// The value of a variable that the first callback of a pair finds. Before pre-patch it has this one.
+pub fn found_by(
+    callbacks: &[PlanCallback],
+    pair: Pair,
+    key: ShadowKey,
+    was: Option<ShadowValue>,
+) -> Option<ShadowValue>
+    ensures { result ≡ found_by pair callbacks.now key was }
+{
+    match pair {
+        Pair::Pre => was,
+        Pair::Post => made_of(key, was, edits_for(Which::Pre, callbacks)),
+    }
+}
+
+/// The value that the variable has behind both callbacks of the pair. The pair restores it where both values are the
+/// same.
+pub fn left_behind(
+    callbacks: &[PlanCallback],
+    pair: Pair,
+    key: ShadowKey,
+    was: Option<ShadowValue>,
+) -> Option<ShadowValue>
+    ensures value { result ≡ left_behind pair callbacks.now key was }
+    ensures restored { (IsRestored pair callbacks.now key was) ↔ (result ≡ found_by pair callbacks.now key was) }
+{
+    let there = made_of(key, was, edits_for(Which::Pre, callbacks));
+    match pair {
+        Pair::Pre => made_of(key, there, edits_for(Which::PostUn, callbacks)),
+        Pair::Post => {
+            let patched = made_of(key, there, edits_for(Which::Post, callbacks));
+            made_of(key, patched, edits_for(Which::PreUn, callbacks))
+        }
+    }
+}
