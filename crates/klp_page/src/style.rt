@@ -43,6 +43,11 @@ div.row{color:var(--soft)}samp{white-space:pre-wrap}.no samp{color:var(--hold);f
 a{text-decoration:none}}
 ";
 
+/// What the style of a page needs whose lines have times: room for them beside the line.
+pub(crate) const TIMED_STYLE: &str = ".row>summary,div.row{grid-template-columns:5.4rem minmax(0,1.3fr) minmax(0,1fr)}.n{white-space:nowrap}
+@media(max-width:40rem){.row>summary,div.row{grid-template-columns:4.4rem minmax(0,1fr)}}
+";
+
 pub(crate) const STYLE_END: &str = "</style>
 ";
 
@@ -69,6 +74,9 @@ pub(crate) const OPEN: &str = " open";
 pub(crate) const NUMBER: &str = "><span class=n>";
 
 pub(crate) const CARD_NUMBER: &str = "><summary><span class=n>";
+
+/// What stands in front of the seconds of a line.
+pub(crate) const TIME: &str = "<br>+";
 
 pub(crate) const LINE: &str = "</span><code class=line>";
 

@@ -6,6 +6,8 @@
 //! changed: shadow variables that the catalog's scripts name, and system states. So the scripts are to be watched before
 //! the manager is booted ([`Chronicle::watch`]), as it doesn't lend them.
 //!
+//! Cards say what tasks are called, where that is known ([`klp_names::Names`]).
+//!
 //! This is layout, and has no contract. What comes from the catalog or the script is escaped, as all on a `Sheet` is.
 //! [`STYLE`] is what a page's style needs for cards, over the page's own colours and those of the drawing.
 #![tactic(auto)]
