@@ -1,5 +1,5 @@
 -- What a task is called, as a page spells it.
-use Rattle.std.specs.Prelude.{ℕ, suc, ◌&&◌, Bool, nat_lt, nat_le, List, [], ◌++◌, codes, length, take, slice_index, Option, Some, None, if◌then◌else◌}
+use Rattle.std.specs.Prelude.{ℕ, zero, suc, ◌&&◌, Bool, nat_lt, nat_le, List, [], ◌++◌, codes, length, take, slice_index, Option, Some, None, if◌then◌else◌}
 use Rattle.klp_markup.specs.declared.called.TheConstants.{MAX_SHOWN}
 use Rattle.klp_markup.specs.Escaped.{words_text}
 
@@ -9,7 +9,7 @@ goes_on b = nat_le 128 b && nat_lt b 192
 
 -- the last place up to this one where a character begins
 unfoldable pub last_begin : ℕ → List ℕ → ℕ
-last_begin 0 name = 0
+last_begin zero name = 0
 last_begin (suc place) name = if goes_on (slice_index name (suc place)) then last_begin place name else suc place
 
 -- a long name is cut in front of a character, with a mark

@@ -44,7 +44,7 @@ fn add_shown(sheet: &mut Sheet, name: &[u8])
 
 /// Adds what a task is called behind its number, if that is known.
 pub(crate) fn add_called(sheet: &mut Sheet, name: Option<&[u8]>)
-    ensures { Adds sheet.old sheet.new (called_text (option_map (λ name. name.now) name)) }
+    ensures { Adds sheet.old sheet.new (called_text (option_map (λ name. name.now) name.entry)) }
 {
     crate::laws::what_is_added_adds_up();
     if let Some(name) = name {
