@@ -3,17 +3,18 @@
 use crate::bars::Bars;
 use crate::pen::{LETTER, add_text_start, number_width};
 use crate::scale::Scale;
-use klp_markup::Value::Number;
 use klp_markup::Sheet;
+use klp_markup::Value::Number;
 use klp_names::Names;
 use klp_timeline::{Said, Sentence};
 use std::alloc::{AllocError, Global};
 
 /// The lines that have their number on the axis, or their time.
 ///
-/// Not each has room for its own. A line that a sentence names as its beginning or its end comes first, the later sentences
-/// before the earlier, since a reader goes from a sentence to its line, and from the end of the run backwards. Then each line
-/// comes in which something changes, from left to right. One that finds its place taken has no number.
+/// Not each has room for its own. A line that a sentence names as its beginning or its end comes first, the later
+/// sentences before the earlier, since a reader goes from a sentence to its line, and from the end of the run
+/// backwards. Then each line comes in which something changes, from left to right. One that finds its place taken
+/// has no number.
 #[derive(Drop)]
 pub(crate) struct Axis<'a> {
     names: &'a Names,
@@ -55,7 +56,8 @@ impl<'a> Axis<'a> {
         Ok(())
     }
 
-    /// Gives the lines that a sentence names their numbers. Of times it is that of the line behind a stay, with which it ended.
+    /// Gives the lines that a sentence names their numbers. Of times it is that of the line behind a stay, with
+    /// which it ended.
     fn offer_sentence(&mut self, scale: &Scale, sentence: &Sentence) -> Result<(), AllocError> {
         self.offer(scale, sentence.line)?;
         match &sentence.said {

@@ -193,8 +193,8 @@ impl Bars {
         }
     }
 
-    /// Ends all bars behind the last line, and finds the place of each line in the drawing: by its time, if all lines that
-    /// change something have one.
+    /// Ends all bars behind the last line, and finds the place of each line in the drawing: by its time, if all
+    /// lines that change something have one.
     pub fn close(&mut self, lines: u64, names: &Names) -> Result<(), AllocError> {
         for number in 0..LANES {
             self.turn(number, lines.saturating_add(1), None);

@@ -49,8 +49,8 @@ fn places_of_marks(alloc: Global, bars: &Bars) -> Result<Vec<u64>, AllocError> {
     Ok(places)
 }
 
-/// Adds the signs of the marks. Where there is room up to the next one, the number of its line stands beside it, unless lines
-/// are where their times are.
+/// Adds the signs of the marks. Where there is room up to the next one, the number of its line stands beside it,
+/// unless lines are where their times are.
 fn add_signs(sheet: &mut Sheet, bars: &Bars) {
     let mut free = 0;
     for (number, mark) in bars.marks.iter().enumerate() {
@@ -197,8 +197,8 @@ fn add_note(sheet: &mut Sheet, bars: &Bars) {
     sheet.markup("</p>\n");
 }
 
-/// Adds the drawing of what was seen, with the legend. Each stay leads to its sentence, `#stay-LINE-TASK`, or where that
-/// is left out to the line, `#line-LINE`.
+/// Adds the drawing of what was seen, with the legend. Each stay leads to its sentence, `#stay-LINE-TASK`, or where
+/// that is left out to the line, `#line-LINE`.
 pub fn add_drawing(
     alloc: Global,
     sheet: &mut Sheet,

@@ -230,8 +230,9 @@ fn label_width(letters: usize) -> u64 {
     (letters as u64).saturating_mul(30).saturating_add(43) / 4
 }
 
-/// Where a label of this width stands: first in its stay, but last in one that lasts, since of a drawing that is too wide for
-/// a screen the end is seen. There it may stand over the end too. Some of the stay is left in sight beside it.
+/// Where a label of this width stands: first in its stay, but last in one that lasts, since of a drawing that is too
+/// wide for a screen the end is seen. There it may stand over the end too. Some of the stay is left in sight beside
+/// it.
 fn place_of_label(stops: &[Stop], held: &Held, width: u64) -> Option<u64> {
     let room = width.saturating_add(SHOWN);
     if !held.is_lasting {

@@ -77,7 +77,9 @@ impl Pace {
             all = all.saturating_add(stretch.drawn);
             cuts = cuts.saturating_add(u64::from(stretch.is_cut()));
         }
-        let room = WIDTH.saturating_sub(cuts.saturating_mul(COST)).max(WIDTH / 2);
+        let room = WIDTH
+            .saturating_sub(cuts.saturating_mul(COST))
+            .max(WIDTH / 2);
         let (mut drawn, mut cut) = (0u64, 0u64);
         for stretch in &mut self.stretches {
             let x = drawn.saturating_mul(room) / all.max(1);
@@ -134,8 +136,8 @@ fn add_stretch(stretches: &mut Vec<Stretch>, begin: u64, end: u64) -> Result<u64
     Ok(end)
 }
 
-/// Returns the stretches up to each line that changes something, and up to the last line. They are short of the first of
-/// these that has no time.
+/// Returns the stretches up to each line that changes something, and up to the last line. They are short of the
+/// first of these that has no time.
 fn stretches_of(
     alloc: Global,
     changed: &[u64],
@@ -156,8 +158,8 @@ fn stretches_of(
     Ok(stretches)
 }
 
-/// Returns where times are in the drawing of so many lines, of which these change something. `None` if one of these has no
-/// time, or if no time passes.
+/// Returns where times are in the drawing of so many lines, of which these change something. `None` if one of these
+/// has no time, or if no time passes.
 pub(crate) fn pace_of(
     alloc: Global,
     changed: &[u64],

@@ -27,8 +27,8 @@ pub(crate) const WIDTH: u64 = 780;
 /// Where the first line begins.
 const LEFT: u64 = 6;
 
-/// Places of lines. Lines are as wide as each other, or where all that change something have times, each is where its time is.
-/// Of long stretches in which nothing changes a part is cut out.
+/// Places of lines. Lines are as wide as each other, or where all that change something have times, each is where
+/// its time is. Of long stretches in which nothing changes a part is cut out.
 #[derive(Drop)]
 pub(crate) struct Scale {
     /// By the line: its left side.
@@ -178,8 +178,8 @@ impl Scale {
         Ok(())
     }
 
-    /// Gives the lines from one change up to the next their places, where so many are drawn in front of them. Answers how
-    /// many are behind them.
+    /// Gives the lines from one change up to the next their places, where so many are drawn in front of them.
+    /// Answers how many are behind them.
     fn place_stretch(&mut self, lines: u64, before: u64) -> Result<u64, AllocError> {
         let drawn = drawn_of(lines, self.max_idle);
         for number in 0..lines {

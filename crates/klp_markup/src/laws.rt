@@ -13,8 +13,8 @@ pub fn what_is_added_adds_up()
     ensures nothing { (a : Written) → Adds a a [] }
 {}
 
-/// A list of tasks that is cut short where it is long names each of few tasks, and of many the first and how many others
-/// there are.
+/// A list of tasks that is cut short where it is long names each of few tasks, and of many the first and how many
+/// others there are.
 pub fn a_list_of_tasks_leaves_nobody_out()
     ensures few { (names : Names) (tasks : List ℕ) → length tasks ≤ MAX_NAMED + 1
         → tasks_text names tasks ≡ each_text names tasks }

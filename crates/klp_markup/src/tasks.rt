@@ -86,7 +86,8 @@ pub fn add_each_task(sheet: &mut Sheet, names: &Names, tasks: &[TaskId])
     add_names(sheet, names, count, tasks);
 }
 
-/// Adds tasks with what each is called, of many the first: `task 1`, `tasks 1, 2 and 3`, or `tasks 1, 2, .. and 14 more`.
+/// Adds tasks with what each is called, of many the first: `task 1`, `tasks 1, 2 and 3`, or `tasks 1, 2, .. and 14
+/// more`.
 #[tactic(auto, unfolding(crate::specs::Tasks::tasks_text))]
 pub fn add_tasks(sheet: &mut Sheet, names: &Names, tasks: &[TaskId])
     ensures { Adds sheet.old sheet.new (tasks_text names.now tasks.now) }

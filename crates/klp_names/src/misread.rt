@@ -7,8 +7,8 @@ use std::fmt;
 /// How many bytes of a word are shown.
 const SHOWN: usize = 64;
 
-/// A fault with the file that it is of: printed as `FILE: line 3: BadTask: '64': wanted is a task's number, 0 to 63`. It has no
-/// contract.
+/// A fault with the file that it is of: printed as `FILE: line 3: BadTask: '64': wanted is a task's number, 0 to
+/// 63`. It has no contract.
 #[derive(Clone, Copy)]
 pub struct Misread<'a> {
     /// What the file is called.

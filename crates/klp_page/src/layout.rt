@@ -26,14 +26,15 @@ pub(crate) struct Layout<'a> {
     lines: u64,
 }
 
-/// Whether the cards of a line stand open: where a patch came, moves, turned or left, where a callback ran, and where the
-/// line did what views don't show.
+/// Whether the cards of a line stand open: where a patch came, moves, turned or left, where a callback ran, and
+/// where the line did what views don't show.
 fn stands_open(parts: &RowParts, act: &Option<Fact>) -> bool {
     parts.patches || parts.callbacks || act.is_some()
 }
 
 impl<'a> Layout<'a> {
-    /// Nothing is seen yet, and no room is taken. The layout says what tasks are called, and when lines were, by these names.
+    /// Nothing is seen yet, and no room is taken. The layout says what tasks are called, and when lines were, by
+    /// these names.
     pub(crate) fn new(alloc: Global, names: &'a Names) -> Layout<'a> {
         Layout {
             names,
@@ -54,7 +55,8 @@ impl<'a> Layout<'a> {
         self.bars.open()
     }
 
-    /// Sees a line that came to this, and tells what it changed. Only lines whose event was taken or undone change something.
+    /// Sees a line that came to this, and tells what it changed. Only lines whose event was taken or undone change
+    /// something.
     pub(crate) fn see(
         &mut self,
         alloc: Global,
@@ -91,12 +93,7 @@ impl<'a> Layout<'a> {
         self.bars.close(self.lines, self.names)?;
         let mut sheet = Sheet::new(alloc);
         add_drawing(
-            alloc,
-            &mut sheet,
-            self.names,
-            manager,
-            &self.bars,
-            sentences,
+            alloc, &mut sheet, self.names, manager, &self.bars, sentences,
         )?;
         Ok(sheet)
     }

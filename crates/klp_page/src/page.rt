@@ -77,8 +77,8 @@ fn page_of(
     recorded: &Recorded,
     layout: &mut Layout<'_>,
 ) -> Result<Vec<u8>, AllocError>
-    ensures { IfOk result (λ page. IsPageOfRun manager.now.managed.catalog name.now names.now opening.now recorded.now.rows.items
-        recorded.now.run.items page.items) }
+    ensures { IfOk result (λ page. IsPageOfRun manager.now.managed.catalog name.now names.now opening.now
+        recorded.now.rows.items recorded.now.run.items page.items) }
 {
     let sentences = sentences(alloc, opening, &recorded.run)?;
     let view = last_view(opening, &recorded.run);
@@ -117,9 +117,7 @@ fn paged(
     layout.open(manager)?;
     let opening = view_of(manager);
     let recorded = record(alloc, manager, script, &opening, layout)?;
-    Ok(page_of(
-        alloc, manager, name, names, &opening, &recorded, layout,
-    )?)
+    Ok(page_of(alloc, manager, name, names, &opening, &recorded, layout)?)
 }
 
 // The manager goes then.
@@ -162,8 +160,9 @@ fn page_over_plan(
     page_over_manager(alloc, manager, name, names, script, layout)
 }
 
-/// Boots a manager over the catalog's text, and shows the script by it: a page of this name, with a row for each line. The
-/// page says what tasks are called, and when lines were, as far as `names` has it. Memory is taken by the script's length.
+/// Boots a manager over the catalog's text, and shows the script by it: a page of this name, with a row for each
+/// line. The page says what tasks are called, and when lines were, as far as `names` has it. Memory is taken by the
+/// script's length.
 pub fn page_over_text(
     alloc: Global,
     catalog: &[u8],
@@ -178,8 +177,8 @@ pub fn page_over_text(
     page_over_plan(alloc, plan, name, names, script)
 }
 
-/// Writes the page of a script to `out`. Nothing is written before all lines are served. Where the page can't be written,
-/// the fault is that of the write.
+/// Writes the page of a script to `out`. Nothing is written before all lines are served. Where the page can't be
+/// written, the fault is that of the write.
 pub fn write_page<W: Write>(
     alloc: Global,
     catalog: &[u8],

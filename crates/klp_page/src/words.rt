@@ -24,8 +24,8 @@ fn begins_with_dash(word: &str) -> bool
     word.as_bytes().first() == Some(&b'-')
 }
 
-/// Reads the words behind the program's name: the files of a catalog, of a script, and of names, which may be left out. Other
-/// words are refused on `err`, with their exit status.
+/// Reads the words behind the program's name: the files of a catalog, of a script, and of names, which may be left
+/// out. Other words are refused on `err`, with their exit status.
 pub fn page_words<'a, W: Write>(given: &'a [String], err: &mut W) -> Result<PageFiles<'a>, u8>
     ensures { MatchResult result
         (λ files. page_files (map string_bytes given.now) ≡ Some (meaning files))

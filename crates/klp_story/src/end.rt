@@ -223,9 +223,9 @@ fn add_first(
     sheet.markup("</h1>");
 }
 
-/// Adds how a run ends: what moves, which way and since when, or which patches are enabled; who sleeps where it matters; and
-/// who merely lags. The run ends with this view, and these sentences are all that is said of it. `refused` is the number of
-/// lines if each was refused. The modules are those that the catalog was assembled over.
+/// Adds how a run ends: what moves, which way and since when, or which patches are enabled; who sleeps where it
+/// matters; and who merely lags. The run ends with this view, and these sentences are all that is said of it.
+/// `refused` is the number of lines if each was refused. The modules are those that the catalog was assembled over.
 pub fn add_end(
     sheet: &mut Sheet,
     names: &Names,

@@ -36,7 +36,8 @@ pub fn facts_are_shown_like_this()
 pub fn stays_are_shown_like_this()
     ensures line { span_text nothing_known 7 (Some 7) ≡ codes "<li><a href=\"#line-7\">Line 7</a>: " }
     ensures lines { span_text nothing_known 7 (Some 12) ≡ codes "<li><a href=\"#line-7\">Lines 7</a> to 12: " }
-    ensures still { span_text nothing_known 7 None ≡ codes "<li class=holds>Since <a href=\"#line-7\">line 7</a>, and still: " }
+    ensures still { span_text nothing_known 7 None
+        ≡ codes "<li class=holds>Since <a href=\"#line-7\">line 7</a>, and still: " }
     ensures held { held_text 1 ≡ codes ". 1 task holds it up." }
     ensures lagging { lagging_text nothing_known User (None ∷ Some User ∷ Some Kernel ∷ Some User ∷ [])
         ≡ codes "<li><b>tasks 1 and 3</b> lag in user space: each switches once it has been in the kernel again.\n" }

@@ -6,8 +6,8 @@ ghost use Rattle.klp_markup.specs.Names.{version_text};
 ghost use Rattle.klp_markup.specs.Tasks.{plural, tasks_text};
 ghost use Rattle.klp_markup.specs.Times.{line_time, span_time};
 ghost use Rattle.klp_story.specs.Words.{link_text, quoted_text, why};
-ghost use Rattle.klp_story.specs.Sentences.{lines_text, span_text, anchor_text, anchors_text, holding, sleeping, warning};
-ghost use Rattle.klp_story.specs.Sentences.{stay_text, said_text};
+ghost use Rattle.klp_story.specs.Sentences.{lines_text, span_text, anchor_text, anchors_text, holding, sleeping};
+ghost use Rattle.klp_story.specs.Sentences.{warning, stay_text, said_text};
 ghost use Rattle.klp_timeline.specs.declared.moment.Said.TheVariants.{Slept};
 
 use crate::words::{add_link, add_number, add_patch, why};

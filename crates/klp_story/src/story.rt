@@ -84,8 +84,8 @@ fn add_earlier(sheet: &mut Sheet, count: usize)
     }
 }
 
-/// Adds a list item for each sentence that is told of, in the order of the lines where each begins. Then it adds how many of
-/// the oldest aren't told of. The modules are those that the catalog was assembled over.
+/// Adds a list item for each sentence that is told of, in the order of the lines where each begins. Then it adds how
+/// many of the oldest aren't told of. The modules are those that the catalog was assembled over.
 pub fn add_story(
     sheet: &mut Sheet,
     names: &Names,
