@@ -1,12 +1,12 @@
 -- Reading a text of names line by line.
-use Rattle.std.proofs.Common.{◌≡◌, ◌==◌, if◌then◌else◌, add-one, ℕ, suc, ◌+◌, ◌≤◌, Bool, true, false, List, [], ◌∷◌, length, Result, Ok, Err, refl, sym, ◌∙◌, arith}
+use Rattle.std.proofs.Common.{◌≡◌, ◌==◌, if◌then◌else◌, add-one, ℕ, suc, ◌+◌, ◌≤◌, Bool, true, false, List, [], ◌∷◌, length, Err, refl, sym, ◌∙◌, arith}
 use Rattle.std.proofs.lemmas.List.Splits.{length-slice_split}
 use Rattle.std.proofs.lemmas.List.Sums.{count_by-le-length}
 use Rattle.std.specs.List.{slice_split}
 use Rattle.std.specs.Str.Lines.{lines, lines_of_parts}
 use Rattle.klp_names.specs.declared.fault.NamesFaultKind.{NamesFaultKind}
 use Rattle.klp_names.specs.declared.fault.NamesFaultKind.TheVariants.{NoMemory}
-use Rattle.klp_names.specs.Names.{Names, nothing_known}
+use Rattle.klp_names.specs.Names.{Names}
 use Rattle.klp_names.specs.Text.{with_line, with_lines, names_of, IsOutcome, IsFaultOf}
 
 -- the first lines of the text tell the names, and these are left

@@ -1,5 +1,5 @@
 -- What a text of names means: a line each, `task N NAME` or `line N SECONDS`.
-use Rattle.std.specs.Prelude.{◌≡◌, ℕ, suc, ◌-◌, ◌^◌, ◌==◌, ◌&&◌, Bool, not, nat_lt, nat_le, if◌then◌else◌, List, [], ◌∷◌, ◌++◌, length, slice_get, codes, bytes_eq, Option, Some, None, is_some, option_and_then, Result, Ok, Err, MatchResult}
+use Rattle.std.specs.Prelude.{◌≡◌, ℕ, suc, ◌-◌, ◌^◌, ◌==◌, ◌&&◌, Bool, not, nat_lt, nat_le, if◌then◌else◌, List, [], ◌∷◌, ◌++◌, length, slice_get, codes, bytes_eq, Option, Some, None, is_some, option_and_then, Result, Ok, Err}
 use Rattle.std.specs.List.{list_any, before_first, after_first}
 use Rattle.std.specs.Char.{is_ascii_control}
 use Rattle.std.specs.Str.Lines.{lines}
@@ -12,7 +12,6 @@ use Rattle.klp_names.specs.declared.fault.NamesFaultKind.{NamesFaultKind}
 use Rattle.klp_names.specs.declared.fault.NamesFaultKind.TheVariants.{UnknownWord, BadTask, BadName, BadLine, BadTime, NamedTwice, LineFalls, TimeFalls, NoMemory}
 use Rattle.klp_names.specs.declared.text.TheConstants.{MAX_TASK_NAME}
 use Rattle.klp_names.specs.declared.timed.Timed.{Timed}
-use Rattle.klp_names.specs.Named.{Named}
 use Rattle.klp_names.specs.Names.{Names, nothing_known, name_of}
 
 abbrev pub is_blank : ℕ → Bool
