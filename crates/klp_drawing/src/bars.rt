@@ -4,6 +4,7 @@ use crate::look::{Look, look_of_patch, look_of_task};
 use crate::scale::Scale;
 use crate::turn::{Sign, sign_of};
 use klp_core::Manager;
+use klp_names::Names;
 use klp_timeline::{Moment, View};
 use klp_types::{MAX_PATCHES, MAX_TASKS, Mode, PatchId, TaskId};
 use std::alloc::{AllocError, Global};
@@ -192,15 +193,16 @@ impl Bars {
         }
     }
 
-    /// Ends all bars behind the last line, and finds the place of each line in the drawing.
-    pub fn close(&mut self, lines: u64) -> Result<(), AllocError> {
+    /// Ends all bars behind the last line, and finds the place of each line in the drawing: by its time, if all
+    /// lines that change something have one.
+    pub fn close(&mut self, lines: u64, names: &Names) -> Result<(), AllocError> {
         for number in 0..LANES {
             self.turn(number, lines.saturating_add(1), None);
         }
         if self.is_short {
             return Err(AllocError);
         }
-        self.scale.measure(&self.changed, lines)
+        self.scale.measure(&self.changed, lines, names)
     }
 
     /// The lines in which something changes.

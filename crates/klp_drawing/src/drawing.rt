@@ -13,7 +13,8 @@ use crate::turn::sign_text;
 use crate::words::{Stop, stops};
 use klp_core::Manager;
 use klp_markup::Value::{Markup, Number, Words};
-use klp_markup::{Sheet, patch_name};
+use klp_markup::{Sheet, add_task, patch_name};
+use klp_names::Names;
 use klp_timeline::Sentence;
 use klp_types::{MAX_PATCHES, PatchId, TaskId};
 use std::alloc::{AllocError, Global};
@@ -24,12 +25,13 @@ const SIGN: u64 = 12;
 /// What is drawn with.
 #[derive(Drop)]
 struct Board<'a> {
+    names: &'a Names,
     manager: &'a Manager,
     bars: &'a Bars,
     sentences: &'a [Sentence],
     held: Vec<Held>,
     stops: Vec<Stop>,
-    axis: Axis,
+    axis: Axis<'a>,
     width: u64,
 }
 
@@ -47,7 +49,8 @@ fn places_of_marks(alloc: Global, bars: &Bars) -> Result<Vec<u64>, AllocError> {
     Ok(places)
 }
 
-/// The signs of the marks. Where there is room up to the next one, the number of its line stands beside it.
+/// Adds the signs of the marks. Where there is room up to the next one, the number of its line stands beside it,
+/// unless lines are where their times are.
 fn add_signs(sheet: &mut Sheet, bars: &Bars) {
     let mut free = 0;
     for (number, mark) in bars.marks.iter().enumerate() {
@@ -62,7 +65,8 @@ fn add_signs(sheet: &mut Sheet, bars: &Bars) {
             Some(next) => bars.scale.x(next.line),
             None => u64::MAX,
         };
-        if next.saturating_sub(x) >= number_width(mark.line).saturating_add(SIGN) {
+        let room = number_width(mark.line).saturating_add(SIGN);
+        if !bars.scale.is_timed() && next.saturating_sub(x) >= room {
             sheet.fill("{}", &[Number(mark.line)]);
         }
         sheet.markup("</text>");
@@ -115,13 +119,20 @@ fn add_foot(sheet: &mut Sheet, board: &Board<'_>) {
     sheet.markup("</svg></td></tr></tfoot></table></div>\n");
 }
 
-fn add_name(sheet: &mut Sheet, manager: &Manager, lane: usize) {
+/// The task of a lane.
+fn task_in(lane: usize) -> TaskId {
+    TaskId((lane.saturating_sub(MAX_PATCHES)).min(255) as u8)
+}
+
+/// Begins the row of a lane, with the name of the patch, or the number of the task and what it is called.
+fn add_name(sheet: &mut Sheet, names: &Names, manager: &Manager, lane: usize) {
     if lane < MAX_PATCHES {
         let name = patch_name(manager.catalog(), PatchId(lane as u8));
         sheet.fill("<tr><th scope=row>{}</th>", &[Words(name)]);
     } else {
-        let task = lane.saturating_sub(MAX_PATCHES) as u64;
-        sheet.fill("<tr><th scope=row>task {}</th>", &[Number(task)]);
+        sheet.markup("<tr><th scope=row>task ");
+        add_task(sheet, names, task_in(lane));
+        sheet.markup("</th>");
     }
 }
 
@@ -134,8 +145,8 @@ fn add_lane(
 ) -> Result<(), AllocError> {
     let strips = strips_of(alloc, board.bars.bars_of(lane), &board.bars.scale)?;
     let is_task = lane >= MAX_PATCHES;
-    let task = TaskId((lane.saturating_sub(MAX_PATCHES)).min(255) as u8);
-    add_name(sheet, board.manager, lane);
+    let task = task_in(lane);
+    add_name(sheet, board.names, board.manager, lane);
     sheet.fill(
         "<td><svg width=\"{}\" height=\"{}\"><use href=\"#marks\"/>",
         &[Number(board.width), Number(LANE)],
@@ -149,6 +160,7 @@ fn add_lane(
     if is_task {
         add_labels(
             sheet,
+            board.names,
             board.manager,
             board.sentences,
             &board.held,
@@ -160,11 +172,22 @@ fn add_lane(
     Ok(())
 }
 
-/// What is said of the lines below the drawing.
+/// Adds what is said of the numbers, below the drawing.
 fn add_note(sheet: &mut Sheet, bars: &Bars) {
-    sheet.markup("<p class=soft>Numbers are lines of the script.");
+    let (numbers, cut) = if bars.scale.is_timed() {
+        (
+            "<p class=soft>The drawing is to scale: numbers along it are seconds since the first time.",
+            " At a zigzag, time is cut out in which nothing changes.",
+        )
+    } else {
+        (
+            "<p class=soft>Numbers are lines of the script.",
+            " At a zigzag, lines are cut out in which nothing changes.",
+        )
+    };
+    sheet.markup(numbers);
     if !bars.scale.cuts.is_empty() {
-        sheet.markup(" At a zigzag, lines are cut out in which nothing changes.");
+        sheet.markup(cut);
     }
     if bars.scale.is_coarse() {
         sheet.markup(
@@ -174,23 +197,25 @@ fn add_note(sheet: &mut Sheet, bars: &Bars) {
     sheet.markup("</p>\n");
 }
 
-/// Adds the drawing of what was seen, with the legend. Each stay leads to its sentence, `#stay-LINE-TASK`, or where that
-/// is left out to the line, `#line-LINE`.
+/// Adds the drawing of what was seen, with the legend. Each stay leads to its sentence, `#stay-LINE-TASK`, or where
+/// that is left out to the line, `#line-LINE`.
 pub fn add_drawing(
     alloc: Global,
     sheet: &mut Sheet,
+    names: &Names,
     manager: &Manager,
     bars: &Bars,
     sentences: &[Sentence],
 ) -> Result<(), AllocError> {
     let marks = places_of_marks(alloc, bars)?;
     let board = Board {
+        names,
         manager,
         bars,
         sentences,
         held: all_held(alloc, &bars.scale, sentences)?,
         stops: stops(alloc, bars, &marks)?,
-        axis: axis_of(alloc, bars, sentences)?,
+        axis: axis_of(alloc, names, bars, sentences)?,
         width: bars.scale.end().saturating_add(MARGIN),
     };
     add_head(sheet, &board, &marks);

@@ -5,7 +5,8 @@ use crate::scale::Scale;
 use crate::words::{Stop, free_place, last_place};
 use klp_core::Manager;
 use klp_markup::Value::{Markup, Number, Text};
-use klp_markup::{Sheet, function_name, object_name, patch_name};
+use klp_markup::{Sheet, add_line_time, add_plain_task, function_name, object_name, patch_name};
+use klp_names::Names;
 use klp_timeline::{Said, Sentence, Sleepers, Stay, excess, is_left_out};
 use klp_types::{MAX_TASKS, TaskId, Version};
 use std::alloc::{AllocError, Global};
@@ -198,17 +199,17 @@ fn add_plain_version(sheet: &mut Sheet, manager: &Manager, version: Version) {
 }
 
 /// What is told of a stay where the pointer is over it.
-fn add_tip(sheet: &mut Sheet, manager: &Manager, held: &Held, label: &Label) {
+fn add_tip(sheet: &mut Sheet, names: &Names, manager: &Manager, held: &Held, label: &Label) {
     let what = if held.is_holding {
-        "holds the transition up since line "
+        " holds the transition up since line "
     } else {
-        "sleeps in code that isn't called now, since line "
+        " sleeps in code that isn't called now, since line "
     };
-    let task = Number(u64::from(held.task.0));
-    sheet.fill(
-        "<title>task {} {}{}: ",
-        &[task, Markup(what), Number(label.line)],
-    );
+    sheet.markup("<title>task ");
+    add_plain_task(sheet, names, held.task);
+    sheet.fill("{}{}", &[Markup(what), Number(label.line)]);
+    add_line_time(sheet, names, label.line);
+    sheet.markup(": ");
     add_plain_version(sheet, manager, label.version);
     sheet.markup("</title>");
 }
@@ -229,8 +230,9 @@ fn label_width(letters: usize) -> u64 {
     (letters as u64).saturating_mul(30).saturating_add(43) / 4
 }
 
-/// Where a label of this width stands: first in its stay, but last in one that lasts, since of a drawing that is too wide for
-/// a screen the end is seen. There it may stand over the end too. Some of the stay is left in sight beside it.
+/// Where a label of this width stands: first in its stay, but last in one that lasts, since of a drawing that is too
+/// wide for a screen the end is seen. There it may stand over the end too. Some of the stay is left in sight beside
+/// it.
 fn place_of_label(stops: &[Stop], held: &Held, width: u64) -> Option<u64> {
     let room = width.saturating_add(SHOWN);
     if !held.is_lasting {
@@ -274,6 +276,7 @@ fn add_label(sheet: &mut Sheet, manager: &Manager, held: &Held, label: &Label, s
 /// What stands at the stays of a task, each with the link to its sentence.
 pub(crate) fn add_labels(
     sheet: &mut Sheet,
+    names: &Names,
     manager: &Manager,
     sentences: &[Sentence],
     all: &[Held],
@@ -286,7 +289,7 @@ pub(crate) fn add_labels(
         }
         if let Some(label) = label_of(sentences, held) {
             add_link(sheet, held, label.line);
-            add_tip(sheet, manager, held, &label);
+            add_tip(sheet, names, manager, held, &label);
             add_rect(sheet, "clear", area_of(held));
             add_label(sheet, manager, held, &label, stops);
             sheet.markup("</a>");

@@ -1,5 +1,7 @@
 //! From the lines of a run to places in the drawing.
 
+use crate::pace::{Pace, pace_of};
+use klp_names::Names;
 use std::alloc::{AllocError, Global};
 
 /// How many lines a stretch has at least in which nothing changes and that is cut.
@@ -12,17 +14,21 @@ const KEPT: u64 = 4;
 pub(crate) const CUT: u64 = 12;
 
 /// What a cut costs: so much width has to be won by each, and by all together.
-const COST: u64 = 40;
+pub(crate) const COST: u64 = 40;
+
+/// How much room there is for what is so after the last line, where lines are where their times are.
+const TAIL: u64 = 30;
 
 /// How wide a line is at most, and all of them together: as wide as a sheet of paper shows in a size that is read.
 const LINE: u64 = 40;
 
-const WIDTH: u64 = 780;
+pub(crate) const WIDTH: u64 = 780;
 
 /// Where the first line begins.
 const LEFT: u64 = 6;
 
-/// Lines are as wide as each other, but for long stretches in which nothing changes: of these a part is cut out.
+/// Places of lines. Lines are as wide as each other, or where all that change something have times, each is where
+/// its time is. Of long stretches in which nothing changes a part is cut out.
 #[derive(Drop)]
 pub(crate) struct Scale {
     /// By the line: its left side.
@@ -36,6 +42,8 @@ pub(crate) struct Scale {
     /// How many lines are drawn, and how wide they are together.
     drawn: u64,
     width: u64,
+    /// Whether lines are where their times are.
+    is_timed: bool,
 }
 
 /// How many lines of a stretch are drawn.
@@ -112,11 +120,44 @@ impl Scale {
             max_idle: FEWEST_IDLE,
             drawn: 0,
             width: 0,
+            is_timed: false,
         }
     }
 
     /// Finds the places of so many lines, of which these change something.
-    pub(crate) fn measure(&mut self, changed: &[u64], lines: u64) -> Result<(), AllocError> {
+    pub(crate) fn measure(
+        &mut self,
+        changed: &[u64],
+        lines: u64,
+        names: &Names,
+    ) -> Result<(), AllocError> {
+        let alloc = *self.places.allocator();
+        match pace_of(alloc, changed, lines, names)? {
+            Some(pace) => self.place_by_time(&pace, lines, names),
+            None => self.place_by_lines(changed, lines),
+        }
+    }
+
+    /// Puts each line where its time is. One that has none is where the line before it is.
+    fn place_by_time(&mut self, pace: &Pace, lines: u64, names: &Names) -> Result<(), AllocError> {
+        self.is_timed = true;
+        let mut steps = pace.steps();
+        let mut x = LEFT;
+        self.places.push(LEFT)?;
+        for line in 1..lines.saturating_add(1) {
+            if let Some(time) = names.since_start(line) {
+                x = LEFT.saturating_add(steps.place_of(time));
+            }
+            self.places.push(x)?;
+        }
+        for cut in &pace.cuts {
+            self.cuts.push(LEFT.saturating_add(*cut))?;
+        }
+        self.end = x.saturating_add(TAIL);
+        Ok(())
+    }
+
+    fn place_by_lines(&mut self, changed: &[u64], lines: u64) -> Result<(), AllocError> {
         self.max_idle = max_idle_of(changed, lines);
         let extent = extent_of(changed, lines, self.max_idle);
         self.drawn = extent.drawn;
@@ -137,8 +178,8 @@ impl Scale {
         Ok(())
     }
 
-    /// Gives the lines from one change up to the next their places, where so many are drawn in front of them. Answers how
-    /// many are behind them.
+    /// Gives the lines from one change up to the next their places, where so many are drawn in front of them.
+    /// Answers how many are behind them.
     fn place_stretch(&mut self, lines: u64, before: u64) -> Result<u64, AllocError> {
         let drawn = drawn_of(lines, self.max_idle);
         for number in 0..lines {
@@ -176,5 +217,10 @@ impl Scale {
     /// Whether a line takes less than a point, so that one shows several.
     pub(crate) fn is_coarse(&self) -> bool {
         self.drawn > self.width
+    }
+
+    /// Whether lines are where their times are.
+    pub(crate) fn is_timed(&self) -> bool {
+        self.is_timed
     }
 }

@@ -31,7 +31,8 @@ impl Strips {
         Ok(())
     }
 
-    /// Adds a strip, of which the part is drawn that the one before leaves. Where they share a point, the higher has it.
+    /// Adds a strip, of which the part is drawn that the one before leaves. Where they share a point, the higher has
+    /// it.
     fn add(&mut self, mut strip: Strip) -> Result<(), AllocError> {
         let Some(mut last) = self.last else {
             self.last = Some(strip);

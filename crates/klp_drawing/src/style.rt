@@ -1,9 +1,9 @@
 //! The style of a drawing, its patterns and its legend.
 
 /// What a page's style needs for a drawing. Blue and orange are told apart by colour-blind people, and by their
-/// lightness in grey. Whatever is to be seen in print is drawn or has a border, since print has no backgrounds. There letters
-/// are 7 points high, for which names have less room. On a narrow screen, where the drawing scrolls, it begins with its end,
-/// which matters most: a box of the other direction does.
+/// lightness in grey. Whatever is to be seen in print is drawn or has a border, since print has no backgrounds.
+/// There letters are 7 points high, for which names have less room. On a narrow screen, where the drawing scrolls,
+/// it begins with its end, which matters most: a box of the other direction does.
 pub const STYLE: &str =
     ":root{--old:#004070;--oldink:#fff;--new:#c98200;--newink:#111;--rest:#7a848e}
 @media screen and (prefers-color-scheme:dark){:root{--old:#2f7ab8;--oldink:#111;--new:#ffcf66;--rest:#8a949e}}
@@ -38,7 +38,8 @@ width:fit-content;font-size:.9rem;color:var(--soft)}}
 .run th{position:static;width:4.9rem;padding-left:0}}
 ";
 
-/// What holds a transition up, and what isn't called now. Both are black and white, so that they are seen on each colour.
+/// What holds a transition up, and what isn't called now. Both are black and white, so that they are seen on each
+/// colour.
 pub(crate) const PATTERNS: &str =
     "<pattern id=hatch width=10 height=10 patternUnits=userSpaceOnUse patternTransform=\"rotate(45)\"><rect \
 class=dark width=3 height=10 /><rect class=light x=3 width=3 height=10 /></pattern><pattern id=dots width=10 height=8 \

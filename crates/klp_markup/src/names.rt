@@ -80,8 +80,8 @@ fn add_new_function(sheet: &mut Sheet, patch: &[u8], number: u16, name: &[u8])
     sheet.markup(")");
 }
 
-/// Adds a function that a task is inside of: a symbol, or `PATCH:INDEX (NAME)`. The modules are those that the catalog was
-/// assembled over.
+/// Adds a function that a task is inside of: a symbol, or `PATCH:INDEX (NAME)`. The modules are those that the
+/// catalog was assembled over.
 pub fn add_version(sheet: &mut Sheet, catalog: &Catalog, modules: &Modules, version: Version)
     requires { catalog.now.names ≡ modules.now.names }
     ensures { Adds sheet.old sheet.new (version_text catalog.now version) }

@@ -2,9 +2,11 @@
 ghost use Rattle.std.specs.Prelude.{◌≡◌, ◌==◌, ◌++◌, ◌∷◌, [], ◌+◌, ◌-◌, ◌<◌, ◌≤◌, ◌^◌, codes, length, if◌then◌else◌};
 ghost use Rattle.std.specs.Fmt.{decimal};
 ghost use Rattle.klp_markup.specs.Adds.{Adds};
-ghost use Rattle.klp_markup.specs.Tasks.{plural, named, join, names_text, more_text, each_text, tasks_text};
+ghost use Rattle.klp_markup.specs.Tasks.{plural, named, join, task_text, names_text, more_text, each_text, tasks_text};
 
+use crate::called::add_called;
 use crate::sheet::Sheet;
+use klp_names::Names;
 use klp_types::TaskId;
 
 /// How many tasks a list names at most that is cut short, beside the number of the others.
@@ -40,16 +42,25 @@ fn join(place: usize, count: usize) -> &'static str
     }
 }
 
-/// Adds the numbers of these, the first of so many tasks.
-fn add_names(sheet: &mut Sheet, count: usize, tasks: &[TaskId])
+/// Adds the number of a task, and what it is called, if that is known.
+pub fn add_task(sheet: &mut Sheet, names: &Names, task: TaskId)
+    ensures { Adds sheet.old sheet.new (task_text names.now task) }
+{
+    crate::laws::what_is_added_adds_up();
+    sheet.number(u64::from(task.0));
+    add_called(sheet, names.name(task));
+}
+
+/// Adds `tasks`, which are the first of `count` tasks, each by its number and its name.
+fn add_names(sheet: &mut Sheet, names: &Names, count: usize, tasks: &[TaskId])
     requires { length tasks.now ≤ count }
-    ensures { Adds sheet.old sheet.new (names_text count 0 tasks.now) }
+    ensures { Adds sheet.old sheet.new (names_text names.now count 0 tasks.now) }
 {
     crate::laws::what_is_added_adds_up();
     for place in 0..tasks.len() {
         let task = tasks[place];
         sheet.markup(join(place, count));
-        sheet.number(u64::from(task.0));
+        add_task(sheet, names, task);
     }
 }
 
@@ -64,26 +75,27 @@ fn add_more(sheet: &mut Sheet, count: usize)
     }
 }
 
-/// Adds each of these tasks: `task 1`, or `tasks 1, 2 and 3`.
+/// Adds each of these tasks: `task 1`, or `tasks 1, 2 and 3`, with what each is called.
 #[tactic(auto, unfolding(crate::specs::Tasks::each_text))]
-pub fn add_each_task(sheet: &mut Sheet, tasks: &[TaskId])
-    ensures { Adds sheet.old sheet.new (each_text tasks.now) }
+pub fn add_each_task(sheet: &mut Sheet, names: &Names, tasks: &[TaskId])
+    ensures { Adds sheet.old sheet.new (each_text names.now tasks.now) }
 {
     crate::laws::what_is_added_adds_up();
     let count = tasks.len();
     sheet.markup(plural(count, "task ", "tasks "));
-    add_names(sheet, count, tasks);
+    add_names(sheet, names, count, tasks);
 }
 
-/// Adds tasks, of many the first: `task 1`, `tasks 1, 2 and 3`, or `tasks 1, 2, .. and 14 more`.
+/// Adds tasks with what each is called, of many the first: `task 1`, `tasks 1, 2 and 3`, or `tasks 1, 2, .. and 14
+/// more`.
 #[tactic(auto, unfolding(crate::specs::Tasks::tasks_text))]
-pub fn add_tasks(sheet: &mut Sheet, tasks: &[TaskId])
-    ensures { Adds sheet.old sheet.new (tasks_text tasks.now) }
+pub fn add_tasks(sheet: &mut Sheet, names: &Names, tasks: &[TaskId])
+    ensures { Adds sheet.old sheet.new (tasks_text names.now tasks.now) }
 {
     crate::laws::what_is_added_adds_up();
     let count = tasks.len();
     let named = named(count);
     sheet.markup(plural(count, "task ", "tasks "));
-    add_names(sheet, count, &tasks[..named]);
+    add_names(sheet, names, count, &tasks[..named]);
     add_more(sheet, count - named);
 }

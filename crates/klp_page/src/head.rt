@@ -2,20 +2,23 @@
 ghost use Rattle.std.specs.Prelude.{◌≡◌, [], ◌++◌, codes, count_by, if◌then◌else◌};
 ghost use Rattle.std.specs.Fmt.{decimal};
 ghost use Rattle.klp_markup.specs.Adds.{Adds};
-ghost use Rattle.klp_page.specs.Text.{is_started, is_start, count_text, refusals_text, title_text, opening_text};
-ghost use Rattle.klp_page.specs.Text.{all_refused, front_text, story_and_drawing};
+ghost use Rattle.klp_page.specs.Text.{is_started, is_start, count_text, refusals_text, title_text, timed_style};
+ghost use Rattle.klp_page.specs.Text.{opening_text, all_refused, front_text, story_and_drawing};
 
-use crate::style::{COUNTS, HEAD, LINES, RUN, STORY, STYLE, STYLE_END};
+use crate::style::{COUNTS, HEAD, LINES, RUN, STORY, STYLE, STYLE_END, TIMED_STYLE};
 use klp_catalog::Catalog;
 use klp_markup::Sheet;
 use klp_modules::Modules;
+use klp_names::Names;
 use klp_story::{add_end, add_story};
 use klp_timeline::{Fact, Said, Sentence, View};
 
-/// What is shown, how much happened and was refused, and whether a transition still goes on.
+/// What is shown, what is known of it, how much happened and was refused, and whether a transition still goes on.
 #[derive(Clone, Copy)]
 pub(crate) struct Title<'a> {
     pub name: &'a [u8],
+    /// What tasks are called, and when lines were.
+    pub names: &'a Names,
     pub lines: u64,
     /// How many of the lines were refused.
     pub refused: u64,
@@ -84,7 +87,17 @@ fn add_title(sheet: &mut Sheet, title: &Title<'_>)
     add_under_way(sheet, title.is_moving);
 }
 
-/// The document's beginning, with its title and its style.
+/// Adds what the style needs for times, if there are any.
+fn add_timed_style(sheet: &mut Sheet, names: &Names)
+    ensures { Adds sheet.old sheet.new (timed_style names.now) }
+{
+    klp_markup::laws::what_is_added_adds_up();
+    if names.has_times() {
+        sheet.markup(TIMED_STYLE);
+    }
+}
+
+/// Adds the document's beginning, with its title and its style.
 #[tactic(auto, unfolding(crate::specs::Text::opening_text))]
 fn add_opening(sheet: &mut Sheet, title: &Title<'_>)
     ensures { Adds sheet.old sheet.new (opening_text title.now) }
@@ -95,10 +108,11 @@ fn add_opening(sheet: &mut Sheet, title: &Title<'_>)
     sheet.markup(STYLE);
     sheet.markup(klp_drawing::STYLE);
     sheet.markup(klp_page_layout::STYLE);
+    add_timed_style(sheet, title.names);
     sheet.markup(STYLE_END);
 }
 
-/// How many lines there are, where there is one and each was refused.
+/// Returns how many lines there are, if there is one and each was refused.
 fn all_refused(title: &Title<'_>) -> Option<u64>
     ensures { result ≡ all_refused title.now }
 {
@@ -109,7 +123,7 @@ fn all_refused(title: &Title<'_>) -> Option<u64>
     }
 }
 
-/// The document's beginning, and how the run ends.
+/// Adds the document's beginning, and how the run ends.
 pub(crate) fn add_front(
     sheet: &mut Sheet,
     title: &Title<'_>,
@@ -124,6 +138,7 @@ pub(crate) fn add_front(
     add_opening(sheet, title);
     add_end(
         sheet,
+        title.names,
         catalog,
         modules,
         view,
@@ -135,18 +150,19 @@ pub(crate) fn add_front(
     sheet.markup(STORY);
 }
 
-/// The sentences, and the drawing.
+/// Adds the sentences, and the drawing.
 pub(crate) fn add_story_and_drawing(
     sheet: &mut Sheet,
+    names: &Names,
     catalog: &Catalog,
     modules: &Modules,
     sentences: &[Sentence],
     drawing: &Sheet,
 )
     requires { catalog.now.names ≡ modules.now.names }
-    ensures { Adds sheet.old sheet.new (story_and_drawing catalog.now sentences.now drawing.now.text) }
+    ensures { Adds sheet.old sheet.new (story_and_drawing names.now catalog.now sentences.now drawing.now.text) }
 {
-    add_story(sheet, catalog, modules, sentences);
+    add_story(sheet, names, catalog, modules, sentences);
     sheet.markup(RUN);
     sheet.append(drawing);
     sheet.markup(LINES);

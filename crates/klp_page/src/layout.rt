@@ -5,6 +5,7 @@ use klp_console::Outcome;
 use klp_core::Manager;
 use klp_drawing::{Bars, add_drawing};
 use klp_markup::Sheet;
+use klp_names::Names;
 use klp_page_layout::{Chronicle, RowParts};
 use klp_timeline::{Fact, Moment, Sentence, View};
 use std::alloc::{AllocError, Global};
@@ -18,22 +19,26 @@ pub(crate) struct Cards {
 
 /// What was seen of the lines so far.
 #[derive(Drop)]
-pub(crate) struct Layout {
-    chronicle: Chronicle,
+pub(crate) struct Layout<'a> {
+    names: &'a Names,
+    chronicle: Chronicle<'a>,
     bars: Bars,
     lines: u64,
 }
 
-/// Whether the cards of a line stand open: where a patch came, moves, turned or left, where a callback ran, and where the
-/// line did what views don't show.
+/// Whether the cards of a line stand open: where a patch came, moves, turned or left, where a callback ran, and
+/// where the line did what views don't show.
 fn stands_open(parts: &RowParts, act: &Option<Fact>) -> bool {
     parts.patches || parts.callbacks || act.is_some()
 }
 
-impl Layout {
-    pub(crate) fn new(alloc: Global) -> Layout {
+impl<'a> Layout<'a> {
+    /// Nothing is seen yet, and no room is taken. The layout says what tasks are called, and when lines were, by
+    /// these names.
+    pub(crate) fn new(alloc: Global, names: &'a Names) -> Layout<'a> {
         Layout {
-            chronicle: Chronicle::new(alloc),
+            names,
+            chronicle: Chronicle::new(alloc, names),
             bars: Bars::new(alloc),
             lines: 0,
         }
@@ -50,7 +55,8 @@ impl Layout {
         self.bars.open()
     }
 
-    /// Sees a line that came to this, and tells what it changed. Only lines whose event was taken or undone change something.
+    /// Sees a line that came to this, and tells what it changed. Only lines whose event was taken or undone change
+    /// something.
     pub(crate) fn see(
         &mut self,
         alloc: Global,
@@ -84,9 +90,11 @@ impl Layout {
         manager: &Manager,
         sentences: &[Sentence],
     ) -> Result<Sheet, AllocError> {
-        self.bars.close(self.lines)?;
+        self.bars.close(self.lines, self.names)?;
         let mut sheet = Sheet::new(alloc);
-        add_drawing(alloc, &mut sheet, manager, &self.bars, sentences)?;
+        add_drawing(
+            alloc, &mut sheet, self.names, manager, &self.bars, sentences,
+        )?;
         Ok(sheet)
     }
 }

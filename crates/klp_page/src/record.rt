@@ -112,7 +112,7 @@ fn record_line(
     manager: &mut Manager,
     line: &[u8],
     before: &View,
-    layout: &mut Layout,
+    layout: &mut Layout<'_>,
 ) -> Result<(Row, Moment), AllocError>
     ensures { IfOk result (λ made. IsRowOf manager.old manager.new before.now line.now made.0 made.1) }
 {
@@ -140,7 +140,7 @@ fn add_line(
     line: &[u8],
     opening: &View,
     recorded: &mut Recorded,
-    layout: &mut Layout,
+    layout: &mut Layout<'_>,
 ) -> Result<(), AllocError>
     ensures { IfOk result (λ _. AddsRow manager.old manager.new opening.now line.now recorded.old.rows.items
         recorded.new.rows.items recorded.old.run.items recorded.new.run.items) }
@@ -160,7 +160,7 @@ fn record_lines(
     line: &mut LineBuffer,
     opening: &View,
     recorded: &mut Recorded,
-    layout: &mut Layout,
+    layout: &mut Layout<'_>,
 ) -> Result<(), Fault>
     requires line { line.old ≡ [] }
     requires rows { recorded.old.rows.items ≡ [] }
@@ -191,7 +191,7 @@ pub(crate) fn record(
     manager: &mut Manager,
     script: &[u8],
     opening: &View,
-    layout: &mut Layout,
+    layout: &mut Layout<'_>,
 ) -> Result<Recorded, Fault>
     ensures rows { IfOk result (λ recorded. AreRows manager.old manager.new opening.now (lines_of script.now)
         recorded.rows.items recorded.run.items) }

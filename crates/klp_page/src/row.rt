@@ -2,14 +2,16 @@
 ghost use Rattle.std.specs.Prelude.{◌≡◌, ◌<◌, ◌+◌, ◌-◌, ◌^◌, ◌++◌, length};
 ghost use Rattle.std.specs.Fmt.{decimal};
 ghost use Rattle.klp_markup.specs.Adds.{Adds};
-ghost use Rattle.klp_page.specs.Text.{mark_text, refused_text, open_text, shown_text, start_text, row_text, fold_start};
-ghost use Rattle.klp_page.specs.Text.{fold_end, rows_text};
+ghost use Rattle.klp_names.specs.Names.{since_start};
+ghost use Rattle.klp_page.specs.Text.{mark_text, refused_text, open_text, time_text, shown_text, start_text, row_text};
+ghost use Rattle.klp_page.specs.Text.{fold_start, fold_end, rows_text};
 
 use crate::style::{
     ANSWER, ANSWER_END, CARD_NUMBER, CARD_ROW, CARDS, CARDS_END, FOLD, FOLD_END, FOLDED, HELD,
-    HELD_END, ID, LINE, NUMBER, OPEN, PLAIN_END, PLAIN_ROW, QUIET_ROWS, REFUSED,
+    HELD_END, ID, LINE, NUMBER, OPEN, PLAIN_END, PLAIN_ROW, QUIET_ROWS, REFUSED, TIME,
 };
-use klp_markup::{Sheet, add_each_task};
+use klp_markup::{Sheet, add_each_task, add_seconds};
+use klp_names::Names;
 use klp_types::TaskId;
 
 /// What a page shows of a line.
@@ -28,15 +30,15 @@ pub(crate) struct Row {
     pub cards: Sheet,
 }
 
-fn add_mark(sheet: &mut Sheet, tasks: &[TaskId])
-    ensures { Adds sheet.old sheet.new (mark_text tasks.now) }
+fn add_mark(sheet: &mut Sheet, names: &Names, tasks: &[TaskId])
+    ensures { Adds sheet.old sheet.new (mark_text names.now tasks.now) }
 {
     klp_markup::laws::what_is_added_adds_up();
     if tasks.is_empty() {
         return;
     }
     sheet.markup(HELD);
-    add_each_task(sheet, tasks);
+    add_each_task(sheet, names, tasks);
     sheet.markup(HELD_END);
 }
 
@@ -58,19 +60,39 @@ fn add_open(sheet: &mut Sheet, is_open: bool)
     }
 }
 
-/// The line with its number, its answer and its mark.
-#[tactic(auto, unfolding(crate::specs::Text::shown_text))]
-fn add_shown(sheet: &mut Sheet, number: u64, row: &Row)
-    ensures { Adds sheet.old sheet.new (shown_text number row.now) }
+/// Adds when a line was, if that is known.
+fn add_time(sheet: &mut Sheet, time: Option<u64>)
+    ensures { Adds sheet.old sheet.new (time_text time) }
+{
+    klp_markup::laws::what_is_added_adds_up();
+    if let Some(time) = time {
+        sheet.markup(TIME);
+        add_seconds(sheet, time);
+    }
+}
+
+/// Adds the number of a line, and when it was.
+fn add_number(sheet: &mut Sheet, names: &Names, number: u64)
+    ensures { Adds sheet.old sheet.new (decimal number ++ time_text (since_start names.now.timed number)) }
 {
     klp_markup::laws::what_is_added_adds_up();
     sheet.number(number);
+    add_time(sheet, names.since_start(number));
+}
+
+/// Adds the line with its number and its time, its answer and its mark.
+#[tactic(auto, unfolding(crate::specs::Text::shown_text))]
+fn add_shown(sheet: &mut Sheet, names: &Names, number: u64, row: &Row)
+    ensures { Adds sheet.old sheet.new (shown_text names.now number row.now) }
+{
+    klp_markup::laws::what_is_added_adds_up();
+    add_number(sheet, names, number);
     sheet.markup(LINE);
     sheet.text(&row.line);
     sheet.markup(ANSWER);
     sheet.text(&row.answer);
     sheet.markup(ANSWER_END);
-    add_mark(sheet, &row.holders);
+    add_mark(sheet, names, &row.holders);
 }
 
 #[tactic(auto, unfolding(crate::specs::Text::start_text))]
@@ -84,43 +106,44 @@ fn add_start(sheet: &mut Sheet, tag: &'static str, number: u64, row: &Row)
     sheet.number(number);
 }
 
-/// A row that doesn't open.
-fn add_plain_row(sheet: &mut Sheet, number: u64, row: &Row)
+/// Adds a row that doesn't open.
+fn add_plain_row(sheet: &mut Sheet, names: &Names, number: u64, row: &Row)
     ensures { Adds sheet.old sheet.new
-        (start_text PLAIN_ROW.now number row.now ++ NUMBER.now ++ shown_text number row.now ++ PLAIN_END.now) }
+        (start_text PLAIN_ROW.now number row.now ++ NUMBER.now ++ shown_text names.now number row.now
+        ++ PLAIN_END.now) }
 {
     klp_markup::laws::what_is_added_adds_up();
     add_start(sheet, PLAIN_ROW, number, row);
     sheet.markup(NUMBER);
-    add_shown(sheet, number, row);
+    add_shown(sheet, names, number, row);
     sheet.markup(PLAIN_END);
 }
 
-/// A row that opens, with its cards.
-fn add_card_row(sheet: &mut Sheet, number: u64, row: &Row)
+/// Adds a row that opens, with its cards.
+fn add_card_row(sheet: &mut Sheet, names: &Names, number: u64, row: &Row)
     ensures { Adds sheet.old sheet.new
         (start_text CARD_ROW.now number row.now ++ open_text row.now.is_open ++ CARD_NUMBER.now
-        ++ shown_text number row.now
+        ++ shown_text names.now number row.now
         ++ CARDS.now ++ row.now.cards.text ++ CARDS_END.now) }
 {
     klp_markup::laws::what_is_added_adds_up();
     add_start(sheet, CARD_ROW, number, row);
     add_open(sheet, row.is_open);
     sheet.markup(CARD_NUMBER);
-    add_shown(sheet, number, row);
+    add_shown(sheet, names, number, row);
     sheet.markup(CARDS);
     sheet.append(&row.cards);
     sheet.markup(CARDS_END);
 }
 
 #[tactic(auto, unfolding(crate::specs::Text::row_text))]
-fn add_row(sheet: &mut Sheet, number: u64, row: &Row)
-    ensures { Adds sheet.old sheet.new (row_text number row.now) }
+fn add_row(sheet: &mut Sheet, names: &Names, number: u64, row: &Row)
+    ensures { Adds sheet.old sheet.new (row_text names.now number row.now) }
 {
     if row.cards.is_empty() {
-        add_plain_row(sheet, number, row);
+        add_plain_row(sheet, names, number, row);
     } else {
-        add_card_row(sheet, number, row);
+        add_card_row(sheet, names, number, row);
     }
 }
 
@@ -147,8 +170,8 @@ fn add_fold_end(sheet: &mut Sheet, quiet: usize)
 }
 
 /// Adds the rows in order, and folds quiet ones away where there are many in a row.
-pub(crate) fn add_rows(sheet: &mut Sheet, rows: &[Row])
-    ensures { Adds sheet.old sheet.new (rows_text rows.now) }
+pub(crate) fn add_rows(sheet: &mut Sheet, names: &Names, rows: &[Row])
+    ensures { Adds sheet.old sheet.new (rows_text names.now rows.now) }
 {
     klp_markup::laws::what_is_added_adds_up();
     let mut quiet = 0;
@@ -161,7 +184,7 @@ pub(crate) fn add_rows(sheet: &mut Sheet, rows: &[Row])
             add_fold_end(sheet, quiet);
             quiet = 0;
         }
-        add_row(sheet, index as u64 + 1, row);
+        add_row(sheet, names, index as u64 + 1, row);
     }
     add_fold_end(sheet, quiet);
 }

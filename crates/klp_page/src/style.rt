@@ -6,9 +6,9 @@ pub(crate) const QUIET_ROWS: usize = 10;
 pub(crate) const HEAD: &str = "<!doctype html><html lang=en><meta charset=utf-8>
 <meta name=viewport content=\"width=device-width,initial-scale=1\"><title>";
 
-/// The page's own colours, its sentences and its rows. Those of the drawing and of cards follow. A name is broken only where
-/// it doesn't fit on a line. Print has no backgrounds, so what has to be seen there is drawn or has a border, and an open row
-/// takes room for its first cards with it, so that no page ends with a row alone.
+/// The page's own colours, its sentences and its rows. Those of the drawing and of cards follow. A name is broken
+/// only where it doesn't fit on a line. Print has no backgrounds, so what has to be seen there is drawn or has a
+/// border, and an open row takes room for its first cards with it, so that no page ends with a row alone.
 pub(crate) const STYLE: &str = "</title><style>
 :root{color-scheme:light dark;--paper:#fff;--ink:#1b1f24;--soft:#57606a;--rule:#d9dee4;--card:#f5f7f9;--hold:#b3261e;
 --focus:#0072b2}
@@ -43,6 +43,12 @@ div.row{color:var(--soft)}samp{white-space:pre-wrap}.no samp{color:var(--hold);f
 a{text-decoration:none}}
 ";
 
+/// What the style of a page needs whose lines have times: room for them beside the line.
+pub(crate) const TIMED_STYLE: &str =
+    ".row>summary,div.row{grid-template-columns:5.4rem minmax(0,1.3fr) minmax(0,1fr)}.n{white-space:nowrap}
+@media(max-width:40rem){.row>summary,div.row{grid-template-columns:4.4rem minmax(0,1fr)}}
+";
+
 pub(crate) const STYLE_END: &str = "</style>
 ";
 
@@ -69,6 +75,9 @@ pub(crate) const OPEN: &str = " open";
 pub(crate) const NUMBER: &str = "><span class=n>";
 
 pub(crate) const CARD_NUMBER: &str = "><summary><span class=n>";
+
+/// What stands in front of the seconds of a line.
+pub(crate) const TIME: &str = "<br>+";
 
 pub(crate) const LINE: &str = "</span><code class=line>";
 

@@ -43,8 +43,8 @@ impl Callbacks {
         }
     }
 
-    /// Looks at all that callbacks may have changed by an event, before which these patches were installed, and adds a card
-    /// where one ran. Answers whether one did.
+    /// Looks at all that callbacks may have changed by an event, before which these patches were installed, and adds
+    /// a card where one ran. Answers whether one did.
     pub(crate) fn describe(
         &mut self,
         sheet: &mut Sheet,

@@ -35,13 +35,14 @@ pub(crate) struct Calls {
     ran: Vec<Ran>,
 }
 
-/// Whether a callback is one that runs as a patch comes. Where it comes and is cleaned up in one event, these run first.
+/// Whether a callback is one that runs as a patch comes. Where it comes and is cleaned up in one event, these run
+/// first.
 fn comes(which: Which) -> bool {
     matches!(which, Which::Pre | Which::Post)
 }
 
-/// The turn of a callback in an event, before which these were installed: what comes is before what goes, and in these an
-/// older patch before a newer one.
+/// The turn of a callback in an event, before which these were installed: what comes is before what goes, and in
+/// these an older patch before a newer one.
 fn turn_of(call: &Call, installed: &[PatchId]) -> usize {
     let place = installed.iter().position(|patch| *patch == call.patch);
     let place = place.unwrap_or(MAX_PATCHES).min(MAX_PATCHES);

@@ -3,6 +3,7 @@
 use klp_core::Manager;
 use klp_markup::Value::{Markup, Name};
 use klp_markup::{Sheet, add_tasks, object_name, patch_name, plural};
+use klp_names::Names;
 use klp_timeline::{Fact, View, lagging};
 use klp_types::{Mode, PatchId};
 
@@ -72,31 +73,37 @@ fn switching(mode: Mode, count: usize) -> &'static str {
     }
 }
 
-/// The tasks that lag in a mode, if one does.
-fn add_waiting(sheet: &mut Sheet, view: &View, mode: Mode) {
+/// Adds the tasks that lag in a mode, if one does.
+fn add_waiting(sheet: &mut Sheet, names: &Names, view: &View, mode: Mode) {
     let laggards = lagging(mode, &view.waits);
     let tasks = laggards.as_slice();
     if !tasks.is_empty() {
         sheet.markup("<li>");
-        add_tasks(sheet, tasks);
+        add_tasks(sheet, names, tasks);
         sheet.markup(switching(mode, tasks.len()));
     }
 }
 
-/// Who lags and doesn't hold the transition up, where one goes on.
-fn add_lagging(sheet: &mut Sheet, view: &View) {
+/// Adds who lags and doesn't hold the transition up, where one goes on.
+fn add_lagging(sheet: &mut Sheet, names: &Names, view: &View) {
     if view.waits.iter().all(|waits| waits.is_none()) {
         return;
     }
     sheet.markup("<div class=card><b>behind</b><ul>");
-    add_waiting(sheet, view, Mode::User);
-    add_waiting(sheet, view, Mode::Kernel);
-    add_waiting(sheet, view, Mode::Asleep);
+    add_waiting(sheet, names, view, Mode::User);
+    add_waiting(sheet, names, view, Mode::Kernel);
+    add_waiting(sheet, names, view, Mode::Asleep);
     sheet.markup("</ul></div>");
 }
 
-/// The patches, where one of them changed.
-pub(crate) fn add_patches(sheet: &mut Sheet, manager: &Manager, before: &View, after: &View) {
+/// Adds the patches, where one of them changed.
+pub(crate) fn add_patches(
+    sheet: &mut Sheet,
+    names: &Names,
+    manager: &Manager,
+    before: &View,
+    after: &View,
+) {
     let catalog = manager.catalog();
     for patch in &after.installed {
         let (class, what) = standing(manager, after, *patch);
@@ -107,5 +114,5 @@ pub(crate) fn add_patches(sheet: &mut Sheet, manager: &Manager, before: &View, a
             add_card(sheet, "card", patch_name(catalog, *patch), "is gone");
         }
     }
-    add_lagging(sheet, after);
+    add_lagging(sheet, names, after);
 }

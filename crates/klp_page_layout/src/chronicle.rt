@@ -13,6 +13,7 @@ use klp_catalog_text::Plan;
 use klp_console::Outcome;
 use klp_core::Manager;
 use klp_markup::Sheet;
+use klp_names::Names;
 use klp_timeline::{Moment, View};
 use klp_types::{Entry, MAX_PATCHES, MAX_TASKS, Site, TaskId};
 use std::alloc::{AllocError, Global};
@@ -49,7 +50,9 @@ struct Changes {
 
 /// What was seen after the last line.
 #[derive(Drop)]
-pub struct Chronicle {
+pub struct Chronicle<'a> {
+    /// What tasks are called.
+    names: &'a Names,
     tasks: Vec<Option<TaskShot>>,
     stacks: Vec<ArrayVec<Entry, MAX_PATCHES>>,
     callbacks: Callbacks,
@@ -64,10 +67,11 @@ struct Crowd {
     uncarded: u64,
 }
 
-impl Chronicle {
-    /// Nothing is seen yet, and no room is taken.
-    pub fn new(alloc: Global) -> Chronicle {
+impl<'a> Chronicle<'a> {
+    /// Nothing is seen yet, and no room is taken. Cards say what tasks are called by these names.
+    pub fn new(alloc: Global, names: &'a Names) -> Chronicle<'a> {
         Chronicle {
+            names,
             tasks: Vec::new(alloc),
             stacks: Vec::new(alloc),
             callbacks: Callbacks::new(alloc),
@@ -122,7 +126,7 @@ impl Chronicle {
         add_act(sheet, manager, &moment.act);
         let patches = are_patches_changed(before, view);
         if patches {
-            add_patches(sheet, manager, before, view);
+            add_patches(sheet, self.names, manager, before, view);
         }
         let callbacks = self.describe_callbacks(sheet, manager, outcome, before)?;
         let crowd = self.describe_tasks(sheet, manager, outcome, view);
@@ -225,7 +229,7 @@ impl Chronicle {
         }
         crowd.cards = crowd.cards.saturating_add(1);
         let Some(shot) = &after else {
-            add_ended_card(sheet, task);
+            add_ended_card(sheet, self.names, task);
             return;
         };
         let actor = Actor {
@@ -234,7 +238,7 @@ impl Chronicle {
             stay,
             moving: &view.moving,
         };
-        add_task_card(sheet, manager, &actor);
+        add_task_card(sheet, self.names, manager, &actor);
     }
 
     /// The sites whose function stack changed. Answers whether there is one.

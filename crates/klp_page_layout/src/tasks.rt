@@ -3,7 +3,8 @@
 use crate::shot::TaskShot;
 use klp_core::Manager;
 use klp_markup::Value::{Markup, Number};
-use klp_markup::{Sheet, add_version};
+use klp_markup::{Sheet, add_task, add_version};
+use klp_names::Names;
 use klp_timeline::Stay;
 use klp_types::{Mode, TaskId, Transition, Version};
 
@@ -83,17 +84,17 @@ fn add_frame(sheet: &mut Sheet, manager: &Manager, version: Version, why: &'stat
     }
 }
 
-/// A task that did something. Its functions stand outermost first.
-pub(crate) fn add_task_card(sheet: &mut Sheet, manager: &Manager, actor: &Actor<'_>) {
+/// Adds the card of a task that did something. Its functions stand outermost first.
+pub(crate) fn add_task_card(
+    sheet: &mut Sheet,
+    names: &Names,
+    manager: &Manager,
+    actor: &Actor<'_>,
+) {
     let shot = actor.shot;
-    sheet.fill(
-        "<div class={}><b>task {}</b> {}",
-        &[
-            Markup(class_of(shot)),
-            Number(u64::from(actor.task.0)),
-            Markup(mode_text(shot.mode)),
-        ],
-    );
+    sheet.fill("<div class={}><b>task ", &[Markup(class_of(shot))]);
+    add_task(sheet, names, actor.task);
+    sheet.fill("</b> {}", &[Markup(mode_text(shot.mode))]);
     let frames = shot.frames.as_slice();
     if !frames.is_empty() {
         sheet.markup(" in<ul class=m>");
@@ -107,12 +108,11 @@ pub(crate) fn add_task_card(sheet: &mut Sheet, manager: &Manager, actor: &Actor<
     sheet.markup("</div>");
 }
 
-/// A task that was there before the line.
-pub(crate) fn add_ended_card(sheet: &mut Sheet, task: TaskId) {
-    sheet.fill(
-        "<div class=card><b>task {}</b> has ended</div>",
-        &[Number(u64::from(task.0))],
-    );
+/// Adds the card of a task that was there before the line.
+pub(crate) fn add_ended_card(sheet: &mut Sheet, names: &Names, task: TaskId) {
+    sheet.markup("<div class=card><b>task ");
+    add_task(sheet, names, task);
+    sheet.markup("</b> has ended</div>");
 }
 
 /// The tasks that have no card, since there are too many.

@@ -15,8 +15,9 @@ use crate::lagging::add_all_lagging;
 use crate::state::{add_outdated, add_state};
 use crate::words::{add_counted, add_link, add_number, why};
 use klp_catalog::Catalog;
-use klp_markup::{Sheet, add_tasks, add_version};
+use klp_markup::{Sheet, add_line_time, add_tasks, add_version};
 use klp_modules::Modules;
+use klp_names::Names;
 use klp_timeline::{Said, Sentence, Sleepers, Stay, View, is_lasting, latest_course, outdated};
 
 /// How many sentences of sleepers are told of at the end at most.
@@ -44,35 +45,45 @@ fn add_reason(sheet: &mut Sheet, catalog: &Catalog, modules: &Modules, stay: &St
     }
 }
 
-/// Adds who still sleeps there, since which line.
+/// Adds who still sleeps there, since which line and time.
 fn add_sleepers(
     sheet: &mut Sheet,
+    names: &Names,
     catalog: &Catalog,
     modules: &Modules,
     line: u64,
     sleepers: &Sleepers,
 )
     requires { catalog.now.names ≡ modules.now.names }
-    ensures { Adds sheet.old sheet.new (sleeper_text catalog.now line (Slept sleepers.now)) }
+    ensures { Adds sheet.old sheet.new (sleeper_text names.now catalog.now line (Slept sleepers.now)) }
 {
     klp_markup::laws::what_is_added_adds_up();
     let tasks = sleepers.tasks.as_slice();
     sheet.markup("<li class=holds><b>");
-    add_tasks(sheet, tasks);
+    add_tasks(sheet, names, tasks);
     sheet.markup("</b>, in the way since ");
     add_link(sheet, "line ", line);
+    add_line_time(sheet, names, line);
     sheet.markup(": asleep in ");
     add_reason(sheet, catalog, modules, &sleepers.stay);
 }
 
-fn add_sleeper(sheet: &mut Sheet, catalog: &Catalog, modules: &Modules, sentence: &Sentence)
+fn add_sleeper(
+    sheet: &mut Sheet,
+    names: &Names,
+    catalog: &Catalog,
+    modules: &Modules,
+    sentence: &Sentence,
+)
     requires { catalog.now.names ≡ modules.now.names }
-    ensures { Adds sheet.old sheet.new (sleeper_text catalog.now sentence.now.line sentence.now.said) }
+    ensures { Adds sheet.old sheet.new (sleeper_text names.now catalog.now sentence.now.line sentence.now.said) }
 {
     klp_markup::laws::what_is_added_adds_up();
     match &sentence.said {
         Said::Did(_) => {}
-        Said::Slept(sleepers) => add_sleepers(sheet, catalog, modules, sentence.line, sleepers),
+        Said::Slept(sleepers) => {
+            add_sleepers(sheet, names, catalog, modules, sentence.line, sleepers);
+        }
     }
 }
 
@@ -92,15 +103,21 @@ fn is_shown(room: usize, sentence: &Sentence) -> bool
 }
 
 /// Adds the first sentences that last.
-fn add_lasting(sheet: &mut Sheet, catalog: &Catalog, modules: &Modules, sentences: &[Sentence])
+fn add_lasting(
+    sheet: &mut Sheet,
+    names: &Names,
+    catalog: &Catalog,
+    modules: &Modules,
+    sentences: &[Sentence],
+)
     requires { catalog.now.names ≡ modules.now.names }
-    ensures { Adds sheet.old sheet.new (sleepers_text catalog.now (first_lasting MAX_HOLDERS sentences.now)) }
+    ensures { Adds sheet.old sheet.new (sleepers_text names.now catalog.now (first_lasting MAX_HOLDERS sentences.now)) }
 {
     klp_markup::laws::what_is_added_adds_up();
     let mut room = MAX_HOLDERS;
     for sentence in sentences {
         if is_shown(room, sentence) {
-            add_sleeper(sheet, catalog, modules, sentence);
+            add_sleeper(sheet, names, catalog, modules, sentence);
             room -= 1;
         }
     }
@@ -152,16 +169,17 @@ fn sleeping(stays: &[Option<Stay>]) -> usize
 /// Adds all who sleep where it matters.
 fn add_all_sleepers(
     sheet: &mut Sheet,
+    names: &Names,
     catalog: &Catalog,
     modules: &Modules,
     stays: &[Option<Stay>],
     sentences: &[Sentence],
 )
     requires { catalog.now.names ≡ modules.now.names }
-    ensures { Adds sheet.old sheet.new (all_sleepers_text catalog.now stays.now sentences.now) }
+    ensures { Adds sheet.old sheet.new (all_sleepers_text names.now catalog.now stays.now sentences.now) }
 {
     klp_markup::laws::what_is_added_adds_up();
-    add_lasting(sheet, catalog, modules, sentences);
+    add_lasting(sheet, names, catalog, modules, sentences);
     add_others(sheet, others(sleeping(stays), sentences));
 }
 
@@ -186,12 +204,13 @@ fn add_refused(sheet: &mut Sheet, refused: &Option<u64>)
 #[tactic(auto, unfolding(crate::specs::End::first_text))]
 fn add_first(
     sheet: &mut Sheet,
+    names: &Names,
     catalog: &Catalog,
     view: &View,
     sentences: &[Sentence],
     refused: &Option<u64>,
 )
-    ensures { Adds sheet.old sheet.new (first_text catalog.now view.now sentences.now refused.now) }
+    ensures { Adds sheet.old sheet.new (first_text names.now catalog.now view.now sentences.now refused.now) }
 {
     klp_markup::laws::what_is_added_adds_up();
     let course = latest_course(sentences);
@@ -199,16 +218,17 @@ fn add_first(
     sheet.markup("<h1>");
     add_refused(sheet, refused);
     sheet.markup("At the end: ");
-    add_state(sheet, catalog, view, &course);
+    add_state(sheet, names, catalog, view, &course);
     add_outdated(sheet, sleepers);
     sheet.markup("</h1>");
 }
 
-/// Adds how a run ends which ends with this view, and of which this is said: what moves, which way and since when, or which
-/// patches are enabled; who sleeps where it matters; and who merely lags. `refused` is the number of lines where each was
-/// refused. The modules are those that the catalog was assembled over.
+/// Adds how a run ends: what moves, which way and since when, or which patches are enabled; who sleeps where it
+/// matters; and who merely lags. The run ends with this view, and these sentences are all that is said of it.
+/// `refused` is the number of lines if each was refused. The modules are those that the catalog was assembled over.
 pub fn add_end(
     sheet: &mut Sheet,
+    names: &Names,
     catalog: &Catalog,
     modules: &Modules,
     view: &View,
@@ -216,12 +236,12 @@ pub fn add_end(
     refused: &Option<u64>,
 )
     requires { catalog.now.names ≡ modules.now.names }
-    ensures { Adds sheet.old sheet.new (end_text catalog.now view.now sentences.now refused.now) }
+    ensures { Adds sheet.old sheet.new (end_text names.now catalog.now view.now sentences.now refused.now) }
 {
     klp_markup::laws::what_is_added_adds_up();
-    add_first(sheet, catalog, view, sentences, refused);
+    add_first(sheet, names, catalog, view, sentences, refused);
     sheet.markup("<ul class=story>\n");
-    add_all_sleepers(sheet, catalog, modules, &view.stays, sentences);
-    add_all_lagging(sheet, &view.waits);
+    add_all_sleepers(sheet, names, catalog, modules, &view.stays, sentences);
+    add_all_lagging(sheet, names, &view.waits);
     sheet.markup("</ul>\n");
 }

@@ -4,51 +4,57 @@ ghost use Rattle.std.specs.Fmt.{decimal};
 ghost use Rattle.klp_markup.specs.Adds.{Adds};
 ghost use Rattle.klp_markup.specs.Names.{version_text};
 ghost use Rattle.klp_markup.specs.Tasks.{plural, tasks_text};
+ghost use Rattle.klp_markup.specs.Times.{line_time, span_time};
 ghost use Rattle.klp_story.specs.Words.{link_text, quoted_text, why};
-ghost use Rattle.klp_story.specs.Sentences.{span_text, anchor_text, anchors_text, holding, sleeping, warning};
-ghost use Rattle.klp_story.specs.Sentences.{stay_text, said_text};
+ghost use Rattle.klp_story.specs.Sentences.{lines_text, span_text, anchor_text, anchors_text, holding, sleeping};
+ghost use Rattle.klp_story.specs.Sentences.{warning, stay_text, said_text};
 ghost use Rattle.klp_timeline.specs.declared.moment.Said.TheVariants.{Slept};
 
 use crate::words::{add_link, add_number, add_patch, why};
 use klp_catalog::Catalog;
-use klp_markup::{Sheet, add_tasks, add_version, plural};
+use klp_markup::{Sheet, add_line_time, add_span_time, add_tasks, add_version, plural};
 use klp_modules::Modules;
+use klp_names::Names;
 use klp_timeline::{Sleepers, Stay};
 use klp_types::{TaskId, Transition, Version};
 
-/// Adds a link to a line, between these.
-pub(crate) fn add_linked(
-    sheet: &mut Sheet,
-    before: &'static str,
-    word: &'static str,
-    line: u64,
-    behind: &'static str,
-)
-    ensures { Adds sheet.old sheet.new (before.now ++ link_text word.now line ++ behind.now) }
+/// Adds a link to a line behind what stands before.
+pub(crate) fn add_linked(sheet: &mut Sheet, before: &'static str, word: &'static str, line: u64)
+    ensures { Adds sheet.old sheet.new (before.now ++ link_text word.now line) }
 {
     klp_markup::laws::what_is_added_adds_up();
     sheet.markup(before);
     add_link(sheet, word, line);
-    sheet.markup(behind);
 }
 
-/// Adds from which line to which a stay is seen.
-fn add_span(sheet: &mut Sheet, line: u64, to: &Option<u64>)
-    ensures { Adds sheet.old sheet.new (span_text line to.now) }
+/// Adds from which line to which a stay is seen that ended.
+fn add_lines(sheet: &mut Sheet, line: u64, to: u64)
+    ensures { Adds sheet.old sheet.new (lines_text line to) }
+{
+    klp_markup::laws::what_is_added_adds_up();
+    if to == line {
+        add_linked(sheet, "<li>", "Line ", line);
+    } else {
+        add_linked(sheet, "<li>", "Lines ", line);
+        sheet.markup(" to ");
+        sheet.number(to);
+    }
+}
+
+/// Adds from which line to which a stay is seen, and how long it lasted.
+fn add_span(sheet: &mut Sheet, names: &Names, line: u64, to: &Option<u64>)
+    ensures { Adds sheet.old sheet.new (span_text names.now line to.now) }
 {
     klp_markup::laws::what_is_added_adds_up();
     match *to {
-        None => add_linked(
-            sheet,
-            "<li class=holds>Since ",
-            "line ",
-            line,
-            ", and still: ",
-        ),
-        Some(to) if to == line => add_linked(sheet, "<li>", "Line ", line, ": "),
-        Some(to) => {
-            add_linked(sheet, "<li>", "Lines ", line, " to ");
-            sheet.number(to);
+        None => {
+            add_linked(sheet, "<li class=holds>Since ", "line ", line);
+            add_line_time(sheet, names, line);
+            sheet.markup(", and still: ");
+        }
+        Some(last) => {
+            add_lines(sheet, line, last);
+            add_span_time(sheet, names, line, Some(last));
             sheet.markup(": ");
         }
     }
@@ -154,18 +160,19 @@ fn add_stay(
 /// Adds who sleeps where it matters, from this line on.
 pub(crate) fn add_sleepers(
     sheet: &mut Sheet,
+    names: &Names,
     catalog: &Catalog,
     modules: &Modules,
     line: u64,
     sleepers: &Sleepers,
 )
     requires { catalog.now.names ≡ modules.now.names }
-    ensures { Adds sheet.old sheet.new (said_text catalog.now line (Slept sleepers.now)) }
+    ensures { Adds sheet.old sheet.new (said_text names.now catalog.now line (Slept sleepers.now)) }
 {
     klp_markup::laws::what_is_added_adds_up();
     let tasks = sleepers.tasks.as_slice();
-    add_span(sheet, line, &sleepers.to);
+    add_span(sheet, names, line, &sleepers.to);
     add_anchors(sheet, line, tasks);
-    add_tasks(sheet, tasks);
+    add_tasks(sheet, names, tasks);
     add_stay(sheet, catalog, modules, sleepers, tasks.len());
 }

@@ -2,6 +2,7 @@
 ghost use Rattle.std.specs.Prelude.{◌≡◌, ◌++◌, ◌∷◌, [], codes, count_by};
 ghost use Rattle.std.specs.Fmt.{decimal};
 ghost use Rattle.klp_markup.specs.Adds.{Adds};
+ghost use Rattle.klp_markup.specs.Times.{line_time};
 ghost use Rattle.klp_timeline.specs.Course.{course_of};
 ghost use Rattle.klp_story.specs.Words.{link_text, quoted_text};
 ghost use Rattle.klp_story.specs.End.{way, since_text, forced_text, is_holding, held_text, also_text, enabled_text};
@@ -9,7 +10,8 @@ ghost use Rattle.klp_story.specs.End.{rest_text, state_text, outdated_text};
 
 use crate::words::{add_counted, add_link, add_patch};
 use klp_catalog::Catalog;
-use klp_markup::Sheet;
+use klp_markup::{Sheet, add_line_time};
+use klp_names::Names;
 use klp_timeline::{Course, Since, Stay, View};
 use klp_types::{PatchId, Transition};
 
@@ -24,8 +26,8 @@ fn way(target: bool) -> &'static str
 }
 
 /// Adds since when a transition goes this way.
-fn add_since(sheet: &mut Sheet, since: &Option<Since>)
-    ensures { Adds sheet.old sheet.new (since_text since.now) }
+fn add_since(sheet: &mut Sheet, names: &Names, since: &Option<Since>)
+    ensures { Adds sheet.old sheet.new (since_text names.now since.now) }
 {
     klp_markup::laws::what_is_added_adds_up();
     match *since {
@@ -33,10 +35,12 @@ fn add_since(sheet: &mut Sheet, since: &Option<Since>)
         Some(Since::Turned(line)) => {
             sheet.markup(" since ");
             add_link(sheet, "line ", line);
+            add_line_time(sheet, names, line);
         }
         Some(Since::Undone(line)) => {
             sheet.markup(" since ");
             add_link(sheet, "line ", line);
+            add_line_time(sheet, names, line);
             sheet.markup(" at least, where events were undone");
         }
     }
@@ -81,18 +85,19 @@ fn add_held(sheet: &mut Sheet, count: usize)
 /// Adds what moves, which way, since when, and how many hold it up.
 fn add_moving(
     sheet: &mut Sheet,
+    names: &Names,
     catalog: &Catalog,
     moving: &Transition,
     course: &Course,
     holders: usize,
 )
     ensures { Adds sheet.old sheet.new (quoted_text catalog.now moving.now.patch ++ way moving.now.target
-        ++ since_text course.now.since ++ forced_text course.now.is_forced ++ held_text holders) }
+        ++ since_text names.now course.now.since ++ forced_text course.now.is_forced ++ held_text holders) }
 {
     klp_markup::laws::what_is_added_adds_up();
     add_patch(sheet, catalog, moving.patch);
     sheet.markup(way(moving.target));
-    add_since(sheet, &course.since);
+    add_since(sheet, names, &course.since);
     sheet.markup(forced(course.is_forced));
     add_held(sheet, holders);
 }
@@ -134,14 +139,20 @@ fn add_rest(sheet: &mut Sheet, catalog: &Catalog, patches: &[PatchId])
 }
 
 /// Adds what moves, or that nothing does.
-pub(crate) fn add_state(sheet: &mut Sheet, catalog: &Catalog, view: &View, course: &Course)
-    ensures { Adds sheet.old sheet.new (state_text catalog.now view.now course.now view.now.moving) }
+pub(crate) fn add_state(
+    sheet: &mut Sheet,
+    names: &Names,
+    catalog: &Catalog,
+    view: &View,
+    course: &Course,
+)
+    ensures { Adds sheet.old sheet.new (state_text names.now catalog.now view.now course.now view.now.moving) }
 {
     klp_markup::laws::what_is_added_adds_up();
     match &view.moving {
         None => add_rest(sheet, catalog, view.installed.as_slice()),
         Some(moving) => {
-            add_moving(sheet, catalog, moving, course, holding(&view.stays));
+            add_moving(sheet, names, catalog, moving, course, holding(&view.stays));
         }
     }
 }
