@@ -4,31 +4,32 @@ use crate::scale::{COST, CUT, WIDTH};
 use klp_names::Names;
 use std::alloc::{AllocError, Global};
 
-/// How much longer than all shorter ones together a stretch is that is cut.
+/// A stretch is cut if it is this many times as long as all shorter stretches together.
 const LONG: u64 = 12;
 
-/// How long the shorter ones are together at least, in microseconds.
+/// No stretch is cut until the shorter ones together last this long, in microseconds.
 const SECOND: u64 = 1_000_000;
 
 /// A stretch of time in which nothing changes.
 #[derive(Clone, Copy)]
 struct Stretch {
-    /// How long it is, and how much of that is drawn, in microseconds.
+    /// How long the stretch is, and how much of it is drawn, in microseconds.
     length: u64,
     drawn: u64,
-    /// When it ends.
+    /// When the stretch ends, in microseconds since the first time.
     end: u64,
-    /// Where it begins in the drawing, and how wide it is.
+    /// The left end of the stretch in the drawing, and its width.
     x: u64,
     width: u64,
 }
 
 impl Stretch {
+    /// Whether a part of the stretch isn't drawn.
     fn is_cut(&self) -> bool {
         self.drawn < self.length
     }
 
-    /// The place of a time that it has.
+    /// Returns where a time within this stretch is drawn. Times in the part that is cut out are at the cut.
     fn place_of(&self, time: u64) -> u64 {
         let begin = self.end.saturating_sub(self.length);
         let drawn = time.saturating_sub(begin).min(self.drawn);
@@ -37,21 +38,22 @@ impl Stretch {
     }
 }
 
-/// The stretches of a run one behind the other, and the left side of each cut.
+/// The scale of a drawing by time: the stretches of the run in order, and the left end of each cut.
 #[derive(Drop)]
 pub(crate) struct Pace {
     stretches: Vec<Stretch>,
     pub cuts: Vec<u64>,
 }
 
-/// A walk over the stretches, in the order of times.
+/// The stretches that are left in a search for rising times.
 #[derive(Drop)]
 pub(crate) struct Steps<'a> {
     rest: &'a [Stretch],
 }
 
 impl<'a> Steps<'a> {
-    /// Returns the place of a time. It may not be before the times that were asked for.
+    /// Returns where a time is drawn. Ask for times in rising order: stretches that ended before an earlier call's
+    /// time are forgotten.
     pub(crate) fn place_of(&mut self, time: u64) -> u64 {
         while let [first, rest @ ..] = self.rest {
             if time < first.end || rest.is_empty() {
@@ -64,13 +66,15 @@ impl<'a> Steps<'a> {
 }
 
 impl Pace {
+    /// Begins a search for rising times.
     pub(crate) fn steps(&self) -> Steps<'_> {
         Steps {
             rest: &self.stretches,
         }
     }
 
-    /// Finds the place of each stretch. All together are as wide as a drawing.
+    /// Computes the place and the width of each stretch, so that all together are as wide as a drawing. `Err` if
+    /// memory runs out.
     fn place(&mut self) -> Result<(), AllocError> {
         let (mut all, mut cuts) = (0u64, 0u64);
         for stretch in &self.stretches {
@@ -95,7 +99,7 @@ impl Pace {
         Ok(())
     }
 
-    /// Leaves out most of each stretch that is longer than this.
+    /// Cuts each stretch that is longer than this: half of that length is drawn.
     fn cut(&mut self, longest: u64) {
         for stretch in &mut self.stretches {
             if stretch.length > longest {
@@ -105,7 +109,7 @@ impl Pace {
     }
 }
 
-/// Returns how long the longest stretch is that isn't cut.
+/// Returns the length of the longest stretch that is drawn whole; `u64::MAX` if none is cut. `Err` if memory runs out.
 fn longest_of(alloc: Global, stretches: &[Stretch]) -> Result<u64, AllocError> {
     let mut lengths = Vec::new(alloc);
     for stretch in stretches {
@@ -123,7 +127,7 @@ fn longest_of(alloc: Global, stretches: &[Stretch]) -> Result<u64, AllocError> {
     Ok(u64::MAX)
 }
 
-/// Adds the stretch up to a time. Returns that time.
+/// Adds the stretch between two times. Returns its end. `Err` if memory runs out.
 fn add_stretch(stretches: &mut Vec<Stretch>, begin: u64, end: u64) -> Result<u64, AllocError> {
     let length = end.saturating_sub(begin);
     stretches.push(Stretch {
@@ -136,8 +140,8 @@ fn add_stretch(stretches: &mut Vec<Stretch>, begin: u64, end: u64) -> Result<u64
     Ok(end)
 }
 
-/// Returns the stretches up to each line that changes something, and up to the last line. They are short of the
-/// first of these that has no time.
+/// Returns the stretches between the lines that change something, and from the last of these to the end of the run. At
+/// a line without a time the list ends. `Err` if memory runs out.
 fn stretches_of(
     alloc: Global,
     changed: &[u64],
@@ -158,8 +162,8 @@ fn stretches_of(
     Ok(stretches)
 }
 
-/// Returns where times are in the drawing of so many lines, of which these change something. `None` if one of these
-/// has no time, or if no time passes.
+/// Returns the scale by time of a run with this many lines, of which the lines in `changed` change something. `None`
+/// if one of those has no time, or if all times are the same. `Err` if memory runs out.
 pub(crate) fn pace_of(
     alloc: Global,
     changed: &[u64],

@@ -10,14 +10,14 @@ use klp_types::TaskId;
 /// How many bytes of a task's name a page shows at most.
 pub const MAX_SHOWN: usize = 32;
 
-/// Whether a byte goes on with a character of UTF-8, rather than begin one.
+/// Whether this byte continues a character of UTF-8. Else it begins a character.
 fn goes_on(byte: u8) -> bool
     ensures { result ≡ goes_on byte }
 {
     byte >= 128 && byte < 192
 }
 
-/// Returns as much of a long name as a page shows. It ends in front of a character.
+/// Returns the first [`MAX_SHOWN`] bytes of a name, or fewer, so that no character of UTF-8 is cut.
 fn front_of(name: &[u8]) -> &[u8]
     requires { MAX_SHOWN < length name.now }
     ensures { result.now ≡ take (last_begin MAX_SHOWN name.now) name.now }
@@ -29,7 +29,7 @@ fn front_of(name: &[u8]) -> &[u8]
     &name[..end]
 }
 
-/// Adds a name. A long one is cut, with a mark.
+/// Adds a task's name. A name of more than [`MAX_SHOWN`] bytes is cut, and ends with an ellipsis.
 fn add_shown(sheet: &mut Sheet, name: &[u8])
     ensures { Adds sheet.old sheet.new (shown_text name.now) }
 {
@@ -42,7 +42,7 @@ fn add_shown(sheet: &mut Sheet, name: &[u8])
     }
 }
 
-/// Adds what a task is called behind its number, if that is known.
+/// Adds a task's name behind its number. Adds nothing if the name isn't known.
 pub(crate) fn add_called(sheet: &mut Sheet, name: Option<&[u8]>)
     ensures { Adds sheet.old sheet.new (called_text (option_map (λ name. name.now) name.entry)) }
 {
@@ -54,7 +54,8 @@ pub(crate) fn add_called(sheet: &mut Sheet, name: Option<&[u8]>)
     }
 }
 
-/// Adds the number of a task, and what it is called, where no markup may stand. It has no contract, and is for layout.
+/// Adds a task's number, and its name if that is known. It adds no markup, since a tooltip allows none. It has no
+/// contract, and is for layout.
 pub fn add_plain_task(sheet: &mut Sheet, names: &Names, task: TaskId) {
     sheet.number(u64::from(task.0));
     match names.name(task) {

@@ -9,16 +9,17 @@ use crate::sheet::Sheet;
 use klp_names::Names;
 use klp_types::TaskId;
 
-/// How many tasks a list names at most that is cut short, beside the number of the others.
+/// How many tasks a shortened list names. It says how many others there are.
 pub const MAX_NAMED: usize = 8;
 
-/// The word for one of something, or for another number of it.
+/// Returns the word for one of something, or for another number of it.
 pub fn plural(count: usize, one: &'static str, more: &'static str) -> &'static str
     ensures { result.now ≡ plural count one.now more.now }
 {
     if count == 1 { one } else { more }
 }
 
+/// Returns how many of `count` tasks a shortened list names. It names nine rather than eight and "1 more".
 fn named(count: usize) -> usize
     ensures { result ≡ named count }
 {
@@ -29,6 +30,7 @@ fn named(count: usize) -> usize
     }
 }
 
+/// Returns what stands in a list of `count` tasks in front of the one at this place.
 fn join(place: usize, count: usize) -> &'static str
     requires { place < count }
     ensures { result.now ≡ join place count }
@@ -42,7 +44,7 @@ fn join(place: usize, count: usize) -> &'static str
     }
 }
 
-/// Adds the number of a task, and what it is called, if that is known.
+/// Adds a task's number, and its name if that is known.
 pub fn add_task(sheet: &mut Sheet, names: &Names, task: TaskId)
     ensures { Adds sheet.old sheet.new (task_text names.now task) }
 {
@@ -51,7 +53,7 @@ pub fn add_task(sheet: &mut Sheet, names: &Names, task: TaskId)
     add_called(sheet, names.name(task));
 }
 
-/// Adds `tasks`, which are the first of `count` tasks, each by its number and its name.
+/// Adds the first tasks of a list of `count` tasks, each with its number and its name.
 fn add_names(sheet: &mut Sheet, names: &Names, count: usize, tasks: &[TaskId])
     requires { length tasks.now ≤ count }
     ensures { Adds sheet.old sheet.new (names_text names.now count 0 tasks.now) }
@@ -64,6 +66,7 @@ fn add_names(sheet: &mut Sheet, names: &Names, count: usize, tasks: &[TaskId])
     }
 }
 
+/// Adds how many tasks a shortened list leaves out. Adds nothing if it names all.
 fn add_more(sheet: &mut Sheet, count: usize)
     ensures { Adds sheet.old sheet.new (more_text count) }
 {
@@ -75,7 +78,7 @@ fn add_more(sheet: &mut Sheet, count: usize)
     }
 }
 
-/// Adds each of these tasks: `task 1`, or `tasks 1, 2 and 3`, with what each is called.
+/// Adds all of these tasks with their names: `task 1`, or `tasks 1, 2 and 3`.
 #[tactic(auto, unfolding(crate::specs::Tasks::each_text))]
 pub fn add_each_task(sheet: &mut Sheet, names: &Names, tasks: &[TaskId])
     ensures { Adds sheet.old sheet.new (each_text names.now tasks.now) }
@@ -86,8 +89,8 @@ pub fn add_each_task(sheet: &mut Sheet, names: &Names, tasks: &[TaskId])
     add_names(sheet, names, count, tasks);
 }
 
-/// Adds tasks with what each is called, of many the first: `task 1`, `tasks 1, 2 and 3`, or `tasks 1, 2, .. and 14
-/// more`.
+/// Adds these tasks with their names, shortened if there are more than nine: `task 1`, `tasks 1, 2 and 3`, or `tasks
+/// 1, 2, .. and 14 more`.
 #[tactic(auto, unfolding(crate::specs::Tasks::tasks_text))]
 pub fn add_tasks(sheet: &mut Sheet, names: &Names, tasks: &[TaskId])
     ensures { Adds sheet.old sheet.new (tasks_text names.now tasks.now) }

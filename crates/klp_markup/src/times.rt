@@ -6,7 +6,7 @@ ghost use Rattle.klp_markup.specs.Times.{seconds_text, lasting_text, after_text,
 use crate::sheet::Sheet;
 use klp_names::Names;
 
-/// Adds microseconds as seconds with one decimal: `15.1 s`. The rest is left out.
+/// Adds microseconds as seconds with one decimal, rounded down: `15.1 s`.
 #[tactic(auto, unfolding(crate::specs::Times::seconds_text))]
 pub fn add_seconds(sheet: &mut Sheet, time: u64)
     ensures { Adds sheet.old sheet.new (seconds_text time) }
@@ -18,6 +18,7 @@ pub fn add_seconds(sheet: &mut Sheet, time: u64)
     sheet.markup(" s");
 }
 
+/// Adds a duration: ` for 15.1 s`. Adds nothing if it isn't known.
 fn add_lasting(sheet: &mut Sheet, lasting: Option<u64>)
     ensures { Adds sheet.old sheet.new (lasting_text lasting) }
 {
@@ -28,6 +29,8 @@ fn add_lasting(sheet: &mut Sheet, lasting: Option<u64>)
     }
 }
 
+/// Adds a time since the first one, and a duration: ` (+3.0 s for 15.1 s)`. Adds nothing if the time isn't known, and
+/// no duration if that isn't.
 fn add_after(sheet: &mut Sheet, time: Option<u64>, lasting: Option<u64>)
     ensures { Adds sheet.old sheet.new (after_text time lasting) }
 {
@@ -40,14 +43,14 @@ fn add_after(sheet: &mut Sheet, time: Option<u64>, lasting: Option<u64>)
     }
 }
 
-/// Adds when a line was, counted from the first time: ` (+3.0 s)`. It adds nothing where that isn't known.
+/// Adds the time of a line since the first time: ` (+3.0 s)`. Adds nothing if it isn't known.
 pub fn add_line_time(sheet: &mut Sheet, names: &Names, line: u64)
     ensures { Adds sheet.old sheet.new (line_time names.now line) }
 {
     add_after(sheet, names.since_start(line), None);
 }
 
-/// Adds when something began that was so from one line up to another, and how long it lasted: ` (+0.0 s for 15.1 s)`.
+/// Adds when something began that lasted from `line` to the line `to`, and for how long: ` (+0.0 s for 15.1 s)`.
 pub fn add_span_time(sheet: &mut Sheet, names: &Names, line: u64, to: Option<u64>)
     ensures { Adds sheet.old sheet.new (span_time names.now line to) }
 {

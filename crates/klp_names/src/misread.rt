@@ -4,10 +4,10 @@ use crate::fault::{NamesFault, NamesFaultKind};
 use klp_words::cut;
 use std::fmt;
 
-/// How many bytes of a word are shown.
+/// How many bytes of a faulty word a message shows at most.
 const SHOWN: usize = 64;
 
-/// A fault with the file that it is of: printed as `FILE: line 3: BadTask: '64': wanted is a task's number, 0 to
+/// A fault of a file of names, for people: printed as `FILE: line 3: BadTask: '64': wanted is a task's number, 0 to
 /// 63`. It has no contract.
 #[derive(Clone, Copy)]
 pub struct Misread<'a> {
@@ -17,7 +17,7 @@ pub struct Misread<'a> {
     pub fault: NamesFault,
 }
 
-/// The line of this number.
+/// Returns the line with this number, counted from 1.
 fn line_at(text: &[u8], number: u64) -> &[u8] {
     let mut rest = text;
     for _line in 1..number {
@@ -26,7 +26,7 @@ fn line_at(text: &[u8], number: u64) -> &[u8] {
     cut(rest, b'\n').0
 }
 
-/// Which part of a line is at fault, and what is wanted in its place.
+/// Returns the part of a line that is at fault, and what is wanted instead.
 fn part_of(line: &[u8], kind: NamesFaultKind) -> (&[u8], &'static str) {
     let (word, rest) = cut(line, b' ');
     let (number, last) = cut(rest, b' ');
@@ -52,12 +52,13 @@ fn part_of(line: &[u8], kind: NamesFaultKind) -> (&[u8], &'static str) {
     }
 }
 
-/// As much of a word as is shown.
+/// Returns the first [`SHOWN`] bytes of a word.
 fn shown(word: &[u8]) -> &[u8] {
     word.get(..SHOWN).unwrap_or(word)
 }
 
-/// Writes bytes as they are, but for what drives a terminal, can't be seen or is no text.
+/// Writes text, with an escape for each character that drives a terminal or isn't printable, and for bytes that aren't
+/// UTF-8.
 fn write_escaped<W: fmt::Write>(f: &mut fmt::Formatter<W>, word: &[u8]) -> fmt::Result {
     for chunk in word.utf8_chunks() {
         for c in chunk.valid().chars() {

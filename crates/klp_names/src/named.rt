@@ -21,7 +21,7 @@ impl Model for Named {
 }
 
 impl Named {
-    /// Copies the name.
+    /// Returns a task with a copy of this name. `Err` if memory runs out.
     pub(crate) fn new(alloc: Global, task: TaskId, name: &[u8]) -> Result<Named, AllocError>
         ensures { IfOk result (λ named. named ≡ record { task = task; name = name.now }) }
     {
@@ -31,12 +31,14 @@ impl Named {
         })
     }
 
+    /// Whether this is the name of that task.
     pub(crate) fn is_of(&self, task: TaskId) -> bool
         ensures { result ≡ (self.now.task == task) }
     {
         self.task == task
     }
 
+    /// Returns the task's name.
     pub(crate) fn name(&self) -> &[u8]
         ensures { result.now ≡ self.now.name }
     {

@@ -10,7 +10,7 @@ use klp_types::TaskId;
 use std::alloc::Global;
 use std::marker::Model;
 
-/// What an observer knows of a run beside its lines: what tasks are called, and when lines were. It may be nothing.
+/// What an observer knows of a run beside its lines: the names of tasks, and the times of lines. It may be nothing.
 #[derive(Drop)]
 pub struct Names {
     named: Vec<Named>,
@@ -28,7 +28,7 @@ impl Model for Names {
 }
 
 impl Names {
-    /// Returns names of which none is known, nor any time. No memory is taken.
+    /// Returns names that say nothing: no task has a name, no line a time. Takes no memory.
     pub fn new(alloc: Global) -> Names
         ensures { result ≡ nothing_known }
     {
@@ -38,7 +38,7 @@ impl Names {
         }
     }
 
-    /// Returns what a task is called. `None` if that isn't known.
+    /// Returns the name of a task. `None` if it isn't known.
     pub fn name(&self, task: TaskId) -> Option<&[u8]>
         ensures { option_map (λ name. name.now) result ≡ name_of self.now.named task }
     {
@@ -50,7 +50,7 @@ impl Names {
         None
     }
 
-    /// Returns when a line was, in microseconds. `None` if that isn't known. The cost is that of a binary search.
+    /// Returns the time of a line in microseconds, by a binary search. `None` if it isn't known.
     pub fn time(&self, line: u64) -> Option<u64>
         ensures { result ≡ time_of self.now.timed line }
     {
@@ -60,7 +60,7 @@ impl Names {
         }
     }
 
-    /// Returns the place of a line's time, or the place where it would be.
+    /// Returns the index of this line's time; as an `Err`, the index where it would have to be inserted.
     fn place_of(&self, line: u64) -> Result<usize, usize>
         ensures found { IfOk result (IsAt self.now.timed line) }
         ensures absent { IfErr result (IsGapFor self.now.timed line) }
@@ -68,8 +68,8 @@ impl Names {
         self.timed.binary_search_by_key(&line, |timed| timed.line)
     }
 
-    /// Returns how many microseconds something lasted that was so from one line up to another. It ended with the line
-    /// behind that. `None` if it hasn't ended, or if a time isn't known.
+    /// Returns the duration, in microseconds, of something that was so after the lines from `from` to `to`. It ended
+    /// with the line behind `to`. `None` if it hasn't ended, or if a time isn't known.
     pub fn lasted(&self, from: u64, to: Option<u64>) -> Option<u64>
         ensures { result ≡ lasted self.now.timed from to }
     {
@@ -88,14 +88,14 @@ impl Names {
         Some(at.saturating_sub(first.at))
     }
 
-    /// Whether a time is known.
+    /// Whether the time of any line is known.
     pub fn has_times(&self) -> bool
         ensures { result ≡ is_some (start_of self.now.timed) }
     {
         !self.timed.is_empty()
     }
 
-    /// Adds the name of a task. After a fault the names are as before.
+    /// Adds the name of a task. `Err` if the task has a name, or if memory runs out: then nothing is added.
     pub(crate) fn add_name(&mut self, task: TaskId, name: &[u8]) -> Result<(), NamesFaultKind>
         ensures { IsOutcome self.old (with_name self.old task name.now) self.new result }
     {
@@ -107,7 +107,8 @@ impl Names {
         Ok(())
     }
 
-    /// Adds the time of a line. After a fault the times are as before.
+    /// Adds the time of a line, in microseconds. `Err` if the line isn't behind the last one with a time, if its time
+    /// is before that one's, or if memory runs out: then nothing is added.
     pub(crate) fn add_time(&mut self, line: u64, at: u64) -> Result<(), NamesFaultKind>
         ensures { IsOutcome self.old (with_time self.old line at) self.new result }
     {

@@ -12,24 +12,24 @@ use klp_types::{MAX_TASKS, TaskId};
 use klp_words::{cut, microseconds, number64};
 use std::alloc::Global;
 
-/// How many bytes the name of a task has at most.
+/// How many bytes a task's name has at most.
 pub const MAX_TASK_NAME: usize = 64;
 
-/// Whether one of the bytes is a control character.
+/// Whether one of these bytes is a control character.
 fn has_control(word: &[u8]) -> bool
     ensures { result ≡ list_any is_ascii_control word.now }
 {
     word.iter().any(|b| b.is_ascii_control())
 }
 
-/// Whether a word can be the name of a task: 1 to 64 bytes, none of them a control character.
+/// Whether these bytes can be the name of a task: 1 to 64 bytes, without control characters.
 pub(crate) fn is_task_name(word: &[u8]) -> bool
     ensures { result ≡ is_task_name word.now }
 {
     !word.is_empty() && word.len() <= MAX_TASK_NAME && !has_control(word)
 }
 
-/// Reads the number of a task.
+/// Reads the number of a task. `None` if it isn't a number from 0 to 63.
 pub(crate) fn task_of(word: &[u8]) -> Option<TaskId>
     ensures { result ≡ task_of word.now }
 {
@@ -41,7 +41,7 @@ pub(crate) fn task_of(word: &[u8]) -> Option<TaskId>
     }
 }
 
-/// Reads the number of a line, which counts from 1.
+/// Reads the number of a line. `None` if it isn't a number from 1 on.
 pub(crate) fn line_of(word: &[u8]) -> Option<u64>
     ensures { result ≡ line_of word.now }
 {
@@ -50,7 +50,7 @@ pub(crate) fn line_of(word: &[u8]) -> Option<u64>
 }
 
 impl Names {
-    /// Adds what is behind `task `: a number, and the name behind one blank.
+    /// Adds the name of a task. `rest` is what follows `task ` in the file: `NUMBER NAME`.
     fn add_named(&mut self, rest: &[u8]) -> Result<(), NamesFaultKind>
         ensures { IsOutcome self.old (with_named self.old rest.now) self.new result }
     {
@@ -64,7 +64,7 @@ impl Names {
         self.add_name(task, name)
     }
 
-    /// Adds what is behind `line `: a number, and the seconds behind one blank.
+    /// Adds the time of a line. `rest` is what follows `line ` in the file: `NUMBER SECONDS`.
     fn add_timed(&mut self, rest: &[u8]) -> Result<(), NamesFaultKind>
         ensures { IsOutcome self.old (with_timed self.old rest.now) self.new result }
     {
@@ -78,7 +78,7 @@ impl Names {
         self.add_time(line, at)
     }
 
-    /// Adds what a line tells.
+    /// Adds what one line of the file says.
     fn add_line(&mut self, line: &[u8]) -> Result<(), NamesFaultKind>
         ensures { IsOutcome self.old (with_line self.old line.now) self.new result }
     {
@@ -92,7 +92,8 @@ impl Names {
         }
     }
 
-    /// Reads a text of names, in time linear in its length, or answers its first faulty line.
+    /// Reads the text of a file of names, in time linear in its length. `Err` with the first faulty line, if there is
+    /// one, or if memory runs out.
     pub fn read(alloc: Global, text: &[u8]) -> Result<Names, NamesFault>
         ensures names { IfOk result (λ names. names_of text.now ≡ Ok names) }
         ensures fault { IfErr result (λ fault. IsFaultOf text.now fault.line fault.kind) }

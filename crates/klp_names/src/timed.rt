@@ -1,6 +1,6 @@
 //! A line with its time.
 
-/// A line and when it was, in microseconds.
+/// A line and its time, in microseconds.
 #[derive(Clone, Copy)]
 pub(crate) struct Timed {
     pub line: u64,

@@ -24,7 +24,7 @@ use klp_views::view_of;
 use std::alloc::{AllocError, Global};
 use std::io::Write;
 
-/// The page of a run, of which the rows and all that is said of it are there.
+/// Returns the text of the page, from its rows, sentences and drawing. `Err` if memory runs out.
 fn written(
     alloc: Global,
     manager: &Manager,
@@ -54,7 +54,7 @@ fn written(
     sheet.into_bytes()
 }
 
-/// How many of the lines were refused.
+/// Returns how many of the lines were refused.
 fn refused(rows: &[Row]) -> u64
     ensures { result ≡ count_by is_refused rows.now }
 {
@@ -67,7 +67,7 @@ fn refused(rows: &[Row]) -> u64
     count as u64
 }
 
-/// Returns the page of what was recorded.
+/// Returns the text of the page of a run that was served and recorded. `Err` if memory runs out.
 fn page_of(
     alloc: Global,
     manager: &Manager,
@@ -102,7 +102,7 @@ fn page_of(
     )
 }
 
-/// Returns the page of a script.
+/// Serves a script by a manager that was just booted, and returns the text of its page.
 fn paged(
     alloc: Global,
     manager: &mut Manager,
@@ -120,7 +120,8 @@ fn paged(
     Ok(page_of(alloc, manager, name, names, &opening, &recorded, layout)?)
 }
 
-// The manager goes then.
+// Serves a script by a manager, which is dropped then, and returns the page. Only `close` drops a manager, so that its
+// drop is proved once.
 fn page_over_manager(
     alloc: Global,
     mut manager: Manager,
@@ -137,8 +138,8 @@ fn page_over_manager(
     page
 }
 
-// Boots a manager over a plan, and shows the script by it. The callbacks are made here, as where a trace is
-// watched.
+// Boots a manager over a plan, serves the script by it, and returns the page. The callbacks are made in this function,
+// since no function may return a boxed value that it makes.
 fn page_over_plan(
     alloc: Global,
     plan: Plan,
@@ -160,9 +161,9 @@ fn page_over_plan(
     page_over_manager(alloc, manager, name, names, script, layout)
 }
 
-/// Boots a manager over the catalog's text, and shows the script by it: a page of this name, with a row for each
-/// line. The page says what tasks are called, and when lines were, as far as `names` has it. Memory is taken by the
-/// script's length.
+/// Boots a manager over the catalog's text, serves the script by it, and returns a page with a row for each line.
+/// `name` is the page's title, and `names` has the names of tasks and the times of lines. Takes memory in proportion
+/// to the script.
 pub fn page_over_text(
     alloc: Global,
     catalog: &[u8],
@@ -177,8 +178,8 @@ pub fn page_over_text(
     page_over_plan(alloc, plan, name, names, script)
 }
 
-/// Writes the page of a script to `out`. Nothing is written before all lines are served. Where the page can't be
-/// written, the fault is that of the write.
+/// Writes the page of a script to `out`, once all lines are served: if one of them is at fault, nothing is written. If
+/// `out` refuses the page, the fault is that of the write.
 pub fn write_page<W: Write>(
     alloc: Global,
     catalog: &[u8],

@@ -14,22 +14,23 @@ use klp_markup::{Sheet, add_each_task, add_seconds};
 use klp_names::Names;
 use klp_types::TaskId;
 
-/// What a page shows of a line.
+/// What a page shows of one line.
 #[derive(Drop)]
 pub(crate) struct Row {
     pub line: Vec<u8>,
     pub answer: Vec<u8>,
     pub is_refused: bool,
-    /// Whether it may be folded away.
+    /// Whether the page may fold the row away: the line was done, and there is nothing to say of it.
     pub is_quiet: bool,
-    /// The tasks that hold a transition up after the line, where that isn't as it was before.
+    /// The tasks that hold the transition up after the line. Empty if no stay changed since the line before.
     pub holders: Vec<TaskId>,
-    /// Whether its cards stand open.
+    /// Whether the row shows its cards at first.
     pub is_open: bool,
-    /// What it changed.
+    /// Cards of what the line changed.
     pub cards: Sheet,
 }
 
+/// Adds who holds the transition up. Adds nothing if nobody does.
 fn add_mark(sheet: &mut Sheet, names: &Names, tasks: &[TaskId])
     ensures { Adds sheet.old sheet.new (mark_text names.now tasks.now) }
 {
@@ -42,6 +43,7 @@ fn add_mark(sheet: &mut Sheet, names: &Names, tasks: &[TaskId])
     sheet.markup(HELD_END);
 }
 
+/// Adds the class of a refused line, if the line was refused.
 fn add_refused(sheet: &mut Sheet, is_refused: bool)
     ensures { Adds sheet.old sheet.new (refused_text is_refused) }
 {
@@ -51,6 +53,7 @@ fn add_refused(sheet: &mut Sheet, is_refused: bool)
     }
 }
 
+/// Adds the attribute of a row that is open at first, if the row is.
 fn add_open(sheet: &mut Sheet, is_open: bool)
     ensures { Adds sheet.old sheet.new (open_text is_open) }
 {
@@ -60,7 +63,7 @@ fn add_open(sheet: &mut Sheet, is_open: bool)
     }
 }
 
-/// Adds when a line was, if that is known.
+/// Adds a time since the first one. Adds nothing if it isn't known.
 fn add_time(sheet: &mut Sheet, time: Option<u64>)
     ensures { Adds sheet.old sheet.new (time_text time) }
 {
@@ -71,7 +74,7 @@ fn add_time(sheet: &mut Sheet, time: Option<u64>)
     }
 }
 
-/// Adds the number of a line, and when it was.
+/// Adds the number of a line, and its time if that is known.
 fn add_number(sheet: &mut Sheet, names: &Names, number: u64)
     ensures { Adds sheet.old sheet.new (decimal number ++ time_text (since_start names.now.timed number)) }
 {
@@ -80,7 +83,7 @@ fn add_number(sheet: &mut Sheet, names: &Names, number: u64)
     add_time(sheet, names.since_start(number));
 }
 
-/// Adds the line with its number and its time, its answer and its mark.
+/// Adds the columns of a row: the line's number and time, its text, its answer, and who holds the transition up.
 #[tactic(auto, unfolding(crate::specs::Text::shown_text))]
 fn add_shown(sheet: &mut Sheet, names: &Names, number: u64, row: &Row)
     ensures { Adds sheet.old sheet.new (shown_text names.now number row.now) }
@@ -95,6 +98,7 @@ fn add_shown(sheet: &mut Sheet, names: &Names, number: u64, row: &Row)
     add_mark(sheet, names, &row.holders);
 }
 
+/// Begins a row with this tag, its class and its anchor `line-NUMBER`.
 #[tactic(auto, unfolding(crate::specs::Text::start_text))]
 fn add_start(sheet: &mut Sheet, tag: &'static str, number: u64, row: &Row)
     ensures { Adds sheet.old sheet.new (start_text tag.now number row.now) }
@@ -106,7 +110,7 @@ fn add_start(sheet: &mut Sheet, tag: &'static str, number: u64, row: &Row)
     sheet.number(number);
 }
 
-/// Adds a row that doesn't open.
+/// Adds a row without cards.
 fn add_plain_row(sheet: &mut Sheet, names: &Names, number: u64, row: &Row)
     ensures { Adds sheet.old sheet.new
         (start_text PLAIN_ROW.now number row.now ++ NUMBER.now ++ shown_text names.now number row.now
@@ -119,7 +123,7 @@ fn add_plain_row(sheet: &mut Sheet, names: &Names, number: u64, row: &Row)
     sheet.markup(PLAIN_END);
 }
 
-/// Adds a row that opens, with its cards.
+/// Adds a row with cards, which a click shows or hides.
 fn add_card_row(sheet: &mut Sheet, names: &Names, number: u64, row: &Row)
     ensures { Adds sheet.old sheet.new
         (start_text CARD_ROW.now number row.now ++ open_text row.now.is_open ++ CARD_NUMBER.now
@@ -136,6 +140,7 @@ fn add_card_row(sheet: &mut Sheet, names: &Names, number: u64, row: &Row)
     sheet.markup(CARDS_END);
 }
 
+/// Adds a row, with cards if it has some.
 #[tactic(auto, unfolding(crate::specs::Text::row_text))]
 fn add_row(sheet: &mut Sheet, names: &Names, number: u64, row: &Row)
     ensures { Adds sheet.old sheet.new (row_text names.now number row.now) }
@@ -147,7 +152,7 @@ fn add_row(sheet: &mut Sheet, names: &Names, number: u64, row: &Row)
     }
 }
 
-/// Begins a fold, where as many quiet rows as are shown stand before.
+/// Begins a fold in front of a quiet row, if exactly [`QUIET_ROWS`] quiet rows are shown before it.
 fn add_fold_start(sheet: &mut Sheet, quiet: usize)
     ensures { Adds sheet.old sheet.new (fold_start quiet) }
 {
@@ -157,7 +162,7 @@ fn add_fold_start(sheet: &mut Sheet, quiet: usize)
     }
 }
 
-/// Ends the fold, where there is one, and tells how many rows it has.
+/// Ends the fold behind this many quiet rows in a row, if there is one, and says how many rows are folded away.
 fn add_fold_end(sheet: &mut Sheet, quiet: usize)
     ensures { Adds sheet.old sheet.new (fold_end quiet) }
 {
@@ -169,7 +174,7 @@ fn add_fold_end(sheet: &mut Sheet, quiet: usize)
     }
 }
 
-/// Adds the rows in order, and folds quiet ones away where there are many in a row.
+/// Adds the rows in order. Of more than [`QUIET_ROWS`] quiet rows in a row the others are folded away.
 pub(crate) fn add_rows(sheet: &mut Sheet, names: &Names, rows: &[Row])
     ensures { Adds sheet.old sheet.new (rows_text names.now rows.now) }
 {

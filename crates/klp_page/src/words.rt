@@ -6,26 +6,27 @@ ghost use Rattle.klp_page.specs.Asked.{page_files, meaning};
 use klp_program::report_usage_as;
 use std::io::Write;
 
-/// The name that the program gives itself.
+/// The name of the program in its messages.
 const NAME: &str = "klppage";
 
-/// The files that a page is made of.
+/// The paths of the files that a page is made of.
 #[derive(Clone, Copy)]
 pub struct PageFiles<'a> {
     pub catalog: &'a str,
     pub script: &'a str,
-    /// What tasks are called, and when lines were.
+    /// The file of names of tasks, and times of lines.
     pub names: Option<&'a str>,
 }
 
+/// Whether this word is an option rather than a path.
 fn begins_with_dash(word: &str) -> bool
     ensures { result ≡ begins_with_dash word.now }
 {
     word.as_bytes().first() == Some(&b'-')
 }
 
-/// Reads the words behind the program's name: the files of a catalog, of a script, and of names, which may be left
-/// out. Other words are refused on `err`, with their exit status.
+/// Reads the program's arguments: the paths of a catalog, of a script and, if it is given, of names. Refuses other
+/// arguments with a message on `err`, and returns the exit status as `Err`.
 pub fn page_words<'a, W: Write>(given: &'a [String], err: &mut W) -> Result<PageFiles<'a>, u8>
     ensures { MatchResult result
         (λ files. page_files (map string_bytes given.now) ≡ Some (meaning files))

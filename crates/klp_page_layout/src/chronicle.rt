@@ -18,27 +18,27 @@ use klp_timeline::{Moment, View};
 use klp_types::{Entry, MAX_PATCHES, MAX_TASKS, Site, TaskId};
 use std::alloc::{AllocError, Global};
 
-/// How many tasks have a card at a line.
+/// How many tasks have a card at one line at most.
 const MAX_CARDS: u64 = 12;
 
 /// What a line changed, and the cards that show it.
 #[derive(Drop)]
 pub struct RowParts {
-    /// Whether a patch was installed or left, or the transition is another one.
+    /// Whether a patch was installed or left, or the transition changed.
     pub patches: bool,
-    /// Whether a task is another than before.
+    /// Whether a task changed.
     pub tasks: bool,
     /// Whether the function stack of a site changed.
     pub sites: bool,
-    /// Whether others hold the transition up.
+    /// Whether a task began or ceased to hold the transition up.
     pub holders: bool,
     /// Whether a callback ran.
     pub callbacks: bool,
-    /// One beside the other. There are none where nothing changed.
+    /// The cards, side by side. Empty if nothing changed.
     pub cards: Sheet,
 }
 
-/// What a line changed, as in [`RowParts`].
+/// What a line changed, like the fields of [`RowParts`].
 #[derive(Clone, Copy)]
 struct Changes {
     patches: bool,
@@ -48,7 +48,7 @@ struct Changes {
     callbacks: bool,
 }
 
-/// What was seen after the last line.
+/// The tasks, function stacks and callbacks after the last line, which the next line is compared with.
 #[derive(Drop)]
 pub struct Chronicle<'a> {
     /// What tasks are called.
@@ -58,7 +58,8 @@ pub struct Chronicle<'a> {
     callbacks: Callbacks,
 }
 
-/// What is gathered of tasks at a line.
+/// What the tasks add up to at one line: whether one changed, whether one began or ceased to hold the transition up,
+/// how many have cards, and how many have none for want of room.
 #[derive(Clone, Copy)]
 struct Crowd {
     is_changed: bool,
@@ -68,7 +69,8 @@ struct Crowd {
 }
 
 impl<'a> Chronicle<'a> {
-    /// Nothing is seen yet, and no room is taken. Cards say what tasks are called by these names.
+    /// Returns the chronicle of a run of which no line was served. Cards have the names of tasks from `names`. Takes
+    /// no memory.
     pub fn new(alloc: Global, names: &'a Names) -> Chronicle<'a> {
         Chronicle {
             names,
@@ -78,12 +80,13 @@ impl<'a> Chronicle<'a> {
         }
     }
 
-    /// Takes up the shadow variables that the scripts of a plan name, of which the manager is going to be booted.
+    /// Begins to watch the shadow variables that the scripts of a plan change. The manager will be booted over this
+    /// plan. `Err` if memory runs out.
     pub fn watch(&mut self, plan: &Plan) -> Result<(), AllocError> {
         self.callbacks.watch(plan)
     }
 
-    /// Takes the room for each task, each site and each callback of a manager that was just booted.
+    /// Prepares for each task, site and callback of a manager that was just booted. `Err` if memory runs out.
     pub fn open(&mut self, manager: &Manager) -> Result<(), AllocError> {
         self.tasks.resize(MAX_TASKS, None)?;
         for _site in 0..manager.sites() {
@@ -92,7 +95,8 @@ impl<'a> Chronicle<'a> {
         self.callbacks.open(manager)
     }
 
-    /// Tells what a line changed that came to this. It is wanted of each line whose event was taken or undone.
+    /// Returns what a line changed, and its cards. Call this for each line whose event was taken or undone; other
+    /// lines change nothing. `Err` if memory runs out.
     pub fn describe(
         &mut self,
         alloc: Global,
@@ -113,7 +117,7 @@ impl<'a> Chronicle<'a> {
         })
     }
 
-    /// Adds the cards of a line to a sheet, and answers what it changed.
+    /// Adds the cards of a line, and returns what the line changed. `Err` if memory runs out.
     fn describe_to(
         &mut self,
         sheet: &mut Sheet,
@@ -140,7 +144,7 @@ impl<'a> Chronicle<'a> {
         })
     }
 
-    /// The callbacks that ran. Answers whether one did.
+    /// Adds a card of the callbacks that ran. Returns whether one did. `Err` if memory runs out.
     fn describe_callbacks(
         &mut self,
         sheet: &mut Sheet,
@@ -156,7 +160,7 @@ impl<'a> Chronicle<'a> {
         Ok(false)
     }
 
-    /// The tasks that did something.
+    /// Adds cards of the tasks that did something. Returns what the tasks add up to.
     fn describe_tasks(
         &mut self,
         sheet: &mut Sheet,
@@ -192,7 +196,7 @@ impl<'a> Chronicle<'a> {
         crowd
     }
 
-    /// Whether a task stands as it was seen last, what it sleeps inside of aside.
+    /// Whether a task is as it was after the last line, apart from the functions that it sleeps in.
     fn is_as_seen(&self, manager: &Manager, view: &View, task: TaskId) -> bool {
         let number = usize::from(task.0);
         if number >= self.tasks.len() || number >= MAX_TASKS {
@@ -201,6 +205,7 @@ impl<'a> Chronicle<'a> {
         stands_as_before(manager, task, &view.stays[number], &self.tasks[number])
     }
 
+    /// Adds the card of a task if it did something, and notes how it is now.
     fn describe_task(
         &mut self,
         sheet: &mut Sheet,
@@ -241,7 +246,7 @@ impl<'a> Chronicle<'a> {
         add_task_card(sheet, self.names, manager, &actor);
     }
 
-    /// The sites whose function stack changed. Answers whether there is one.
+    /// Adds a card for each site whose function stack changed. Returns whether there is one.
     fn describe_sites(&mut self, sheet: &mut Sheet, manager: &Manager, outcome: &Outcome) -> bool {
         if !matches!(reach_of(outcome), Reach::All) {
             return false;

@@ -20,10 +20,10 @@ use klp_modules::Modules;
 use klp_names::Names;
 use klp_timeline::{Said, Sentence, Sleepers, Stay, View, is_lasting, latest_course, outdated};
 
-/// How many sentences of sleepers are told of at the end at most.
+/// How many sentences about sleepers the end of a run shows at most.
 const MAX_HOLDERS: usize = 8;
 
-/// Adds what tasks are asleep in, and why that matters.
+/// Adds the function that tasks sleep in, and why that matters.
 fn add_reason(sheet: &mut Sheet, catalog: &Catalog, modules: &Modules, stay: &Stay)
     requires { catalog.now.names ≡ modules.now.names }
     ensures { Adds sheet.old sheet.new (reason_text catalog.now stay.now) }
@@ -45,7 +45,7 @@ fn add_reason(sheet: &mut Sheet, catalog: &Catalog, modules: &Modules, stay: &St
     }
 }
 
-/// Adds who still sleeps there, since which line and time.
+/// Adds the tasks of one sentence that still sleep at the end, since which line and time, and in which function.
 fn add_sleepers(
     sheet: &mut Sheet,
     names: &Names,
@@ -68,6 +68,7 @@ fn add_sleepers(
     add_reason(sheet, catalog, modules, &sleepers.stay);
 }
 
+/// Adds the tasks of a sentence about sleepers. Adds nothing for a sentence about what a line did.
 fn add_sleeper(
     sheet: &mut Sheet,
     names: &Names,
@@ -87,6 +88,7 @@ fn add_sleeper(
     }
 }
 
+/// Returns how many tasks the sentence says sleep.
 fn tasks_of(sentence: &Sentence) -> usize
     ensures { result ≡ tasks_of sentence.now }
 {
@@ -96,13 +98,15 @@ fn tasks_of(sentence: &Sentence) -> usize
     }
 }
 
+/// Whether the end of the run shows this sentence: it lasts to the end, and fewer than [`MAX_HOLDERS`] were shown
+/// before.
 fn is_shown(room: usize, sentence: &Sentence) -> bool
     ensures { result ≡ (nat_lt 0 room && is_lasting sentence.now) }
 {
     room > 0 && is_lasting(sentence)
 }
 
-/// Adds the first sentences that last.
+/// Adds the first [`MAX_HOLDERS`] of the sentences that last to the end.
 fn add_lasting(
     sheet: &mut Sheet,
     names: &Names,
@@ -123,7 +127,7 @@ fn add_lasting(
     }
 }
 
-/// How many of so many tasks these sentences don't tell of.
+/// Returns how many of the sleepers are in none of the first [`MAX_HOLDERS`] sentences that last to the end.
 fn others(sleepers: usize, sentences: &[Sentence]) -> usize
     ensures { result ≡ sleepers - sum_by tasks_of (first_lasting MAX_HOLDERS sentences.now) }
 {
@@ -138,6 +142,7 @@ fn others(sleepers: usize, sentences: &[Sentence]) -> usize
     left
 }
 
+/// Adds how many sleepers aren't named here, unless all are.
 fn add_others(sheet: &mut Sheet, count: usize)
     ensures { Adds sheet.old sheet.new (others_text count) }
 {
@@ -153,7 +158,7 @@ fn add_others(sheet: &mut Sheet, count: usize)
     }
 }
 
-/// How many tasks sleep where it matters.
+/// Returns how many tasks hold the transition up, or sleep in code that isn't called now.
 fn sleeping(stays: &[Option<Stay>]) -> usize
     ensures { result ≡ count_by is_some stays.now }
 {
@@ -166,7 +171,8 @@ fn sleeping(stays: &[Option<Stay>]) -> usize
     count
 }
 
-/// Adds all who sleep where it matters.
+/// Adds the tasks that hold the transition up, or sleep in code that isn't called now: first those of the first
+/// [`MAX_HOLDERS`] sentences that last, then how many others there are.
 fn add_all_sleepers(
     sheet: &mut Sheet,
     names: &Names,
@@ -183,7 +189,7 @@ fn add_all_sleepers(
     add_others(sheet, others(sleeping(stays), sentences));
 }
 
-/// Adds that nothing was done, where each of so many lines was refused.
+/// Adds that nothing was done, if all lines were refused. `refused` is the number of lines then, else `None`.
 fn add_refused(sheet: &mut Sheet, refused: &Option<u64>)
     ensures { Adds sheet.old sheet.new (refused_text refused.now) }
 {
@@ -200,7 +206,8 @@ fn add_refused(sheet: &mut Sheet, refused: &Option<u64>)
     }
 }
 
-/// Adds what moves, or that nothing does.
+/// Adds the heading: the transition under way or the enabled patches, and how many tasks sleep in code that isn't
+/// called now.
 #[tactic(auto, unfolding(crate::specs::End::first_text))]
 fn add_first(
     sheet: &mut Sheet,
@@ -223,9 +230,11 @@ fn add_first(
     sheet.markup("</h1>");
 }
 
-/// Adds how a run ends: what moves, which way and since when, or which patches are enabled; who sleeps where it
-/// matters; and who merely lags. The run ends with this view, and these sentences are all that is said of it.
-/// `refused` is the number of lines if each was refused. The modules are those that the catalog was assembled over.
+/// Adds how a run ends. First the transition under way, its direction and since when; or else the enabled patches.
+/// Then the tasks that hold it up, or sleep in code that isn't called now. Last the tasks that merely lag.
+///
+/// `view` is the state after the last line, and `sentences` are all sentences of the run. `refused` is the number of
+/// lines if each was refused. The catalog was assembled over these modules.
 pub fn add_end(
     sheet: &mut Sheet,
     names: &Names,

@@ -10,7 +10,7 @@ use klp_names::Names;
 use klp_timeline::lagging;
 use klp_types::{MAX_TASKS, Mode, TaskId};
 
-/// Where so many tasks are, and when they switch.
+/// Returns where these tasks are, and when each will switch. `count` chooses singular or plural.
 fn switching(mode: Mode, count: usize) -> &'static str
     ensures { result.now ≡ switching mode count }
 {
@@ -33,7 +33,7 @@ fn switching(mode: Mode, count: usize) -> &'static str
     }
 }
 
-/// Adds who lags there, if anybody does.
+/// Adds a list item that names the tasks which lag in this mode. Adds nothing if there are none.
 fn add_item(sheet: &mut Sheet, names: &Names, mode: Mode, tasks: &[TaskId])
     ensures { Adds sheet.old sheet.new (item_text names.now mode tasks.now) }
 {
@@ -47,13 +47,14 @@ fn add_item(sheet: &mut Sheet, names: &Names, mode: Mode, tasks: &[TaskId])
     sheet.markup(switching(mode, tasks.len()));
 }
 
+/// Adds a list item for the tasks that lag in this mode, if there are any.
 fn add_lagging(sheet: &mut Sheet, names: &Names, mode: Mode, waits: &[Option<Mode>; MAX_TASKS])
     ensures { Adds sheet.old sheet.new (lagging_text names.now mode waits.now) }
 {
     add_item(sheet, names, mode, lagging(mode, waits).as_slice());
 }
 
-/// Adds who merely lags, by where they are.
+/// Adds the tasks that lag without holding the transition up, grouped by their mode.
 pub(crate) fn add_all_lagging(sheet: &mut Sheet, names: &Names, waits: &[Option<Mode>; MAX_TASKS])
     ensures { Adds sheet.old sheet.new (all_lagging_text names.now waits.now) }
 {

@@ -18,7 +18,7 @@ use klp_names::Names;
 use klp_timeline::{Sleepers, Stay};
 use klp_types::{TaskId, Transition, Version};
 
-/// Adds a link to a line behind what stands before.
+/// Adds the text `before`, and a link to a line.
 pub(crate) fn add_linked(sheet: &mut Sheet, before: &'static str, word: &'static str, line: u64)
     ensures { Adds sheet.old sheet.new (before.now ++ link_text word.now line) }
 {
@@ -27,7 +27,7 @@ pub(crate) fn add_linked(sheet: &mut Sheet, before: &'static str, word: &'static
     add_link(sheet, word, line);
 }
 
-/// Adds from which line to which a stay is seen that ended.
+/// Begins a list item with the lines of a stay that ended. `to` is the last of them.
 fn add_lines(sheet: &mut Sheet, line: u64, to: u64)
     ensures { Adds sheet.old sheet.new (lines_text line to) }
 {
@@ -41,7 +41,8 @@ fn add_lines(sheet: &mut Sheet, line: u64, to: u64)
     }
 }
 
-/// Adds from which line to which a stay is seen, and how long it lasted.
+/// Begins a list item with the lines of a stay, when it began and how long it lasted. If `to` is `None`, the stay goes
+/// on at the end of the run.
 fn add_span(sheet: &mut Sheet, names: &Names, line: u64, to: &Option<u64>)
     ensures { Adds sheet.old sheet.new (span_text names.now line to.now) }
 {
@@ -60,7 +61,7 @@ fn add_span(sheet: &mut Sheet, names: &Names, line: u64, to: &Option<u64>)
     }
 }
 
-/// Adds what the label of a drawing leads to.
+/// Adds an empty element, to which the label of this stay in the drawing links.
 #[tactic(auto, unfolding(crate::specs::Sentences::anchor_text))]
 fn add_anchor(sheet: &mut Sheet, line: u64, task: TaskId)
     ensures { Adds sheet.old sheet.new (anchor_text line task) }
@@ -71,6 +72,7 @@ fn add_anchor(sheet: &mut Sheet, line: u64, task: TaskId)
     sheet.markup("></i>");
 }
 
+/// Adds such an element for each of these tasks.
 fn add_anchors(sheet: &mut Sheet, line: u64, tasks: &[TaskId])
     ensures { Adds sheet.old sheet.new (anchors_text line tasks.now) }
 {
@@ -80,6 +82,7 @@ fn add_anchors(sheet: &mut Sheet, line: u64, tasks: &[TaskId])
     }
 }
 
+/// Returns the verb for tasks that hold a transition up. If `to` is `None`, they still do at the end.
 fn holding(to: &Option<u64>, count: usize) -> &'static str
     ensures { result.now ≡ holding to.now count }
 {
@@ -89,6 +92,7 @@ fn holding(to: &Option<u64>, count: usize) -> &'static str
     }
 }
 
+/// Returns the verb for tasks that sleep in code that isn't called. If `to` is `None`, they still do at the end.
 fn sleeping(to: &Option<u64>, count: usize) -> &'static str
     ensures { result.now ≡ sleeping to.now count }
 {
@@ -98,6 +102,7 @@ fn sleeping(to: &Option<u64>, count: usize) -> &'static str
     }
 }
 
+/// Returns what it means that a task sleeps in code that isn't called. If `to` is `None`, it still does at the end.
 fn warning(to: &Option<u64>) -> &'static str
     ensures { result.now ≡ warning to.now }
 {
@@ -107,7 +112,8 @@ fn warning(to: &Option<u64>) -> &'static str
     }
 }
 
-/// Adds that a patch is held up, by tasks that do what the verb says inside of a function.
+/// Adds that tasks hold a patch's transition up, in which function they sleep, and why that function blocks the
+/// transition. `verb` is `holds`, `hold` or `held`.
 fn add_hold(
     sheet: &mut Sheet,
     catalog: &Catalog,
@@ -131,7 +137,8 @@ fn add_hold(
     sheet.markup(".");
 }
 
-/// Adds what so many tasks do, or did.
+/// Adds what the sleepers of a sentence do: they hold a transition up, or sleep in code that isn't called. `count` is
+/// the number of sleepers.
 fn add_stay(
     sheet: &mut Sheet,
     catalog: &Catalog,
@@ -157,7 +164,7 @@ fn add_stay(
     }
 }
 
-/// Adds who sleeps where it matters, from this line on.
+/// Adds a sentence about sleepers, whose stay begins with this line.
 pub(crate) fn add_sleepers(
     sheet: &mut Sheet,
     names: &Names,

@@ -15,6 +15,7 @@ use klp_names::Names;
 use klp_timeline::{Course, Since, Stay, View};
 use klp_types::{PatchId, Transition};
 
+/// Returns the words for a transition to this target.
 fn way(target: bool) -> &'static str
     ensures { result.now ≡ way target }
 {
@@ -25,7 +26,7 @@ fn way(target: bool) -> &'static str
     }
 }
 
-/// Adds since when a transition goes this way.
+/// Adds since which line and time the transition has had its target. Adds nothing if that isn't known.
 fn add_since(sheet: &mut Sheet, names: &Names, since: &Option<Since>)
     ensures { Adds sheet.old sheet.new (since_text names.now since.now) }
 {
@@ -46,13 +47,14 @@ fn add_since(sheet: &mut Sheet, names: &Names, since: &Option<Since>)
     }
 }
 
+/// Returns the words for a forced transition, or none if it wasn't forced.
 fn forced(is_forced: bool) -> &'static str
     ensures { result.now ≡ forced_text is_forced }
 {
     if is_forced { ", and was forced" } else { "" }
 }
 
-/// How many tasks hold the transition up.
+/// Returns how many tasks hold the transition up.
 fn holding(stays: &[Option<Stay>]) -> usize
     ensures { result ≡ count_by is_holding stays.now }
 {
@@ -65,6 +67,7 @@ fn holding(stays: &[Option<Stay>]) -> usize
     count
 }
 
+/// Adds how many tasks hold the transition up.
 fn add_held(sheet: &mut Sheet, count: usize)
     ensures { Adds sheet.old sheet.new (held_text count) }
 {
@@ -82,7 +85,8 @@ fn add_held(sheet: &mut Sheet, count: usize)
     }
 }
 
-/// Adds what moves, which way, since when, and how many hold it up.
+/// Adds the transition under way: its patch, its target, since when, whether it was forced, and how many tasks hold it
+/// up.
 fn add_moving(
     sheet: &mut Sheet,
     names: &Names,
@@ -102,7 +106,7 @@ fn add_moving(
     add_held(sheet, holders);
 }
 
-/// Adds patches behind others.
+/// Adds the names of these patches, with a comma before each.
 fn add_also(sheet: &mut Sheet, catalog: &Catalog, patches: &[PatchId])
     ensures { Adds sheet.old sheet.new (also_text catalog.now patches.now) }
 {
@@ -113,7 +117,7 @@ fn add_also(sheet: &mut Sheet, catalog: &Catalog, patches: &[PatchId])
     }
 }
 
-/// Adds the patches that are enabled where nothing moves.
+/// Adds which patches are enabled, in a state without a transition.
 fn add_enabled(sheet: &mut Sheet, catalog: &Catalog, patches: &[PatchId])
     ensures { Adds sheet.old sheet.new (enabled_text catalog.now patches.now) }
 {
@@ -129,7 +133,7 @@ fn add_enabled(sheet: &mut Sheet, catalog: &Catalog, patches: &[PatchId])
     }
 }
 
-/// Adds that nothing moves, and which patches are enabled.
+/// Adds that no transition is under way, and which patches are enabled.
 fn add_rest(sheet: &mut Sheet, catalog: &Catalog, patches: &[PatchId])
     ensures { Adds sheet.old sheet.new (rest_text catalog.now patches.now) }
 {
@@ -138,7 +142,7 @@ fn add_rest(sheet: &mut Sheet, catalog: &Catalog, patches: &[PatchId])
     add_enabled(sheet, catalog, patches);
 }
 
-/// Adds what moves, or that nothing does.
+/// Adds the transition under way, or that there is none and which patches are enabled.
 pub(crate) fn add_state(
     sheet: &mut Sheet,
     names: &Names,
@@ -157,7 +161,7 @@ pub(crate) fn add_state(
     }
 }
 
-/// Adds how many tasks sleep inside of code that isn't called now, if any does.
+/// Adds how many tasks sleep in code that isn't called now. Adds nothing if none does.
 pub(crate) fn add_outdated(sheet: &mut Sheet, count: usize)
     ensures { Adds sheet.old sheet.new (outdated_text count) }
 {

@@ -15,6 +15,7 @@ use klp_modules::Modules;
 use klp_names::Names;
 use klp_timeline::{Fact, Said, Sentence, excess, is_left_out, left_out};
 
+/// Adds a list item for what a line did.
 fn add_did(
     sheet: &mut Sheet,
     names: &Names,
@@ -33,6 +34,7 @@ fn add_did(
     add_fact(sheet, catalog, modules, fact);
 }
 
+/// Adds a list item for a sentence.
 fn add_sentence(
     sheet: &mut Sheet,
     names: &Names,
@@ -52,7 +54,7 @@ fn add_sentence(
     sheet.markup("\n");
 }
 
-/// Adds the sentences that are told of.
+/// Adds a list item for each sentence that the page shows.
 fn add_shown(
     sheet: &mut Sheet,
     names: &Names,
@@ -74,6 +76,7 @@ fn add_shown(
     }
 }
 
+/// Adds how many of the oldest sentences the page leaves out. Adds nothing if it shows all.
 fn add_earlier(sheet: &mut Sheet, count: usize)
     ensures { Adds sheet.old sheet.new (earlier_text count) }
 {
@@ -84,8 +87,8 @@ fn add_earlier(sheet: &mut Sheet, count: usize)
     }
 }
 
-/// Adds a list item for each sentence that is told of, in the order of the lines where each begins. Then it adds how
-/// many of the oldest aren't told of. The modules are those that the catalog was assembled over.
+/// Adds a list item for each sentence that the page shows, in the order of their first lines. Then adds how many of
+/// the oldest sentences the page leaves out. The catalog was assembled over these modules.
 pub fn add_story(
     sheet: &mut Sheet,
     names: &Names,
