@@ -8,6 +8,7 @@ import glob
 import os
 import tempfile
 
+import testing.run
 from testing.run import EXAMPLES, TOP, fault, read, run, run_itself
 
 # What klpwatch ends with where a trace isn't honest.
@@ -63,6 +64,26 @@ def long_traces():
     name = "5000 lives, and a task that leaves inside of a function"
     leaves = (name, LIFE * 5000 + LEAVES, f"{said}\n".encode(), DISHONEST, told)
     return [(f"a trace of {name}", functools.partial(long_trace, *case)) for name, *case in [*honest, leaves]]
+
+
+def cut_off(name, catalog):
+    """A trace is cut off behind each byte. All its lines are items, so only the last one can be at fault."""
+    text = read(f"{name}.trace")
+    for end in range(0, len(text), 1 if testing.run.IS_BUILT else 13):
+        with tempfile.NamedTemporaryFile(suffix=".trace") as it:
+            it.write(text[:end])
+            it.flush()
+            status, out, err = run_itself(["klpwatch", f"{EXAMPLES}/{catalog}.catalog", it.name])
+        last = text[:end].count(b"\n") + 1
+        faulty = (status, out) == (1, b"") and f": line {last}" in err and ": BadItem: " in err
+        said = out.decode()
+        if not (faulty or (status == 0 and said.startswith("honest ")) or (status == DISHONEST and said.startswith(f"line {last}: "))):
+            return f"cut off at {end}: status {status}, {out} and {err}, where line {last} alone may be at fault"
+    return None
+
+
+def cut_traces():
+    return [(f"{name}.trace, cut off", functools.partial(cut_off, name, "eventfd")) for name in ("watched_kernel", "watched_mixed")]
 
 
 def steps(name, catalog):
@@ -155,5 +176,5 @@ def copies():
 
 
 def cases():
-    kinds = (scripts, traces, long_traces, lives, pages, refused_catalogs, faulty_lines, unreadable_paths, copies)
+    kinds = (scripts, traces, long_traces, cut_traces, lives, pages, refused_catalogs, faulty_lines, unreadable_paths, copies)
     return [case for kind in kinds for case in kind()]

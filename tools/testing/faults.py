@@ -27,6 +27,9 @@ MARK = "wanted is ASCII alone, and no byte-order mark in front"
 WIDE = "UTF-16, by its first two bytes: wanted is ASCII or UTF-8"
 SCRIPT_LINE = "a line of a script, where a trace is wanted: klppage takes scripts"
 TRACE_LINE = "a line of a trace, where a script is wanted: klpwatch takes traces"
+ANSWER = "wanted is ?, or an answer as the console writes it, like ok, pending 2 or error 16 Busy"
+NO_EVENT = "wanted is a line without =>, behind which an event's answer stands"
+TIME = "wanted is seconds, with 6 decimals at most, and an item behind a space"
 F = ".klp.sym.vmlinux.f,0"
 # Lines behind the five of PATCH, and what is told of the last one.
 FAULTY = [
@@ -144,6 +147,36 @@ ITEMS = [
     ("task sleep 1 p:65536", f"'p:65536': {FRAME}"),
     (f"task sleep 1{33 * ' p:0'}", f"'task sleep 1{13 * ' p:0'}'..: wanted are 32 functions at most"),
     ("shadow put 1 2", f"'shadow put 1 2': {ITEM}"),
+    ("saw", "'saw': wanted is saw TASK STATE"),
+    ("saw 64 0", "'64': wanted is a task, from 0 to 63"),
+    ("saw 1 2", "'2': wanted is -1, 0 or 1"),
+    ("saw p 1", "'p': wanted is a task, from 0 to 63"),
+    ("saw z gone", "'z': wanted is a patch of the catalog"),
+    ("saw z 1 0", "'z': wanted is a patch of the catalog"),
+    ("saw p 1 2", "'2': wanted is 0 or 1"),
+    ("saw p 1 0 1", "'saw p 1 0 1': wanted is saw PATCH ENABLED TRANSITION"),
+    ("ran 1", "'ran 1': wanted is ran TASK FRAME"),
+    ("ran 1 f", f"'f': {FRAME}"),
+    ("ran 1 p:0 p:0", "'ran 1 p:0 p:0': wanted is ran TASK FRAME"),
+    ("ran 1 p:1", "'p:1': wanted is a function that the patch has"),
+    ("hooked", "'hooked': wanted is hooked SYMBOL"),
+    ("plain .klp.sym.vmlinux.nope,0", f"'.klp.sym.vmlinux.nope,0': {NO_SYMBOL} nope"),
+    ("poll => pending 02", f"'pending 02': {ANSWER}"),
+    ("poll => pending 256", f"'pending 256': {ANSWER}"),
+    ("poll =>  ok", f"' ok': {ANSWER}"),
+    ("poll => ok ", f"'ok ': {ANSWER}"),
+    ("poll => error 17 Busy", f"'error 17 Busy': {ANSWER}"),
+    ("poll => woken .klp.sym.vmlinux.f,0", f"'woken .klp.sym.vmlinux.f,0': {ANSWER}"),
+    ("load p => prefailed p m 0016", f"'prefailed p m 0016': {ANSWER}"),
+    ("shadow getalloc 1 2 3 => value 03", f"'value 03': {ANSWER}"),
+    ("poll =>ok", "'poll =>ok': wanted is poll"),
+    ("load z => ok", "'z': wanted is a patch of the catalog"),
+    (f"call 1 {F} => ok", f"'call 1 {F} => ok': {NO_EVENT}"),
+    ("saw 1 0 => ?", f"'saw 1 0 => ?': {NO_EVENT}"),
+    ("@ poll", f"'': {TIME}"),
+    ("@1.2345678 poll", f"'1.2345678': {TIME}"),
+    ("@1s poll", f"'1s': {TIME}"),
+    (" @1 poll", f"' @1 poll': {ITEM}"),
 ]
 # Symbols of much the same names, those that are asked for, and the one that is told as near.
 ALIKE = ("shop_two", "show_one", "show_two", "stop_one")
@@ -196,6 +229,38 @@ DISHONEST = [
     (f"{IN}{4 * f'call 1 {F}{chr(10)}'}task sleep 1", f"Frames: 'task sleep 1': {SLEEP}{4 * f' {F1}'}"),
     (f"{IN}{5 * f'call 1 {F}{chr(10)}'}task sleep 1", f"Frames: 'task sleep 1': {SLEEP}{4 * f' {F1}'} .."),
 ]
+# Traces over MORE, and what is told of their last line, which the rules don't have so.
+FILES_0 = "saw p 0 1': the rules have enabled 1, transition 1"
+SLEEPS = f"{IN}call 1 {F}\ntask sleep 1 {F}\nload p => started"
+DIFFERING = [
+    ("load p => completed 1", "Answer: 'load p => completed 1': the rules answer started"),
+    ("load p\nload p => started", "Answer: 'load p => started': the rules answer error 22 AlreadyThere"),
+    ("task new 1 => error 2 NoTask", "Answer: 'task new 1 => error 2 NoTask': the rules answer ok"),
+    ("shadow getalloc 1 2 3 => value 4", "Answer: 'shadow getalloc 1 2 3 => value 4': the rules answer value 3"),
+    (f"{SLEEPS}\npoll => pending 2", f"Answer: 'poll => pending 2': the rules answer pending 1: task 1 sleeps in {F1}, which p changes"),
+    (f"{SLEEPS}\nsaw p 1 0", f"Files: 'saw p 1 0': the rules have enabled 1, transition 1: task 1 sleeps in {F1}, which p changes"),
+    (f"{SLEEPS}\nsaw p 0 1", f"Files: '{FILES_0}"),
+    ("saw p 1 0", "Files: 'saw p 1 0': the rules have no files of p, which isn't installed"),
+    ("load p\npoll\nsaw p gone", "Files: 'saw p gone': the rules have enabled 1, transition 0"),
+    ("saw 1 0", "State: 'saw 1 0': the rules have no task 1"),
+    ("task new 1\nsaw 1 0", "State: 'saw 1 0': the rules have -1: no patch is in transition"),
+    (
+        "task new 1\nload p\nsaw 1 1",
+        "State: 'saw 1 1': the rules have 0: task 1 is in user space, and is switched when it next leaves the kernel",
+    ),
+    (f"{IN}load p\nsaw 1 1", "State: 'saw 1 1': the rules have 0: task 1 runs in the kernel, and is switched when it leaves"),
+    (
+        f"{IN}load p\ntask sleep 1\nsaw 1 1",
+        "State: 'saw 1 1': the rules have 0: task 1 sleeps in no function that holds p up, and is switched by the next poll",
+    ),
+    (f"{IN}load p\ntask exit 1\nsaw 1 0", "State: 'saw 1 0': the rules have 1: task 1 is where p brings it"),
+    (f"{IN}ran 1 p:0", f"Version: 'ran 1 p:0': the rules pick {F1}: no patch is in transition"),
+    (f"ran 1 {F}", f"Version: 'ran 1 {F}': the rules pick nothing: there is no such task"),
+    (f"{IN}ran 1 {G}", f"Version: 'ran 1 {G}': the rules pick nothing: the function's object isn't loaded"),
+    (f"load p\nplain {F}", f"Text: 'plain {F}': the rules have it hooked: p"),
+    (f"hooked {F}", f"Text: 'hooked {F}': the rules have it plain: no patch that is installed changes it"),
+    (f"plain {G}", f"Text: 'plain {G}': the rules have no text of it: m isn't loaded"),
+]
 # A patch with two targets, the second function of which is in the second one.
 TWICE = f"{MORE}target m\nfunc {G} g_p ffffffffc0002000\n"
 IN_MODULE = f"insmod m\nload p\npoll\n{IN}call 1 {G}\ntask sleep 1\n"
@@ -207,6 +272,8 @@ REFUSED_EVENTS = [
         f"{IN}call 1 {F}\ntask new 1\nreturn 1\npoll\ntask exit 1\n",
         "line 4: hint: 'task new 1': TaskThere; 2 of 5 events refused, which is no fault",
     ),
+    ("task end 5 => error 2 NoTask\n", ""),
+    ("@1 task end 5 => ?\n", "line 1 (1 s): hint: '@1 task end 5 => ?': NoTask; 1 of 1 events refused, which is no fault"),
 ]
 # A function behind PATCH, or the target that it is in, a trace, and what is told of it. All traces are honest.
 NOPE, LATER = ".klp.sym.vmlinux.nope,0", ".klp.sym.vmlinux.f,2"
@@ -245,6 +312,8 @@ SCRIPTS = [
     ("mark\n\nload z\n", 0, "line 3: hint: 'z': wanted is a patch of the catalog"),
     (f"task new 1\ncall 1 {F}\nreturn 1\n", 0, f"line 2: hint: {TRACE_LINE}"),
     ("return 1\n", 0, f"line 1: hint: {TRACE_LINE}"),
+    ("@1 load p\n", 0, f"line 1: hint: {TRACE_LINE}"),
+    ("saw 1 0\n", 0, f"line 1: hint: {TRACE_LINE}"),
     ("text vmlinux\nshadow get 1 2\n", 0, ""),
     (b"\xff\xfem\t\r\n# a", 0, f"line 1: hint: {WIDE}"),
     (b"\xfe\xffm\n", 0, f"line 1: hint: {WIDE}"),
@@ -337,7 +406,7 @@ def cases():
     made += [case("klpwatch", KERNEL, trace, 1, said, of="trace") for trace, said in TRACES]
     made += [last_line(line, 1, f"BadItem: {said}") for line, said in ITEMS]
     made += [near_name(*row) for row in NEAR]
-    made += [last_line(trace, 3, said) for trace, said in DISHONEST]
+    made += [last_line(trace, 3, said) for trace, said in [*DISHONEST, *DIFFERING]]
     made.append(case("klpwatch", TWICE, IN_MODULE, 3, f"line 7: Frames: 'task sleep 1': {SLEEP} p:1 (g_p)", of="trace"))
     made += [case("klpwatch", KERNEL, trace, 0, said, of="trace") for trace, said in REFUSED_EVENTS]
     for program, (line, second, said) in itertools.product(USAGE, UNLOADABLE):

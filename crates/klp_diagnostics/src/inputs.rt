@@ -4,6 +4,7 @@ ghost use Rattle.std.specs.Prelude.{◌≡◌, IfErr};
 use crate::act::act_of;
 use crate::calls::Calls;
 use crate::catalog_line::{begins_as_catalog, begins_as_utf16};
+use crate::differing::write_rules;
 use crate::escaped::{Escaped, Quoted};
 use crate::item::Item;
 use crate::lack::lack_of;
@@ -18,9 +19,11 @@ use crate::{catalog_line, image, item};
 use klp_catalog::{AssembleFault, Catalog};
 use klp_catalog_text::{Plan, TextFault};
 use klp_console::ServeFault;
-use klp_program::{Fault, TraceFault, Verdict, bytes_in};
+use klp_program::{Fault, Verdict, bytes_in};
+use klp_trace::{LineParts, TraceFault, TraceFaultKind};
 use klp_types::MAX_CONSOLE_LINE;
-use klp_watch::{Cause, NotHonest};
+use klp_watch::{Cause, Differs, NotHonest};
+use klp_words::microseconds;
 use std::alloc::Global;
 use std::io;
 use std::io::Write;
@@ -91,6 +94,17 @@ impl<'a> FileText<'a> {
         Escaped(self.name.as_bytes())
     }
 
+    /// What a line of a trace is called, with its time if it has one.
+    fn write_item_place<E: Write>(&self, program: &str, line: u64, err: &mut E) -> io::Result<()> {
+        match LineParts::of(line_at(self.bytes, line)).time {
+            Some(time) if microseconds(time).is_some() => {
+                let (name, time) = (self.shown(), Escaped(time));
+                write!(err, "{program}: {name}: line {line} ({time} s): ")
+            }
+            _ => self.write_place(program, line, err),
+        }
+    }
+
     /// What a line of it is called.
     fn write_place<E: Write>(&self, program: &str, line: u64, err: &mut E) -> io::Result<()> {
         write!(err, "{program}: {}: line {line}: ", self.shown())
@@ -121,12 +135,13 @@ impl<'a> Inputs<'a> {
         }
     }
 
-    /// Tells where a trace isn't honest: the task, and the function that it is inside of. Of an honest one it hints at the
-    /// events that are refused.
+    /// Tells where a trace isn't honest: the task, and the function that it is inside of; or where the kernel differs from
+    /// the rules, what these have there, and why. Of an honest trace it hints at the events that are refused.
     pub fn print_verdict<E: Write>(&self, alloc: Global, verdict: Verdict, err: &mut E) {
         let _ = match verdict {
             Verdict::Honest(_) => self.write_refused(alloc, err),
             Verdict::Dishonest(fault) => self.write_item(alloc, fault, err),
+            Verdict::Differs(differs) => self.write_difference(alloc, differs, err),
         };
     }
 
@@ -199,7 +214,7 @@ impl<'a> Inputs<'a> {
         };
         let event = Quoted(line_at(self.second.bytes, first.line));
         let (refused, events) = (replay.refused, replay.events);
-        self.second.write_place(self.program, first.line, err)?;
+        self.second.write_item_place(self.program, first.line, err)?;
         writeln!(
             err,
             "hint: {event}: {}; {refused} of {events} events refused, which is no fault",
@@ -209,12 +224,26 @@ impl<'a> Inputs<'a> {
 
     fn write_item<E: Write>(&self, alloc: Global, fault: NotHonest, err: &mut E) -> io::Result<()> {
         let (line, trace) = (fault.item as u64, self.second.bytes);
-        self.second.write_place(self.program, line, err)?;
+        self.second.write_item_place(self.program, line, err)?;
         write!(err, "{}: ", fault.cause)?;
         match Calls::behind(alloc, trace, line.saturating_sub(1)) {
             Ok(calls) => self.write_act(alloc, fault, &calls, err),
             Err(_) => writeln!(err, "there is no memory to find the task"),
         }
+    }
+
+    fn write_difference<E: Write>(
+        &self,
+        alloc: Global,
+        differs: Differs,
+        err: &mut E,
+    ) -> io::Result<()> {
+        let (number, trace) = (differs.item, self.second.bytes);
+        let text = LineParts::of(line_at(trace, number as u64)).text;
+        self.second
+            .write_item_place(self.program, number as u64, err)?;
+        write!(err, "{}: {}: ", differs.cause, Quoted(text))?;
+        write_rules(alloc, self.catalog.bytes, trace, number, err)
     }
 
     /// What is done in the line of a trace that isn't honest, before which these calls are open.
@@ -264,7 +293,7 @@ impl<'a> Inputs<'a> {
             Fault::Image(_) | Fault::Assemble(AssembleFault::SameSite) => {
                 self.write_whole(alloc, fault, err)
             }
-            Fault::Trace(fault) => self.write_no_item(alloc, fault, err),
+            Fault::Trace(fault) => self.write_trace_fault(alloc, fault, err),
             Fault::Serve(ServeFault::LineTooLong) => self.write_long_line(err),
             _ => writeln!(err, "{}: {fault}", self.program),
         }
@@ -316,15 +345,29 @@ impl<'a> Inputs<'a> {
         }
     }
 
-    /// A line of the trace is no item.
-    fn write_no_item<E: Write>(
+    /// A line of the trace is at fault.
+    fn write_trace_fault<E: Write>(
         &self,
         alloc: Global,
         fault: TraceFault,
         err: &mut E,
     ) -> io::Result<()> {
         let line = line_at(self.second.bytes, fault.line);
-        self.second.write_place(self.program, fault.line, err)?;
+        self.second.write_item_place(self.program, fault.line, err)?;
+        match fault.kind {
+            TraceFaultKind::BadItem => self.write_no_item(alloc, line, err),
+            TraceFaultKind::OutOfOrder => writeln!(
+                err,
+                "{}: {}: the time is before that of a line above",
+                fault.kind,
+                Quoted(line)
+            ),
+            TraceFaultKind::NoMemory => writeln!(err, "{}", fault.kind),
+        }
+    }
+
+    /// What is wrong in a line of the trace that is no item.
+    fn write_no_item<E: Write>(&self, alloc: Global, line: &[u8], err: &mut E) -> io::Result<()> {
         match Catalog::read(alloc, self.catalog.bytes) {
             Ok(plan) => writeln!(
                 err,

@@ -5,14 +5,20 @@ use crate::lines::word_at;
 use crate::names::{Kind, Names, wrong_word};
 use crate::stray::{is_query, is_reported_elsewhere};
 use crate::wrong::Wrong;
+use klp_trace::LineParts;
 use klp_types::MAX_FRAMES;
-use klp_words::{LineWords, Separators, number64};
+use klp_words::{LineWords, Separators, microseconds, number64};
 
 /// How items are written. A word in capital letters stands for one of its kind, and `..` for more of the last kind. The
 /// lines of shadow variables have no names to be told.
-static FORMS: [&str; 14] = [
+static FORMS: [&str; 19] = [
     "call TASK SYMBOL",
     "return TASK",
+    "saw TASK STATE",
+    "saw PATCH gone",
+    "ran TASK FRAME",
+    "hooked SYMBOL",
+    "plain SYMBOL",
     "load PATCH",
     "insmod OBJECT",
     "rmmod OBJECT",
@@ -27,8 +33,14 @@ static FORMS: [&str; 14] = [
     "task sleep TASK FRAME ..",
 ];
 
+/// How what the files of a patch read is written, which begins as other items do.
+const FILES: &str = "saw PATCH ENABLED TRANSITION";
+
+/// With what the items begin that are no events.
+const OF_NO_EVENT: [&[u8]; 6] = [b"call", b"return", b"saw", b"ran", b"hooked", b"plain"];
+
 /// What the words in capital letters stand for.
-static KINDS: [(&str, Kind); 7] = [
+static KINDS: [(&str, Kind); 10] = [
     ("PATCH", Kind::Patch),
     ("OBJECT", Kind::Object),
     ("SYMBOL", Kind::Symbol),
@@ -36,11 +48,24 @@ static KINDS: [(&str, Kind); 7] = [
     ("FILE", Kind::File),
     ("TASK", Kind::Task),
     ("SWITCH", Kind::Switch),
+    ("ENABLED", Kind::Switch),
+    ("TRANSITION", Kind::Switch),
+    ("STATE", Kind::State),
 ];
 
 /// What is wanted where a line has none of these forms, or one that asks for no event.
 const ITEM: &str =
     "is call TASK SYMBOL, return TASK, or a line of the console that asks for an event";
+
+/// What is wanted in front of an answer, where no event stands.
+const ANSWERED: &str = "is a line without =>, behind which an event's answer stands";
+
+/// What is wanted behind `=>`.
+const ANSWER: &str =
+    "is ?, or an answer as the console writes it, like ok, pending 2 or error 16 Busy";
+
+/// What is wanted behind `@`.
+const TIME: &str = "is seconds, with 6 decimals at most, and an item behind a space";
 
 /// What is wanted where a line of a script has none of the console's forms.
 const LINE: &str = "is a line of the console";
@@ -81,7 +106,8 @@ fn task_item<'a>(verb: &[u8], task: &[u8]) -> Option<Item<'a>> {
 
 impl<'a> Item<'a> {
     pub(crate) fn read(line: &'a [u8]) -> Option<Item<'a>> {
-        let (first, second, third) = (word(line, 1), word(line, 2), word(line, 3));
+        let item = LineParts::of(line).item;
+        let (first, second, third) = (word(item, 1), word(item, 2), word(item, 3));
         if first == b"call".as_slice() {
             Some(Item::Call(number64(second)?, third))
         } else if first == b"return".as_slice() {
@@ -119,6 +145,7 @@ fn wrong_in<'a>(
 ) -> Option<Wrong<'a>> {
     let (mut parts, mut words) = (words_of(form.as_bytes()), words_of(line));
     let mut part = parts.next();
+    let has_more = form.ends_with("..");
     for _ in 0..=line.len() {
         match (part, words.next()) {
             (Some(part), Some(word)) => {
@@ -126,10 +153,11 @@ fn wrong_in<'a>(
                     return Some(wrong_word(kind, word, catalog));
                 }
             }
-            (Some(b"FRAME") | None, None) => return None,
+            (None, None) => return None,
+            (Some(b"FRAME"), None) if has_more => return None,
             _ => break,
         }
-        if part != Some(b"FRAME".as_slice()) {
+        if !has_more || part != Some(b"FRAME".as_slice()) {
             part = parts.next();
         }
     }
@@ -140,6 +168,8 @@ fn wrong_in<'a>(
 fn wrong_though_fitting<'a>(form: &'static str, line: &'a [u8]) -> Wrong<'a> {
     if form.ends_with("..") {
         Wrong::Most(line, MAX_FRAMES, "functions")
+    } else if form.ends_with("FRAME") {
+        Wrong::Word(word(line, 3), "is a function that the patch has")
     } else {
         Wrong::Word(line, ITEM)
     }
@@ -160,19 +190,50 @@ fn formless<'a>(line: &'a [u8], wanted: &'static str) -> Wrong<'a> {
     }
 }
 
-/// The form that a line has by its first words.
+/// The form that a line has by its first words, or by how it ends where several begin alike.
 fn form_of(line: &[u8]) -> Option<&'static str> {
+    if word(line, 1) == b"saw".as_slice() {
+        return Some(match (word(line, 3), word(line, 4)) {
+            (b"gone", b"") => "saw PATCH gone",
+            (_, b"") => "saw TASK STATE",
+            _ => FILES,
+        });
+    }
     let form = FORMS.iter().find(|form| begins_as(form.as_bytes(), line))?;
     Some(*form)
 }
 
+/// What is wrong in a line of a trace that fits a form.
+fn wrong_answer<'a>(parts: LineParts<'a>, form: &'static str) -> Wrong<'a> {
+    match parts.answer {
+        Some(_) if is_of_no_event(parts.item) => Wrong::Word(parts.text, ANSWERED),
+        Some(answer) => Wrong::Word(answer, ANSWER),
+        None => wrong_though_fitting(form, parts.item),
+    }
+}
+
+fn is_of_no_event(item: &[u8]) -> bool {
+    OF_NO_EVENT.iter().any(|first| *first == word(item, 1))
+}
+
 /// What is wrong in a line of a trace that is no item, by the names of the catalog and its text.
 pub(crate) fn wrong_of<'a>(line: &'a [u8], names: &Names<'_>, catalog: &'a [u8]) -> Wrong<'a> {
-    match form_of(line) {
-        Some(form) => wrong_in(form, line, names, catalog).unwrap_or_else(|| wrong_though_fitting(
-            form, line,
-        )),
-        None => formless(line, ITEM),
+    let parts = LineParts::of(line);
+    if let Some(time) = parts.time
+        && microseconds(time).is_none()
+    {
+        return Wrong::Word(time, TIME);
+    }
+    match form_of(parts.item) {
+        Some(form) => {
+            wrong_in(form, parts.item, names, catalog).unwrap_or_else(|| wrong_answer(parts, form))
+        }
+        None => match parts.answer {
+            Some(answer) if word(parts.item, 1) == b"shadow".as_slice() => Wrong::Word(
+                answer, ANSWER,
+            ),
+            _ => formless(parts.item, ITEM),
+        },
     }
 }
 

@@ -20,6 +20,7 @@ pub(crate) enum Kind {
     File,
     Task,
     Switch,
+    State,
 }
 
 impl Kind {
@@ -32,6 +33,7 @@ impl Kind {
             Kind::File => "is /sys/kernel/livepatch/PATCH/enabled or force, of a known patch",
             Kind::Task => "is a task, from 0 to 63",
             Kind::Switch => "is 0 or 1",
+            Kind::State => "is -1, 0 or 1",
         }
     }
 }
@@ -96,6 +98,7 @@ impl<'a> Names<'a> {
             Kind::File => self.has_file(word),
             Kind::Task => is_number_to(MAX_TASKS as u64 - 1, word),
             Kind::Switch => is_number_to(1, word) && word.len() == 1,
+            Kind::State => matches!(word, b"-1" | b"0" | b"1"),
         }
     }
 }

@@ -13,6 +13,7 @@ use klp_console::{event_of, site_of};
 use klp_core::Manager;
 use klp_model::Refusal;
 use klp_program::{Fault, boot, close, scripted};
+use klp_trace::LineParts;
 use klp_types::{MAX_GROUPS, MAX_RECORDS, TaskId, Version};
 use klp_words::{LineWords, Separators, cut};
 use std::alloc::{AllocError, Global};
@@ -63,7 +64,8 @@ fn function_at(patch: &PlanPatch, number: u16) -> Option<&PlanFunction> {
 
 /// The symbol that a line calls, as it is spelled but for its position.
 fn symbol_in(line: &[u8]) -> &[u8] {
-    let (symbol, _) = cut(word_at(LineWords::new(line, Separators::Spaces), 3), b',');
+    let words = LineWords::new(LineParts::of(line).item, Separators::Spaces);
+    let (symbol, _) = cut(word_at(words, 3), b',');
     symbol
 }
 
@@ -92,7 +94,7 @@ fn write_new<E: Write>(patch: &PlanPatch, number: u16, err: &mut E) -> io::Resul
 }
 
 /// Seals the journal where one more event might find no room in it.
-fn make_room(manager: &mut Manager)
+pub(crate) fn make_room(manager: &mut Manager)
     requires { IsWellFormed manager.old }
     ensures { IsWellFormed manager.new }
 {
@@ -112,6 +114,14 @@ fn called(manager: &Manager, task: u64, symbol: &[u8]) -> Option<(Version, u32)>
     }
 }
 
+/// Whether a line has what the kernel answered to its event.
+fn is_answered(parts: LineParts<'_>) -> bool {
+    match parts.answer {
+        Some(answer) => answer != b"?".as_slice(),
+        None => false,
+    }
+}
+
 impl Replay {
     fn new(alloc: Global) -> Self {
         Self {
@@ -127,12 +137,16 @@ impl Replay {
         requires { IsWellFormed manager.old }
         ensures { IsWellFormed manager.new }
     {
-        let Some(event) = event_of(text, manager) else {
+        let parts = LineParts::of(text);
+        let Some(event) = event_of(parts.item, manager) else {
             return;
         };
         make_room(manager);
         self.events = self.events.saturating_add(1);
-        if let Err(refusal) = manager.apply(event) {
+        // A refusal that the kernel answered too is as it was seen.
+        if let Err(refusal) = manager.apply(event)
+            && !is_answered(parts)
+        {
             self.refused = self.refused.saturating_add(1);
             if self.first.is_none() {
                 self.first = Some(Refused { line, refusal });

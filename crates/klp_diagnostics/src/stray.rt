@@ -13,7 +13,7 @@ pub(crate) enum Stray {
     Catalog,
     /// All of the file, by a line that asks for no event.
     Script,
-    /// All of the file, by a line that is a call or a return.
+    /// All of the file, by a line that no script has.
     Trace,
     /// All of the file.
     Utf16,
@@ -50,8 +50,14 @@ pub(crate) fn is_query(line: &[u8]) -> bool {
     }
 }
 
-fn is_call(line: &[u8]) -> bool {
-    matches!(first_words(line), (b"call" | b"return", _))
+fn is_of_trace(line: &[u8]) -> bool {
+    let (first, _) = first_words(line);
+    let is_timed = first.first() == Some(&b'@');
+    is_timed
+        || matches!(
+            first,
+            b"call" | b"return" | b"saw" | b"ran" | b"hooked" | b"plain"
+        )
 }
 
 /// Whether a line of a script has no words, is hinted at otherwise or told as a fault, or is about shadow variables, which
@@ -60,7 +66,7 @@ pub(crate) fn is_reported_elsewhere(line: &[u8]) -> bool {
     let (first, _) = first_words(line);
     let has_stray = line.iter().any(|b| matches!(*b, b'\r' | b'\t'));
     let is_marked = line.first() == Some(&b'#') || line.starts_with(&BYTE_ORDER_MARK);
-    let is_known = first.is_empty() || first == b"shadow".as_slice() || is_call(line);
+    let is_known = first.is_empty() || first == b"shadow".as_slice() || is_of_trace(line);
     has_stray || is_marked || is_known || line.len() > MAX_CONSOLE_LINE
 }
 
@@ -69,7 +75,7 @@ impl Stray {
         match self {
             Stray::Catalog => begins_as_catalog(line),
             Stray::Script => is_query(line),
-            Stray::Trace => is_call(line),
+            Stray::Trace => is_of_trace(line),
             Stray::Utf16 => begins_as_utf16(line),
             Stray::ByteOrderMark => line.starts_with(&BYTE_ORDER_MARK),
             Stray::CarriageReturn => line.contains(&b'\r'),

@@ -3,27 +3,41 @@ use Rattle.std.proofs.Common.{◌≡◌, ℕ, List, refl, sym, subst}
 use Rattle.std.specs.Prelude.{Result, Ok, Err, IfOk, IfErr, MatchResult}
 use Rattle.klp_catalog_text.specs.Plan.{Plan}
 use Rattle.klp_catalog_text.specs.Text.{plan_of}
-use Rattle.klp_model.specs.declared.seen.Seen.{Seen}
 use Rattle.klp_core.specs.Journaled.{Journaled}
-use Rattle.klp_watch.specs.declared.cause.NotHonest.{NotHonest}
+use Rattle.klp_watch.specs.declared.difference.Difference.{Difference}
+use Rattle.klp_watch.specs.declared.difference.Difference.TheVariants.{Premise, Answer, State, Files, Version, Text as OtherText}
+use Rattle.klp_watch.specs.declared.difference.Differs.{Differs as FirstDifference}
+use Rattle.klp_watch.specs.declared.observed.Observed.{Observed}
+use Rattle.klp_watch.specs.Compared.{taken_from}
+use Rattle.klp_watch.specs.ComparedWhole.{AreAllSo, IsDifferenceOfWhole}
 use Rattle.klp_manager_state.specs.Managed.{Managed, setting_of}
 use Rattle.klp_watch.specs.Watching.{IsConsistent}
-use Rattle.klp_watch.specs.Whole.{LeadHonestly, IsFaultOfWhole}
 use Rattle.klp_program.specs.declared.fault.Fault.{Fault}
 use Rattle.klp_program.specs.declared.fault.Fault.TheVariants.{CannotRead, NoMemory, Text, Image, Assemble, Boot, Serve, Trace}
 use Rattle.klp_program.specs.declared.verdict.Verdict.{Verdict}
-use Rattle.klp_program.specs.declared.verdict.Verdict.TheVariants.{Honest, Dishonest}
+use Rattle.klp_program.specs.declared.verdict.Verdict.TheVariants.{Honest}
 use Rattle.klp_program.specs.Booted.{IsBootedOver, IsBootFault}
-use Rattle.klp_program.specs.Watches.{counted, IsFound, WatchesBy, WatchesPlan, Watches}
+use Rattle.klp_program.specs.Watches.{counted, reported_as, reported, IsFound, WatchesBy, WatchesPlan, Watches}
 
--- the verdict is what watching came to
-pub found_by : {A : Type 0} (before after : Managed) (items : List Seen) (ended : Result A NotHonest) (verdict : Verdict)
-    → IfOk ended (λ _. LeadHonestly before after items) → IfOk ended (λ _. IsConsistent (setting_of before) before.state items)
-    → IfErr ended (λ (fault : NotHonest). IsFaultOfWhole before after items fault.item fault.cause)
-    → MatchResult ended (λ _. verdict ≡ Honest (counted items)) (λ fault. verdict ≡ Dishonest fault) → IsFound before after items verdict
-found_by before after items (Ok value) verdict lead consistent reported is =
-    subst (IsFound before after items) (sym is) (record { lead = lead; consistent = consistent; counts_are = refl })
-found_by before after items (Err fault) verdict lead consistent reported is = subst (IsFound before after items) (sym is) reported
+-- what is told of the first item that isn't so is what was found
+reported_so : (before after : Managed) (items : List Observed) (item : ℕ) (difference : Difference)
+    → IsDifferenceOfWhole before after items item difference → IsFound before after items (reported_as item difference)
+reported_so before after items item (Premise cause) is = is
+reported_so before after items item Answer is = is
+reported_so before after items item State is = is
+reported_so before after items item Files is = is
+reported_so before after items item Version is = is
+reported_so before after items item OtherText is = is
+
+-- the verdict is what comparing came to
+pub found_by : {A : Type 0} (before after : Managed) (items : List Observed) (ended : Result A FirstDifference) (verdict : Verdict)
+    → IfOk ended (λ _. AreAllSo before after items) → IfOk ended (λ _. IsConsistent (setting_of before) before.state (taken_from items))
+    → IfErr ended (λ (differs : FirstDifference). IsDifferenceOfWhole before after items differs.item differs.cause)
+    → MatchResult ended (λ _. verdict ≡ Honest (counted items)) (λ differs. verdict ≡ reported differs) → IsFound before after items verdict
+found_by before after items (Ok value) verdict so consistent found is =
+    subst (IsFound before after items) (sym is) (record { so = so; consistent = consistent; counts_are = refl })
+found_by before after items (Err differs) verdict so consistent found is =
+    subst (IsFound before after items) (sym is) (reported_so before after items differs.item differs.cause found)
 
 -- what is watched by a booted manager is watched over its plan
 pub watches_plan : (plan : Plan) (booted : Journaled) (trace : List ℕ) (result : Result Verdict Fault)

@@ -4,5 +4,4 @@ pub mod Commands
 pub mod Kinds
 pub mod Printed
 pub mod Runs
-pub mod Trace
 pub mod Watches

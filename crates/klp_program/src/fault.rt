@@ -1,20 +1,13 @@
 ghost use Rattle.std.specs.Prelude.{◌≡◌};
-ghost use Rattle.klp_program.specs.declared.fault.Fault.TheVariants.{NoMemory, Text, Image, Assemble, Boot, Serve};
+ghost use Rattle.klp_program.specs.declared.fault.Fault.TheVariants.{NoMemory, Text, Image, Assemble, Boot, Serve, Trace};
 
 use klp_catalog::{AssembleFault, TextFault};
 use klp_console::ServeFault;
 use klp_core::BootFault;
 use klp_text::ImageFault;
+use klp_trace::TraceFault;
 use std::alloc::{AllocError, AllocFailed};
 use thiserror::Error;
-
-/// A line of a trace that is no item.
-#[derive(Clone, Copy, Debug, PartialEq, Eq, Error)]
-#[error("trace line {line}: BadItem")]
-pub struct TraceFault {
-    /// Counted from 1.
-    pub line: u64,
-}
 
 /// Why the program ends before its input does.
 #[derive(Clone, Copy, Debug, PartialEq, Eq, Error)]
@@ -36,7 +29,7 @@ pub enum Fault {
     /// The input or the output failed, or a line is too long.
     #[error(transparent)]
     Serve(ServeFault),
-    /// The trace has a line that is no item.
+    /// The trace has a faulty line.
     #[error(transparent)]
     Trace(TraceFault),
 }
@@ -79,6 +72,14 @@ impl From<BootFault> for Fault {
 
     fn from(fault: BootFault) -> Fault {
         Fault::Boot(fault)
+    }
+}
+
+impl From<TraceFault> for Fault {
+    ghost from_gives = { λ fault own. own ≡ Trace fault };
+
+    fn from(fault: TraceFault) -> Fault {
+        Fault::Trace(fault)
     }
 }
 

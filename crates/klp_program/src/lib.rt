@@ -1,6 +1,7 @@
 //! What the programs do, apart from the process: they read their words and the catalog's file, and boot a
 //! manager over the catalog's text. `klpsim` serves the console by it (`src/serve.rt`), and `klpwatch` holds
-//! a trace against the consistency model by it (`src/watch.rt`).
+//! a trace against the consistency model, and what a kernel answered and showed against the rules, by it
+//! (`src/watch.rt`).
 #![tactic(auto)]
 
 mod arguments;
@@ -10,7 +11,6 @@ mod file;
 mod kind;
 mod sample;
 mod serve;
-mod trace;
 mod verdict;
 mod wanted;
 mod watch;
@@ -20,7 +20,7 @@ pub use arguments::{
     report_usage_as,
 };
 pub use booted::{boot, opened};
-pub use fault::{Fault, TraceFault};
+pub use fault::Fault;
 pub use file::{bytes_in, bytes_in_both, catalog_in};
 pub use kind::scripted;
 pub use sample::CATALOG;

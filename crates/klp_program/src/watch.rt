@@ -1,19 +1,18 @@
-//! A manager is booted over a catalog's text, and watched over the items of a trace.
+//! A manager is booted over a catalog's text, and held beside the kernel of a trace.
 ghost use Rattle.std.specs.Prelude.{◌≡◌, ◌≤◌, [], ◌∷◌, length, map, string_bytes, Some, None, OnOk, MatchResult};
 ghost use Rattle.std.specs.Io.KnownBytes.{Appends};
 ghost use Rattle.klp_catalog_text.specs.Within.{AreTargetsWithin};
 ghost use Rattle.klp_manager_state.specs.Managed.{Managed};
-ghost use Rattle.klp_program.specs.declared.verdict.Verdict.TheVariants.{Honest, Dishonest};
+ghost use Rattle.klp_program.specs.declared.verdict.Verdict.TheVariants.{Honest, Dishonest, Differs};
 ghost use Rattle.klp_program.specs.Asked.{two_files};
-ghost use Rattle.klp_program.specs.Printed.{cause_text, verdict_text, verdict_status, Prints};
-ghost use Rattle.klp_program.specs.Watches.{counted, IsFound, WatchesBy, WatchesPlan, Watches};
+ghost use Rattle.klp_program.specs.Printed.{cause_text, difference_text, verdict_text, verdict_status, Prints};
+ghost use Rattle.klp_program.specs.Watches.{counted, reported, IsFound, WatchesBy, WatchesPlan, Watches};
 
 use crate::arguments::file_words;
 use crate::booted::boot;
 use crate::fault::Fault;
 use crate::kind::scripted;
 use crate::serve::close;
-use crate::trace::items_of;
 use crate::verdict::{Counts, Verdict};
 use klp_callback::Boxed;
 use klp_catalog::Catalog;
@@ -21,7 +20,8 @@ use klp_catalog_text::Plan;
 use klp_console::ServeFault;
 use klp_core::Manager;
 use klp_model::Seen;
-use klp_watch::{Cause, NotHonest, watch_whole};
+use klp_trace::Trace;
+use klp_watch::{Cause, Difference, Differs, NotHonest, Observed, compare_whole};
 use std::alloc::Global;
 use std::io;
 use std::io::Write;
@@ -29,43 +29,62 @@ use std::io::Write;
 /// The name that the program gives itself.
 const NAME: &str = "klpwatch";
 
-/// The statuses of a trace that is honest, and of one that isn't.
+/// The statuses of a trace that is as the rules say, and of one that isn't.
 const HONEST: u8 = 0;
 
-const DISHONEST: u8 = 3;
+const REFUTED: u8 = 3;
 
-fn counted(items: &[Seen]) -> Counts
+fn counted(items: &[Observed]) -> Counts
     ensures { result ≡ counted items.now }
 {
     let mut counts = Counts {
         events: 0,
         calls: 0,
         returns: 0,
+        compared: 0,
     };
     for item in items {
         match item {
-            Seen::Event(_) => counts.events += 1,
-            Seen::Call(_, _) => counts.calls += 1,
-            Seen::Return(_) => counts.returns += 1,
+            Observed::Seen(Seen::Event(_)) => counts.events += 1,
+            Observed::Seen(Seen::Call(_, _)) => counts.calls += 1,
+            Observed::Seen(Seen::Return(_)) => counts.returns += 1,
+            Observed::Answered(_, _) => {
+                counts.events += 1;
+                counts.compared += 1;
+            }
+            Observed::Saw(_) => counts.compared += 1,
         }
     }
     counts
 }
 
-fn verdict_of(ended: Result<(), NotHonest>, items: &[Seen]) -> Verdict
-    ensures { MatchResult ended (λ _. result ≡ Honest (counted items.now)) (λ fault. result ≡ Dishonest fault) }
+/// What is told of the first item that isn't as the rules say.
+fn reported(differs: Differs) -> Verdict
+    ensures { result ≡ reported differs }
+{
+    match differs.cause {
+        Difference::Premise(cause) => Verdict::Dishonest(NotHonest {
+            item: differs.item,
+            cause,
+        }),
+        _ => Verdict::Differs(differs),
+    }
+}
+
+fn verdict_of(ended: Result<(), Differs>, items: &[Observed]) -> Verdict
+    ensures { MatchResult ended (λ _. result ≡ Honest (counted items.now)) (λ differs. result ≡ reported differs) }
 {
     match ended {
         Ok(()) => Verdict::Honest(counted(items)),
-        Err(fault) => Verdict::Dishonest(fault),
+        Err(differs) => reported(differs),
     }
 }
 
 // The manager goes then, here and where the trace isn't read.
-fn watch_items(mut manager: Manager, items: &[Seen]) -> Verdict
+fn watch_items(mut manager: Manager, items: &[Observed]) -> Verdict
     ensures { (left : Managed) × IsFound manager.managed left items.now result }
 {
-    let ended = watch_whole(&mut manager, items);
+    let ended = compare_whole(&mut manager, items);
     close(manager);
     verdict_of(ended, items)
 }
@@ -73,11 +92,11 @@ fn watch_items(mut manager: Manager, items: &[Seen]) -> Verdict
 fn watch_over_manager(alloc: Global, manager: Manager, trace: &[u8]) -> Result<Verdict, Fault>
     ensures { WatchesBy manager trace.now result }
 {
-    match items_of(alloc, trace, &manager) {
-        Ok(items) => Ok(watch_items(manager, &items)),
+    match Trace::read(alloc, trace, &manager) {
+        Ok(trace) => Ok(watch_items(manager, &trace.items)),
         Err(fault) => {
             close(manager);
-            Err(fault)
+            Err(Fault::Trace(fault))
         }
     }
 }
@@ -96,8 +115,9 @@ fn watch_over_plan(alloc: Global, plan: Plan, trace: &[u8]) -> Result<Verdict, F
     watch_over_manager(alloc, manager, trace)
 }
 
-/// Boots a manager over the catalog's text, and holds the trace against the consistency model by it. The verdict is that
-/// of the whole trace, however long it is: no event is refused for want of room in the journal.
+/// Boots a manager over the catalog's text, and by it holds the trace against the consistency model, and what the kernel
+/// answered and showed against the rules. The verdict is that of the whole trace, however long it is: no event is refused
+/// for want of room in the journal.
 pub fn watch_over_text(alloc: Global, catalog: &[u8], trace: &[u8]) -> Result<Verdict, Fault>
     ensures { Watches catalog.now trace.now result }
 {
@@ -120,27 +140,51 @@ fn name_of(cause: Cause) -> &'static str
     }
 }
 
-/// Writes the verdict as one line.
+fn name_of_difference(difference: Difference) -> &'static str
+    ensures { result.now ≡ difference_text difference }
+{
+    match difference {
+        Difference::Premise(cause) => name_of(cause),
+        Difference::Answer => "Answer",
+        Difference::State => "State",
+        Difference::Files => "Files",
+        Difference::Version => "Version",
+        Difference::Text => "Text",
+    }
+}
+
+/// Writes the verdict as one line. How much was compared stands there where something was.
 fn print<W: Write>(verdict: Verdict, out: &mut W) -> io::Result<()>
     ensures { OnOk result (Appends (W.contents out.old) (W.contents out.new) (verdict_text verdict)) }
 {
     match verdict {
-        Verdict::Honest(counts) => writeln!(
+        Verdict::Honest(counts) if counts.compared == 0 => writeln!(
             out,
             "honest {} {} {}",
             counts.events, counts.calls, counts.returns
         ),
+        Verdict::Honest(counts) => writeln!(
+            out,
+            "honest {} {} {} {}",
+            counts.events, counts.calls, counts.returns, counts.compared
+        ),
         Verdict::Dishonest(fault) => writeln!(out, "line {}: {}", fault.item, name_of(fault.cause)),
+        Verdict::Differs(differs) => writeln!(
+            out,
+            "line {}: {}",
+            differs.item,
+            name_of_difference(differs.cause)
+        ),
     }
 }
 
-/// The exit status of a verdict: 0 for an honest trace, and 3 for one that isn't.
+/// The exit status of a verdict: 0 for an honest trace of a kernel that does as the rules say, and 3 for any other.
 pub fn status_of(verdict: Verdict) -> u8
     ensures { result ≡ verdict_status verdict }
 {
     match verdict {
         Verdict::Honest(_) => HONEST,
-        Verdict::Dishonest(_) => DISHONEST,
+        Verdict::Dishonest(_) | Verdict::Differs(_) => REFUTED,
     }
 }
 

@@ -1,0 +1,253 @@
+//! What the rules have where a kernel shows something else, and why: by the state of a manager.
+
+use klp_core::{Lag, Manager};
+use klp_types::{Mode, PatchId, Site, TaskId, Version};
+use klp_watch::{PatchFiles, Sight};
+use std::fmt;
+
+/// How many of the tasks that hold a transition up are told.
+const REPORTED: usize = 3;
+
+/// A version, as a line of a trace names it.
+#[derive(Clone, Copy)]
+struct Spelled<'a> {
+    manager: &'a Manager,
+    version: Version,
+}
+
+/// Why a task isn't at the target of the transition.
+#[derive(Clone, Copy)]
+struct Lagging<'a> {
+    manager: &'a Manager,
+    task: usize,
+    lag: Lag,
+}
+
+/// Which tasks hold the transition up, behind a colon; nothing where none does.
+#[derive(Clone, Copy)]
+pub(crate) struct Holders<'a>(pub(crate) &'a Manager);
+
+/// What the rules have in place of what was seen, and why.
+#[derive(Clone, Copy)]
+pub(crate) struct InPlaceOf<'a> {
+    pub(crate) manager: &'a Manager,
+    pub(crate) sight: &'a Sight,
+}
+
+fn patch_name(manager: &Manager, patch: PatchId) -> &str {
+    manager.catalog().patch_name(patch).unwrap_or("a patch")
+}
+
+/// The patch in transition.
+pub(crate) fn moving_name(manager: &Manager) -> Option<&str> {
+    let moving = manager.moving()?;
+    Some(patch_name(manager, moving.patch))
+}
+
+fn write_symbol<W: fmt::Write>(
+    f: &mut fmt::Formatter<W>,
+    manager: &Manager,
+    site: Site,
+) -> fmt::Result {
+    let modules = manager.modules();
+    let Some((object, symbol, position)) = modules.symbol(site) else {
+        return Ok(());
+    };
+    let object = modules.object_name(object).unwrap_or("");
+    write!(f, ".klp.sym.{object}.{symbol},{position}")
+}
+
+fn write_new<W: fmt::Write>(
+    f: &mut fmt::Formatter<W>,
+    manager: &Manager,
+    patch: PatchId,
+    function: u16,
+) -> fmt::Result {
+    let name = patch_name(manager, patch);
+    match manager.catalog().function(patch, function) {
+        Some((_, new_name, _)) => write!(f, "{name}:{function} ({new_name})"),
+        None => write!(f, "{name}:{function}"),
+    }
+}
+
+impl<'a> fmt::Display for Spelled<'a> {
+    fn fmt<W: fmt::Write>(&self, f: &mut fmt::Formatter<W>) -> fmt::Result {
+        match self.version {
+            Version::Original(site) => write_symbol(f, self.manager, site),
+            Version::New(patch, function) => write_new(f, self.manager, patch, function),
+        }
+    }
+}
+
+impl<'a> fmt::Display for Lagging<'a> {
+    fn fmt<W: fmt::Write>(&self, f: &mut fmt::Formatter<W>) -> fmt::Result {
+        let Lagging { manager, task, lag } = *self;
+        let patch = moving_name(manager).unwrap_or("a patch");
+        match lag {
+            Lag::Holds(version) => {
+                let is_own = matches!(version, Version::New(own, _) if is_moving(manager, own));
+                let does = if is_own { "withdraws" } else { "changes" };
+                let version = Spelled { manager, version };
+                write!(f, "task {task} sleeps in {version}, which {patch} {does}")
+            }
+            Lag::Waits(Mode::User) => write!(
+                f,
+                "task {task} is in user space, and is switched when it next leaves the kernel"
+            ),
+            Lag::Waits(Mode::Kernel) => write!(
+                f,
+                "task {task} runs in the kernel, and is switched when it leaves"
+            ),
+            Lag::Waits(Mode::Asleep) => write!(
+                f,
+                "task {task} sleeps in no function that holds {patch} up, and is switched by the next poll"
+            ),
+        }
+    }
+}
+
+fn is_moving(manager: &Manager, patch: PatchId) -> bool {
+    match manager.moving() {
+        Some(moving) => moving.patch == patch,
+        None => false,
+    }
+}
+
+impl<'a> fmt::Display for Holders<'a> {
+    fn fmt<W: fmt::Write>(&self, f: &mut fmt::Formatter<W>) -> fmt::Result {
+        let manager = self.0;
+        let mut count: usize = 0;
+        for (task, lag) in manager.holders().iter().enumerate() {
+            if let Some(lag @ Lag::Holds(_)) = *lag {
+                let mark = if count == 0 { ":" } else { ";" };
+                if count < REPORTED {
+                    write!(f, "{mark} {}", Lagging { manager, task, lag })?;
+                }
+                count = count.saturating_add(1);
+            }
+        }
+        match count.saturating_sub(REPORTED) {
+            0 => Ok(()),
+            more => write!(f, "; and {more} more"),
+        }
+    }
+}
+
+/// The state of a task, and why it has it.
+fn write_state<W: fmt::Write>(
+    f: &mut fmt::Formatter<W>,
+    manager: &Manager,
+    task: TaskId,
+) -> fmt::Result {
+    let TaskId(number) = task;
+    let Some(state) = manager.patch_state(task) else {
+        return write!(f, "the rules have no task {number}");
+    };
+    write!(f, "the rules have {state}: ")?;
+    match (
+        manager.holders().get(usize::from(number)),
+        moving_name(manager),
+    ) {
+        (Some(Some(lag)), _) => {
+            let (task, lag) = (usize::from(number), *lag);
+            write!(f, "{}", Lagging { manager, task, lag })
+        }
+        (_, Some(patch)) => write!(f, "task {number} is where {patch} brings it"),
+        (_, None) => write!(f, "no patch is in transition"),
+    }
+}
+
+/// What the files of a patch read, and who holds its transition up.
+fn write_files<W: fmt::Write>(
+    f: &mut fmt::Formatter<W>,
+    manager: &Manager,
+    patch: PatchId,
+    seen: Option<PatchFiles>,
+) -> fmt::Result {
+    let (Some(enabled), Some(transition)) = (manager.enabled(patch), manager.transition(patch))
+    else {
+        let name = patch_name(manager, patch);
+        return write!(
+            f,
+            "the rules have no files of {name}, which isn't installed"
+        );
+    };
+    let (enabled, transition) = (u8::from(enabled), u8::from(transition));
+    write!(
+        f,
+        "the rules have enabled {enabled}, transition {transition}"
+    )?;
+    match seen {
+        Some(seen) if u8::from(seen.transition) == transition => Ok(()),
+        _ if transition == 1 => write!(f, "{}", Holders(manager)),
+        _ => Ok(()),
+    }
+}
+
+/// The version that a task gets where it calls a site, and its state, by which that is picked.
+fn write_version<W: fmt::Write>(
+    f: &mut fmt::Formatter<W>,
+    manager: &Manager,
+    task: TaskId,
+    site: Site,
+) -> fmt::Result {
+    let TaskId(number) = task;
+    let Some(target) = manager.pick(task, site) else {
+        let lack = match manager.mode(task) {
+            Some(_) => "the function's object isn't loaded",
+            None => "there is no such task",
+        };
+        return write!(f, "the rules pick nothing: {lack}");
+    };
+    let version = target.version;
+    write!(f, "the rules pick {}", Spelled { manager, version })?;
+    match (manager.patch_state(task), moving_name(manager)) {
+        (Some(state), Some(patch)) => {
+            write!(
+                f,
+                ": task {number} has state {state}, and {patch} is in transition"
+            )
+        }
+        _ => write!(f, ": no patch is in transition"),
+    }
+}
+
+/// Whether a site is hooked, and by which patches, the newest first.
+fn write_text<W: fmt::Write>(
+    f: &mut fmt::Formatter<W>,
+    manager: &Manager,
+    site: Site,
+) -> fmt::Result {
+    let modules = manager.modules();
+    let object = match modules.symbol(site) {
+        Some((object, _, _)) => object,
+        None => return write!(f, "the rules have no such text"),
+    };
+    if !modules.is_loaded(object) {
+        let name = modules.object_name(object).unwrap_or("its object");
+        return write!(f, "the rules have no text of it: {name} isn't loaded");
+    }
+    let entries = manager.stack(site);
+    if entries.is_empty() {
+        return write!(
+            f,
+            "the rules have it plain: no patch that is installed changes it"
+        );
+    }
+    write!(f, "the rules have it hooked:")?;
+    for entry in entries.as_slice() {
+        write!(f, " {}", patch_name(manager, entry.patch))?;
+    }
+    Ok(())
+}
+
+impl<'a> fmt::Display for InPlaceOf<'a> {
+    fn fmt<W: fmt::Write>(&self, f: &mut fmt::Formatter<W>) -> fmt::Result {
+        match *self.sight {
+            Sight::State(task, _) => write_state(f, self.manager, task),
+            Sight::Files(patch, seen) => write_files(f, self.manager, patch, seen),
+            Sight::Version(task, site, _) => write_version(f, self.manager, task, site),
+            Sight::Text(site, _) => write_text(f, self.manager, site),
+        }
+    }
+}

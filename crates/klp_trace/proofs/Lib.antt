@@ -1,0 +1,5 @@
+pub mod LineLemmas
+pub mod FrameLemmas
+pub mod TraceLemmas
+pub mod AnswerLemmas
+pub mod ReadExamples

@@ -1,0 +1,4 @@
+pub mod Names
+pub mod Answers
+pub mod Items
+pub mod Traces

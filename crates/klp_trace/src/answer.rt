@@ -1,0 +1,170 @@
+//! What a kernel answered, as a line tells it.
+ghost use Rattle.std.specs.Prelude.{◌≡◌, ◌^◌, IfOk, option_map};
+ghost use Rattle.klp_model.specs.declared.event.Reply.TheVariants.{Pending, Completed, Value, Freed, Woken};
+ghost use Rattle.klp_words.specs.Words.{decimal_of, shadow_value_of};
+ghost use Rattle.klp_words.specs.Split.{separates, words_between};
+ghost use Rattle.klp_words.specs.declared.split.Separators.TheVariants.{Spaces};
+ghost use Rattle.klp_trace.specs.Names.{frames_of, flag_of};
+ghost use Rattle.klp_trace.specs.Answers.{next_as, pre_failed_of, reply_with, reply_in, is_line_of, as_written, refusal_of, answer_of};
+
+use crate::names::{flag_of, frames_of, object_of, patch_of};
+use crate::text::{refusal_line, reply_text};
+use klp_core::Manager;
+use klp_model::{Refusal, Reply};
+use klp_words::{LineWords, Separators, number64, shadow_value, signed};
+use std::alloc::{AllocError, Global};
+
+/// All refusals, which are few, so the one that a text tells is looked for.
+static REFUSALS: [Refusal; 18] = [
+    Refusal::NoPatch,
+    Refusal::Busy,
+    Refusal::AlreadyThere,
+    Refusal::Pinned,
+    Refusal::Incompatible,
+    Refusal::NoSymbol,
+    Refusal::NoModule,
+    Refusal::InUse,
+    Refusal::NoTask,
+    Refusal::TaskThere,
+    Refusal::WrongMode,
+    Refusal::BadFrame,
+    Refusal::Full,
+    Refusal::JournalFull,
+    Refusal::NotMoving,
+    Refusal::Exists,
+    Refusal::NotFound,
+    Refusal::SameValue,
+];
+
+fn pending_of(words: &mut LineWords<'_>) -> Option<Reply>
+    ensures { result ≡ option_map Pending (next_as (decimal_of (2 ^ 8)) words.old) }
+{
+    let tasks = u8::try_from(number64(words.next()?)?).ok()?;
+    Some(Reply::Pending(tasks))
+}
+
+fn completed_of(words: &mut LineWords<'_>) -> Option<Reply>
+    ensures { result ≡ option_map Completed (next_as flag_of words.old) }
+{
+    Some(Reply::Completed(flag_of(words.next()?)?))
+}
+
+fn pre_failed_of(words: &mut LineWords<'_>, manager: &Manager) -> Option<Reply>
+    ensures { result ≡ pre_failed_of manager.now words.old }
+{
+    let (Some(patch), Some(object), Some(status)) = (words.next(), words.next(), words.next())
+    else {
+        return None;
+    };
+    let patch = patch_of(patch, manager)?;
+    let object = object_of(object, manager)?;
+    Some(Reply::PreFailed(patch, object, signed(status)?))
+}
+
+fn value_of(words: &mut LineWords<'_>) -> Option<Reply>
+    ensures { result ≡ option_map Value (next_as shadow_value_of words.old) }
+{
+    Some(Reply::Value(shadow_value(words.next()?)?))
+}
+
+fn freed_of(words: &mut LineWords<'_>) -> Option<Reply>
+    ensures { result ≡ option_map Freed (next_as (decimal_of (2 ^ 16)) words.old) }
+{
+    let count = u16::try_from(number64(words.next()?)?).ok()?;
+    Some(Reply::Freed(count))
+}
+
+fn woken_of(words: &mut LineWords<'_>, manager: &Manager) -> Option<Reply>
+    ensures { result ≡ option_map Woken (frames_of manager.now words.old) }
+{
+    Some(Reply::Woken(frames_of(words, manager)?))
+}
+
+fn reply_with(first: &[u8], words: &mut LineWords<'_>, manager: &Manager) -> Option<Reply>
+    ensures { result ≡ reply_with manager.now first.now words.old }
+{
+    if first == b"ok".as_slice() {
+        Some(Reply::Done)
+    } else if first == b"started".as_slice() {
+        Some(Reply::Started)
+    } else if first == b"reversed".as_slice() {
+        Some(Reply::Reversed)
+    } else if first == b"pending".as_slice() {
+        pending_of(words)
+    } else if first == b"completed".as_slice() {
+        completed_of(words)
+    } else if first == b"prefailed".as_slice() {
+        pre_failed_of(words, manager)
+    } else if first == b"value".as_slice() {
+        value_of(words)
+    } else if first == b"freed".as_slice() {
+        freed_of(words)
+    } else if first == b"woken".as_slice() {
+        woken_of(words, manager)
+    } else {
+        None
+    }
+}
+
+/// What a reply says by its words, before it is compared with the console's text of it.
+fn reply_in(text: &[u8], manager: &Manager) -> Option<Reply>
+    ensures { result ≡ reply_in manager.now (words_between (separates Spaces) text.now) }
+{
+    let mut words = LineWords::new(text, Separators::Spaces);
+    let first = words.next()?;
+    reply_with(first, &mut words, manager)
+}
+
+/// Whether a line, with its line feed, is of this text.
+fn is_line_of(text: &[u8], line: &str) -> bool
+    ensures { result ≡ is_line_of text.now line.now }
+{
+    match line.as_bytes().strip_suffix(b"\n".as_slice()) {
+        Some(front) => front == text,
+        None => false,
+    }
+}
+
+/// The reply, if the console writes this text of it.
+fn as_written(
+    alloc: Global,
+    text: &[u8],
+    reply: Option<Reply>,
+    manager: &Manager,
+) -> Result<Option<Result<Reply, Refusal>>, AllocError>
+    ensures { IfOk result (λ answer. answer ≡ as_written manager.now text.now reply) }
+{
+    let Some(reply) = reply else {
+        return Ok(None);
+    };
+    let line = reply_text(alloc, manager, &reply)?;
+    if is_line_of(text, &line) {
+        Ok(Some(Ok(reply)))
+    } else {
+        Ok(None)
+    }
+}
+
+/// The refusal of which the console writes this text.
+fn refusal_of(text: &[u8]) -> Option<Refusal>
+    ensures { result ≡ refusal_of text.now }
+{
+    let mut refusals = REFUSALS.iter();
+    refusals
+        .find(|refusal| is_line_of(text, refusal_line(**refusal)))
+        .copied()
+}
+
+/// The answer of which the console writes this text: byte by byte, so nothing else is taken for an answer.
+pub(crate) fn answer_of(
+    alloc: Global,
+    text: &[u8],
+    manager: &Manager,
+) -> Result<Option<Result<Reply, Refusal>>, AllocError>
+    ensures { IfOk result (λ answer. answer ≡ answer_of manager.now text.now) }
+{
+    match refusal_of(text) {
+        Some(refusal) => Ok(Some(Err(refusal))),
+        None => as_written(alloc, text, reply_in(text, manager), manager),
+    }
+}

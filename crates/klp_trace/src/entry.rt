@@ -1,0 +1,78 @@
+//! What one line of a trace says.
+ghost use Rattle.std.specs.Prelude.{◌≡◌, ◌≤◌, Some, IfOk, IfErr, option_map, unwrap_or};
+ghost use Rattle.klp_trace.specs.Traces.{entry_at, entry_of, IsLineFault};
+
+use crate::fault::TraceFaultKind;
+use crate::item::item_of;
+use crate::line::time_and_rest;
+use crate::time::Microseconds;
+use klp_core::Manager;
+use klp_watch::Observed;
+use klp_words::microseconds;
+use std::alloc::{AllocError, Global};
+
+/// An item, and its time if its line has one in front.
+#[derive(Clone, Copy)]
+pub struct Timed<T> {
+    pub item: T,
+    pub time: Option<Microseconds>,
+}
+
+/// What a line says.
+pub type Entry = Timed<Observed>;
+
+// Generic, as the borrow checker doesn't cover it for what is seen.
+fn with_time<T: Drop>(item: Option<T>, time: Option<Microseconds>) -> Option<Timed<T>>
+    ensures { result ≡ option_map (λ own. record { item = own; time = time }) item }
+{
+    match item {
+        Some(item) => Some(Timed { item, time }),
+        None => None,
+    }
+}
+
+/// What a text says that has this time, if any.
+fn entry_at(
+    alloc: Global,
+    text: &[u8],
+    time: Option<Microseconds>,
+    manager: &Manager,
+) -> Result<Option<Entry>, AllocError>
+    ensures { IfOk result (λ entry. entry ≡ entry_at manager.now text.now time) }
+{
+    let item = item_of(alloc, text, manager)?;
+    Ok(with_time(item, time))
+}
+
+/// What a line says, if it is an item.
+fn entry_of(alloc: Global, line: &[u8], manager: &Manager) -> Result<Option<Entry>, AllocError>
+    ensures { IfOk result (λ entry. entry ≡ entry_of manager.now line.now) }
+{
+    let Some((time, text)) = time_and_rest(line) else {
+        return entry_at(alloc, line, None, manager);
+    };
+    match microseconds(time) {
+        Some(time) => entry_at(alloc, text, Some(Microseconds(time)), manager),
+        None => Ok(None),
+    }
+}
+
+/// The same behind lines of which this is the last time: what is at fault is told.
+pub(crate) fn entry_behind(
+    alloc: Global,
+    last: Microseconds,
+    line: &[u8],
+    manager: &Manager,
+) -> Result<Entry, TraceFaultKind>
+    ensures entry { IfOk result (λ entry. (entry_of manager.now line.now ≡ Some entry)
+        × (last ≤ unwrap_or entry.time last)) }
+    ensures fault { IfErr result (λ kind. IsLineFault manager.now last line.now kind) }
+{
+    let Some(entry) = entry_of(alloc, line, manager)? else {
+        return Err(TraceFaultKind::BadItem);
+    };
+    if entry.time.unwrap_or(last).is_before(last) {
+        return Err(TraceFaultKind::OutOfOrder);
+    }
+    Ok(entry)
+}

@@ -1,0 +1,51 @@
+ghost use Rattle.std.specs.Prelude.{◌≡◌};
+ghost use Rattle.klp_trace.specs.declared.fault.TraceFaultKind.TheVariants.{NoMemory};
+
+use std::alloc::{AllocError, AllocFailed};
+use std::{error, fmt};
+use thiserror::Error;
+
+/// What is wrong with a line of a trace. In a line that has both faults, `BadItem` is told.
+#[derive(Clone, Copy, Debug, PartialEq, Eq)]
+pub enum TraceFaultKind {
+    /// The line is no item, or has a name, a symbol or a task that can't be; or what stands where its time is, is none.
+    BadItem,
+    /// The time of the line is before that of a line above, as where two logs were put together.
+    OutOfOrder,
+    /// Memory ran out. This may come in place of a fault of this line or a later one.
+    NoMemory,
+}
+
+/// Its name, which is what `Debug` prints: one table of the names serves both.
+impl fmt::Display for TraceFaultKind {
+    fn fmt<W: fmt::Write>(&self, f: &mut fmt::Formatter<W>) -> fmt::Result {
+        fmt::Debug::fmt(self, f)
+    }
+}
+
+impl error::Error for TraceFaultKind {}
+
+/// The first line of a trace that is at fault.
+#[derive(Clone, Copy, Debug, PartialEq, Eq, Error)]
+#[error("trace line {line}: {kind}")]
+pub struct TraceFault {
+    /// Counted from 1.
+    pub line: u64,
+    pub kind: TraceFaultKind,
+}
+
+impl From<AllocError> for TraceFaultKind {
+    ghost from_gives = { λ _ kind. kind ≡ NoMemory };
+
+    fn from(_error: AllocError) -> TraceFaultKind {
+        TraceFaultKind::NoMemory
+    }
+}
+
+impl<T: Drop> From<AllocFailed<T>> for TraceFaultKind {
+    ghost from_gives = { λ _ kind. kind ≡ NoMemory };
+
+    fn from(_error: AllocFailed<T>) -> TraceFaultKind {
+        TraceFaultKind::NoMemory
+    }
+}

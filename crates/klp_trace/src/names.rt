@@ -1,0 +1,114 @@
+//! What the names and numbers of a trace mean.
+ghost use Rattle.std.specs.Prelude.{◌≡◌};
+ghost use Rattle.klp_trace.specs.Names.{task_of, patch_of, object_of, new_function_of, version_of, versions_of, frames_of, site_of_version, state_of, flag_of};
+
+use klp_console::site_of;
+use klp_core::Manager;
+use klp_types::{Frames, MAX_TASKS, ObjId, PatchId, PatchState, Site, TaskId, Version};
+use klp_words::{LineWords, cut, is_name, number64, text};
+
+/// A task by its number, whether it is there or not.
+pub(crate) fn task_of(word: &[u8]) -> Option<TaskId>
+    ensures { result ≡ task_of word.now }
+{
+    let number = number64(word)?;
+    if number < MAX_TASKS as u64 {
+        Some(TaskId(number as u8))
+    } else {
+        None
+    }
+}
+
+pub(crate) fn patch_of(word: &[u8], manager: &Manager) -> Option<PatchId>
+    ensures { result ≡ patch_of manager.now word.now }
+{
+    if !is_name(word) {
+        return None;
+    }
+    manager.catalog().patch(text(word))
+}
+
+/// An object, loaded or not.
+pub(crate) fn object_of(word: &[u8], manager: &Manager) -> Option<ObjId>
+    ensures { result ≡ object_of manager.now word.now }
+{
+    let _for_its_clause = manager.catalog();
+    if !is_name(word) {
+        return None;
+    }
+    manager.modules().object(text(word))
+}
+
+/// `PATCH:INDEX`: a new function of a patch, whether the patch has it or not.
+fn new_function_of(word: &[u8], manager: &Manager) -> Option<Version>
+    ensures { result ≡ new_function_of manager.now word.now }
+{
+    let (patch, index) = cut(word, b':');
+    let patch = patch_of(patch, manager)?;
+    let index = u16::try_from(number64(index)?).ok()?;
+    Some(Version::New(patch, index))
+}
+
+/// The function that a frame spells, as the line of a sleeper has it: the original one of a symbol, or a new one.
+pub(crate) fn version_of(word: &[u8], manager: &Manager) -> Option<Version>
+    ensures { result ≡ version_of manager.now word.now }
+{
+    match site_of(word, manager) {
+        Some(site) => Some(Version::Original(site)),
+        None => new_function_of(word, manager),
+    }
+}
+
+/// The functions that words spell, innermost last. A task is inside of 32 at most.
+pub(crate) fn frames_of(words: &mut LineWords<'_>, manager: &Manager) -> Option<Frames>
+    ensures { result ≡ frames_of manager.now words.old }
+{
+    let mut frames = Frames::new();
+    while let Some(word) = words.next() {
+        if !frames.push(version_of(word, manager)?) {
+            return None;
+        }
+    }
+    Some(frames)
+}
+
+/// The site at which a version is called.
+pub(crate) fn site_of_version(version: Version, manager: &Manager) -> Option<Site>
+    ensures { result ≡ site_of_version manager.now version }
+{
+    match version {
+        Version::Original(site) => Some(site),
+        Version::New(patch, function) => match manager.catalog().function(patch, function) {
+            Some((site, _, _)) => site,
+            None => None,
+        },
+    }
+}
+
+/// The state of a task, as its `patch_state` file reads.
+pub(crate) fn state_of(word: &[u8]) -> Option<PatchState>
+    ensures { result ≡ state_of word.now }
+{
+    if word == b"-1".as_slice() {
+        Some(PatchState::UNDEFINED)
+    } else if word == b"0".as_slice() {
+        Some(PatchState::UNPATCHED)
+    } else if word == b"1".as_slice() {
+        Some(PatchState::PATCHED)
+    } else {
+        None
+    }
+}
+
+/// What a file of a patch reads.
+pub(crate) fn flag_of(word: &[u8]) -> Option<bool>
+    ensures { result ≡ flag_of word.now }
+{
+    if word == b"0".as_slice() {
+        Some(false)
+    } else if word == b"1".as_slice() {
+        Some(true)
+    } else {
+        None
+    }
+}

@@ -1,0 +1,84 @@
+//! What a kernel showed, as a line tells it.
+ghost use Rattle.std.specs.Prelude.{◌≡◌};
+ghost use Rattle.klp_trace.specs.Items.{state_seen, gone_seen, files_seen, saw_of, version_seen, ran_of, text_of};
+
+use crate::names::{flag_of, patch_of, site_of_version, state_of, task_of, version_of};
+use klp_console::site_of;
+use klp_core::Manager;
+use klp_types::{TaskId, Version};
+use klp_watch::{PatchFiles, Sight};
+use klp_words::LineWords;
+
+fn state_seen(task: &[u8], state: &[u8]) -> Option<Sight>
+    ensures { result ≡ state_seen task.now state.now }
+{
+    let task = task_of(task)?;
+    Some(Sight::State(task, Some(state_of(state)?)))
+}
+
+fn gone_seen(patch: &[u8], manager: &Manager) -> Option<Sight>
+    ensures { result ≡ gone_seen manager.now patch.now }
+{
+    Some(Sight::Files(patch_of(patch, manager)?, None))
+}
+
+fn files_seen(patch: &[u8], enabled: &[u8], transition: &[u8], manager: &Manager) -> Option<Sight>
+    ensures { result ≡ files_seen manager.now patch.now enabled.now transition.now }
+{
+    let patch = patch_of(patch, manager)?;
+    let enabled = flag_of(enabled)?;
+    let transition = flag_of(transition)?;
+    Some(Sight::Files(
+        patch,
+        Some(PatchFiles {
+            enabled,
+            transition,
+        }),
+    ))
+}
+
+/// The words behind `saw`: a task and its state, or a patch and what its files read.
+pub(crate) fn saw_of(words: &mut LineWords<'_>, manager: &Manager) -> Option<Sight>
+    ensures { result ≡ saw_of manager.now words.old }
+{
+    let first = words.next()?;
+    let second = words.next()?;
+    let Some(third) = words.next() else {
+        return if second == b"gone".as_slice() {
+            gone_seen(first, manager)
+        } else {
+            state_seen(first, second)
+        };
+    };
+    match words.next() {
+        None => files_seen(first, second, third, manager),
+        Some(_) => None,
+    }
+}
+
+fn version_seen(task: TaskId, version: Version, manager: &Manager) -> Option<Sight>
+    ensures { result ≡ version_seen manager.now task version }
+{
+    site_of_version(version, manager).map(|site| Sight::Version(task, site, version))
+}
+
+/// The words behind `ran`: a task, and the version that it ran.
+pub(crate) fn ran_of(words: &mut LineWords<'_>, manager: &Manager) -> Option<Sight>
+    ensures { result ≡ ran_of manager.now words.old }
+{
+    let (Some(task), Some(frame), None) = (words.next(), words.next(), words.next()) else {
+        return None;
+    };
+    let task = task_of(task)?;
+    version_seen(task, version_of(frame, manager)?, manager)
+}
+
+/// The word behind `hooked` or `plain`: the symbol whose text was read.
+pub(crate) fn text_of(words: &mut LineWords<'_>, hooked: bool, manager: &Manager) -> Option<Sight>
+    ensures { result ≡ text_of manager.now hooked words.old }
+{
+    let (Some(symbol), None) = (words.next(), words.next()) else {
+        return None;
+    };
+    Some(Sight::Text(site_of(symbol, manager)?, hooked))
+}

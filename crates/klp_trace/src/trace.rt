@@ -1,0 +1,79 @@
+//! A trace out of its text, line by line.
+ghost use Rattle.std.specs.Prelude.{◌≡◌, [], ◌∷◌, ◌++◌, IfOk, IfErr, MatchResult, Err, unwrap_or};
+ghost use Rattle.std.specs.Str.Lines.{lines};
+ghost use Rattle.klp_trace.specs.Traces.{IsTraceOf, IsTraceFault};
+ghost use Rattle.klp_trace.specs.declared.fault.TraceFaultKind.TheVariants.{NoMemory};
+
+use crate::entry::{Timed, entry_behind};
+use crate::fault::{TraceFault, TraceFaultKind};
+use crate::time::Microseconds;
+use klp_catalog_text::Lines;
+use klp_core::Manager;
+use klp_model::{Event, Refusal, Reply, Seen};
+use klp_types::{Frames, ObjId, PatchId, PatchState, ShadowValue, Site, TaskId, Version};
+use klp_watch::{Observed, PatchFiles, Sight};
+use std::alloc::Global;
+
+/// What an item is made of. The borrow checker covers a function that moves items if it names all of these types.
+type Happening = (Seen, Event, Reply, Refusal, Frames, ShadowValue);
+
+type Showing = (Sight, PatchFiles, PatchState, Version);
+
+type Named = (ObjId, PatchId, Site, TaskId);
+
+/// What was seen of a kernel, one item for each line of a text.
+#[derive(Drop)]
+pub struct Trace {
+    /// The item of each line, in order.
+    pub items: Vec<Observed>,
+    /// For each of them when that was, if its line says so.
+    pub times: Vec<Option<Microseconds>>,
+}
+
+/// Puts what was read behind the items that are there, and answers the last time then, which this was before. What wasn't
+/// read is at fault as before. It is generic, as the borrow checker doesn't cover it for what is seen.
+fn take<T: Drop>(
+    items: &mut Vec<T>,
+    times: &mut Vec<Option<Microseconds>>,
+    last: Microseconds,
+    read: Result<Timed<T>, TraceFaultKind>,
+) -> Result<Microseconds, TraceFaultKind>
+    ensures { MatchResult read
+        (λ entry. MatchResult result
+        (λ now. (items.new.items ≡ items.old.items ++ entry.item ∷ [])
+        × (times.new.items ≡ times.old.items ++ entry.time ∷ [])
+        × (now ≡ unwrap_or entry.time last))
+        (λ kind. kind ≡ NoMemory))
+        (λ kind. result ≡ Err kind) }
+{
+    let entry = read?;
+    let now = entry.time.unwrap_or(last);
+    let Timed { item, time } = entry;
+    items.push(item)?;
+    times.push(time)?;
+    Ok(now)
+}
+
+impl Trace {
+    /// The items of a text, one a line, or its first line that is at fault. Names are those of the manager's
+    /// catalog, and nothing of its state is asked. Memory is taken for the items as they come.
+    pub fn read(alloc: Global, text: &[u8], manager: &Manager) -> Result<Trace, TraceFault>
+        ensures read { IfOk result (λ trace. IsTraceOf manager.now text.now trace.items.items trace.times.items) }
+        ensures fault { IfErr result (λ fault. IsTraceFault manager.now (lines text.now) fault.line fault.kind) }
+    {
+        let _parts: Option<(Happening, Showing, Named)> = None;
+        let mut items = Vec::new(alloc);
+        let mut times = Vec::new(alloc);
+        let mut lines = Lines::new(text);
+        let mut last = Microseconds(0);
+        while let Some(line) = lines.next() {
+            let number = items.len() as u64 + 1;
+            let read = entry_behind(alloc, last, line, manager);
+            match take(&mut items, &mut times, last, read) {
+                Ok(time) => last = time,
+                Err(kind) => return Err(TraceFault { line: number, kind }),
+            }
+        }
+        Ok(Trace { items, times })
+    }
+}
