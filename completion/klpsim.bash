@@ -56,6 +56,7 @@ _klppage() {
   case "${#klp_words[@]}" in
     1) _klp_files catalog "${klp_words[0]}" ;;
     2) _klp_files script "${klp_words[1]}" ;;
+    3) _klp_files names "${klp_words[2]}" ;;
   esac
 }
 

@@ -97,8 +97,10 @@ def lives():
 
 
 def page(name):
-    """What is hinted at isn't compared: a script may have a line that is refused on purpose."""
-    status, out, err = run(["klppage", f"{name}.catalog", f"{name}.script"])
+    """A page is made with names where there are some. What is hinted at isn't compared: a script may have a line that is refused
+    on purpose."""
+    names = [f"{name}.names"] if os.path.exists(f"{EXAMPLES}/{name}.names") else []
+    status, out, err = run(["klppage", f"{name}.catalog", f"{name}.script", *names])
     told = [line for line in err.splitlines() if ": hint: " not in line]
     return fault((status, out, "".join(told)), (0, read(f"{name}.html"), ""))
 

@@ -319,8 +319,28 @@ SCRIPTS = [
     (b"\xfe\xffm\n", 0, f"line 1: hint: {WIDE}"),
 ]
 # How the programs say that they are called, and words that they refuse.
-USAGE = {"klpwatch": "CATALOG TRACE", "klppage": "CATALOG SCRIPT"}
-REFUSED = [(), ("k.catalog",), ("--help",), ("k.catalog", "-"), ("k.catalog", "k.catalog", "k.catalog"), ("k.catalog", b"\xff")]
+USAGE = {"klpwatch": "CATALOG TRACE", "klppage": "CATALOG SCRIPT [NAMES]"}
+REFUSED = [(), ("k.catalog",), ("--help",), ("k.catalog", "-"), ("k.catalog", "k.catalog", "-"), ("k.catalog",) * 4, ("k.catalog", b"\xff")]
+# Texts of names, and what is told of them.
+NAME = "wanted is a name of 1 to 64 bytes without control characters"
+SECONDS = "wanted are seconds, with up to six decimals behind a point"
+NAMES = [
+    ("task 64 x\n", "line 1: BadTask: '64': wanted is a task's number, 0 to 63"),
+    ("task 1 a\r\ntask -1 b\n", "line 2: BadTask: '-1': wanted is a task's number, 0 to 63"),
+    ("task 1 a\ntask 2 a\ntask 1 b", "line 3: NamedTwice: '1': the task has a name already"),
+    ("task 1\n", f"line 1: BadName: '': {NAME}"),
+    ("task 1 \n", f"line 1: BadName: '': {NAME}"),
+    ("task 1 a\tb\n", f"line 1: BadName: 'a\\tb': {NAME}"),
+    (f"task 1 {64 * 'n'}\ntask 2 {65 * 'n'}\n", f"line 2: BadName: '{64 * 'n'}': {NAME}"),
+    ("line 0 1\n", "line 1: BadLine: '0': wanted is a line's number, from 1 on"),
+    ("line 1 1,5\n", f"line 1: BadTime: '1,5': {SECONDS}"),
+    ("line 1 1.0000001\n", f"line 1: BadTime: '1.0000001': {SECONDS}"),
+    ("line 1 1 \n", f"line 1: BadTime: '1 ': {SECONDS}"),
+    ("line 2 1\nline 2 1\n", "line 2: LineFalls: '2': wanted is a later line than the one before"),
+    ("line 2 2\nline 3 1.999999\n", "line 2: TimeFalls: '1.999999': wanted is a time that is no earlier than the one before"),
+    ("tasks 1 a\n", "line 1: UnknownWord: 'tasks': wanted is 'task' or 'line'"),
+    ("task 1 a\n\n", "line 2: UnknownWord: '': wanted is 'task' or 'line'"),
+]
 
 
 def told(program, texts, status, said):
@@ -393,6 +413,9 @@ def cases():
         made.append(case(program, f"{MORE}{line}\n", second, 0, said))
     made.append(("klpwatch, an ambiguous function", ambiguous))
     made += [case("klppage", KERNEL, script, status, said, of="script") for script, status, said in SCRIPTS]
+    for names, said in NAMES:
+        texts = {"a.catalog": KERNEL, "a.script": "poll\n", "a.names": names}
+        made.append((f"klppage, {names[:60]!r}", functools.partial(told, "klppage", texts, 1, f"klppage: a.names: {said}\n")))
     for program, words in itertools.product(USAGE, REFUSED):
         made.append((f"{program}, the words {words}", functools.partial(not_called_so, program, words)))
     swapped = "line 1: UnknownWord: wanted is a catalog, which a.script is: are the two swapped?"

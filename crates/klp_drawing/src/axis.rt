@@ -1,39 +1,54 @@
-//! The numbers of lines along the drawing.
+//! The numbers of lines along the drawing, or their times.
 
 use crate::bars::Bars;
 use crate::pen::{LETTER, add_text_start, number_width};
 use crate::scale::Scale;
 use klp_markup::Sheet;
 use klp_markup::Value::Number;
+use klp_names::Names;
 use klp_timeline::{Said, Sentence};
 use std::alloc::{AllocError, Global};
 
-/// The lines that have their number on the axis.
+/// The lines that have a number on the axis, or a time.
 ///
-/// Not each has room for its own. A line that a sentence names as its beginning or its end comes first, the later sentences
-/// before the earlier, since a reader goes from a sentence to its line, and from the end of the run backwards. Then each line
-/// comes in which something changes, from left to right. One that finds its place taken has no number.
+/// Not every line has room for a number. Lines are offered in this order, and a line whose place is taken gets no
+/// number. First the lines where a sentence begins or ends, from the last sentence back to the first: a reader looks
+/// for the line of a sentence, and mostly for the end of the run. Then the lines in which something changes, from left
+/// to right.
 #[derive(Drop)]
-pub(crate) struct Axis {
-    /// By the place: whether a number stands there, or the gap behind one.
+pub(crate) struct Axis<'a> {
+    names: &'a Names,
+    /// For each place: whether a number covers it, or the gap behind a number.
     taken: Vec<bool>,
     lines: Vec<u64>,
 }
 
-impl Axis {
-    fn new(alloc: Global, scale: &Scale) -> Result<Axis, AllocError> {
+impl<'a> Axis<'a> {
+    /// Returns an axis without numbers. `Err` if memory runs out.
+    fn new(alloc: Global, names: &'a Names, scale: &Scale) -> Result<Axis<'a>, AllocError> {
         let mut taken = Vec::new(alloc);
         taken.resize(scale.end().saturating_add(64) as usize, false)?;
         Ok(Axis {
+            names,
             taken,
             lines: Vec::new(alloc),
         })
     }
 
-    /// Gives a line its number, if there is room.
+    /// Returns how many points wide the line's number is, or its time in a drawing to scale by time.
+    fn width_at(&self, scale: &Scale, line: u64) -> u64 {
+        if !scale.is_timed() {
+            return number_width(line);
+        }
+        let seconds = self.names.since_start(line).unwrap_or(0) / 1_000_000;
+        number_width(seconds).saturating_add(2 * LETTER)
+    }
+
+    /// Puts the number of this line on the axis, unless another number is in the way. `Err` if memory runs out.
     fn offer(&mut self, scale: &Scale, line: u64) -> Result<(), AllocError> {
         let from = scale.x(line) as usize;
-        let to = from.saturating_add(number_width(line).saturating_add(LETTER) as usize);
+        let width = self.width_at(scale, line).saturating_add(LETTER);
+        let to = from.saturating_add(width as usize);
         if to > self.taken.len() || self.taken[from..to].contains(&true) {
             return Ok(());
         }
@@ -42,11 +57,13 @@ impl Axis {
         Ok(())
     }
 
-    /// Gives the lines that a sentence names their numbers.
+    /// Offers the lines where the sentence begins and ends. In a drawing to scale by time a stay ends at the line
+    /// after its last one, since its duration is counted to there. `Err` if memory runs out.
     fn offer_sentence(&mut self, scale: &Scale, sentence: &Sentence) -> Result<(), AllocError> {
         self.offer(scale, sentence.line)?;
         match &sentence.said {
             Said::Slept(sleepers) => match sleepers.to {
+                Some(last) if scale.is_timed() => self.offer(scale, last.saturating_add(1)),
                 Some(last) => self.offer(scale, last),
                 None => Ok(()),
             },
@@ -54,22 +71,38 @@ impl Axis {
         }
     }
 
-    /// Adds the numbers at this height.
+    /// Adds the number of this line, or its time in a drawing to scale by time.
+    fn add_number(&self, sheet: &mut Sheet, scale: &Scale, line: u64) {
+        match self.names.since_start(line) {
+            Some(time) if scale.is_timed() => add_tenths(sheet, time),
+            _ => sheet.number(line),
+        }
+    }
+
+    /// Adds all numbers of the axis at this height.
     pub(crate) fn add_numbers(&self, sheet: &mut Sheet, scale: &Scale, y: u64) {
         for line in &self.lines {
             add_text_start(sheet, "soft", scale.x(*line), y);
-            sheet.fill("{}</text>", &[Number(*line)]);
+            self.add_number(sheet, scale, *line);
+            sheet.markup("</text>");
         }
     }
 }
 
-/// The axis of what was seen, of which these sentences tell.
-pub(crate) fn axis_of(
+/// Adds microseconds as seconds with one decimal.
+fn add_tenths(sheet: &mut Sheet, time: u64) {
+    let (seconds, tenths) = (time / 1_000_000, time / 100_000 % 10);
+    sheet.fill("{}.{}", &[Number(seconds), Number(tenths)]);
+}
+
+/// Returns the axis of a run with these bars and sentences. `Err` if memory runs out.
+pub(crate) fn axis_of<'a>(
     alloc: Global,
+    names: &'a Names,
     bars: &Bars,
     sentences: &[Sentence],
-) -> Result<Axis, AllocError> {
-    let mut axis = Axis::new(alloc, &bars.scale)?;
+) -> Result<Axis<'a>, AllocError> {
+    let mut axis = Axis::new(alloc, names, &bars.scale)?;
     for sentence in sentences.iter().rev() {
         axis.offer_sentence(&bars.scale, sentence)?;
     }

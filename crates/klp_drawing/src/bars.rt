@@ -4,21 +4,22 @@ use crate::look::{Look, look_of_patch, look_of_task};
 use crate::scale::Scale;
 use crate::turn::{Sign, sign_of};
 use klp_core::Manager;
+use klp_names::Names;
 use klp_timeline::{Moment, View};
 use klp_types::{MAX_PATCHES, MAX_TASKS, Mode, PatchId, TaskId};
 use std::alloc::{AllocError, Global};
 
-/// How many lanes there are: first one for each patch, then one for each task.
+/// The number of lanes: one for each patch, and behind these one for each task.
 pub(crate) const LANES: usize = MAX_PATCHES + MAX_TASKS;
 
-/// Where something happens to a transition.
+/// A line at which something happens to a transition, and what happens.
 #[derive(Clone, Copy)]
 pub(crate) struct Mark {
     pub line: u64,
     pub sign: Sign,
 }
 
-/// A bar, from one line up to another.
+/// A bar from the line `from` up to the line `to`, which is the first one behind the bar.
 #[derive(Clone, Copy)]
 pub(crate) struct Bar {
     pub from: u64,
@@ -26,17 +27,18 @@ pub(crate) struct Bar {
     pub look: Look,
 }
 
-/// What was seen of a patch or a task.
+/// What a patch or a task has done so far.
 #[derive(Clone, Copy, PartialEq, Eq)]
 enum Role {
-    /// It never was there.
+    /// It never existed.
     Absent,
-    /// It was there, and did nothing.
+    /// It existed, and did nothing.
     Idle,
     Acts,
 }
 
-/// A lane with its bars, and what it looks like since a line, if something is there.
+/// The lane of one patch or task: its finished bars, and the look of the unfinished bar since the line `from`, if
+/// there is one.
 #[derive(Drop)]
 struct Lane {
     from: u64,
@@ -45,7 +47,8 @@ struct Lane {
     bars: Vec<Bar>,
 }
 
-/// What is seen of a run. Bars are added as they end, and a want of memory is kept until all are closed.
+/// The bars of all patches and tasks, as a run is observed line by line. A failed allocation is remembered in
+/// `is_short`, and [`Bars::close`] reports it.
 #[derive(Drop)]
 pub struct Bars {
     /// The lines in which a bar begins or ends, or something happens to a transition.
@@ -59,6 +62,7 @@ pub struct Bars {
 }
 
 impl Lane {
+    /// Returns a lane without bars, of something that never existed.
     fn new(alloc: Global) -> Lane {
         Lane {
             from: 0,
@@ -68,7 +72,8 @@ impl Lane {
         }
     }
 
-    /// Ends the bar, if there is one, and begins another.
+    /// Ends the lane's bar at this line, if there is one, and begins another with this look. `None` begins no bar:
+    /// from this line on the lane is empty. `Err` if memory runs out.
     fn begin(&mut self, line: u64, look: Option<Look>) -> Result<(), AllocError> {
         self.role = match look {
             Some(look) if look.mode != Mode::User => Role::Acts,
@@ -90,7 +95,7 @@ impl Lane {
 }
 
 impl Bars {
-    /// Nothing is seen yet, and no room is taken.
+    /// Returns bars of a run of which no line has been seen. Takes no memory.
     pub fn new(alloc: Global) -> Bars {
         Bars {
             changed: Vec::new(alloc),
@@ -102,7 +107,7 @@ impl Bars {
         }
     }
 
-    /// Takes the room for each lane.
+    /// Makes an empty lane for each patch and each task. `Err` if memory runs out.
     pub fn open(&mut self) -> Result<(), AllocError> {
         let alloc = *self.changed.allocator();
         for _lane in 0..LANES {
@@ -111,7 +116,7 @@ impl Bars {
         Ok(())
     }
 
-    /// What was seen of a lane.
+    /// Returns what the patch or task of this lane has done so far.
     fn role(&self, number: usize) -> Role {
         match self.lanes.get(number) {
             Some(lane) => lane.role,
@@ -119,17 +124,17 @@ impl Bars {
         }
     }
 
-    /// Whether a lane has something to show.
+    /// Whether the lane is drawn: its patch was installed, or its task entered the kernel.
     pub(crate) fn acts(&self, number: usize) -> bool {
         self.role(number) == Role::Acts
     }
 
-    /// Whether a lane is that of a task that was there and did nothing.
+    /// Whether the lane's task existed and never entered the kernel. Such tasks are listed, not drawn.
     pub(crate) fn is_idle(&self, number: usize) -> bool {
         self.role(number) == Role::Idle
     }
 
-    /// The bars of a lane, in order.
+    /// Returns the finished bars of a lane, in the order of their lines.
     pub(crate) fn bars_of(&self, number: usize) -> &[Bar] {
         match self.lanes.get(number) {
             Some(lane) => lane.bars.as_slice(),
@@ -137,7 +142,7 @@ impl Bars {
         }
     }
 
-    /// Ends the bar of a lane with a line, and begins another, where its look changes. Answers whether it does.
+    /// Gives a lane a new look from this line on, if its look differs. Returns whether it does.
     fn turn(&mut self, number: usize, line: u64, look: Option<Look>) -> bool {
         let Some(lane) = self.lanes.get_mut(number) else {
             return false;
@@ -150,7 +155,7 @@ impl Bars {
         true
     }
 
-    /// Marks what happens to a transition. Answers whether something does.
+    /// Marks this line with what happens to the transition, if anything does. Returns whether it does.
     fn mark(&mut self, line: u64, sign: Option<Sign>) -> bool {
         let Some(sign) = sign else {
             return false;
@@ -160,6 +165,7 @@ impl Bars {
         true
     }
 
+    /// Gives each patch its look after this line. Returns whether a look changed.
     fn turn_patches(&mut self, line: u64, view: &View) -> bool {
         let mut is_changed = false;
         for number in 0..MAX_PATCHES {
@@ -170,6 +176,7 @@ impl Bars {
         is_changed
     }
 
+    /// Gives each task its look after this line. Returns whether a look changed.
     fn turn_tasks(&mut self, line: u64, view: &View, manager: &Manager) -> bool {
         let mut is_changed = false;
         for number in 0..MAX_TASKS {
@@ -179,7 +186,8 @@ impl Bars {
         is_changed
     }
 
-    /// Sees the patches and the tasks after a line: it is wanted of each line whose event was taken or undone.
+    /// Updates the bars with the state after a line. Call this for each line whose event was taken or undone; other
+    /// lines change no bar.
     pub fn see(&mut self, line: u64, before: &View, moment: &Moment, manager: &Manager) {
         let view = &moment.view;
         let mut is_changed = self.mark(line, sign_of(before, moment));
@@ -192,18 +200,19 @@ impl Bars {
         }
     }
 
-    /// Ends all bars behind the last line, and finds the place of each line in the drawing.
-    pub fn close(&mut self, lines: u64) -> Result<(), AllocError> {
+    /// Ends all bars behind the last line, and computes where each line is drawn: to scale by time if all lines that
+    /// change something have a time, else by line numbers. `Err` if memory runs out, or ran out before.
+    pub fn close(&mut self, lines: u64, names: &Names) -> Result<(), AllocError> {
         for number in 0..LANES {
             self.turn(number, lines.saturating_add(1), None);
         }
         if self.is_short {
             return Err(AllocError);
         }
-        self.scale.measure(&self.changed, lines)
+        self.scale.measure(&self.changed, lines, names)
     }
 
-    /// The lines in which something changes.
+    /// Returns the lines in which a bar begins or ends, or something happens to a transition.
     pub(crate) fn changed(&self) -> &[u64] {
         self.changed.as_slice()
     }

@@ -13,27 +13,30 @@ use crate::turn::sign_text;
 use crate::words::{Stop, stops};
 use klp_core::Manager;
 use klp_markup::Value::{Markup, Number, Words};
-use klp_markup::{Sheet, patch_name};
+use klp_markup::{Sheet, add_task, patch_name};
+use klp_names::Names;
 use klp_timeline::Sentence;
 use klp_types::{MAX_PATCHES, PatchId, TaskId};
 use std::alloc::{AllocError, Global};
 
-/// How wide a sign is with the gap behind it.
+/// The width of a sign and of the gap behind it, in points.
 const SIGN: u64 = 12;
 
-/// What is drawn with.
+/// All that the parts of the drawing need: what is drawn, and where.
 #[derive(Drop)]
 struct Board<'a> {
+    names: &'a Names,
     manager: &'a Manager,
     bars: &'a Bars,
     sentences: &'a [Sentence],
     held: Vec<Held>,
     stops: Vec<Stop>,
-    axis: Axis,
+    axis: Axis<'a>,
     width: u64,
 }
 
-/// Where marks are drawn: where something happens to a transition, as far as there is room for their signs.
+/// Returns the places where marks are drawn, from left to right. A mark whose sign would cover the sign before it is
+/// left out. `Err` if memory runs out.
 fn places_of_marks(alloc: Global, bars: &Bars) -> Result<Vec<u64>, AllocError> {
     let mut places = Vec::new(alloc);
     let mut free = 0;
@@ -47,7 +50,8 @@ fn places_of_marks(alloc: Global, bars: &Bars) -> Result<Vec<u64>, AllocError> {
     Ok(places)
 }
 
-/// The signs of the marks. Where there is room up to the next one, the number of its line stands beside it.
+/// Adds the signs of the marks, except those that would cover the sign before them. A sign has the number of its line
+/// beside it, if there is room up to the next sign and the drawing isn't to scale by time.
 fn add_signs(sheet: &mut Sheet, bars: &Bars) {
     let mut free = 0;
     for (number, mark) in bars.marks.iter().enumerate() {
@@ -62,14 +66,16 @@ fn add_signs(sheet: &mut Sheet, bars: &Bars) {
             Some(next) => bars.scale.x(next.line),
             None => u64::MAX,
         };
-        if next.saturating_sub(x) >= number_width(mark.line).saturating_add(SIGN) {
+        let room = number_width(mark.line).saturating_add(SIGN);
+        if !bars.scale.is_timed() && next.saturating_sub(x) >= room {
             sheet.fill("{}", &[Number(mark.line)]);
         }
         sheet.markup("</text>");
     }
 }
 
-/// The marks of one lane, which all lanes use: a line down where something happens to a transition.
+/// Adds the definition that all lanes share for their marks: a dotted line at each of these places, down through the
+/// lane.
 fn add_marks(sheet: &mut Sheet, places: &[u64]) {
     sheet.markup("<g id=marks><path class=mark d=\"M0 0");
     for x in places {
@@ -78,7 +84,7 @@ fn add_marks(sheet: &mut Sheet, places: &[u64]) {
     sheet.markup("\"/></g>");
 }
 
-/// The cuts of one lane, which all lanes use: a gap between two zigzags.
+/// Adds the definition that all lanes share for their cuts: a gap between two zigzags.
 fn add_cuts(sheet: &mut Sheet, bars: &Bars) {
     sheet.markup("<g id=cuts>");
     for x in &bars.scale.cuts {
@@ -90,7 +96,7 @@ fn add_cuts(sheet: &mut Sheet, bars: &Bars) {
     sheet.markup("</g>");
 }
 
-/// The head of the table: signs and numbers, and what all lanes use.
+/// Begins the table. Its head has the signs, the axis, and the definitions that all lanes share.
 fn add_head(sheet: &mut Sheet, board: &Board<'_>, marks: &[u64]) {
     sheet.fill(
         "<div class=run><table><thead><tr><th></th><td><svg width=\"{}\" height=\"36\" aria-hidden=true><defs>",
@@ -105,7 +111,7 @@ fn add_head(sheet: &mut Sheet, board: &Board<'_>, marks: &[u64]) {
     sheet.markup("</svg></td></tr></thead>");
 }
 
-/// The foot of the table: the numbers once more.
+/// Ends the table, with the axis once more below the last lane.
 fn add_foot(sheet: &mut Sheet, board: &Board<'_>) {
     sheet.fill(
         "<tfoot><tr><th></th><td><svg width=\"{}\" height=\"18\" aria-hidden=true>",
@@ -115,17 +121,25 @@ fn add_foot(sheet: &mut Sheet, board: &Board<'_>) {
     sheet.markup("</svg></td></tr></tfoot></table></div>\n");
 }
 
-fn add_name(sheet: &mut Sheet, manager: &Manager, lane: usize) {
+/// Returns the task whose lane this is. The first task's lane is behind those of the patches.
+fn task_in(lane: usize) -> TaskId {
+    TaskId((lane.saturating_sub(MAX_PATCHES)).min(255) as u8)
+}
+
+/// Begins the table row of a lane: with the patch's name, or with the task's number and name.
+fn add_name(sheet: &mut Sheet, names: &Names, manager: &Manager, lane: usize) {
     if lane < MAX_PATCHES {
         let name = patch_name(manager.catalog(), PatchId(lane as u8));
         sheet.fill("<tr><th scope=row>{}</th>", &[Words(name)]);
     } else {
-        let task = lane.saturating_sub(MAX_PATCHES) as u64;
-        sheet.fill("<tr><th scope=row>task {}</th>", &[Number(task)]);
+        sheet.markup("<tr><th scope=row>task ");
+        add_task(sheet, names, task_in(lane));
+        sheet.markup("</th>");
     }
 }
 
-/// A lane, from below: marks, bars, stays, cuts, and all words.
+/// Adds the table row of a patch or a task. What is drawn later covers what is drawn earlier: first marks, then bars,
+/// stays, cuts, and last all words. `Err` if memory runs out.
 fn add_lane(
     alloc: Global,
     sheet: &mut Sheet,
@@ -134,8 +148,8 @@ fn add_lane(
 ) -> Result<(), AllocError> {
     let strips = strips_of(alloc, board.bars.bars_of(lane), &board.bars.scale)?;
     let is_task = lane >= MAX_PATCHES;
-    let task = TaskId((lane.saturating_sub(MAX_PATCHES)).min(255) as u8);
-    add_name(sheet, board.manager, lane);
+    let task = task_in(lane);
+    add_name(sheet, board.names, board.manager, lane);
     sheet.fill(
         "<td><svg width=\"{}\" height=\"{}\"><use href=\"#marks\"/>",
         &[Number(board.width), Number(LANE)],
@@ -149,6 +163,7 @@ fn add_lane(
     if is_task {
         add_labels(
             sheet,
+            board.names,
             board.manager,
             board.sentences,
             &board.held,
@@ -160,11 +175,23 @@ fn add_lane(
     Ok(())
 }
 
-/// What is said of the lines below the drawing.
+/// Adds the note below the drawing: what the numbers of the axis are, what a zigzag is, and which bar is drawn of
+/// several at one point.
 fn add_note(sheet: &mut Sheet, bars: &Bars) {
-    sheet.markup("<p class=soft>Numbers are lines of the script.");
+    let (numbers, cut) = if bars.scale.is_timed() {
+        (
+            "<p class=soft>The drawing is to scale: numbers along it are seconds since the first time.",
+            " At a zigzag, time is cut out in which nothing changes.",
+        )
+    } else {
+        (
+            "<p class=soft>Numbers are lines of the script.",
+            " At a zigzag, lines are cut out in which nothing changes.",
+        )
+    };
+    sheet.markup(numbers);
     if !bars.scale.cuts.is_empty() {
-        sheet.markup(" At a zigzag, lines are cut out in which nothing changes.");
+        sheet.markup(cut);
     }
     if bars.scale.is_coarse() {
         sheet.markup(
@@ -174,23 +201,25 @@ fn add_note(sheet: &mut Sheet, bars: &Bars) {
     sheet.markup("</p>\n");
 }
 
-/// Adds the drawing of what was seen, with the legend. Each stay leads to its sentence, `#stay-LINE-TASK`, or where that
-/// is left out to the line, `#line-LINE`.
+/// Adds the drawing of a run, with its legend. Each stay links to its sentence, `#stay-LINE-TASK`. If the page leaves
+/// that sentence out, the stay links to its first line, `#line-LINE`. `Err` if memory runs out.
 pub fn add_drawing(
     alloc: Global,
     sheet: &mut Sheet,
+    names: &Names,
     manager: &Manager,
     bars: &Bars,
     sentences: &[Sentence],
 ) -> Result<(), AllocError> {
     let marks = places_of_marks(alloc, bars)?;
     let board = Board {
+        names,
         manager,
         bars,
         sentences,
         held: all_held(alloc, &bars.scale, sentences)?,
         stops: stops(alloc, bars, &marks)?,
-        axis: axis_of(alloc, bars, sentences)?,
+        axis: axis_of(alloc, names, bars, sentences)?,
         width: bars.scale.end().saturating_add(MARGIN),
     };
     add_head(sheet, &board, &marks);

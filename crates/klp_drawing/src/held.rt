@@ -5,31 +5,32 @@ use crate::scale::Scale;
 use crate::words::{Stop, free_place, last_place};
 use klp_core::Manager;
 use klp_markup::Value::{Markup, Number, Text};
-use klp_markup::{Sheet, function_name, object_name, patch_name};
+use klp_markup::{Sheet, add_line_time, add_plain_task, function_name, object_name, patch_name};
+use klp_names::Names;
 use klp_timeline::{Said, Sentence, Sleepers, Stay, excess, is_left_out};
 use klp_types::{MAX_TASKS, TaskId, Version};
 use std::alloc::{AllocError, Global};
 
-/// How wide a stay is drawn at least, so that none is overlooked.
+/// The smallest width of a stay in the drawing, so that no reader overlooks it.
 const FEWEST: u64 = 4;
 
-/// How wide one is that has room for an outline of two colours.
+/// The smallest width of a stay that gets an outline of two colours.
 const OUTLINED: u64 = 8;
 
-/// How much of one stays in sight beside its label.
+/// How many points of a stay its label leaves uncovered.
 const SHOWN: u64 = 12;
 
-/// The stay of one task in the drawing.
+/// The stay of one task, between two places of the drawing.
 #[derive(Clone, Copy)]
 pub(crate) struct Held {
     task: TaskId,
-    /// The number of its sentence, among all.
+    /// The index of its sentence among all sentences of the run.
     sentence: usize,
-    /// Whether the sentence is told.
+    /// Whether that sentence is on the page.
     is_shown: bool,
-    /// Whether the task holds the transition up.
+    /// Whether the task holds the transition up. Else it sleeps in code that isn't called now.
     is_holding: bool,
-    /// Whether it is still so at the end.
+    /// Whether the stay goes on at the end of the run.
     is_lasting: bool,
     from: u64,
     to: u64,
@@ -39,12 +40,13 @@ pub(crate) struct Held {
 #[derive(Drop)]
 struct Gathered {
     held: Vec<Held>,
-    /// By the number of the task: how far its lane is filled.
+    /// For each task: the right end of its last stay.
     filled: [u64; MAX_TASKS],
 }
 
 impl Gathered {
-    /// Adds the stay of one task. Where it is too narrow to be seen beside the one before, that one shows it.
+    /// Adds the stay of one task, without the part that the task's stay before it covers. A stay that is covered whole
+    /// isn't added. `Err` if memory runs out.
     fn add(&mut self, held: Held) -> Result<(), AllocError> {
         let number = usize::from(held.task.0);
         if number >= MAX_TASKS {
@@ -61,7 +63,8 @@ impl Gathered {
         Ok(())
     }
 
-    /// Adds the stays of the sentence of this number between two places.
+    /// Adds the stays of all tasks of a sentence, between two places of the drawing. `sentence` is its index among all
+    /// sentences. `Err` if memory runs out.
     fn add_sleepers(
         &mut self,
         sentence: usize,
@@ -85,7 +88,7 @@ impl Gathered {
     }
 }
 
-/// The right side of a stay.
+/// Returns the right end of the stays of a sentence.
 fn end_of(scale: &Scale, sleepers: &Sleepers) -> u64 {
     match sleepers.to {
         Some(last) => scale.x(last.saturating_add(1)),
@@ -93,8 +96,8 @@ fn end_of(scale: &Scale, sleepers: &Sleepers) -> u64 {
     }
 }
 
-/// The stays that the sentences tell of. Where there are many sentences, the oldest are left out of the page, and their
-/// stays lead to their lines.
+/// Returns the stays of all sentences, from left to right. If the page leaves the oldest sentences out, the stays of
+/// these link to their lines. `Err` if memory runs out.
 pub(crate) fn all_held(
     alloc: Global,
     scale: &Scale,
@@ -119,6 +122,7 @@ pub(crate) fn all_held(
     Ok(held)
 }
 
+/// Returns the rectangle of a stay, as high as the highest bar.
 fn area_of(held: &Held) -> Area {
     Area {
         x: held.from,
@@ -128,7 +132,8 @@ fn area_of(held: &Held) -> Area {
     }
 }
 
-/// A stay, hatched or dotted, with an outline of two colours, of which one is seen on whatever it lies on.
+/// Adds the rectangle of a stay: hatched if the task holds the transition up, else dotted. It has a black and a white
+/// outline, so that one of them contrasts with any colour below.
 fn add_area(sheet: &mut Sheet, held: &Held) {
     let area = area_of(held);
     if area.width < OUTLINED {
@@ -145,7 +150,7 @@ fn add_area(sheet: &mut Sheet, held: &Held) {
     add_rect(sheet, "inner", area.inside(2));
 }
 
-/// The stays of a task, below all words.
+/// Adds the rectangles of a task's stays. Add the words of the lane afterwards, since rectangles cover them.
 pub(crate) fn add_areas(sheet: &mut Sheet, all: &[Held], task: TaskId) {
     for held in all {
         if held.task == task {
@@ -154,13 +159,14 @@ pub(crate) fn add_areas(sheet: &mut Sheet, all: &[Held], task: TaskId) {
     }
 }
 
-/// What stands at a stay: since which line it is, and inside of what.
+/// What the label of a stay says: the line where the stay begins, and the function that the task sleeps in.
 #[derive(Clone, Copy)]
 struct Label {
     line: u64,
     version: Version,
 }
 
+/// Returns the label of a stay, from its sentence.
 fn label_of(sentences: &[Sentence], held: &Held) -> Option<Label> {
     let sentence = sentences.get(held.sentence)?;
     let Said::Slept(sleepers) = &sentence.said else {
@@ -173,7 +179,7 @@ fn label_of(sentences: &[Sentence], held: &Held) -> Option<Label> {
     })
 }
 
-/// The name of a function by itself.
+/// Returns the name of a function alone, without its object or patch.
 fn short_name(manager: &Manager, version: Version) -> &[u8] {
     match version {
         Version::Original(site) => match manager.modules().symbol(site) {
@@ -184,7 +190,8 @@ fn short_name(manager: &Manager, version: Version) -> &[u8] {
     }
 }
 
-/// The same with what it belongs to, where no markup may stand.
+/// Adds the name of a function with its object or patch: `NAME of the object OBJECT`. It adds no markup, since a
+/// tooltip allows none.
 fn add_plain_version(sheet: &mut Sheet, manager: &Manager, version: Version) {
     let (owner, kind) = match version {
         Version::Original(site) => match manager.modules().symbol(site) {
@@ -197,23 +204,23 @@ fn add_plain_version(sheet: &mut Sheet, manager: &Manager, version: Version) {
     sheet.fill("{} of the {} {}", &[Text(name), Markup(kind), Text(owner)]);
 }
 
-/// What is told of a stay where the pointer is over it.
-fn add_tip(sheet: &mut Sheet, manager: &Manager, held: &Held, label: &Label) {
+/// Adds the tooltip of a stay: who, since which line and time, and in which function.
+fn add_tip(sheet: &mut Sheet, names: &Names, manager: &Manager, held: &Held, label: &Label) {
     let what = if held.is_holding {
-        "holds the transition up since line "
+        " holds the transition up since line "
     } else {
-        "sleeps in code that isn't called now, since line "
+        " sleeps in code that isn't called now, since line "
     };
-    let task = Number(u64::from(held.task.0));
-    sheet.fill(
-        "<title>task {} {}{}: ",
-        &[task, Markup(what), Number(label.line)],
-    );
+    sheet.markup("<title>task ");
+    add_plain_task(sheet, names, held.task);
+    sheet.fill("{}{}", &[Markup(what), Number(label.line)]);
+    add_line_time(sheet, names, label.line);
+    sheet.markup(": ");
     add_plain_version(sheet, manager, label.version);
     sheet.markup("</title>");
 }
 
-/// The link to the sentence of a stay, or to its line where the sentence is left out.
+/// Begins the link of a stay to its sentence, or to its first line if the page leaves the sentence out.
 fn add_link(sheet: &mut Sheet, held: &Held, line: u64) {
     let line = Number(line);
     if held.is_shown {
@@ -224,13 +231,15 @@ fn add_link(sheet: &mut Sheet, held: &Held, line: u64) {
     }
 }
 
-/// How much room a label of so many letters takes, with its border.
+/// Returns the width of a label with this many letters, border included.
 fn label_width(letters: usize) -> u64 {
     (letters as u64).saturating_mul(30).saturating_add(43) / 4
 }
 
-/// Where a label of this width stands: first in its stay, but last in one that lasts, since of a drawing that is too wide for
-/// a screen the end is seen. There it may stand over the end too. Some of the stay is left in sight beside it.
+/// Returns the left end of a label of this width. `None` if there is no room between the stops. A label is at the left
+/// of its stay. In a stay that goes on at the end of the run the label is at the right, and may extend beyond: of a
+/// drawing wider than the screen the reader sees the right end first. The label leaves [`SHOWN`] points of the stay
+/// uncovered.
 fn place_of_label(stops: &[Stop], held: &Held, width: u64) -> Option<u64> {
     let room = width.saturating_add(SHOWN);
     if !held.is_lasting {
@@ -244,7 +253,7 @@ fn place_of_label(stops: &[Stop], held: &Held, width: u64) -> Option<u64> {
     Some(place.saturating_add(SHOWN))
 }
 
-/// Begins a label of so many letters, if there is room for it. Answers whether there is.
+/// Begins a label with this many letters, if there is room for it. Returns whether there is.
 fn add_plate(sheet: &mut Sheet, held: &Held, stops: &[Stop], letters: usize) -> bool {
     let width = label_width(letters);
     let Some(place) = place_of_label(stops, held, width) else {
@@ -261,7 +270,8 @@ fn add_plate(sheet: &mut Sheet, held: &Held, stops: &[Stop], letters: usize) -> 
     true
 }
 
-/// Adds the name of the function, or where there is no room for it the line since when, by which the sentence is found.
+/// Adds the label of a stay, if there is room: the function's name, or else the number of the stay's first line, by
+/// which the reader finds the sentence.
 fn add_label(sheet: &mut Sheet, manager: &Manager, held: &Held, label: &Label, stops: &[Stop]) {
     let name = short_name(manager, label.version);
     if add_plate(sheet, held, stops, name.len()) {
@@ -271,9 +281,10 @@ fn add_label(sheet: &mut Sheet, manager: &Manager, held: &Held, label: &Label, s
     }
 }
 
-/// What stands at the stays of a task, each with the link to its sentence.
+/// Adds the labels of a task's stays. Each stay links to its sentence, and has a tooltip.
 pub(crate) fn add_labels(
     sheet: &mut Sheet,
+    names: &Names,
     manager: &Manager,
     sentences: &[Sentence],
     all: &[Held],
@@ -286,7 +297,7 @@ pub(crate) fn add_labels(
         }
         if let Some(label) = label_of(sentences, held) {
             add_link(sheet, held, label.line);
-            add_tip(sheet, manager, held, &label);
+            add_tip(sheet, names, manager, held, &label);
             add_rect(sheet, "clear", area_of(held));
             add_label(sheet, manager, held, &label, stops);
             sheet.markup("</a>");

@@ -5,11 +5,12 @@ use klp_markup::Sheet;
 use klp_markup::Value::{Markup, Number};
 use klp_types::{MAX_PATCHES, MAX_TASKS};
 
+/// Whether a task existed and never entered the kernel.
 fn is_idle(bars: &Bars, task: usize) -> bool {
     bars.is_idle(MAX_PATCHES.saturating_add(task))
 }
 
-/// How many of the tasks from this one on do nothing, without a gap.
+/// Returns how many tasks in a row are idle, from this one on.
 fn run_from(bars: &Bars, task: usize) -> usize {
     let mut count = 0usize;
     for other in task..MAX_TASKS {
@@ -21,7 +22,7 @@ fn run_from(bars: &Bars, task: usize) -> usize {
     count
 }
 
-/// The tasks that do nothing: `1, 3 to 5`.
+/// Adds the numbers of the idle tasks, with ranges: `1, 3 to 5`.
 fn add_numbers(sheet: &mut Sheet, bars: &Bars) {
     let mut join = "";
     for task in 0..MAX_TASKS {
@@ -38,7 +39,7 @@ fn add_numbers(sheet: &mut Sheet, bars: &Bars) {
     }
 }
 
-/// How many they are, and which.
+/// Adds a table row that says how many tasks are idle, and which. Adds nothing if none is.
 pub(crate) fn add_idle(sheet: &mut Sheet, bars: &Bars) {
     let mut count = 0u64;
     for task in 0..MAX_TASKS {

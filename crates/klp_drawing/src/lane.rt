@@ -7,6 +7,7 @@ use crate::words::{Stop, free_place, width_of};
 use klp_markup::Sheet;
 use klp_markup::Value::Markup;
 
+/// Returns the rectangle of a strip, which stands on the bottom of its lane.
 fn area_of(strip: &Strip) -> Area {
     let height = height_of(strip.look);
     Area {
@@ -17,7 +18,8 @@ fn area_of(strip: &Strip) -> Area {
     }
 }
 
-/// Bars, each as its class shows it. One with a border is drawn inside of its own.
+/// Adds the bars of a lane, each in the class of its shade. A bar with a border is drawn one point smaller on each
+/// side, so that its border is inside of its place.
 pub(crate) fn add_bars(sheet: &mut Sheet, strips: &[Strip]) {
     for strip in strips {
         let area = area_of(strip);
@@ -30,7 +32,7 @@ pub(crate) fn add_bars(sheet: &mut Sheet, strips: &[Strip]) {
     }
 }
 
-/// What a bar says: of a task the version and where it is, of a patch how it stands.
+/// Returns the words of a bar, in three parts: the shade, a comma if both others are there, and for a task its mode.
 fn words_of(look: Look, is_task: bool) -> [&'static str; 3] {
     let shade = shade_word(look.shade);
     let mode = if is_task { mode_word(look.mode) } else { "" };
@@ -42,7 +44,7 @@ fn words_of(look: Look, is_task: bool) -> [&'static str; 3] {
     [shade, join, mode]
 }
 
-/// Words stand above a bar that is too thin for them, and on any other.
+/// Returns the class and the height of a bar's words: above a bar that is too thin for words, else on the bar.
 fn place_of_words(shade: Shade, area: Area) -> (&'static str, u64) {
     let below = area.y.saturating_add(area.height);
     match area.height {
@@ -52,7 +54,7 @@ fn place_of_words(shade: Shade, area: Area) -> (&'static str, u64) {
     }
 }
 
-/// Adds some words of a bar where there is room for them. Answers whether there is.
+/// Adds these words to a bar, if there is room for them. Returns whether there is.
 fn add_some(sheet: &mut Sheet, strip: &Strip, stops: &[Stop], words: &[&'static str]) -> bool {
     let mut letters = 0usize;
     for word in words {
@@ -73,7 +75,8 @@ fn add_some(sheet: &mut Sheet, strip: &Strip, stops: &[Stop], words: &[&'static 
     true
 }
 
-/// As much of what each bar says as there is room for. One that a sentence tells of has a label of its own.
+/// Adds to each bar its words, or the first of them if there is no room for all. A bar of a task with a stay gets no
+/// words, since the stay has a label.
 pub(crate) fn add_words(sheet: &mut Sheet, strips: &[Strip], stops: &[Stop], is_task: bool) {
     for strip in strips {
         if strip.look.is_shown {

@@ -1,14 +1,14 @@
 //! The drawing of a run: each patch and each task that does something, over the lines of the script.
 //!
-//! [`Bars`] looks at the patches and tasks after each line ([`Bars::see`]), and [`add_drawing`] draws what it saw, with
-//! the sleepers of the sentences that are said of the run. Lines are to scale, but for long stretches in which nothing
-//! changes, which are cut with a mark. What comes from the catalog is escaped, as all on a `Sheet` is; the rest is layout,
-//! and has no contract.
+//! [`Bars`] looks at the patches and tasks after each line ([`Bars::see`]), and [`add_drawing`] draws what it saw,
+//! with the sleepers of the sentences that are said of the run. Lines are to scale, by their times if these are
+//! known, else each as wide as another. Long stretches in which nothing changes are cut with a mark. What comes from
+//! the catalog is escaped, as all on a `Sheet` is; the rest is layout, and has no contract.
 //!
-//! It is a table with a row for each lane, so that a name may take several lines, and no page of a print parts a lane. Who
-//! holds a transition up is told by hatching and an outline in black and white, whatever the colours are. [`STYLE`] is
-//! what a page's style needs for it, over the page's own colours `--paper`, `--ink`, `--soft`, `--rule`, `--card` and
-//! `--focus`.
+//! It is a table with a row for each lane, so that a name may take several lines, and no page of a print parts a
+//! lane. Who holds a transition up is told by hatching and an outline in black and white, whatever the colours are.
+//! [`STYLE`] is what a page's style needs for it, over the page's own colours `--paper`, `--ink`, `--soft`,
+//! `--rule`, `--card` and `--focus`.
 #![tactic(auto)]
 
 mod axis;
@@ -18,6 +18,7 @@ mod held;
 mod idle;
 mod lane;
 mod look;
+mod pace;
 mod pen;
 mod scale;
 mod strips;

@@ -4,14 +4,14 @@ use klp_core::Manager;
 use klp_timeline::{Stay, View};
 use klp_types::{Mode, PatchId, TaskId};
 
-/// What a bar says: of a task which version it runs, and of a patch how it stands.
+/// The colour of a bar: which version a task runs, or what state a patch is in.
 #[derive(Clone, Copy, PartialEq, Eq)]
 pub(crate) enum Shade {
-    /// No patch moves.
+    /// The task is in no transition.
     Rest,
-    /// The task doesn't run the patch that moves.
+    /// The task doesn't run the patch in transition.
     Old,
-    /// It runs that patch.
+    /// The task runs the patch in transition.
     New,
     Patching,
     Unpatching,
@@ -20,16 +20,16 @@ pub(crate) enum Shade {
     Gone,
 }
 
-/// What a bar shows. A patch is drawn as a task in the kernel is.
+/// How a bar is drawn. A patch has the height of a task in the kernel.
 #[derive(Clone, Copy, PartialEq, Eq)]
 pub(crate) struct Look {
     pub shade: Shade,
     pub mode: Mode,
-    /// Whether a sentence says more: it has a label of its own.
+    /// Whether a sentence tells of this stay of the task. Then the stay has a label, and the bar gets no words.
     pub is_shown: bool,
 }
 
-/// What a task looks like, if it is there.
+/// Returns the look of a task. `None` if there is no such task.
 pub(crate) fn look_of_task(manager: &Manager, task: TaskId, stay: &Option<Stay>) -> Option<Look> {
     let mode = manager.mode(task)?;
     let shade = match manager.patch_state(task)? {
@@ -44,7 +44,7 @@ pub(crate) fn look_of_task(manager: &Manager, task: TaskId, stay: &Option<Stay>)
     })
 }
 
-/// How an installed patch stands. `is_forced` is whether the transition that goes on was forced.
+/// Returns the shade of an installed patch. `is_forced` says whether the transition under way was forced.
 fn shade_of_patch(view: &View, patch: PatchId, is_forced: bool) -> Shade {
     match view.moving {
         Some(moving) if moving.patch != patch => Shade::Enabled,
@@ -55,7 +55,8 @@ fn shade_of_patch(view: &View, patch: PatchId, is_forced: bool) -> Shade {
     }
 }
 
-/// What a patch looks like, if it ever was installed.
+/// Returns the look of a patch. `None` if it isn't installed and never was. `is_forced` says whether the transition
+/// under way was forced, `was_there` whether the patch was installed before.
 pub(crate) fn look_of_patch(
     view: &View,
     patch: PatchId,
@@ -76,7 +77,8 @@ pub(crate) fn look_of_patch(
     })
 }
 
-/// How high a bar is: the higher, the deeper in the kernel.
+/// Returns the height of a bar in points. A task in the kernel has the highest bar, a sleeper a lower one, and a task
+/// in user space the lowest.
 pub(crate) fn height_of(look: Look) -> u64 {
     match look.mode {
         _ if look.shade == Shade::Gone => 2,
@@ -86,6 +88,7 @@ pub(crate) fn height_of(look: Look) -> u64 {
     }
 }
 
+/// Returns the CSS class of a shade.
 pub(crate) fn class_of(shade: Shade) -> &'static str {
     match shade {
         Shade::Rest => "rest",
@@ -99,6 +102,7 @@ pub(crate) fn class_of(shade: Shade) -> &'static str {
     }
 }
 
+/// Returns the word that a bar of this shade has on it.
 pub(crate) fn shade_word(shade: Shade) -> &'static str {
     match shade {
         Shade::Rest => "",
@@ -112,6 +116,7 @@ pub(crate) fn shade_word(shade: Shade) -> &'static str {
     }
 }
 
+/// Returns the word that a task's bar has on it in this mode.
 pub(crate) fn mode_word(mode: Mode) -> &'static str {
     match mode {
         Mode::User => "",

@@ -3,21 +3,21 @@
 use klp_markup::Sheet;
 use klp_markup::Value::{Markup, Number};
 
-/// How high a lane is.
+/// The height of a lane in points.
 pub(crate) const LANE: u64 = 26;
 
-/// Where a bar begins that fills its lane, and how high it is.
+/// The upper end of the highest bar in its lane, and its height.
 pub(crate) const TOP: u64 = 3;
 
 pub(crate) const BAR: u64 = 20;
 
-/// How much room there is behind the end of a lane.
+/// The room behind the right end of a lane.
 pub(crate) const MARGIN: u64 = 44;
 
-/// How wide a letter is at most.
+/// The largest width of a letter.
 pub(crate) const LETTER: u64 = 8;
 
-/// A rectangle's left and upper side, its width and its height.
+/// A rectangle: its left and upper end, its width and its height.
 #[derive(Clone, Copy)]
 pub(crate) struct Area {
     pub x: u64,
@@ -27,7 +27,7 @@ pub(crate) struct Area {
 }
 
 impl Area {
-    /// The area that is narrower than this one by so much on each side.
+    /// Returns the rectangle that is smaller by this margin on each side.
     pub(crate) fn inside(self, margin: u64) -> Area {
         Area {
             x: self.x.saturating_add(margin),
@@ -38,7 +38,7 @@ impl Area {
     }
 }
 
-/// How many digits a number has.
+/// Returns how many digits a number has. It returns 7 for each number with six or more.
 pub(crate) fn digits(number: u64) -> usize {
     match number {
         0..=9 => 1,
@@ -50,11 +50,12 @@ pub(crate) fn digits(number: u64) -> usize {
     }
 }
 
-/// How wide a number is.
+/// Returns the largest width of a number in the drawing.
 pub(crate) fn number_width(number: u64) -> u64 {
     (digits(number) as u64).saturating_mul(LETTER)
 }
 
+/// Adds a rectangle of this class.
 pub(crate) fn add_rect(sheet: &mut Sheet, class: &'static str, area: Area) {
     sheet.fill(
         "<rect class={} x=\"{}\" y=\"{}\" width=\"{}\" height=\"{}\"/>",
@@ -68,7 +69,7 @@ pub(crate) fn add_rect(sheet: &mut Sheet, class: &'static str, area: Area) {
     );
 }
 
-/// The beginning of a text, which its words and `</text>` follow.
+/// Begins a text at this place. Its words and `</text>` follow.
 pub(crate) fn add_text_start(sheet: &mut Sheet, class: &'static str, x: u64, y: u64) {
     sheet.fill(
         "<text class={} x=\"{}\" y=\"{}\">",

@@ -1,49 +1,58 @@
 //! From the lines of a run to places in the drawing.
 
+use crate::pace::{Pace, pace_of};
+use klp_names::Names;
 use std::alloc::{AllocError, Global};
 
-/// How many lines a stretch has at least in which nothing changes and that is cut.
+/// The largest number of unchanging lines that is never cut.
 const FEWEST_IDLE: u64 = 12;
 
-/// How many lines of a longer one are drawn in front of the cut.
+/// How many lines of a cut stretch are drawn, all in front of the cut.
 const KEPT: u64 = 4;
 
-/// How wide a cut is.
+/// The width of a cut in points.
 pub(crate) const CUT: u64 = 12;
 
-/// What a cut costs: so much width has to be won by each, and by all together.
-const COST: u64 = 40;
+/// How much width each cut is charged when cuts are weighed against narrower lines.
+pub(crate) const COST: u64 = 40;
 
-/// How wide a line is at most, and all of them together: as wide as a sheet of paper shows in a size that is read.
+/// The width that shows the state after the last line, in a drawing to scale by time.
+const TAIL: u64 = 30;
+
+/// The largest width of a line, and of all lines together. The latter is the width of a sheet of paper at a readable
+/// size.
 const LINE: u64 = 40;
 
-const WIDTH: u64 = 780;
+pub(crate) const WIDTH: u64 = 780;
 
-/// Where the first line begins.
+/// The left end of the first line.
 const LEFT: u64 = 6;
 
-/// Lines are as wide as each other, but for long stretches in which nothing changes: of these a part is cut out.
+/// The places of lines in the drawing. In a drawing to scale by time a line is where its time is. Else all lines have
+/// the same width. A long stretch in which nothing changes is cut.
 #[derive(Drop)]
 pub(crate) struct Scale {
-    /// By the line: its left side.
+    /// For each line, from 0 on: its left end.
     places: Vec<u64>,
-    /// The left side of each cut.
+    /// The left end of each cut.
     pub cuts: Vec<u64>,
-    /// The right side of the last line.
+    /// The right end of the last line.
     end: u64,
-    /// How many lines a stretch has at most that isn't cut.
+    /// The largest number of lines in a stretch that is drawn whole.
     max_idle: u64,
-    /// How many lines are drawn, and how wide they are together.
+    /// How many lines are drawn, and the width of all of them together.
     drawn: u64,
     width: u64,
+    /// Whether the drawing is to scale by time.
+    is_timed: bool,
 }
 
-/// How many lines of a stretch are drawn.
+/// Returns how many lines of a stretch are drawn, if stretches of more than `max_idle` lines are cut.
 fn drawn_of(lines: u64, max_idle: u64) -> u64 {
     if lines > max_idle { KEPT } else { lines }
 }
 
-/// How many lines are drawn of a run, and how many of its stretches are cut.
+/// How many lines of a run are drawn, and how many stretches are cut.
 #[derive(Clone, Copy)]
 struct Extent {
     drawn: u64,
@@ -51,7 +60,7 @@ struct Extent {
 }
 
 impl Extent {
-    /// The same with one more stretch.
+    /// Returns the extent with one more stretch of this many lines.
     fn with(self, lines: u64, max_idle: u64) -> Extent {
         let is_cut = lines > max_idle;
         Extent {
@@ -60,19 +69,20 @@ impl Extent {
         }
     }
 
-    /// How wide all lines are together, where a cut costs so much.
+    /// Returns the width of all drawn lines together, if each cut takes `cost` points from them.
     fn width(self, cost: u64) -> u64 {
         let room = WIDTH.saturating_sub(self.cuts.saturating_mul(cost));
         self.drawn.saturating_mul(LINE).min(room)
     }
 
-    /// How wide a line is, in millionths, so that extents can be compared.
+    /// Returns the width of one line in millionths of a point, to compare extents by.
     fn line_width(self) -> u64 {
         self.width(COST).saturating_mul(1_000_000) / self.drawn.max(1)
     }
 }
 
-/// The extent of so many lines, of which these change something, where longer stretches are cut.
+/// Returns the extent of a run with this many lines, of which the lines in `changed` change something, if stretches of
+/// more than `max_idle` lines are cut.
 fn extent_of(changed: &[u64], lines: u64, max_idle: u64) -> Extent {
     let mut extent = Extent { drawn: 0, cuts: 0 };
     let mut from = 1;
@@ -83,8 +93,8 @@ fn extent_of(changed: &[u64], lines: u64, max_idle: u64) -> Extent {
     extent.with(lines.saturating_add(1).saturating_sub(from), max_idle)
 }
 
-/// How many lines an idle stretch may have and still be drawn whole: the limit, of those tried, that makes each line
-/// widest. Where no cut makes lines wider, no stretch is cut.
+/// Returns the largest number of lines in a stretch that is drawn whole. It tries the powers of two from
+/// [`FEWEST_IDLE`] on, and picks the number that makes lines widest. If no cut makes lines wider, no stretch is cut.
 fn max_idle_of(changed: &[u64], lines: u64) -> u64 {
     let mut max_idle = lines.max(FEWEST_IDLE);
     let mut widest = extent_of(changed, lines, max_idle).line_width();
@@ -103,7 +113,7 @@ fn max_idle_of(changed: &[u64], lines: u64) -> u64 {
 }
 
 impl Scale {
-    /// No line has a place yet, and no room is taken.
+    /// Returns a scale without lines. Takes no memory.
     pub(crate) fn new(alloc: Global) -> Scale {
         Scale {
             places: Vec::new(alloc),
@@ -112,11 +122,47 @@ impl Scale {
             max_idle: FEWEST_IDLE,
             drawn: 0,
             width: 0,
+            is_timed: false,
         }
     }
 
-    /// Finds the places of so many lines, of which these change something.
-    pub(crate) fn measure(&mut self, changed: &[u64], lines: u64) -> Result<(), AllocError> {
+    /// Computes the places of this many lines, of which the lines in `changed` change something. `Err` if memory runs
+    /// out.
+    pub(crate) fn measure(
+        &mut self,
+        changed: &[u64],
+        lines: u64,
+        names: &Names,
+    ) -> Result<(), AllocError> {
+        let alloc = *self.places.allocator();
+        match pace_of(alloc, changed, lines, names)? {
+            Some(pace) => self.place_by_time(&pace, lines, names),
+            None => self.place_by_lines(changed, lines),
+        }
+    }
+
+    /// Puts each line where its time is. A line without a time is at the place of the line before it. `Err` if memory
+    /// runs out.
+    fn place_by_time(&mut self, pace: &Pace, lines: u64, names: &Names) -> Result<(), AllocError> {
+        self.is_timed = true;
+        let mut steps = pace.steps();
+        let mut x = LEFT;
+        self.places.push(LEFT)?;
+        for line in 1..lines.saturating_add(1) {
+            if let Some(time) = names.since_start(line) {
+                x = LEFT.saturating_add(steps.place_of(time));
+            }
+            self.places.push(x)?;
+        }
+        for cut in &pace.cuts {
+            self.cuts.push(LEFT.saturating_add(*cut))?;
+        }
+        self.end = x.saturating_add(TAIL);
+        Ok(())
+    }
+
+    /// Puts the lines side by side, each with the same width. `Err` if memory runs out.
+    fn place_by_lines(&mut self, changed: &[u64], lines: u64) -> Result<(), AllocError> {
         self.max_idle = max_idle_of(changed, lines);
         let extent = extent_of(changed, lines, self.max_idle);
         self.drawn = extent.drawn;
@@ -124,6 +170,7 @@ impl Scale {
         self.place(changed, lines)
     }
 
+    /// Puts the lines side by side, once their width is known. `Err` if memory runs out.
     fn place(&mut self, changed: &[u64], lines: u64) -> Result<(), AllocError> {
         let (mut from, mut drawn) = (1, 0);
         self.places.push(LEFT)?;
@@ -137,30 +184,31 @@ impl Scale {
         Ok(())
     }
 
-    /// Gives the lines from one change up to the next their places, where so many are drawn in front of them. Answers how
-    /// many are behind them.
+    /// Puts the next `lines` lines in their places, if `before` lines are drawn to their left. Of more than `max_idle`
+    /// lines only the first [`KEPT`] are drawn, and the others are all at the cut. Returns how many lines are drawn so
+    /// far, these included. `Err` if memory runs out.
     fn place_stretch(&mut self, lines: u64, before: u64) -> Result<u64, AllocError> {
         let drawn = drawn_of(lines, self.max_idle);
         for number in 0..lines {
             let x = self.x_of(before.saturating_add(number.min(drawn)));
             self.places.push(x)?;
         }
-        let behind = before.saturating_add(drawn);
+        let drawn_so_far = before.saturating_add(drawn);
         if drawn < lines {
-            let x = self.x_of(behind);
+            let x = self.x_of(drawn_so_far);
             self.cuts.push(x)?;
         }
-        Ok(behind)
+        Ok(drawn_so_far)
     }
 
-    /// Where a line begins that so many are drawn in front of, behind the cuts so far.
+    /// Returns the place behind this many drawn lines and behind all cuts so far.
     fn x_of(&self, drawn: u64) -> u64 {
         let cuts = (self.cuts.len() as u64).saturating_mul(CUT);
         let lines = drawn.saturating_mul(self.width) / self.drawn.max(1);
         LEFT.saturating_add(cuts).saturating_add(lines)
     }
 
-    /// The left side of a line. That behind the last one is the end.
+    /// Returns the left end of a line. A line behind the last one begins where the run ends.
     pub(crate) fn x(&self, line: u64) -> u64 {
         match self.places.get(line as usize) {
             Some(place) => *place,
@@ -168,13 +216,18 @@ impl Scale {
         }
     }
 
-    /// The right side of the last line.
+    /// Returns the right end of the last line.
     pub(crate) fn end(&self) -> u64 {
         self.end
     }
 
-    /// Whether a line takes less than a point, so that one shows several.
+    /// Whether a line is narrower than a point, so that one point shows several lines.
     pub(crate) fn is_coarse(&self) -> bool {
         self.drawn > self.width
+    }
+
+    /// Whether the drawing is to scale by time.
+    pub(crate) fn is_timed(&self) -> bool {
+        self.is_timed
     }
 }

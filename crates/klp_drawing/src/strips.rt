@@ -17,12 +17,12 @@ pub(crate) struct Strip {
 #[derive(Drop)]
 struct Strips {
     strips: Vec<Strip>,
-    /// The one that may still change, and so isn't among them yet.
+    /// The last strip, which the next one may still shorten.
     last: Option<Strip>,
 }
 
 impl Strips {
-    /// Adds the last strip.
+    /// Moves the last strip to the others, unless it is empty. `Err` if memory runs out.
     fn settle(&mut self) -> Result<(), AllocError> {
         match self.last.take() {
             Some(strip) if strip.from < strip.to => self.strips.push(strip)?,
@@ -31,7 +31,8 @@ impl Strips {
         Ok(())
     }
 
-    /// Adds a strip, of which the part is drawn that the one before leaves. Where they share a point, the higher has it.
+    /// Adds a strip behind the last one. If the two overlap, the higher one keeps the shared points, and the other is
+    /// shortened. `Err` if memory runs out.
     fn add(&mut self, mut strip: Strip) -> Result<(), AllocError> {
         let Some(mut last) = self.last else {
             self.last = Some(strip);
@@ -53,7 +54,8 @@ impl Strips {
     }
 }
 
-/// What is drawn of bars. One that is narrower than a point takes a whole one.
+/// Returns the strips of these bars. A bar that is narrower than a point is drawn one point wide. `Err` if memory runs
+/// out.
 pub(crate) fn strips_of(
     alloc: Global,
     bars: &[Bar],

@@ -1,9 +1,9 @@
 //! The style of a drawing, its patterns and its legend.
 
-/// What a page's style needs for a drawing. Blue and orange are told apart by colour-blind people, and by their
-/// lightness in grey. Whatever is to be seen in print is drawn or has a border, since print has no backgrounds. There letters
-/// are 7 points high, for which names have less room. On a narrow screen, where the drawing scrolls, it begins with its end,
-/// which matters most: a box of the other direction does.
+/// The part of a page's style that the drawing needs. Colour-blind people can tell blue from orange, and in grey the
+/// two differ in lightness. Print has no backgrounds: whatever matters there is drawn or has a border. Print has
+/// letters of 7 points, so names have less room. On a narrow screen the drawing scrolls, and shows its right end
+/// first, which matters most: it is in a box whose direction is from right to left.
 pub const STYLE: &str =
     ":root{--old:#004070;--oldink:#fff;--new:#c98200;--newink:#111;--rest:#7a848e}
 @media screen and (prefers-color-scheme:dark){:root{--old:#2f7ab8;--oldink:#111;--new:#ffcf66;--rest:#8a949e}}
@@ -38,12 +38,14 @@ width:fit-content;font-size:.9rem;color:var(--soft)}}
 .run th{position:static;width:4.9rem;padding-left:0}}
 ";
 
-/// What holds a transition up, and what isn't called now. Both are black and white, so that they are seen on each colour.
+/// The patterns of stays: hatched if the task holds the transition up, dotted if it sleeps in code that isn't called
+/// now. Both are black and white, and so contrast with each colour.
 pub(crate) const PATTERNS: &str =
     "<pattern id=hatch width=10 height=10 patternUnits=userSpaceOnUse patternTransform=\"rotate(45)\"><rect \
 class=dark width=3 height=10 /><rect class=light x=3 width=3 height=10 /></pattern><pattern id=dots width=10 height=8 \
 patternUnits=userSpaceOnUse><circle class=dark cx=2.5 cy=4 r=2 /><circle class=light cx=7.5 cy=4 r=2 /></pattern>";
 
+/// The legend below the drawing.
 pub(crate) const LEGEND: &str =
     "<ul class=legend><li>A patch:<li><svg width=24 height=20><rect class=coming x=1 y=1 width=22 height=18 \
 /></svg>moves in<li><svg width=24 height=20><rect class=leaving x=1 y=1 width=22 height=18 /></svg>moves out<li><svg \

@@ -9,11 +9,11 @@ pub(crate) enum Sign {
     Turns,
     Forced,
     Ends,
-    /// Events are undone.
+    /// A rewind undoes events, and the transition is another one afterwards.
     Back,
 }
 
-/// What became of the transition from one line to the next, if anything did.
+/// Returns what a line did to the transition. `None` if it did nothing to it.
 pub(crate) fn sign_of(before: &View, moment: &Moment) -> Option<Sign> {
     let after = &moment.view;
     match (moment.act, before.moving, after.moving) {
@@ -26,7 +26,7 @@ pub(crate) fn sign_of(before: &View, moment: &Moment) -> Option<Sign> {
     }
 }
 
-/// The sign that stands above a mark.
+/// Returns the sign that is drawn above a mark.
 pub(crate) fn sign_text(sign: Sign) -> &'static str {
     match sign {
         Sign::Starts => "\u{25b6}",

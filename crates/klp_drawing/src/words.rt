@@ -4,14 +4,14 @@ use crate::bars::Bars;
 use crate::scale::CUT;
 use std::alloc::{AllocError, Global};
 
-/// What no word may cross, from one place up to another: a mark or a cut.
+/// The room of a mark or a cut, which no word may cross.
 #[derive(Clone, Copy, PartialEq, Eq, PartialOrd, Ord)]
 pub(crate) struct Stop {
     pub from: u64,
     pub to: u64,
 }
 
-/// All that no word may cross, from left to right.
+/// Returns the room of all marks and cuts, from left to right. `Err` if memory runs out.
 pub(crate) fn stops(alloc: Global, bars: &Bars, marks: &[u64]) -> Result<Vec<Stop>, AllocError> {
     let mut stops = Vec::new(alloc);
     for x in &bars.scale.cuts {
@@ -30,12 +30,13 @@ pub(crate) fn stops(alloc: Global, bars: &Bars, marks: &[u64]) -> Result<Vec<Sto
     Ok(stops)
 }
 
-/// How much room so many letters take, with a gap on each side.
+/// Returns the width of this many letters, with a gap on each side.
 pub(crate) fn width_of(letters: usize) -> u64 {
     (letters as u64).saturating_mul(15).saturating_add(16) / 2
 }
 
-/// The last place between two others where there is so much room and no stop.
+/// Returns the rightmost place between `from` and `to` with room of this width and no stop in it. `None` if there is
+/// none.
 pub(crate) fn last_place(stops: &[Stop], from: u64, to: u64, width: u64) -> Option<u64> {
     let mut end = to;
     for stop in stops.iter().rev() {
@@ -53,7 +54,8 @@ pub(crate) fn last_place(stops: &[Stop], from: u64, to: u64, width: u64) -> Opti
     }
 }
 
-/// The first place between two others where there is so much room and no stop.
+/// Returns the leftmost place between `from` and `to` with room of this width and no stop in it. `None` if there is
+/// none.
 pub(crate) fn free_place(stops: &[Stop], from: u64, to: u64, width: u64) -> Option<u64> {
     let mut place = from;
     for stop in stops {

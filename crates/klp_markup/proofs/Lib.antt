@@ -1,2 +1,3 @@
 pub mod AddsLemmas
+pub mod CalledLemmas
 pub mod TasksLemmas

@@ -1,4 +1,6 @@
 pub mod Adds
+pub mod Called
 pub mod Escaped
 pub mod Names
 pub mod Tasks
+pub mod Times

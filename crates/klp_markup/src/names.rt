@@ -11,21 +11,22 @@ use klp_catalog::Catalog;
 use klp_modules::Modules;
 use klp_types::{ObjId, PatchId, Site, Version};
 
-/// The name of a patch, as bytes. One that isn't there has the empty name, and so have the others here.
+/// Returns the name of a patch; an empty name if there is no such patch.
 pub fn patch_name(catalog: &Catalog, patch: PatchId) -> &[u8]
     ensures { result.now ≡ patch_name catalog.now patch }
 {
     catalog.patch_name(patch).unwrap_or("").as_bytes()
 }
 
-/// The name of an object, loaded or not.
+/// Returns the name of an object, loaded or not; an empty name if there is no such object.
 pub fn object_name(modules: &Modules, object: ObjId) -> &[u8]
     ensures { result.now ≡ object_name modules.now.names object }
 {
     modules.object_name(object).unwrap_or("").as_bytes()
 }
 
-/// The own name of a patch's function, by the function's number over the patch's objects from 0.
+/// Returns the name of a patch's new function; an empty name if there is no such function. `number` counts the
+/// functions of the patch from 0, over all its objects.
 pub fn function_name(catalog: &Catalog, patch: PatchId, number: u16) -> &[u8]
     ensures { result.now ≡ function_name catalog.now patch number }
 {
@@ -35,6 +36,7 @@ pub fn function_name(catalog: &Catalog, patch: PatchId, number: u16) -> &[u8]
     }
 }
 
+/// Adds the beginning of a symbol, up to the name of the function: `.klp.sym.OBJECT.`.
 #[tactic(auto, unfolding(crate::specs::Names::owner_text))]
 fn add_owner(sheet: &mut Sheet, object: &[u8])
     ensures { Adds sheet.old sheet.new (owner_text object.now) }
@@ -45,6 +47,7 @@ fn add_owner(sheet: &mut Sheet, object: &[u8])
     sheet.markup(".<wbr>");
 }
 
+/// Adds a symbol of an object, with its position among those of the same name.
 fn add_symbol_of(sheet: &mut Sheet, object: &[u8], symbol: &[u8], position: u64)
     ensures { Adds sheet.old sheet.new (owner_text object.now ++ words_text symbol.now ++ codes ","
         ++ decimal position) }
@@ -67,6 +70,7 @@ pub fn add_symbol(sheet: &mut Sheet, modules: &Modules, site: Site)
     }
 }
 
+/// Adds a new function of a patch: `PATCH:INDEX (NAME)`.
 fn add_new_function(sheet: &mut Sheet, patch: &[u8], number: u16, name: &[u8])
     ensures { Adds sheet.old sheet.new (words_text patch.now ++ codes ":" ++ decimal number ++ codes " ("
         ++ words_text name.now ++ codes ")") }
@@ -80,8 +84,8 @@ fn add_new_function(sheet: &mut Sheet, patch: &[u8], number: u16, name: &[u8])
     sheet.markup(")");
 }
 
-/// Adds a function that a task is inside of: a symbol, or `PATCH:INDEX (NAME)`. The modules are those that the catalog was
-/// assembled over.
+/// Adds a function that a task can sleep in: the symbol of an original function, or `PATCH:INDEX (NAME)` for a patch's
+/// new one. The catalog was assembled over these modules.
 pub fn add_version(sheet: &mut Sheet, catalog: &Catalog, modules: &Modules, version: Version)
     requires { catalog.now.names ≡ modules.now.names }
     ensures { Adds sheet.old sheet.new (version_text catalog.now version) }

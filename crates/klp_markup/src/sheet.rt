@@ -8,16 +8,16 @@ use itoa::Buffer;
 use std::alloc::{AllocError, Global};
 use std::marker::Model;
 
-/// What stands at a gap of a template. What comes from a run is no `Markup`.
+/// What is put into a gap of a template. `Markup` is text of the program's own; what comes from a run is escaped.
 #[derive(Clone, Copy)]
 pub enum Value<'a> {
     Markup(&'static str),
     Number(u64),
     Integer(i64),
     Text(&'a [u8]),
-    /// A name, in which a line may be broken behind its words.
+    /// A name, escaped, in which the browser may break the line behind each word.
     Words(&'a [u8]),
-    /// The same, set apart.
+    /// A name like that, in the font of code.
     Name(&'a [u8]),
 }
 
@@ -36,6 +36,7 @@ impl Model for Sheet {
     ghost view = { λ s. record { text = s.bytes.items; is_short = s.is_short } };
 }
 
+/// Whether the browser may break a line behind this byte of a name.
 fn ends_word(byte: u8) -> bool
     ensures { result ≡ ends_word byte }
 {
@@ -43,7 +44,7 @@ fn ends_word(byte: u8) -> bool
 }
 
 impl Sheet {
-    /// Nothing is written yet, and no memory is taken.
+    /// Returns an empty sheet. Takes no memory.
     pub fn new(alloc: Global) -> Sheet
         ensures { result ≡ record { text = []; is_short = false } }
     {
@@ -53,6 +54,7 @@ impl Sheet {
         }
     }
 
+    /// Adds these bytes as they are. If memory runs out, the sheet is short from then on.
     fn add(&mut self, bytes: &[u8])
         ensures { Adds self.old self.new bytes.now }
     {
@@ -61,6 +63,7 @@ impl Sheet {
         }
     }
 
+    /// Adds one byte of a run's text, escaped.
     fn add_byte(&mut self, byte: u8)
         ensures { Adds self.old self.new (escaped_byte byte) }
     {
@@ -91,19 +94,21 @@ impl Sheet {
         }
     }
 
+    /// Adds a number in decimal.
     pub fn number(&mut self, number: u64)
         ensures { Adds self.old self.new (decimal number) }
     {
         self.add(Buffer::new().format(number).as_bytes());
     }
 
-    /// Adds a number that may be below zero.
+    /// Adds a number that may be negative, in decimal.
     pub fn integer(&mut self, value: i64)
         ensures { Adds self.old self.new (signed_decimal value) }
     {
         self.add(Buffer::new().format(value).as_bytes());
     }
 
+    /// Lets the browser break the line behind this byte, if the byte ends a word.
     fn add_break(&mut self, byte: u8)
         ensures { Adds self.old self.new (break_behind byte) }
     {
@@ -113,7 +118,7 @@ impl Sheet {
         }
     }
 
-    /// Adds a name, in which a line may be broken behind its words.
+    /// Adds a name, escaped, in which the browser may break the line behind each word.
     pub fn words(&mut self, name: &[u8])
         ensures { Adds self.old self.new (words_text name.now) }
     {
@@ -124,7 +129,7 @@ impl Sheet {
         }
     }
 
-    /// Adds a name that is set apart.
+    /// Adds a name like [`Sheet::words`], in the font of code.
     pub fn name(&mut self, name: &[u8])
         ensures { Adds self.old self.new (name_text name.now) }
     {
@@ -134,6 +139,7 @@ impl Sheet {
         self.markup("</span>");
     }
 
+    /// Adds a value in the way that its variant says.
     fn value(&mut self, value: &Value<'_>) {
         match *value {
             Value::Markup(markup) => self.markup(markup),
@@ -145,7 +151,7 @@ impl Sheet {
         }
     }
 
-    /// Adds a template with a value at each of its gaps, which are written `{}`. It has no contract, and is for layout.
+    /// Adds a template, with a value in place of each `{}`. It has no contract, and is for layout.
     pub fn fill(&mut self, template: &'static str, values: &[Value<'_>]) {
         let mut rest = template;
         for value in values {
@@ -157,7 +163,7 @@ impl Sheet {
         self.markup(rest);
     }
 
-    /// Adds what was written of another page.
+    /// Adds the text of another sheet. If memory ran out for that sheet, this one is short too.
     pub fn append(&mut self, other: &Sheet)
         ensures adds { Adds self.old self.new other.now.text }
         ensures short { other.now.is_short ≡ true → self.new.is_short ≡ true }
@@ -166,14 +172,14 @@ impl Sheet {
         self.is_short |= other.is_short;
     }
 
-    /// Whether nothing is written.
+    /// Whether the sheet has no text.
     pub fn is_empty(&self) -> bool
         ensures { result ≡ (length self.now.text == 0) }
     {
         self.bytes.is_empty()
     }
 
-    /// What was written; an `Err` where memory was refused.
+    /// Returns the sheet's text. `Err` if memory ran out while it was written.
     pub fn into_bytes(self) -> Result<Vec<u8>, AllocError>
         ensures { MatchResult result (λ bytes. (self.is_short ≡ false) × (bytes.items ≡ self.text))
             (λ _. self.is_short ≡ true) }

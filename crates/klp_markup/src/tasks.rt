@@ -2,21 +2,24 @@
 ghost use Rattle.std.specs.Prelude.{◌≡◌, ◌==◌, ◌++◌, ◌∷◌, [], ◌+◌, ◌-◌, ◌<◌, ◌≤◌, ◌^◌, codes, length, if◌then◌else◌};
 ghost use Rattle.std.specs.Fmt.{decimal};
 ghost use Rattle.klp_markup.specs.Adds.{Adds};
-ghost use Rattle.klp_markup.specs.Tasks.{plural, named, join, names_text, more_text, each_text, tasks_text};
+ghost use Rattle.klp_markup.specs.Tasks.{plural, named, join, task_text, names_text, more_text, each_text, tasks_text};
 
+use crate::called::add_called;
 use crate::sheet::Sheet;
+use klp_names::Names;
 use klp_types::TaskId;
 
-/// How many tasks a list names at most that is cut short, beside the number of the others.
+/// How many tasks a shortened list names. It says how many others there are.
 pub const MAX_NAMED: usize = 8;
 
-/// The word for one of something, or for another number of it.
+/// Returns the word for one of something, or for another number of it.
 pub fn plural(count: usize, one: &'static str, more: &'static str) -> &'static str
     ensures { result.now ≡ plural count one.now more.now }
 {
     if count == 1 { one } else { more }
 }
 
+/// Returns how many of `count` tasks a shortened list names. It names nine rather than eight and "1 more".
 fn named(count: usize) -> usize
     ensures { result ≡ named count }
 {
@@ -27,6 +30,7 @@ fn named(count: usize) -> usize
     }
 }
 
+/// Returns what stands in a list of `count` tasks in front of the one at this place.
 fn join(place: usize, count: usize) -> &'static str
     requires { place < count }
     ensures { result.now ≡ join place count }
@@ -40,19 +44,29 @@ fn join(place: usize, count: usize) -> &'static str
     }
 }
 
-/// Adds the numbers of these, the first of so many tasks.
-fn add_names(sheet: &mut Sheet, count: usize, tasks: &[TaskId])
+/// Adds a task's number, and its name if that is known.
+pub fn add_task(sheet: &mut Sheet, names: &Names, task: TaskId)
+    ensures { Adds sheet.old sheet.new (task_text names.now task) }
+{
+    crate::laws::what_is_added_adds_up();
+    sheet.number(u64::from(task.0));
+    add_called(sheet, names.name(task));
+}
+
+/// Adds the first tasks of a list of `count` tasks, each with its number and its name.
+fn add_names(sheet: &mut Sheet, names: &Names, count: usize, tasks: &[TaskId])
     requires { length tasks.now ≤ count }
-    ensures { Adds sheet.old sheet.new (names_text count 0 tasks.now) }
+    ensures { Adds sheet.old sheet.new (names_text names.now count 0 tasks.now) }
 {
     crate::laws::what_is_added_adds_up();
     for place in 0..tasks.len() {
         let task = tasks[place];
         sheet.markup(join(place, count));
-        sheet.number(u64::from(task.0));
+        add_task(sheet, names, task);
     }
 }
 
+/// Adds how many tasks a shortened list leaves out. Adds nothing if it names all.
 fn add_more(sheet: &mut Sheet, count: usize)
     ensures { Adds sheet.old sheet.new (more_text count) }
 {
@@ -64,26 +78,27 @@ fn add_more(sheet: &mut Sheet, count: usize)
     }
 }
 
-/// Adds each of these tasks: `task 1`, or `tasks 1, 2 and 3`.
+/// Adds all of these tasks with their names: `task 1`, or `tasks 1, 2 and 3`.
 #[tactic(auto, unfolding(crate::specs::Tasks::each_text))]
-pub fn add_each_task(sheet: &mut Sheet, tasks: &[TaskId])
-    ensures { Adds sheet.old sheet.new (each_text tasks.now) }
+pub fn add_each_task(sheet: &mut Sheet, names: &Names, tasks: &[TaskId])
+    ensures { Adds sheet.old sheet.new (each_text names.now tasks.now) }
 {
     crate::laws::what_is_added_adds_up();
     let count = tasks.len();
     sheet.markup(plural(count, "task ", "tasks "));
-    add_names(sheet, count, tasks);
+    add_names(sheet, names, count, tasks);
 }
 
-/// Adds tasks, of many the first: `task 1`, `tasks 1, 2 and 3`, or `tasks 1, 2, .. and 14 more`.
+/// Adds these tasks with their names, shortened if there are more than nine: `task 1`, `tasks 1, 2 and 3`, or `tasks
+/// 1, 2, .. and 14 more`.
 #[tactic(auto, unfolding(crate::specs::Tasks::tasks_text))]
-pub fn add_tasks(sheet: &mut Sheet, tasks: &[TaskId])
-    ensures { Adds sheet.old sheet.new (tasks_text tasks.now) }
+pub fn add_tasks(sheet: &mut Sheet, names: &Names, tasks: &[TaskId])
+    ensures { Adds sheet.old sheet.new (tasks_text names.now tasks.now) }
 {
     crate::laws::what_is_added_adds_up();
     let count = tasks.len();
     let named = named(count);
     sheet.markup(plural(count, "task ", "tasks "));
-    add_names(sheet, count, &tasks[..named]);
+    add_names(sheet, names, count, &tasks[..named]);
     add_more(sheet, count - named);
 }

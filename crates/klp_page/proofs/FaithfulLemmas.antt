@@ -20,6 +20,7 @@ use Rattle.klp_views.proofs.StayLemmas.{stay_seen, quiet_at_first}
 use Rattle.klp_page.specs.declared.head.Title.{Title}
 use Rattle.klp_page.specs.declared.row.Row.{Row}
 use Rattle.klp_page.specs.Faithful.{AreLeft, last_left, stay_now, Begins, HasPart, IsTrueTo, IsTrueOver, IsEachHoldShown, IsNoHoldMadeUp}
+use Rattle.klp_names.specs.Names.{Names}
 use Rattle.klp_page.specs.Pages.{IsPage, IsPageOf}
 use Rattle.klp_page.specs.Rows.{AreRows, last_view}
 use Rattle.klp_page.specs.Text.{all_refused, opening_text, front_text, story_and_drawing, page_text}
@@ -112,22 +113,22 @@ part_first a b = record { before = []; behind = b; is = refl }
 
 -- a page begins with how the run ends
 front_begins : (title : Title) (catalog : Catalog) (view : View) (sentences : List Sentence) (picture : List ℕ) (rows : List Row)
-    → Begins (page_text title catalog view sentences picture rows) (opening_text title ++ first_text catalog view sentences (all_refused title))
+    → Begins (page_text title catalog view sentences picture rows) (opening_text title ++ first_text title.names.now catalog view sentences (all_refused title))
 unfolding front_text
 front_begins title catalog view sentences picture rows =
-    let first = first_text catalog view sentences (all_refused title) in
+    let first = first_text title.names.now catalog view sentences (all_refused title) in
     begins_on _ _ _ (begins_on _ _ _ (begins_on _ _ _
     (begins_on _ _ _ (begins_on _ _ _ (begins_on _ _ _
-    (begins_behind (opening_text title) (end_text catalog view sentences (all_refused title)) first
+    (begins_behind (opening_text title) (end_text title.names.now catalog view sentences (all_refused title)) first
     (begins_on _ _ _ (begins_on _ _ _ (begins_on _ _ _ (begins_itself first _))))))))))
 
 -- and has the sentences
 story_part : (title : Title) (catalog : Catalog) (view : View) (sentences : List Sentence) (picture : List ℕ) (rows : List Row)
-    → HasPart (page_text title catalog view sentences picture rows) (story_text catalog sentences)
+    → HasPart (page_text title catalog view sentences picture rows) (story_text title.names.now catalog sentences)
 unfolding story_and_drawing
 story_part title catalog view sentences picture rows =
-    part_on _ _ _ (part_on _ _ _ (part_behind (front_text title catalog view sentences) (story_and_drawing catalog sentences picture) (story_text catalog sentences)
-    (part_on _ _ _ (part_on _ _ _ (part_first (story_text catalog sentences) _)))))
+    part_on _ _ _ (part_on _ _ _ (part_behind (front_text title catalog view sentences) (story_and_drawing title.names.now catalog sentences picture) (story_text title.names.now catalog sentences)
+    (part_on _ _ _ (part_on _ _ _ (part_first (story_text title.names.now catalog sentences) _)))))
 
 shown_of_managers : (opening : View) (managers : List Journaled) (run : List Moment) → IsQuiet opening → AreShown managers run
     → IsEachHoldShown managers (sentences_of opening run)
@@ -140,8 +141,9 @@ true_of_managers opening managers run are = λ from index task manager sleepers 
     sym (seen_is managers run index task manager are is)
     ∙ none_made_up opening run (record { line = from; said = Slept sleepers }) among task index names (within managers run index manager are is) spans
 
-true_to : (booted : Journaled) (name script page : List ℕ) → (is : IsPage booted name script page) → IsQuiet is.opening → IsTrueTo booted script page
-true_to booted name script page is quiet =
+true_to : (booted : Journaled) (name : List ℕ) (names : Names) (script page : List ℕ) → (is : IsPage booted name names script page) → IsQuiet is.opening
+    → IsTrueTo booted names script page
+true_to booted name names script page is quiet =
     let s = served booted is.left is.opening (lines_of script) is.rows is.run is.shown in
     let sentences = sentences_of is.opening is.run in
     let last = last_view is.opening is.run in
@@ -155,16 +157,18 @@ true_to booted name script page is quiet =
       last = last;
       seen_last = last_is booted is.opening s.managers is.run is.begins s.shown;
       title = title;
-      first_line = subst (λ (m : Journaled). Begins page (opening_text title ++ first_text m.managed.catalog last sentences (all_refused title))) (sym s.last)
-          (subst (λ text. Begins text (opening_text title ++ first_text is.left.managed.catalog last sentences (all_refused title))) (sym is.is_page.written)
-          (front_begins title is.left.managed.catalog last sentences is.is_page.drawing is.rows));
-      story = subst (λ (m : Journaled). HasPart page (story_text m.managed.catalog sentences)) (sym s.last)
-          (subst (λ text. HasPart text (story_text is.left.managed.catalog sentences)) (sym is.is_page.written)
-          (story_part title is.left.managed.catalog last sentences is.is_page.drawing is.rows));
+      first_line = subst (λ (m : Journaled). Begins page (opening_text title ++ first_text names m.managed.catalog last sentences (all_refused title))) (sym s.last)
+          (subst (λ (n : Names). Begins page (opening_text title ++ first_text n is.left.managed.catalog last sentences (all_refused title))) is.is_page.title_is.names_are
+          (subst (λ text. Begins text (opening_text title ++ first_text title.names.now is.left.managed.catalog last sentences (all_refused title))) (sym is.is_page.written)
+          (front_begins title is.left.managed.catalog last sentences is.is_page.drawing is.rows)));
+      story = subst (λ (m : Journaled). HasPart page (story_text names m.managed.catalog sentences)) (sym s.last)
+          (subst (λ (n : Names). HasPart page (story_text n is.left.managed.catalog sentences)) is.is_page.title_is.names_are
+          (subst (λ text. HasPart text (story_text title.names.now is.left.managed.catalog sentences)) (sym is.is_page.written)
+          (story_part title is.left.managed.catalog last sentences is.is_page.drawing is.rows)));
     }
 
-pub true_over : (text name script page : List ℕ) → IsPageOf text name script page → IsTrueOver text script page
-true_over text name script page is =
+pub true_over : (text name : List ℕ) (names : Names) (script page : List ℕ) → IsPageOf text name names script page → IsTrueOver text names script page
+true_over text name names script page is =
     let booted = is.over.booted in
     let shown = is.over.is_page in
     let quiet = quiet_at_first (setting_of booted.managed) shown.opening
@@ -175,5 +179,5 @@ true_over text name script page is =
       planned = is.planned;
       booted = booted;
       is_booted = is.over.is_booted;
-      is_true = true_to booted name script page shown quiet.0;
+      is_true = true_to booted name names script page shown quiet.0;
     }

@@ -10,6 +10,7 @@ use Rattle.klp_console.specs.declared.served.ServeFault.TheVariants.{Read, Write
 use Rattle.klp_program.specs.declared.fault.Fault.{Fault}
 use Rattle.klp_program.specs.declared.fault.Fault.TheVariants.{CannotRead, NoMemory, Text, Image, Assemble, Boot, Serve, Trace}
 use Rattle.klp_program.specs.Booted.{never_ran, IsBootedOver}
+use Rattle.klp_names.specs.Names.{Names}
 use Rattle.klp_page.specs.Pages.{IsPage, IsPageOver, IsFaultOf, Writes}
 
 -- as many of the scripts as there are callbacks, and no other, have theirs
@@ -47,22 +48,22 @@ pub shown_of : (lent : LentCallback) (given script : Script) (count runs : ℕ)
 shown_of lent given script count runs made same counted = rw (made, same, counted) refl
 
 -- what a booted manager shows is shown over its plan
-pub page_over_text : {A E : Type 0} (plan : Plan) (booted : Journaled) (name script : List ℕ) (result : Result A E) (text : A → List ℕ)
-    → IsBootedOver plan booted → IfOk result (λ page. IsPage booted name script (text page))
-    → IfOk result (λ page. IsPageOver plan name script (text page))
-page_over_text plan booted name script (Ok page) text is shown = record { booted = booted; is_booted = is; is_page = shown }
-page_over_text plan booted name script (Err fault) text is shown = tt
+pub page_over_text : {A E : Type 0} (plan : Plan) (booted : Journaled) (name : List ℕ) (names : Names) (script : List ℕ) (result : Result A E) (text : A → List ℕ)
+    → IsBootedOver plan booted → IfOk result (λ page. IsPage booted name names script (text page))
+    → IfOk result (λ page. IsPageOver plan name names script (text page))
+page_over_text plan booted name names script (Ok page) text is shown = record { booted = booted; is_booted = is; is_page = shown }
+page_over_text plan booted name names script (Err fault) text is shown = tt
 
 -- where there is no page, nothing is written
-pub writes_none : (A : Type 0) (text name script : List ℕ) (before : Option (List ℕ)) (fault : Fault)
-    → IsFaultOf text script fault → Writes {A = A} text name script before before (Err fault)
-writes_none A text name script before (Serve Write) (plan, planned, over) = elim over [ inl never ↦ absurd never | inr never ↦ absurd never ]
-writes_none A text name script before (Serve Read) is = (is, refl)
-writes_none A text name script before (Serve LineTooLong) is = (is, refl)
-writes_none A text name script before NoMemory is = (is, refl)
-writes_none A text name script before CannotRead is = (is, refl)
-writes_none A text name script before (Text fault) is = (is, refl)
-writes_none A text name script before (Image fault) is = (is, refl)
-writes_none A text name script before (Assemble fault) is = (is, refl)
-writes_none A text name script before (Boot fault) is = (is, refl)
-writes_none A text name script before (Trace fault) is = (is, refl)
+pub writes_none : (A : Type 0) (text name : List ℕ) (names : Names) (script : List ℕ) (before : Option (List ℕ)) (fault : Fault)
+    → IsFaultOf text script fault → Writes {A = A} text name names script before before (Err fault)
+writes_none A text name names script before (Serve Write) (plan, planned, over) = elim over [ inl never ↦ absurd never | inr never ↦ absurd never ]
+writes_none A text name names script before (Serve Read) is = (is, refl)
+writes_none A text name names script before (Serve LineTooLong) is = (is, refl)
+writes_none A text name names script before NoMemory is = (is, refl)
+writes_none A text name names script before CannotRead is = (is, refl)
+writes_none A text name names script before (Text fault) is = (is, refl)
+writes_none A text name names script before (Image fault) is = (is, refl)
+writes_none A text name names script before (Assemble fault) is = (is, refl)
+writes_none A text name names script before (Boot fault) is = (is, refl)
+writes_none A text name names script before (Trace fault) is = (is, refl)

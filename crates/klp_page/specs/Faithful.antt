@@ -7,6 +7,7 @@ use Rattle.klp_manager_state.specs.Managed.{setting_of}
 use Rattle.klp_core.specs.Journaled.{Journaled}
 use Rattle.klp_console.specs.Answered.{Answer, IsAnswered}
 use Rattle.klp_console.specs.Lines.{lines_of}
+use Rattle.klp_names.specs.Names.{Names}
 use Rattle.klp_program.specs.Booted.{IsBootedOver}
 use Rattle.klp_story.specs.End.{first_text}
 use Rattle.klp_story.specs.Sentences.{story_text}
@@ -57,7 +58,7 @@ pub record HasPart (text part : List ℕ) : Type 0 where
 
 -- The page's first line tells how the run ends, by the manager that the last line left. Its sentences tell of each hold after each line, and of no
 -- other. Where they are many, `shown` of them stand on the page, with each that lasts to the end
-pub record IsTrueTo (booted : Journaled) (script page : List ℕ) : Type 0 where
+pub record IsTrueTo (booted : Journaled) (names : Names) (script page : List ℕ) : Type 0 where
   pub managers : List Journaled
   pub left : AreLeft booted (lines_of script) managers
   pub sentences : List Sentence
@@ -66,13 +67,13 @@ pub record IsTrueTo (booted : Journaled) (script page : List ℕ) : Type 0 where
   pub last : View
   pub seen_last : IsView (setting_of (last_left booted managers).managed) (last_left booted managers).managed.state last
   pub title : Title
-  pub first_line : Begins page (opening_text title ++ first_text (last_left booted managers).managed.catalog last sentences (all_refused title))
-  pub story : HasPart page (story_text (last_left booted managers).managed.catalog sentences)
+  pub first_line : Begins page (opening_text title ++ first_text names (last_left booted managers).managed.catalog last sentences (all_refused title))
+  pub story : HasPart page (story_text names (last_left booted managers).managed.catalog sentences)
 
 -- the same over the catalog's text: a manager was booted over its plan
-pub record IsTrueOver (text script page : List ℕ) : Type 0 where
+pub record IsTrueOver (text : List ℕ) (names : Names) (script page : List ℕ) : Type 0 where
   pub plan : Plan
   pub planned : plan_of text ≡ Ok plan
   pub booted : Journaled
   pub is_booted : IsBootedOver plan booted
-  pub is_true : IsTrueTo booted script page
+  pub is_true : IsTrueTo booted names script page

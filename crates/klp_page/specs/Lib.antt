@@ -1,4 +1,1 @@
-pub mod Faithful
-pub mod Pages
-pub mod Rows
-pub mod Text
+pub mod Asked

@@ -13,6 +13,7 @@ use Rattle.klp_console_io.specs.Lines.{lines_and_rest}
 use Rattle.klp_console.specs.Lines.{lines_of}
 use Rattle.klp_program.specs.declared.fault.Fault.{Fault}
 use Rattle.klp_program.specs.declared.fault.Fault.TheVariants.{NoMemory, Text, Serve}
+use Rattle.klp_names.specs.Names.{Names}
 use Rattle.klp_program.specs.Booted.{IsBootedOver, IsBootFault}
 use Rattle.klp_timeline.specs.declared.moment.Moment.{Moment}
 use Rattle.klp_timeline.specs.declared.moment.Sentence.{Sentence}
@@ -27,30 +28,31 @@ use Rattle.klp_page.specs.Text.{is_start, page_text}
 abbrev pub is_refused : Row → Bool
 is_refused row = row.is_refused
 
--- the title of a page: its name, how many lines there are and were refused, how many transitions started, and whether one goes on at the end
-pub record IsTitle (title : Title) (name : List ℕ) (rows : List Row) (view : View) (sentences : List Sentence) : Type 0 where
+-- the title of a page: its name, what is known of the run beside its lines, how many lines there are and were refused, how many transitions started, and whether one goes on at the end
+pub record IsTitle (title : Title) (name : List ℕ) (names : Names) (rows : List Row) (view : View) (sentences : List Sentence) : Type 0 where
   pub name_is : title.name.now ≡ name
+  pub names_are : title.names.now ≡ names
   pub lines_are : title.lines ≡ length rows
   pub refused_are : title.refused ≡ count_by is_refused rows
   pub transitions_are : title.transitions ≡ count_by is_start sentences
   pub moves : title.is_moving ≡ is_some view.moving
 
 -- A page of rows and of what was seen with them: above the rows stands how the run ends, and what is said of it, which is all that there is to be said
-pub record IsPageOfRun (catalog : Catalog) (name : List ℕ) (opening : View) (rows : List Row) (run : List Moment) (page : List ℕ) : Type 0 where
+pub record IsPageOfRun (catalog : Catalog) (name : List ℕ) (names : Names) (opening : View) (rows : List Row) (run : List Moment) (page : List ℕ) : Type 0 where
   pub drawing : List ℕ
   pub title : Title
-  pub title_is : IsTitle title name rows (last_view opening run) (sentences_of opening run)
+  pub title_is : IsTitle title name names rows (last_view opening run) (sentences_of opening run)
   pub written : page ≡ page_text title catalog (last_view opening run) (sentences_of opening run) drawing rows
 
 -- the page has a row for each line of the script, in order, and is made of these and of what was seen with each
-pub record IsPage (booted : Journaled) (name script page : List ℕ) : Type 0 where
+pub record IsPage (booted : Journaled) (name : List ℕ) (names : Names) (script page : List ℕ) : Type 0 where
   pub opening : View
   pub run : List Moment
   pub rows : List Row
   pub left : Journaled
   pub begins : IsView (setting_of booted.managed) booted.managed.state opening
   pub shown : AreRows booted left opening (lines_of script) rows run
-  pub is_page : IsPageOfRun left.managed.catalog name opening rows run page
+  pub is_page : IsPageOfRun left.managed.catalog name names opening rows run page
 
 -- of the lines of a script, all but the last have their rows
 pub record HasRows (before after : Journaled) (opening : View) (script last : List ℕ) (rows : List Row) (run : List Moment) : Type 0 where
@@ -73,20 +75,20 @@ IsScriptFault script (Serve LineTooLong) = HasLongLine script
 IsScriptFault script other = ⊥
 
 -- a manager was booted over a plan, and shows the script
-pub record IsPageOver (plan : Plan) (name script page : List ℕ) : Type 0 where
+pub record IsPageOver (plan : Plan) (name : List ℕ) (names : Names) (script page : List ℕ) : Type 0 where
   pub booted : Journaled
   pub is_booted : IsBootedOver plan booted
-  pub is_page : IsPage booted name script page
+  pub is_page : IsPage booted name names script page
 
 -- none was booted, or the script isn't shown
 abbrev pub IsFaultOver : Plan → List ℕ → Fault → Type 0
 IsFaultOver plan script fault = IsBootFault plan fault ⊎ IsScriptFault script fault
 
 -- the same over a catalog's text
-pub record IsPageOf (text name script page : List ℕ) : Type 0 where
+pub record IsPageOf (text name : List ℕ) (names : Names) (script page : List ℕ) : Type 0 where
   pub plan : Plan
   pub planned : plan_of text ≡ Ok plan
-  pub over : IsPageOver plan name script page
+  pub over : IsPageOver plan name names script page
 
 abbrev pub IsFaultOf : List ℕ → List ℕ → Fault → Type 0
 IsFaultOf text script NoMemory = Unit {0}
@@ -95,7 +97,7 @@ IsFaultOf text script other = (plan : Plan) × (plan_of text ≡ Ok plan) × IsF
 
 -- a script was shown over a catalog's text, and its whole page was written behind what the output had; or that could not be written; or there
 -- is no page for this fault, and nothing was written
-abbrev pub Writes : {A : Type 0} → List ℕ → List ℕ → List ℕ → Option (List ℕ) → Option (List ℕ) → Result A Fault → Type 0
-Writes text name script before after (Ok done) = (page : List ℕ) × IsPageOf text name script page × Appends before after page
-Writes text name script before after (Err (Serve Write)) = (page : List ℕ) × IsPageOf text name script page
-Writes text name script before after (Err fault) = IsFaultOf text script fault × (after ≡ before)
+abbrev pub Writes : {A : Type 0} → List ℕ → List ℕ → Names → List ℕ → Option (List ℕ) → Option (List ℕ) → Result A Fault → Type 0
+Writes text name names script before after (Ok done) = (page : List ℕ) × IsPageOf text name names script page × Appends before after page
+Writes text name names script before after (Err (Serve Write)) = (page : List ℕ) × IsPageOf text name names script page
+Writes text name names script before after (Err fault) = IsFaultOf text script fault × (after ≡ before)

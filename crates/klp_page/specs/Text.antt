@@ -1,9 +1,11 @@
 -- The text of a page.
-use Rattle.std.specs.Prelude.{ℕ, ◌==◌, ◌&&◌, ◌+◌, ◌-◌, nat_lt, Bool, true, false, List, [], ◌∷◌, ◌++◌, codes, length, Option, Some, None, if◌then◌else◌}
+use Rattle.std.specs.Prelude.{ℕ, ◌==◌, ◌&&◌, ◌+◌, ◌-◌, nat_lt, Bool, true, false, List, [], ◌∷◌, ◌++◌, codes, length, Option, Some, None, is_some, if◌then◌else◌}
 use Rattle.std.specs.Fmt.{decimal}
 use Rattle.klp_catalog.specs.Catalog.{Catalog}
 use Rattle.klp_markup.specs.Escaped.{escaped}
 use Rattle.klp_markup.specs.Tasks.{each_text}
+use Rattle.klp_markup.specs.Times.{seconds_text}
+use Rattle.klp_names.specs.Names.{Names, start_of, since_start}
 use Rattle.klp_story.specs.End.{end_text}
 use Rattle.klp_story.specs.Sentences.{story_text}
 use Rattle.klp_timeline.specs.declared.moment.Fact.TheVariants.{Starts}
@@ -18,6 +20,7 @@ use Rattle.klp_page.specs.declared.row.Row.{Row}
 use Rattle.klp_page.specs.declared.style.TheConstants.{
   HEAD,
   STYLE,
+  TIMED_STYLE,
   STYLE_END,
   COUNTS,
   STORY,
@@ -31,6 +34,7 @@ use Rattle.klp_page.specs.declared.style.TheConstants.{
   ID,
   NUMBER,
   CARD_NUMBER,
+  TIME,
   LINE,
   ANSWER,
   ANSWER_END,
@@ -46,9 +50,9 @@ use Rattle.klp_page.specs.declared.style.TheConstants.{
 }
 
 -- the mark of a line after which these tasks hold the transition up, each of them; where there are none it has no mark
-abbrev pub mark_text : List ℕ → List ℕ
-mark_text [] = []
-mark_text (task ∷ tasks) = HELD.now ++ each_text (task ∷ tasks) ++ HELD_END.now
+abbrev pub mark_text : Names → List ℕ → List ℕ
+mark_text names [] = []
+mark_text names (task ∷ tasks) = HELD.now ++ each_text names (task ∷ tasks) ++ HELD_END.now
 
 abbrev pub refused_text : Bool → List ℕ
 refused_text is_refused = if is_refused then REFUSED.now else []
@@ -56,21 +60,26 @@ refused_text is_refused = if is_refused then REFUSED.now else []
 abbrev pub open_text : Bool → List ℕ
 open_text is_open = if is_open then OPEN.now else []
 
--- the line with its number, its answer and its mark
-unfoldable pub shown_text : ℕ → Row → List ℕ
-shown_text number row =
-    decimal number ++ LINE.now ++ escaped row.line.items ++ ANSWER.now ++ escaped row.answer.items ++ ANSWER_END.now ++ mark_text row.holders.items
+-- how long after the first time a line was, if that is known
+abbrev pub time_text : Option ℕ → List ℕ
+time_text None = []
+time_text (Some time) = TIME.now ++ seconds_text time
+
+-- the line with its number and its time, its answer and its mark
+unfoldable pub shown_text : Names → ℕ → Row → List ℕ
+shown_text names number row =
+    decimal number ++ time_text (since_start names.timed number) ++ LINE.now ++ escaped row.line.items ++ ANSWER.now ++ escaped row.answer.items ++ ANSWER_END.now ++ mark_text names row.holders.items
 
 -- what stands in front of the number of a line
 unfoldable pub start_text : List ℕ → ℕ → Row → List ℕ
 start_text tag number row = tag ++ refused_text row.is_refused ++ ID.now ++ decimal number
 
 -- a row with cards opens, and shows them then
-unfoldable pub row_text : ℕ → Row → List ℕ
-row_text number row =
+unfoldable pub row_text : Names → ℕ → Row → List ℕ
+row_text names number row =
     if length row.cards.text == 0
-    then start_text PLAIN_ROW.now number row ++ NUMBER.now ++ shown_text number row ++ PLAIN_END.now
-    else start_text CARD_ROW.now number row ++ open_text row.is_open ++ CARD_NUMBER.now ++ shown_text number row ++ CARDS.now ++ row.cards.text ++ CARDS_END.now
+    then start_text PLAIN_ROW.now number row ++ NUMBER.now ++ shown_text names number row ++ PLAIN_END.now
+    else start_text CARD_ROW.now number row ++ open_text row.is_open ++ CARD_NUMBER.now ++ shown_text names number row ++ CARDS.now ++ row.cards.text ++ CARDS_END.now
 
 -- of quiet lines in a row the first few are shown; then a fold begins
 abbrev pub fold_start : ℕ → List ℕ
@@ -81,15 +90,15 @@ abbrev pub fold_end : ℕ → List ℕ
 fold_end quiet = if nat_lt QUIET_ROWS quiet then FOLD_END.now ++ decimal (quiet - QUIET_ROWS) ++ FOLDED.now else []
 
 -- rows, of which the first has this number, behind so many quiet ones: nothing else is folded away
-abbrev pub rows_from : ℕ → ℕ → List Row → List ℕ
-rows_from quiet number [] = fold_end quiet
-rows_from quiet number (row ∷ rows) =
+abbrev pub rows_from : Names → ℕ → ℕ → List Row → List ℕ
+rows_from names quiet number [] = fold_end quiet
+rows_from names quiet number (row ∷ rows) =
     if row.is_quiet
-    then fold_start quiet ++ row_text number row ++ rows_from (quiet + 1) (number + 1) rows
-    else fold_end quiet ++ row_text number row ++ rows_from 0 (number + 1) rows
+    then fold_start quiet ++ row_text names number row ++ rows_from names (quiet + 1) (number + 1) rows
+    else fold_end quiet ++ row_text names number row ++ rows_from names 0 (number + 1) rows
 
-abbrev pub rows_text : List Row → List ℕ
-rows_text rows = rows_from 0 1 rows
+abbrev pub rows_text : Names → List Row → List ℕ
+rows_text names rows = rows_from names 0 1 rows
 
 abbrev pub is_started : Said → Bool
 is_started (Did (Starts moving)) = true
@@ -110,9 +119,14 @@ title_text title =
     escaped title.name.now ++ codes ": " ++ count_text title.lines (codes " line, ") (codes " lines, ") ++ refusals_text title.refused
     ++ count_text title.transitions (codes " transition") (codes " transitions") ++ (if title.is_moving then codes ", one still under way" else [])
 
+-- what the style needs for times, if there are any
+abbrev pub timed_style : Names → List ℕ
+timed_style names = if is_some (start_of names.timed) then TIMED_STYLE.now else []
+
 -- the document's beginning with its title and its style
 unfoldable pub opening_text : Title → List ℕ
-opening_text title = HEAD.now ++ title_text title ++ STYLE.now ++ drawing.STYLE.now ++ cards.STYLE.now ++ STYLE_END.now
+opening_text title =
+    HEAD.now ++ title_text title ++ STYLE.now ++ drawing.STYLE.now ++ cards.STYLE.now ++ timed_style title.names.now ++ STYLE_END.now
 
 -- how many lines there are, where there is one and each was refused
 abbrev pub all_refused : Title → Option ℕ
@@ -120,13 +134,13 @@ all_refused title = if nat_lt 0 title.refused && title.refused == title.lines th
 
 -- how the run ends, below the document's beginning, and what happened above the sentences
 unfoldable pub front_text : Title → Catalog → View → List Sentence → List ℕ
-front_text title catalog view sentences = opening_text title ++ end_text catalog view sentences (all_refused title) ++ COUNTS.now ++ title_text title ++ STORY.now
+front_text title catalog view sentences = opening_text title ++ end_text title.names.now catalog view sentences (all_refused title) ++ COUNTS.now ++ title_text title ++ STORY.now
 
 -- the sentences, and the drawing
-unfoldable pub story_and_drawing : Catalog → List Sentence → List ℕ → List ℕ
-story_and_drawing catalog sentences picture = story_text catalog sentences ++ RUN.now ++ picture ++ LINES.now
+unfoldable pub story_and_drawing : Names → Catalog → List Sentence → List ℕ → List ℕ
+story_and_drawing names catalog sentences picture = story_text names catalog sentences ++ RUN.now ++ picture ++ LINES.now
 
 -- the rows in order, below what stands above them
 abbrev pub page_text : Title → Catalog → View → List Sentence → List ℕ → List Row → List ℕ
 page_text title catalog view sentences picture rows =
-    front_text title catalog view sentences ++ story_and_drawing catalog sentences picture ++ rows_text rows ++ FOOT.now
+    front_text title catalog view sentences ++ story_and_drawing title.names.now catalog sentences picture ++ rows_text title.names.now rows ++ FOOT.now

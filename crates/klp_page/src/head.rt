@@ -2,20 +2,24 @@
 ghost use Rattle.std.specs.Prelude.{◌≡◌, [], ◌++◌, codes, count_by, if◌then◌else◌};
 ghost use Rattle.std.specs.Fmt.{decimal};
 ghost use Rattle.klp_markup.specs.Adds.{Adds};
-ghost use Rattle.klp_page.specs.Text.{is_started, is_start, count_text, refusals_text, title_text, opening_text};
-ghost use Rattle.klp_page.specs.Text.{all_refused, front_text, story_and_drawing};
+ghost use Rattle.klp_page.specs.Text.{is_started, is_start, count_text, refusals_text, title_text, timed_style};
+ghost use Rattle.klp_page.specs.Text.{opening_text, all_refused, front_text, story_and_drawing};
 
-use crate::style::{COUNTS, HEAD, LINES, RUN, STORY, STYLE, STYLE_END};
+use crate::style::{COUNTS, HEAD, LINES, RUN, STORY, STYLE, STYLE_END, TIMED_STYLE};
 use klp_catalog::Catalog;
 use klp_markup::Sheet;
 use klp_modules::Modules;
+use klp_names::Names;
 use klp_story::{add_end, add_story};
 use klp_timeline::{Fact, Said, Sentence, View};
 
-/// What is shown, how much happened and was refused, and whether a transition still goes on.
+/// What the head of a page says: the names of the run and of the tasks, how many lines there were and were refused,
+/// how many transitions started, and whether one is still under way.
 #[derive(Clone, Copy)]
 pub(crate) struct Title<'a> {
     pub name: &'a [u8],
+    /// The names of tasks, and the times of lines.
+    pub names: &'a Names,
     pub lines: u64,
     /// How many of the lines were refused.
     pub refused: u64,
@@ -23,13 +27,14 @@ pub(crate) struct Title<'a> {
     pub is_moving: bool,
 }
 
+/// Whether the sentence tells of the start of a transition.
 fn is_start(sentence: &Sentence) -> bool
     ensures { result ≡ is_start sentence.now }
 {
     matches!(sentence.said, Said::Did(Fact::Starts(_)))
 }
 
-/// How many transitions started.
+/// Returns how many transitions started, by these sentences.
 pub(crate) fn transitions(sentences: &[Sentence]) -> u64
     ensures { result ≡ count_by is_start sentences.now }
 {
@@ -42,7 +47,7 @@ pub(crate) fn transitions(sentences: &[Sentence]) -> u64
     count as u64
 }
 
-/// Adds so many of something, in the word for one or for many.
+/// Adds a number, and the word for one of something or for another number of it.
 fn add_count(sheet: &mut Sheet, count: u64, one: &'static str, many: &'static str)
     ensures { Adds sheet.old sheet.new (count_text count one.now many.now) }
 {
@@ -51,7 +56,7 @@ fn add_count(sheet: &mut Sheet, count: u64, one: &'static str, many: &'static st
     sheet.markup(if count == 1 { one } else { many });
 }
 
-/// Adds how many lines were refused, if one was.
+/// Adds how many lines were refused. Adds nothing if none was.
 fn add_refusals(sheet: &mut Sheet, count: u64)
     ensures { Adds sheet.old sheet.new (refusals_text count) }
 {
@@ -62,6 +67,7 @@ fn add_refusals(sheet: &mut Sheet, count: u64)
     }
 }
 
+/// Adds that one of the transitions is still under way, if it is.
 fn add_under_way(sheet: &mut Sheet, is_moving: bool)
     ensures { Adds sheet.old sheet.new (if is_moving then codes ", one still under way" else []) }
 {
@@ -71,6 +77,7 @@ fn add_under_way(sheet: &mut Sheet, is_moving: bool)
     }
 }
 
+/// Adds the title: the name of the run, and how many lines and transitions it has.
 #[tactic(auto, unfolding(crate::specs::Text::title_text))]
 fn add_title(sheet: &mut Sheet, title: &Title<'_>)
     ensures { Adds sheet.old sheet.new (title_text title.now) }
@@ -84,7 +91,17 @@ fn add_title(sheet: &mut Sheet, title: &Title<'_>)
     add_under_way(sheet, title.is_moving);
 }
 
-/// The document's beginning, with its title and its style.
+/// Adds the style of rows with times, if any time is known.
+fn add_timed_style(sheet: &mut Sheet, names: &Names)
+    ensures { Adds sheet.old sheet.new (timed_style names.now) }
+{
+    klp_markup::laws::what_is_added_adds_up();
+    if names.has_times() {
+        sheet.markup(TIMED_STYLE);
+    }
+}
+
+/// Adds the beginning of the document, up to the end of its style.
 #[tactic(auto, unfolding(crate::specs::Text::opening_text))]
 fn add_opening(sheet: &mut Sheet, title: &Title<'_>)
     ensures { Adds sheet.old sheet.new (opening_text title.now) }
@@ -95,10 +112,11 @@ fn add_opening(sheet: &mut Sheet, title: &Title<'_>)
     sheet.markup(STYLE);
     sheet.markup(klp_drawing::STYLE);
     sheet.markup(klp_page_layout::STYLE);
+    add_timed_style(sheet, title.names);
     sheet.markup(STYLE_END);
 }
 
-/// How many lines there are, where there is one and each was refused.
+/// Returns the number of lines if there is at least one and each was refused, else `None`.
 fn all_refused(title: &Title<'_>) -> Option<u64>
     ensures { result ≡ all_refused title.now }
 {
@@ -109,7 +127,7 @@ fn all_refused(title: &Title<'_>) -> Option<u64>
     }
 }
 
-/// The document's beginning, and how the run ends.
+/// Adds the beginning of the document, how the run ends, and the title once more, above the sentences.
 pub(crate) fn add_front(
     sheet: &mut Sheet,
     title: &Title<'_>,
@@ -124,6 +142,7 @@ pub(crate) fn add_front(
     add_opening(sheet, title);
     add_end(
         sheet,
+        title.names,
         catalog,
         modules,
         view,
@@ -135,18 +154,19 @@ pub(crate) fn add_front(
     sheet.markup(STORY);
 }
 
-/// The sentences, and the drawing.
+/// Adds the sentences about the run, and its drawing.
 pub(crate) fn add_story_and_drawing(
     sheet: &mut Sheet,
+    names: &Names,
     catalog: &Catalog,
     modules: &Modules,
     sentences: &[Sentence],
     drawing: &Sheet,
 )
     requires { catalog.now.names ≡ modules.now.names }
-    ensures { Adds sheet.old sheet.new (story_and_drawing catalog.now sentences.now drawing.now.text) }
+    ensures { Adds sheet.old sheet.new (story_and_drawing names.now catalog.now sentences.now drawing.now.text) }
 {
-    add_story(sheet, catalog, modules, sentences);
+    add_story(sheet, names, catalog, modules, sentences);
     sheet.markup(RUN);
     sheet.append(drawing);
     sheet.markup(LINES);

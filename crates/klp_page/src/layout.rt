@@ -5,52 +5,57 @@ use klp_console::Outcome;
 use klp_core::Manager;
 use klp_drawing::{Bars, add_drawing};
 use klp_markup::Sheet;
+use klp_names::Names;
 use klp_page_layout::{Chronicle, RowParts};
 use klp_timeline::{Fact, Moment, Sentence, View};
 use std::alloc::{AllocError, Global};
 
-/// What a row shows that opens.
+/// The cards of a row, and whether the row is open at first.
 #[derive(Drop)]
 pub(crate) struct Cards {
     pub sheet: Sheet,
     pub is_open: bool,
 }
 
-/// What was seen of the lines so far.
+/// The state of what has no contract, the drawing and the cards, as a run is served line by line.
 #[derive(Drop)]
-pub(crate) struct Layout {
-    chronicle: Chronicle,
+pub(crate) struct Layout<'a> {
+    names: &'a Names,
+    chronicle: Chronicle<'a>,
     bars: Bars,
     lines: u64,
 }
 
-/// Whether the cards of a line stand open: where a patch came, moves, turned or left, where a callback ran, and where the
-/// line did what views don't show.
+/// Whether a row is open at first: a patch, a transition or a callback did something, or the line did something that
+/// the state doesn't show.
 fn stands_open(parts: &RowParts, act: &Option<Fact>) -> bool {
     parts.patches || parts.callbacks || act.is_some()
 }
 
-impl Layout {
-    pub(crate) fn new(alloc: Global) -> Layout {
+impl<'a> Layout<'a> {
+    /// Returns the layout of a run of which no line was served. Takes no memory.
+    pub(crate) fn new(alloc: Global, names: &'a Names) -> Layout<'a> {
         Layout {
-            chronicle: Chronicle::new(alloc),
+            names,
+            chronicle: Chronicle::new(alloc, names),
             bars: Bars::new(alloc),
             lines: 0,
         }
     }
 
-    /// Notes what the scripts of the plan's callbacks name.
+    /// Begins to watch the shadow variables that the scripts of the plan's callbacks change. `Err` if memory runs out.
     pub(crate) fn watch(&mut self, plan: &Plan) -> Result<(), AllocError> {
         self.chronicle.watch(plan)
     }
 
-    /// Takes the room for each patch, task and site of a manager that was just booted.
+    /// Prepares for each patch, task and site of a manager that was just booted. `Err` if memory runs out.
     pub(crate) fn open(&mut self, manager: &Manager) -> Result<(), AllocError> {
         self.chronicle.open(manager)?;
         self.bars.open()
     }
 
-    /// Sees a line that came to this, and tells what it changed. Only lines whose event was taken or undone change something.
+    /// Updates the drawing with a line, and returns the line's cards. The cards are empty for a line that neither
+    /// caused nor undid an event. `Err` if memory runs out.
     pub(crate) fn see(
         &mut self,
         alloc: Global,
@@ -77,16 +82,18 @@ impl Layout {
         })
     }
 
-    /// The drawing of all lines.
+    /// Returns the drawing of all lines. `Err` if memory runs out.
     pub(crate) fn draw(
         &mut self,
         alloc: Global,
         manager: &Manager,
         sentences: &[Sentence],
     ) -> Result<Sheet, AllocError> {
-        self.bars.close(self.lines)?;
+        self.bars.close(self.lines, self.names)?;
         let mut sheet = Sheet::new(alloc);
-        add_drawing(alloc, &mut sheet, manager, &self.bars, sentences)?;
+        add_drawing(
+            alloc, &mut sheet, self.names, manager, &self.bars, sentences,
+        )?;
         Ok(sheet)
     }
 }

@@ -1,12 +1,10 @@
 //! A manager is booted over a catalog's text, and a script is shown by it.
-ghost use Rattle.std.specs.Prelude.{◌≡◌, [], ◌∷◌, length, count_by, map, string_bytes, Some, None, IfOk, IfErr};
-ghost use Rattle.std.specs.Prelude.{MatchResult};
+ghost use Rattle.std.specs.Prelude.{◌≡◌, length, count_by, IfOk, IfErr};
 ghost use Rattle.klp_catalog_text.specs.Within.{AreTargetsWithin};
 ghost use Rattle.klp_page.specs.Rows.{last_view};
 ghost use Rattle.klp_page.specs.Text.{page_text};
 ghost use Rattle.klp_page.specs.Pages.{is_refused, IsPage, IsPageOfRun, IsScriptFault, IsPageOver, IsFaultOver};
 ghost use Rattle.klp_page.specs.Pages.{IsPageOf, IsFaultOf, Writes};
-ghost use Rattle.klp_program.specs.Asked.{two_files};
 
 use crate::head::{Title, add_front, add_story_and_drawing, transitions};
 use crate::layout::Layout;
@@ -19,16 +17,14 @@ use klp_catalog_text::Plan;
 use klp_console::ServeFault;
 use klp_core::Manager;
 use klp_markup::Sheet;
-use klp_program::{Fault, boot, close, file_words, scripted};
+use klp_names::Names;
+use klp_program::{Fault, boot, close, scripted};
 use klp_timeline::{Sentence, View, sentences};
 use klp_views::view_of;
 use std::alloc::{AllocError, Global};
 use std::io::Write;
 
-/// The name that the program gives itself.
-const NAME: &str = "klppage";
-
-/// The page of a run, of which the rows and all that is said of it are there.
+/// Returns the text of the page, from its rows, sentences and drawing. `Err` if memory runs out.
 fn written(
     alloc: Global,
     manager: &Manager,
@@ -45,13 +41,20 @@ fn written(
     let mut sheet = Sheet::new(alloc);
     let (catalog, modules) = (manager.catalog(), manager.modules());
     add_front(&mut sheet, title, catalog, modules, view, sentences);
-    add_story_and_drawing(&mut sheet, catalog, modules, sentences, drawing);
-    add_rows(&mut sheet, rows);
+    add_story_and_drawing(
+        &mut sheet,
+        title.names,
+        catalog,
+        modules,
+        sentences,
+        drawing,
+    );
+    add_rows(&mut sheet, title.names, rows);
     sheet.markup(FOOT);
     sheet.into_bytes()
 }
 
-/// How many of the lines were refused.
+/// Returns how many of the lines were refused.
 fn refused(rows: &[Row]) -> u64
     ensures { result ≡ count_by is_refused rows.now }
 {
@@ -64,22 +67,24 @@ fn refused(rows: &[Row]) -> u64
     count as u64
 }
 
-/// The page of what was recorded.
+/// Returns the text of the page of a run that was served and recorded. `Err` if memory runs out.
 fn page_of(
     alloc: Global,
     manager: &Manager,
     name: &[u8],
+    names: &Names,
     opening: &View,
     recorded: &Recorded,
-    layout: &mut Layout,
+    layout: &mut Layout<'_>,
 ) -> Result<Vec<u8>, AllocError>
-    ensures { IfOk result (λ page. IsPageOfRun manager.now.managed.catalog name.now opening.now recorded.now.rows.items
-        recorded.now.run.items page.items) }
+    ensures { IfOk result (λ page. IsPageOfRun manager.now.managed.catalog name.now names.now opening.now
+        recorded.now.rows.items recorded.now.run.items page.items) }
 {
     let sentences = sentences(alloc, opening, &recorded.run)?;
     let view = last_view(opening, &recorded.run);
     let title = Title {
         name,
+        names,
         lines: recorded.rows.len() as u64,
         refused: refused(&recorded.rows),
         transitions: transitions(&sentences),
@@ -97,83 +102,95 @@ fn page_of(
     )
 }
 
-/// The page of a script.
+/// Serves a script by a manager that was just booted, and returns the text of its page.
 fn paged(
     alloc: Global,
     manager: &mut Manager,
     name: &[u8],
+    names: &Names,
     script: &[u8],
-    layout: &mut Layout,
+    layout: &mut Layout<'_>,
 ) -> Result<Vec<u8>, Fault>
-    ensures page { IfOk result (λ page. IsPage manager.old name.now script.now page.items) }
+    ensures page { IfOk result (λ page. IsPage manager.old name.now names.now script.now page.items) }
     ensures fault { IfErr result (λ fault. IsScriptFault script.now fault) }
 {
     layout.open(manager)?;
     let opening = view_of(manager);
     let recorded = record(alloc, manager, script, &opening, layout)?;
-    Ok(page_of(alloc, manager, name, &opening, &recorded, layout)?)
+    Ok(page_of(alloc, manager, name, names, &opening, &recorded, layout)?)
 }
 
-// The manager goes then.
+// Serves a script by a manager, which is dropped then, and returns the page. Only `close` drops a manager, so that its
+// drop is proved once.
 fn page_over_manager(
     alloc: Global,
     mut manager: Manager,
     name: &[u8],
+    names: &Names,
     script: &[u8],
-    mut layout: Layout,
+    mut layout: Layout<'_>,
 ) -> Result<Vec<u8>, Fault>
-    ensures page { IfOk result (λ page. IsPage manager name.now script.now page.items) }
+    ensures page { IfOk result (λ page. IsPage manager name.now names.now script.now page.items) }
     ensures fault { IfErr result (λ fault. IsScriptFault script.now fault) }
 {
-    let page = paged(alloc, &mut manager, name, script, &mut layout);
+    let page = paged(alloc, &mut manager, name, names, script, &mut layout);
     close(manager);
     page
 }
 
-// Boots a manager over a plan, and shows the script by it. The callbacks are made here, as where a trace is
-// watched.
-fn page_over_plan(alloc: Global, plan: Plan, name: &[u8], script: &[u8]) -> Result<Vec<u8>, Fault>
+// Boots a manager over a plan, serves the script by it, and returns the page. The callbacks are made in this function,
+// since no function may return a boxed value that it makes.
+fn page_over_plan(
+    alloc: Global,
+    plan: Plan,
+    name: &[u8],
+    names: &Names,
+    script: &[u8],
+) -> Result<Vec<u8>, Fault>
     requires { AreTargetsWithin (length plan.objects) plan.patches }
-    ensures page { IfOk result (λ page. IsPageOver plan name.now script.now page.items) }
+    ensures page { IfOk result (λ page. IsPageOver plan name.now names.now script.now page.items) }
     ensures fault { IfErr result (λ fault. IsFaultOver plan script.now fault) }
 {
-    let mut layout = Layout::new(alloc);
+    let mut layout = Layout::new(alloc, names);
     layout.watch(&plan)?;
     let mut callbacks = Vec::new(alloc);
     while let Some(callback) = scripted(alloc, &plan, callbacks.len())? {
         callbacks.push(Boxed::new(callback))?;
     }
     let manager = boot(alloc, plan, callbacks)?;
-    page_over_manager(alloc, manager, name, script, layout)
+    page_over_manager(alloc, manager, name, names, script, layout)
 }
 
-/// Boots a manager over the catalog's text, and shows the script by it: a page with a row for each line, which has this name.
-/// Memory is taken by the script's length.
+/// Boots a manager over the catalog's text, serves the script by it, and returns a page with a row for each line.
+/// `name` is the page's title, and `names` has the names of tasks and the times of lines. Takes memory in proportion
+/// to the script.
 pub fn page_over_text(
     alloc: Global,
     catalog: &[u8],
     name: &[u8],
+    names: &Names,
     script: &[u8],
 ) -> Result<Vec<u8>, Fault>
-    ensures page { IfOk result (λ page. IsPageOf catalog.now name.now script.now page.items) }
+    ensures page { IfOk result (λ page. IsPageOf catalog.now name.now names.now script.now page.items) }
     ensures fault { IfErr result (λ fault. IsFaultOf catalog.now script.now fault) }
 {
     let plan = Catalog::read(alloc, catalog)?;
-    page_over_plan(alloc, plan, name, script)
+    page_over_plan(alloc, plan, name, names, script)
 }
 
-/// Writes the page of a script to `out`. Nothing is written before all lines are served. Where the page can't be written,
-/// the fault is that of the write.
+/// Writes the page of a script to `out`, once all lines are served: if one of them is at fault, nothing is written. If
+/// `out` refuses the page, the fault is that of the write.
 pub fn write_page<W: Write>(
     alloc: Global,
     catalog: &[u8],
     name: &[u8],
+    names: &Names,
     script: &[u8],
     out: &mut W,
 ) -> Result<(), Fault>
-    ensures { Writes catalog.now name.now script.now (W.contents out.old) (W.contents out.new) result }
+    ensures { Writes catalog.now name.now names.now script.now (W.contents out.old) (W.contents out.new) result }
 {
-    let page = match page_over_text(alloc, catalog, name, script) {
+    let page = match page_over_text(alloc, catalog, name, names, script) {
         Ok(page) => page,
         Err(fault) => return Err(fault),
     };
@@ -181,14 +198,4 @@ pub fn write_page<W: Write>(
         Ok(()) => Ok(()),
         Err(_) => Err(Fault::Serve(ServeFault::Write)),
     }
-}
-
-/// The two words behind the program's name: the files of a catalog and of a script. Others are refused on `err`,
-/// with their exit status.
-pub fn page_words<'a, W: Write>(given: &'a [String], err: &mut W) -> Result<(&'a str, &'a str), u8>
-    ensures { MatchResult result
-        (λ files. two_files (map string_bytes given.now) ≡ Some (files.0.now ∷ files.1.now ∷ []))
-        (λ status. (status ≡ 2) × (two_files (map string_bytes given.now) ≡ None)) }
-{
-    file_words(NAME, given, err)
 }

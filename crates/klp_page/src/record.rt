@@ -21,21 +21,21 @@ use std::alloc::{AllocError, Global};
 use std::marker::Brand;
 use std::sync::ledger::{Blank, Ledger};
 
-/// What a line was answered, and what it came to.
+/// The answer to a line, as text and as the outcome.
 #[derive(Drop)]
 struct Answered {
     text: Vec<u8>,
     outcome: Outcome,
 }
 
-/// What is gathered of the lines so far.
+/// The rows of the lines so far, and the state after each of them.
 #[derive(Drop)]
 pub(crate) struct Recorded {
     pub rows: Vec<Row>,
     pub run: Vec<Moment>,
 }
 
-/// What was seen last.
+/// Returns the state after the last line, or `opening` if there was no line.
 pub(crate) fn last_view<'a>(opening: &'a View, run: &'a [Moment]) -> &'a View
     ensures { result.now ≡ last_view opening.now run.now }
 {
@@ -45,7 +45,7 @@ pub(crate) fn last_view<'a>(opening: &'a View, run: &'a [Moment]) -> &'a View
     }
 }
 
-/// Does what a line asks for, and gives its answer.
+/// Serves one line, and returns its answer. `Err` if memory runs out.
 fn answer<M: Ledger>(
     alloc: Global,
     manager: &mut Manager,
@@ -66,7 +66,8 @@ fn answer<M: Ledger>(
     }
 }
 
-/// What a line did that came to this, and what the manager shows afterwards. There were so many events before it.
+/// Returns what a line did, and the state after it. `before` is the state and `from` the number of events before the
+/// line; `outcome` is what the line came to.
 fn moment_of(manager: &Manager, before: &View, outcome: &Outcome, from: u32) -> Moment
     ensures seen { IsView (setting_of manager.now.managed) manager.now.managed.state result.view }
     ensures did { result.act ≡ act_of before.now.moving outcome.now from (length manager.now.groups) }
@@ -77,7 +78,8 @@ fn moment_of(manager: &Manager, before: &View, outcome: &Outcome, from: u32) -> 
     }
 }
 
-/// Adds the tasks that hold the transition up, of which the first of these has this number.
+/// Adds the tasks that hold the transition up. `number` is the number of the first task in `stays`. `Err` if memory
+/// runs out.
 fn add_holders(
     tasks: &mut Vec<TaskId>,
     number: usize,
@@ -95,7 +97,8 @@ fn add_holders(
     add_holders(tasks, number + 1, rest)
 }
 
-/// The tasks that hold the transition up, where something changed in where tasks sleep that matters.
+/// Returns the tasks that a row names as holding the transition up. There are none if no stay changed since the line
+/// before. `Err` if memory runs out.
 fn holders_shown(alloc: Global, before: &View, after: &View) -> Result<Vec<TaskId>, AllocError>
     ensures { IfOk result (λ tasks. tasks.items ≡ holders_shown before.now after.now) }
 {
@@ -106,13 +109,13 @@ fn holders_shown(alloc: Global, before: &View, after: &View) -> Result<Vec<TaskI
     Ok(tasks)
 }
 
-/// Serves a line, and makes its row.
+/// Serves one line. Returns its row, what the line did, and the state after it. `Err` if memory runs out.
 fn record_line(
     alloc: Global,
     manager: &mut Manager,
     line: &[u8],
     before: &View,
-    layout: &mut Layout,
+    layout: &mut Layout<'_>,
 ) -> Result<(Row, Moment), AllocError>
     ensures { IfOk result (λ made. IsRowOf manager.old manager.new before.now line.now made.0 made.1) }
 {
@@ -133,14 +136,14 @@ fn record_line(
     Ok((row, moment))
 }
 
-/// Serves a line behind others, and records it.
+/// Serves one line, and adds its row and its moment to `recorded`. `Err` if memory runs out.
 fn add_line(
     alloc: Global,
     manager: &mut Manager,
     line: &[u8],
     opening: &View,
     recorded: &mut Recorded,
-    layout: &mut Layout,
+    layout: &mut Layout<'_>,
 ) -> Result<(), AllocError>
     ensures { IfOk result (λ _. AddsRow manager.old manager.new opening.now line.now recorded.old.rows.items
         recorded.new.rows.items recorded.old.run.items recorded.new.run.items) }
@@ -152,7 +155,8 @@ fn add_line(
     Ok(())
 }
 
-/// Serves all lines that a line feed ends. `line` has then what is behind the last one.
+/// Serves each line of the script that ends with a line feed, and adds its row and its moment to `recorded`.
+/// Afterwards `line` holds what follows the last line feed. `Err` if a line is too long, or if memory runs out.
 fn record_lines(
     alloc: Global,
     manager: &mut Manager,
@@ -160,7 +164,7 @@ fn record_lines(
     line: &mut LineBuffer,
     opening: &View,
     recorded: &mut Recorded,
-    layout: &mut Layout,
+    layout: &mut Layout<'_>,
 ) -> Result<(), Fault>
     requires line { line.old ≡ [] }
     requires rows { recorded.old.rows.items ≡ [] }
@@ -185,13 +189,14 @@ fn record_lines(
     Ok(())
 }
 
-/// The rows of a script, one for each of its lines, and what was seen with each.
+/// Serves a script. Returns a row for each of its lines, and what each line did. `Err` if a line is too long, or if
+/// memory runs out.
 pub(crate) fn record(
     alloc: Global,
     manager: &mut Manager,
     script: &[u8],
     opening: &View,
-    layout: &mut Layout,
+    layout: &mut Layout<'_>,
 ) -> Result<Recorded, Fault>
     ensures rows { IfOk result (λ recorded. AreRows manager.old manager.new opening.now (lines_of script.now)
         recorded.rows.items recorded.run.items) }

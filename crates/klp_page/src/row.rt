@@ -2,44 +2,48 @@
 ghost use Rattle.std.specs.Prelude.{◌≡◌, ◌<◌, ◌+◌, ◌-◌, ◌^◌, ◌++◌, length};
 ghost use Rattle.std.specs.Fmt.{decimal};
 ghost use Rattle.klp_markup.specs.Adds.{Adds};
-ghost use Rattle.klp_page.specs.Text.{mark_text, refused_text, open_text, shown_text, start_text, row_text, fold_start};
-ghost use Rattle.klp_page.specs.Text.{fold_end, rows_text};
+ghost use Rattle.klp_names.specs.Names.{since_start};
+ghost use Rattle.klp_page.specs.Text.{mark_text, refused_text, open_text, time_text, shown_text, start_text, row_text};
+ghost use Rattle.klp_page.specs.Text.{fold_start, fold_end, rows_text};
 
 use crate::style::{
     ANSWER, ANSWER_END, CARD_NUMBER, CARD_ROW, CARDS, CARDS_END, FOLD, FOLD_END, FOLDED, HELD,
-    HELD_END, ID, LINE, NUMBER, OPEN, PLAIN_END, PLAIN_ROW, QUIET_ROWS, REFUSED,
+    HELD_END, ID, LINE, NUMBER, OPEN, PLAIN_END, PLAIN_ROW, QUIET_ROWS, REFUSED, TIME,
 };
-use klp_markup::{Sheet, add_each_task};
+use klp_markup::{Sheet, add_each_task, add_seconds};
+use klp_names::Names;
 use klp_types::TaskId;
 
-/// What a page shows of a line.
+/// What a page shows of one line.
 #[derive(Drop)]
 pub(crate) struct Row {
     pub line: Vec<u8>,
     pub answer: Vec<u8>,
     pub is_refused: bool,
-    /// Whether it may be folded away.
+    /// Whether the page may fold the row away: the line was done, and there is nothing to say of it.
     pub is_quiet: bool,
-    /// The tasks that hold a transition up after the line, where that isn't as it was before.
+    /// The tasks that hold the transition up after the line. Empty if no stay changed since the line before.
     pub holders: Vec<TaskId>,
-    /// Whether its cards stand open.
+    /// Whether the row shows its cards at first.
     pub is_open: bool,
-    /// What it changed.
+    /// Cards of what the line changed.
     pub cards: Sheet,
 }
 
-fn add_mark(sheet: &mut Sheet, tasks: &[TaskId])
-    ensures { Adds sheet.old sheet.new (mark_text tasks.now) }
+/// Adds who holds the transition up. Adds nothing if nobody does.
+fn add_mark(sheet: &mut Sheet, names: &Names, tasks: &[TaskId])
+    ensures { Adds sheet.old sheet.new (mark_text names.now tasks.now) }
 {
     klp_markup::laws::what_is_added_adds_up();
     if tasks.is_empty() {
         return;
     }
     sheet.markup(HELD);
-    add_each_task(sheet, tasks);
+    add_each_task(sheet, names, tasks);
     sheet.markup(HELD_END);
 }
 
+/// Adds the class of a refused line, if the line was refused.
 fn add_refused(sheet: &mut Sheet, is_refused: bool)
     ensures { Adds sheet.old sheet.new (refused_text is_refused) }
 {
@@ -49,6 +53,7 @@ fn add_refused(sheet: &mut Sheet, is_refused: bool)
     }
 }
 
+/// Adds the attribute of a row that is open at first, if the row is.
 fn add_open(sheet: &mut Sheet, is_open: bool)
     ensures { Adds sheet.old sheet.new (open_text is_open) }
 {
@@ -58,21 +63,42 @@ fn add_open(sheet: &mut Sheet, is_open: bool)
     }
 }
 
-/// The line with its number, its answer and its mark.
-#[tactic(auto, unfolding(crate::specs::Text::shown_text))]
-fn add_shown(sheet: &mut Sheet, number: u64, row: &Row)
-    ensures { Adds sheet.old sheet.new (shown_text number row.now) }
+/// Adds a time since the first one. Adds nothing if it isn't known.
+fn add_time(sheet: &mut Sheet, time: Option<u64>)
+    ensures { Adds sheet.old sheet.new (time_text time) }
+{
+    klp_markup::laws::what_is_added_adds_up();
+    if let Some(time) = time {
+        sheet.markup(TIME);
+        add_seconds(sheet, time);
+    }
+}
+
+/// Adds the number of a line, and its time if that is known.
+fn add_number(sheet: &mut Sheet, names: &Names, number: u64)
+    ensures { Adds sheet.old sheet.new (decimal number ++ time_text (since_start names.now.timed number)) }
 {
     klp_markup::laws::what_is_added_adds_up();
     sheet.number(number);
+    add_time(sheet, names.since_start(number));
+}
+
+/// Adds the columns of a row: the line's number and time, its text, its answer, and who holds the transition up.
+#[tactic(auto, unfolding(crate::specs::Text::shown_text))]
+fn add_shown(sheet: &mut Sheet, names: &Names, number: u64, row: &Row)
+    ensures { Adds sheet.old sheet.new (shown_text names.now number row.now) }
+{
+    klp_markup::laws::what_is_added_adds_up();
+    add_number(sheet, names, number);
     sheet.markup(LINE);
     sheet.text(&row.line);
     sheet.markup(ANSWER);
     sheet.text(&row.answer);
     sheet.markup(ANSWER_END);
-    add_mark(sheet, &row.holders);
+    add_mark(sheet, names, &row.holders);
 }
 
+/// Begins a row with this tag, its class and its anchor `line-NUMBER`.
 #[tactic(auto, unfolding(crate::specs::Text::start_text))]
 fn add_start(sheet: &mut Sheet, tag: &'static str, number: u64, row: &Row)
     ensures { Adds sheet.old sheet.new (start_text tag.now number row.now) }
@@ -84,47 +110,49 @@ fn add_start(sheet: &mut Sheet, tag: &'static str, number: u64, row: &Row)
     sheet.number(number);
 }
 
-/// A row that doesn't open.
-fn add_plain_row(sheet: &mut Sheet, number: u64, row: &Row)
+/// Adds a row without cards.
+fn add_plain_row(sheet: &mut Sheet, names: &Names, number: u64, row: &Row)
     ensures { Adds sheet.old sheet.new
-        (start_text PLAIN_ROW.now number row.now ++ NUMBER.now ++ shown_text number row.now ++ PLAIN_END.now) }
+        (start_text PLAIN_ROW.now number row.now ++ NUMBER.now ++ shown_text names.now number row.now
+        ++ PLAIN_END.now) }
 {
     klp_markup::laws::what_is_added_adds_up();
     add_start(sheet, PLAIN_ROW, number, row);
     sheet.markup(NUMBER);
-    add_shown(sheet, number, row);
+    add_shown(sheet, names, number, row);
     sheet.markup(PLAIN_END);
 }
 
-/// A row that opens, with its cards.
-fn add_card_row(sheet: &mut Sheet, number: u64, row: &Row)
+/// Adds a row with cards, which a click shows or hides.
+fn add_card_row(sheet: &mut Sheet, names: &Names, number: u64, row: &Row)
     ensures { Adds sheet.old sheet.new
         (start_text CARD_ROW.now number row.now ++ open_text row.now.is_open ++ CARD_NUMBER.now
-        ++ shown_text number row.now
+        ++ shown_text names.now number row.now
         ++ CARDS.now ++ row.now.cards.text ++ CARDS_END.now) }
 {
     klp_markup::laws::what_is_added_adds_up();
     add_start(sheet, CARD_ROW, number, row);
     add_open(sheet, row.is_open);
     sheet.markup(CARD_NUMBER);
-    add_shown(sheet, number, row);
+    add_shown(sheet, names, number, row);
     sheet.markup(CARDS);
     sheet.append(&row.cards);
     sheet.markup(CARDS_END);
 }
 
+/// Adds a row, with cards if it has some.
 #[tactic(auto, unfolding(crate::specs::Text::row_text))]
-fn add_row(sheet: &mut Sheet, number: u64, row: &Row)
-    ensures { Adds sheet.old sheet.new (row_text number row.now) }
+fn add_row(sheet: &mut Sheet, names: &Names, number: u64, row: &Row)
+    ensures { Adds sheet.old sheet.new (row_text names.now number row.now) }
 {
     if row.cards.is_empty() {
-        add_plain_row(sheet, number, row);
+        add_plain_row(sheet, names, number, row);
     } else {
-        add_card_row(sheet, number, row);
+        add_card_row(sheet, names, number, row);
     }
 }
 
-/// Begins a fold, where as many quiet rows as are shown stand before.
+/// Begins a fold in front of a quiet row, if exactly [`QUIET_ROWS`] quiet rows are shown before it.
 fn add_fold_start(sheet: &mut Sheet, quiet: usize)
     ensures { Adds sheet.old sheet.new (fold_start quiet) }
 {
@@ -134,7 +162,7 @@ fn add_fold_start(sheet: &mut Sheet, quiet: usize)
     }
 }
 
-/// Ends the fold, where there is one, and tells how many rows it has.
+/// Ends the fold behind this many quiet rows in a row, if there is one, and says how many rows are folded away.
 fn add_fold_end(sheet: &mut Sheet, quiet: usize)
     ensures { Adds sheet.old sheet.new (fold_end quiet) }
 {
@@ -146,9 +174,9 @@ fn add_fold_end(sheet: &mut Sheet, quiet: usize)
     }
 }
 
-/// Adds the rows in order, and folds quiet ones away where there are many in a row.
-pub(crate) fn add_rows(sheet: &mut Sheet, rows: &[Row])
-    ensures { Adds sheet.old sheet.new (rows_text rows.now) }
+/// Adds the rows in order. Of more than [`QUIET_ROWS`] quiet rows in a row the others are folded away.
+pub(crate) fn add_rows(sheet: &mut Sheet, names: &Names, rows: &[Row])
+    ensures { Adds sheet.old sheet.new (rows_text names.now rows.now) }
 {
     klp_markup::laws::what_is_added_adds_up();
     let mut quiet = 0;
@@ -161,7 +189,7 @@ pub(crate) fn add_rows(sheet: &mut Sheet, rows: &[Row])
             add_fold_end(sheet, quiet);
             quiet = 0;
         }
-        add_row(sheet, index as u64 + 1, row);
+        add_row(sheet, names, index as u64 + 1, row);
     }
     add_fold_end(sheet, quiet);
 }

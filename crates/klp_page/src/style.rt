@@ -1,14 +1,14 @@
 //! The markup of every page: its beginning and its end, its style, and what a row is made of.
 
-/// How many quiet lines in a row are shown; more of them fold.
+/// How many quiet rows in a row a page shows before it folds more of them away.
 pub(crate) const QUIET_ROWS: usize = 10;
 
 pub(crate) const HEAD: &str = "<!doctype html><html lang=en><meta charset=utf-8>
 <meta name=viewport content=\"width=device-width,initial-scale=1\"><title>";
 
-/// The page's own colours, its sentences and its rows. Those of the drawing and of cards follow. A name is broken only where
-/// it doesn't fit on a line. Print has no backgrounds, so what has to be seen there is drawn or has a border, and an open row
-/// takes room for its first cards with it, so that no page ends with a row alone.
+/// The style of a page: its colours, its sentences and its rows. The styles of drawing and cards follow. A name is
+/// broken only if it doesn't fit on a line. Print has no backgrounds: whatever matters there is drawn or has a border.
+/// In print an open row keeps its first cards on its own sheet.
 pub(crate) const STYLE: &str = "</title><style>
 :root{color-scheme:light dark;--paper:#fff;--ink:#1b1f24;--soft:#57606a;--rule:#d9dee4;--card:#f5f7f9;--hold:#b3261e;
 --focus:#0072b2}
@@ -43,6 +43,12 @@ div.row{color:var(--soft)}samp{white-space:pre-wrap}.no samp{color:var(--hold);f
 a{text-decoration:none}}
 ";
 
+/// The style of a page with times, whose rows need room for the time below the number.
+pub(crate) const TIMED_STYLE: &str =
+    ".row>summary,div.row{grid-template-columns:5.4rem minmax(0,1.3fr) minmax(0,1fr)}.n{white-space:nowrap}
+@media(max-width:40rem){.row>summary,div.row{grid-template-columns:4.4rem minmax(0,1fr)}}
+";
+
 pub(crate) const STYLE_END: &str = "</style>
 ";
 
@@ -63,12 +69,15 @@ pub(crate) const REFUSED: &str = " no";
 
 pub(crate) const ID: &str = "\" id=line-";
 
-/// A row with cards that stands open.
+/// The attribute of a row that shows its cards at first.
 pub(crate) const OPEN: &str = " open";
 
 pub(crate) const NUMBER: &str = "><span class=n>";
 
 pub(crate) const CARD_NUMBER: &str = "><summary><span class=n>";
+
+/// What stands in front of the seconds of a line.
+pub(crate) const TIME: &str = "<br>+";
 
 pub(crate) const LINE: &str = "</span><code class=line>";
 
@@ -92,7 +101,7 @@ pub(crate) const FOLDED: &str = " more: no patch and no holder changes</p></div>
 pub(crate) const FOOT: &str =
     "<p class=soft>A click on a line with <span class=plus>+</span> shows what it changed.</p></html>\n";
 
-/// The mark of a line after which others hold the transition up, and its end.
+/// What stands around the tasks that hold the transition up after a line.
 pub(crate) const HELD: &str = "<b class=held>held up by ";
 
 pub(crate) const HELD_END: &str = "</b>";

@@ -9,7 +9,7 @@ use klp_markup::Sheet;
 use klp_types::PatchId;
 use std::alloc::{AllocError, Global};
 
-/// The callbacks of a catalog, and what they may change.
+/// The callbacks of a catalog, and what they can change.
 #[derive(Drop)]
 pub(crate) struct Callbacks {
     calls: Calls,
@@ -17,6 +17,7 @@ pub(crate) struct Callbacks {
 }
 
 impl Callbacks {
+    /// Returns the state before any callback is known. Takes no memory.
     pub(crate) fn new(alloc: Global) -> Callbacks {
         Callbacks {
             calls: Calls::new(alloc),
@@ -24,16 +25,19 @@ impl Callbacks {
         }
     }
 
+    /// Begins to watch the shadow variables that the scripts of a plan change. `Err` if memory runs out.
     pub(crate) fn watch(&mut self, plan: &Plan) -> Result<(), AllocError> {
         self.watched.add_scripts(plan)
     }
 
+    /// Notes the callbacks and system states of the manager's catalog. `Err` if memory runs out.
     pub(crate) fn open(&mut self, manager: &Manager) -> Result<(), AllocError> {
         self.calls.open(manager)?;
         self.watched.open(manager)
     }
 
-    /// Looks at what an event of the run's own did to shadow variables. Without callbacks nobody asks for it.
+    /// Updates the watched shadow variables with an event that runs no callback, so that a later change by a callback
+    /// is told apart. Does nothing in a catalog without callbacks. `Err` if memory runs out.
     pub(crate) fn hear(&mut self, manager: &Manager, outcome: &Outcome) -> Result<(), AllocError> {
         match outcome {
             Outcome::Answered(event, Ok(_)) if !self.calls.is_empty() => {
@@ -43,8 +47,9 @@ impl Callbacks {
         }
     }
 
-    /// Looks at all that callbacks may have changed by an event, before which these patches were installed, and adds a card
-    /// where one ran. Answers whether one did.
+    /// Adds a card of the callbacks that ran in an event, and of what they changed. Adds nothing if none ran. Returns
+    /// whether one did. `installed` are the patches that were installed before the event, oldest first. `Err` if
+    /// memory runs out.
     pub(crate) fn describe(
         &mut self,
         sheet: &mut Sheet,

@@ -6,13 +6,13 @@ use klp_markup::{Sheet, object_name, patch_name};
 use klp_types::{MAX_PATCHES, ObjId, PatchId, Which};
 use std::alloc::{AllocError, Global};
 
-/// The kinds of callbacks, in the order in which those of one patch and object run.
+/// The kinds of callbacks, in the order in which a patch runs those of one object.
 const KINDS: [Which; 4] = [Which::Pre, Which::Post, Which::PreUn, Which::PostUn];
 
-/// How many turns there are: one for each patch that was installed and one for another, and that twice.
+/// How many values `turn_of` can have: for each kind of move, one for each installed patch and one for a new one.
 const TURNS: usize = 2 * (MAX_PATCHES + 1);
 
-/// A callback of the catalog, and how often it had run.
+/// A callback of the catalog, and how often it had run after the last event.
 #[derive(Clone, Copy)]
 struct Call {
     patch: PatchId,
@@ -21,27 +21,29 @@ struct Call {
     runs: u64,
 }
 
-/// A callback that ran in an event. Of those in one turn the order is that of the catalog.
+/// A callback that ran in an event, and its turn. Callbacks with the same turn ran in the order of the catalog.
 #[derive(Clone, Copy)]
 struct Ran {
     call: Call,
     turn: usize,
 }
 
-/// All callbacks of a catalog, in its order: by patch, by object, by kind.
+/// All callbacks of a catalog, ordered by patch, by object and by kind; and those that ran in the last event.
 #[derive(Drop)]
 pub(crate) struct Calls {
     calls: Vec<Call>,
     ran: Vec<Ran>,
 }
 
-/// Whether a callback is one that runs as a patch comes. Where it comes and is cleaned up in one event, these run first.
+/// Whether this kind of callback runs while its patch is applied, rather than removed. If one event applies and
+/// removes a patch, these run first.
 fn comes(which: Which) -> bool {
     matches!(which, Which::Pre | Which::Post)
 }
 
-/// The turn of a callback in an event, before which these were installed: what comes is before what goes, and in these an
-/// older patch before a newer one.
+/// Returns a number that orders the callbacks of one event: those of applied patches before those of removed ones, and
+/// in each of these groups older patches before newer ones. `installed` are the patches that were installed before the
+/// event, oldest first.
 fn turn_of(call: &Call, installed: &[PatchId]) -> usize {
     let place = installed.iter().position(|patch| *patch == call.patch);
     let place = place.unwrap_or(MAX_PATCHES).min(MAX_PATCHES);
@@ -52,6 +54,7 @@ fn turn_of(call: &Call, installed: &[PatchId]) -> usize {
     }
 }
 
+/// Returns the kernel's name of a kind of callbacks.
 fn kind_text(which: Which) -> &'static str {
     match which {
         Which::Pre => "pre-patch",
@@ -61,6 +64,7 @@ fn kind_text(which: Which) -> &'static str {
     }
 }
 
+/// Adds a list item for a callback: its kind, its patch and its object.
 fn add_call(sheet: &mut Sheet, manager: &Manager, call: &Call) {
     sheet.fill(
         "<li>{} of '{}' for {}",
@@ -73,6 +77,7 @@ fn add_call(sheet: &mut Sheet, manager: &Manager, call: &Call) {
 }
 
 impl Calls {
+    /// Returns a list without callbacks. Takes no memory.
     pub(crate) fn new(alloc: Global) -> Calls {
         Calls {
             calls: Vec::new(alloc),
@@ -80,6 +85,7 @@ impl Calls {
         }
     }
 
+    /// Adds the callbacks of one object of a patch. `Err` if memory runs out.
     fn open_object(
         &mut self,
         manager: &Manager,
@@ -99,7 +105,7 @@ impl Calls {
         Ok(())
     }
 
-    /// Takes up the callbacks of the manager's catalog.
+    /// Adds all callbacks of the manager's catalog. `Err` if memory runs out.
     pub(crate) fn open(&mut self, manager: &Manager) -> Result<(), AllocError> {
         let catalog = manager.catalog();
         for number in 0..catalog.patches() {
@@ -113,11 +119,13 @@ impl Calls {
         Ok(())
     }
 
+    /// Whether the catalog has no callback.
     pub(crate) fn is_empty(&self) -> bool {
         self.calls.is_empty()
     }
 
-    /// Finds the callbacks that ran in an event, before which these patches were installed. Answers whether one did.
+    /// Finds the callbacks that ran in an event, by their counts of runs. Returns whether one did. `installed` are the
+    /// patches that were installed before the event, oldest first. `Err` if memory runs out.
     pub(crate) fn look(
         &mut self,
         manager: &Manager,

@@ -3,10 +3,11 @@
 use klp_core::Manager;
 use klp_markup::Value::{Markup, Name};
 use klp_markup::{Sheet, add_tasks, object_name, patch_name, plural};
+use klp_names::Names;
 use klp_timeline::{Fact, View, lagging};
 use klp_types::{Mode, PatchId};
 
-/// What is said of a patch or a module.
+/// Adds a card of a patch or a module: its name, and what it did.
 fn add_card(sheet: &mut Sheet, class: &'static str, name: &[u8], what: &'static str) {
     sheet.fill(
         "<div class={}><b>{}</b> {}</div>",
@@ -14,7 +15,7 @@ fn add_card(sheet: &mut Sheet, class: &'static str, name: &[u8], what: &'static 
     );
 }
 
-/// What a line did that neither patches nor tasks show.
+/// Adds a card of what a line did, unless the cards of patches and tasks show it.
 pub(crate) fn add_act(sheet: &mut Sheet, manager: &Manager, act: &Option<Fact>) {
     let (catalog, modules) = (manager.catalog(), manager.modules());
     let (name, what) = match *act {
@@ -33,12 +34,12 @@ pub(crate) fn add_act(sheet: &mut Sheet, manager: &Manager, act: &Option<Fact>) 
     add_card(sheet, "card", name, what);
 }
 
-/// Whether a patch was installed or left, or the transition is another one.
+/// Whether a patch was installed or left, or the transition changed.
 pub(crate) fn are_patches_changed(before: &View, after: &View) -> bool {
     before.moving != after.moving || before.installed.as_slice() != after.installed.as_slice()
 }
 
-/// How a patch stands that is installed.
+/// Returns the class of an installed patch's card, and what the card says of the patch.
 fn standing(manager: &Manager, view: &View, patch: PatchId) -> (&'static str, &'static str) {
     match view.moving {
         Some(moving) if moving.patch != patch => ("card", "is enabled"),
@@ -51,7 +52,7 @@ fn standing(manager: &Manager, view: &View, patch: PatchId) -> (&'static str, &'
     }
 }
 
-/// Where tasks are that lag in a mode, and when they switch.
+/// Returns where tasks that lag in this mode are, and when each will switch. `count` chooses singular or plural.
 fn switching(mode: Mode, count: usize) -> &'static str {
     match mode {
         Mode::User => plural(
@@ -72,31 +73,37 @@ fn switching(mode: Mode, count: usize) -> &'static str {
     }
 }
 
-/// The tasks that lag in a mode, if one does.
-fn add_waiting(sheet: &mut Sheet, view: &View, mode: Mode) {
+/// Adds a list item for the tasks that lag in this mode. Adds nothing if there are none.
+fn add_waiting(sheet: &mut Sheet, names: &Names, view: &View, mode: Mode) {
     let laggards = lagging(mode, &view.waits);
     let tasks = laggards.as_slice();
     if !tasks.is_empty() {
         sheet.markup("<li>");
-        add_tasks(sheet, tasks);
+        add_tasks(sheet, names, tasks);
         sheet.markup(switching(mode, tasks.len()));
     }
 }
 
-/// Who lags and doesn't hold the transition up, where one goes on.
-fn add_lagging(sheet: &mut Sheet, view: &View) {
+/// Adds a card of the tasks that lag without holding the transition up. Adds nothing if there are none.
+fn add_lagging(sheet: &mut Sheet, names: &Names, view: &View) {
     if view.waits.iter().all(|waits| waits.is_none()) {
         return;
     }
     sheet.markup("<div class=card><b>behind</b><ul>");
-    add_waiting(sheet, view, Mode::User);
-    add_waiting(sheet, view, Mode::Kernel);
-    add_waiting(sheet, view, Mode::Asleep);
+    add_waiting(sheet, names, view, Mode::User);
+    add_waiting(sheet, names, view, Mode::Kernel);
+    add_waiting(sheet, names, view, Mode::Asleep);
     sheet.markup("</ul></div>");
 }
 
-/// The patches, where one of them changed.
-pub(crate) fn add_patches(sheet: &mut Sheet, manager: &Manager, before: &View, after: &View) {
+/// Adds a card for each patch that is installed or left with this line, and one of the tasks that lag.
+pub(crate) fn add_patches(
+    sheet: &mut Sheet,
+    names: &Names,
+    manager: &Manager,
+    before: &View,
+    after: &View,
+) {
     let catalog = manager.catalog();
     for patch in &after.installed {
         let (class, what) = standing(manager, after, *patch);
@@ -107,5 +114,5 @@ pub(crate) fn add_patches(sheet: &mut Sheet, manager: &Manager, before: &View, a
             add_card(sheet, "card", patch_name(catalog, *patch), "is gone");
         }
     }
-    add_lagging(sheet, after);
+    add_lagging(sheet, names, after);
 }

@@ -13,31 +13,32 @@ use klp_catalog_text::Plan;
 use klp_console::Outcome;
 use klp_core::Manager;
 use klp_markup::Sheet;
+use klp_names::Names;
 use klp_timeline::{Moment, View};
 use klp_types::{Entry, MAX_PATCHES, MAX_TASKS, Site, TaskId};
 use std::alloc::{AllocError, Global};
 
-/// How many tasks have a card at a line.
+/// How many tasks have a card at one line at most.
 const MAX_CARDS: u64 = 12;
 
 /// What a line changed, and the cards that show it.
 #[derive(Drop)]
 pub struct RowParts {
-    /// Whether a patch was installed or left, or the transition is another one.
+    /// Whether a patch was installed or left, or the transition changed.
     pub patches: bool,
-    /// Whether a task is another than before.
+    /// Whether a task changed.
     pub tasks: bool,
     /// Whether the function stack of a site changed.
     pub sites: bool,
-    /// Whether others hold the transition up.
+    /// Whether a task began or ceased to hold the transition up.
     pub holders: bool,
     /// Whether a callback ran.
     pub callbacks: bool,
-    /// One beside the other. There are none where nothing changed.
+    /// The cards, side by side. Empty if nothing changed.
     pub cards: Sheet,
 }
 
-/// What a line changed, as in [`RowParts`].
+/// What a line changed, like the fields of [`RowParts`].
 #[derive(Clone, Copy)]
 struct Changes {
     patches: bool,
@@ -47,15 +48,18 @@ struct Changes {
     callbacks: bool,
 }
 
-/// What was seen after the last line.
+/// The tasks, function stacks and callbacks after the last line, which the next line is compared with.
 #[derive(Drop)]
-pub struct Chronicle {
+pub struct Chronicle<'a> {
+    /// What tasks are called.
+    names: &'a Names,
     tasks: Vec<Option<TaskShot>>,
     stacks: Vec<ArrayVec<Entry, MAX_PATCHES>>,
     callbacks: Callbacks,
 }
 
-/// What is gathered of tasks at a line.
+/// What the tasks add up to at one line: whether one changed, whether one began or ceased to hold the transition up,
+/// how many have cards, and how many have none for want of room.
 #[derive(Clone, Copy)]
 struct Crowd {
     is_changed: bool,
@@ -64,22 +68,25 @@ struct Crowd {
     uncarded: u64,
 }
 
-impl Chronicle {
-    /// Nothing is seen yet, and no room is taken.
-    pub fn new(alloc: Global) -> Chronicle {
+impl<'a> Chronicle<'a> {
+    /// Returns the chronicle of a run of which no line was served. Cards have the names of tasks from `names`. Takes
+    /// no memory.
+    pub fn new(alloc: Global, names: &'a Names) -> Chronicle<'a> {
         Chronicle {
+            names,
             tasks: Vec::new(alloc),
             stacks: Vec::new(alloc),
             callbacks: Callbacks::new(alloc),
         }
     }
 
-    /// Takes up the shadow variables that the scripts of a plan name, of which the manager is going to be booted.
+    /// Begins to watch the shadow variables that the scripts of a plan change. The manager will be booted over this
+    /// plan. `Err` if memory runs out.
     pub fn watch(&mut self, plan: &Plan) -> Result<(), AllocError> {
         self.callbacks.watch(plan)
     }
 
-    /// Takes the room for each task, each site and each callback of a manager that was just booted.
+    /// Prepares for each task, site and callback of a manager that was just booted. `Err` if memory runs out.
     pub fn open(&mut self, manager: &Manager) -> Result<(), AllocError> {
         self.tasks.resize(MAX_TASKS, None)?;
         for _site in 0..manager.sites() {
@@ -88,7 +95,8 @@ impl Chronicle {
         self.callbacks.open(manager)
     }
 
-    /// Tells what a line changed that came to this. It is wanted of each line whose event was taken or undone.
+    /// Returns what a line changed, and its cards. Call this for each line whose event was taken or undone; other
+    /// lines change nothing. `Err` if memory runs out.
     pub fn describe(
         &mut self,
         alloc: Global,
@@ -109,7 +117,7 @@ impl Chronicle {
         })
     }
 
-    /// Adds the cards of a line to a sheet, and answers what it changed.
+    /// Adds the cards of a line, and returns what the line changed. `Err` if memory runs out.
     fn describe_to(
         &mut self,
         sheet: &mut Sheet,
@@ -122,7 +130,7 @@ impl Chronicle {
         add_act(sheet, manager, &moment.act);
         let patches = are_patches_changed(before, view);
         if patches {
-            add_patches(sheet, manager, before, view);
+            add_patches(sheet, self.names, manager, before, view);
         }
         let callbacks = self.describe_callbacks(sheet, manager, outcome, before)?;
         let crowd = self.describe_tasks(sheet, manager, outcome, view);
@@ -136,7 +144,7 @@ impl Chronicle {
         })
     }
 
-    /// The callbacks that ran. Answers whether one did.
+    /// Adds a card of the callbacks that ran. Returns whether one did. `Err` if memory runs out.
     fn describe_callbacks(
         &mut self,
         sheet: &mut Sheet,
@@ -152,7 +160,7 @@ impl Chronicle {
         Ok(false)
     }
 
-    /// The tasks that did something.
+    /// Adds cards of the tasks that did something. Returns what the tasks add up to.
     fn describe_tasks(
         &mut self,
         sheet: &mut Sheet,
@@ -188,7 +196,7 @@ impl Chronicle {
         crowd
     }
 
-    /// Whether a task stands as it was seen last, what it sleeps inside of aside.
+    /// Whether a task is as it was after the last line, apart from the functions that it sleeps in.
     fn is_as_seen(&self, manager: &Manager, view: &View, task: TaskId) -> bool {
         let number = usize::from(task.0);
         if number >= self.tasks.len() || number >= MAX_TASKS {
@@ -197,6 +205,7 @@ impl Chronicle {
         stands_as_before(manager, task, &view.stays[number], &self.tasks[number])
     }
 
+    /// Adds the card of a task if it did something, and notes how it is now.
     fn describe_task(
         &mut self,
         sheet: &mut Sheet,
@@ -225,7 +234,7 @@ impl Chronicle {
         }
         crowd.cards = crowd.cards.saturating_add(1);
         let Some(shot) = &after else {
-            add_ended_card(sheet, task);
+            add_ended_card(sheet, self.names, task);
             return;
         };
         let actor = Actor {
@@ -234,10 +243,10 @@ impl Chronicle {
             stay,
             moving: &view.moving,
         };
-        add_task_card(sheet, manager, &actor);
+        add_task_card(sheet, self.names, manager, &actor);
     }
 
-    /// The sites whose function stack changed. Answers whether there is one.
+    /// Adds a card for each site whose function stack changed. Returns whether there is one.
     fn describe_sites(&mut self, sheet: &mut Sheet, manager: &Manager, outcome: &Outcome) -> bool {
         if !matches!(reach_of(outcome), Reach::All) {
             return false;

@@ -4,19 +4,20 @@ use klp_console::Outcome;
 use klp_model::{Event, Reply};
 use klp_types::TaskId;
 
-/// What is to be looked at after a line.
+/// What a line can have changed, so that the rest needn't be compared.
 #[derive(Clone, Copy)]
 pub(crate) enum Reach {
     /// Nothing that a card shows.
     Nothing,
     /// This task alone.
     Task(TaskId),
-    /// All tasks, of which none is inside of other functions than before.
+    /// All tasks, but not the functions that they sleep in.
     Tasks,
-    /// Patches, tasks, sites and what callbacks change.
+    /// Patches, tasks, sites, and what callbacks change.
     All,
 }
 
+/// Returns what an event with this reply can have changed.
 fn reach_of_event(event: &Event, reply: &Reply) -> Reach {
     match event {
         Event::NewTask(task)
@@ -35,7 +36,7 @@ fn reach_of_event(event: &Event, reply: &Reply) -> Reach {
     }
 }
 
-/// What a line can have changed that came to this.
+/// Returns what a line with this outcome can have changed.
 pub(crate) fn reach_of(outcome: &Outcome) -> Reach {
     match outcome {
         Outcome::Answered(event, Ok(reply)) => reach_of_event(event, reply),

@@ -8,16 +8,16 @@ use klp_types::{Frames, Mode, TaskId};
 #[derive(Clone, Copy)]
 pub(crate) struct TaskShot {
     pub mode: Mode,
-    /// As `/proc/<pid>/patch_state` shows it.
+    /// The patch state, as `/proc/<pid>/patch_state` shows it.
     pub state: i8,
     pub is_holding: bool,
     /// Whether it sleeps in code that isn't called now.
     pub is_outdated: bool,
-    /// What it sleeps inside of.
+    /// The functions that it sleeps in.
     pub frames: Frames,
 }
 
-/// A task, if it is there.
+/// Returns a task as it is now. `None` if there is no such task.
 pub(crate) fn task_shot(manager: &Manager, task: TaskId, stay: &Option<Stay>) -> Option<TaskShot> {
     let mode = manager.mode(task)?;
     let state = manager.patch_state(task)?;
@@ -30,7 +30,7 @@ pub(crate) fn task_shot(manager: &Manager, task: TaskId, stay: &Option<Stay>) ->
     })
 }
 
-/// Whether a task stands as before, what it sleeps inside of aside. It costs less than to see it anew.
+/// Whether a task is as before, apart from the functions that it sleeps in. This costs less than `task_shot`.
 pub(crate) fn stands_as_before(
     manager: &Manager,
     task: TaskId,
@@ -46,18 +46,18 @@ pub(crate) fn stands_as_before(
         && before.is_outdated == matches!(stay, Some(Stay::Outdated(_)))
 }
 
-/// Whether a task switched, where it isn't that a transition only begins or ends.
+/// Whether a task switched. It didn't if a transition only began or ended.
 fn has_switched(before: &TaskShot, after: &TaskShot) -> bool {
     before.state != after.state && before.state >= 0 && after.state >= 0
 }
 
-/// Whether two frames are the same. The places that aren't used needn't be looked at.
+/// Whether a task sleeps in the same functions as before. Compares the used places of the frames alone.
 fn are_frames_same(before: &TaskShot, after: &TaskShot) -> bool {
     before.frames.as_slice() == after.frames.as_slice()
 }
 
-/// Whether a task did something, or something was done to it: it came, ended, moved, switched, or holds up what it
-/// didn't before. That a transition begins or ends is none of it.
+/// Whether a task did something: it began or ended, changed its mode, its functions or its patch state, or began or
+/// ceased to be in a stay. The begin or end of a transition doesn't count.
 pub(crate) fn did_something(before: &Option<TaskShot>, after: &Option<TaskShot>) -> bool {
     match (before, after) {
         (Some(before), Some(after)) => {
@@ -72,7 +72,7 @@ pub(crate) fn did_something(before: &Option<TaskShot>, after: &Option<TaskShot>)
     }
 }
 
-/// Whether the state of a task is another one, as where a transition begins or ends.
+/// Whether the patch state of a task changed, also by the begin or end of a transition.
 pub(crate) fn has_other_state(before: &Option<TaskShot>, after: &Option<TaskShot>) -> bool {
     match (before, after) {
         (Some(before), Some(after)) => before.state != after.state,
@@ -80,7 +80,7 @@ pub(crate) fn has_other_state(before: &Option<TaskShot>, after: &Option<TaskShot
     }
 }
 
-/// Whether a task holds a transition up.
+/// Whether there is such a task, and it holds the transition up.
 pub(crate) fn is_holding(shot: &Option<TaskShot>) -> bool {
     match shot {
         Some(shot) => shot.is_holding,

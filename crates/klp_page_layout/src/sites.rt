@@ -5,13 +5,13 @@ use klp_markup::Value::{Name, Words};
 use klp_markup::{Sheet, add_symbol, function_name, patch_name};
 use klp_types::{Entry, ObjId, Site};
 
-/// How many hexadecimal digits an entry site has.
+/// How many hexadecimal digits the five bytes of an entry site have.
 const DIGITS: usize = 10;
 
-/// The instruction that a call through a pointer lands on, in front of an entry site.
+/// The instruction ENDBR64, which may stand in front of an entry site, as the target of an indirect call.
 const ENDBR64: [u8; 4] = [0xf3, 0x0f, 0x1e, 0xfa];
 
-/// The five bytes of an entry site, which may stand behind an ENDBR64.
+/// Returns the five bytes of the entry site of this body in hexadecimal. `None` if the body is shorter.
 fn entry_bytes(body: &[u8]) -> Option<[u8; DIGITS]> {
     let offset = if body.starts_with(&ENDBR64) { 4 } else { 0 };
     if body.len() < offset + 5 {
@@ -22,7 +22,7 @@ fn entry_bytes(body: &[u8]) -> Option<[u8; DIGITS]> {
     Some(digits)
 }
 
-/// The number of a site among the symbols of its object.
+/// Returns the index of a site among the symbols of its object.
 fn number_in(manager: &Manager, site: Site, object: ObjId) -> u16 {
     let modules = manager.modules();
     let mut number = site.0;
@@ -33,6 +33,7 @@ fn number_in(manager: &Manager, site: Site, object: ObjId) -> u16 {
     number
 }
 
+/// Adds the bytes of an entry site, or that its object isn't loaded.
 fn add_bytes(sheet: &mut Sheet, manager: &Manager, site: Site) {
     let Some((object, _, _)) = manager.modules().symbol(site) else {
         return;
@@ -49,7 +50,7 @@ fn add_bytes(sheet: &mut Sheet, manager: &Manager, site: Site) {
     }
 }
 
-/// An entry of a function stack: `PATCH NEWNAME`, or `PATCH nop`.
+/// Adds an entry of a function stack: `PATCH NEWNAME`, or `PATCH nop`.
 fn add_entry(sheet: &mut Sheet, manager: &Manager, entry: &Entry) {
     let catalog = manager.catalog();
     let function = match entry.func {
@@ -60,7 +61,7 @@ fn add_entry(sheet: &mut Sheet, manager: &Manager, entry: &Entry) {
     sheet.fill("<li>{} {}", &[Words(patch), Words(function)]);
 }
 
-/// A site whose function stack changed, with its entries newest first.
+/// Adds the card of a site: its entries, newest first, and its bytes.
 pub(crate) fn add_site_card(sheet: &mut Sheet, manager: &Manager, site: Site, entries: &[Entry]) {
     sheet.markup("<div class=card><b class=m>");
     add_symbol(sheet, manager.modules(), site);

@@ -1,7 +1,6 @@
 //! The style of cards.
 
-/// What a page's style needs for cards, which stand in a box of the class `now`. What a card says by colour it says in
-/// words too.
+/// The style of cards, which are in a box of the class `now`. Whatever a card says by a colour it also says in words.
 pub const STYLE: &str =
     ".now{display:grid;grid-template-columns:repeat(auto-fill,minmax(16rem,1fr));gap:.6rem;
 padding:.2rem .2rem 1rem 4rem}

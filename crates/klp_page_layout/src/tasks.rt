@@ -3,20 +3,22 @@
 use crate::shot::TaskShot;
 use klp_core::Manager;
 use klp_markup::Value::{Markup, Number};
-use klp_markup::{Sheet, add_version};
+use klp_markup::{Sheet, add_task, add_version};
+use klp_names::Names;
 use klp_timeline::Stay;
 use klp_types::{Mode, TaskId, Transition, Version};
 
-/// A task that did something.
+/// A task that did something, and the state that its card depends on.
 #[derive(Clone, Copy)]
 pub(crate) struct Actor<'a> {
     pub task: TaskId,
     pub shot: &'a TaskShot,
     pub stay: &'a Option<Stay>,
-    /// The transition that goes on.
+    /// The transition under way.
     pub moving: &'a Option<Transition>,
 }
 
+/// Returns the class of a task's card.
 fn class_of(shot: &TaskShot) -> &'static str {
     match (shot.state, shot.is_holding) {
         (1, true) => "\"card new hold\"",
@@ -27,6 +29,7 @@ fn class_of(shot: &TaskShot) -> &'static str {
     }
 }
 
+/// Returns what a task in this mode does.
 fn mode_text(mode: Mode) -> &'static str {
     match mode {
         Mode::User => "is in user space",
@@ -35,7 +38,8 @@ fn mode_text(mode: Mode) -> &'static str {
     }
 }
 
-/// Whether a task is at the target of the transition that goes on, and else when it switches.
+/// Returns whether a task is at the target of the transition under way, or else when it will switch. Returns no text
+/// without a transition.
 fn progress(actor: &Actor<'_>) -> &'static str {
     let Some(moving) = actor.moving else {
         return "";
@@ -53,8 +57,8 @@ fn progress(actor: &Actor<'_>) -> &'static str {
     }
 }
 
-/// Why it matters that a task sleeps inside of a version, if it does. Where the task is at the target, the version that
-/// it doesn't run any more blocks nothing.
+/// Returns why it matters that a task sleeps in this version. Returns no text if it doesn't matter. In a task at the
+/// target no version blocks the transition.
 fn why_it_matters(manager: &Manager, actor: &Actor<'_>, version: Version) -> &'static str {
     match *actor.stay {
         Some(Stay::Outdated(outdated)) if outdated == version => {
@@ -71,6 +75,7 @@ fn why_it_matters(manager: &Manager, actor: &Actor<'_>, version: Version) -> &'s
     }
 }
 
+/// Adds a list item for a function that a task sleeps in, and `why` that matters.
 fn add_frame(sheet: &mut Sheet, manager: &Manager, version: Version, why: &'static str) {
     let (catalog, modules) = (manager.catalog(), manager.modules());
     if why.is_empty() {
@@ -83,17 +88,17 @@ fn add_frame(sheet: &mut Sheet, manager: &Manager, version: Version, why: &'stat
     }
 }
 
-/// A task that did something. Its functions stand outermost first.
-pub(crate) fn add_task_card(sheet: &mut Sheet, manager: &Manager, actor: &Actor<'_>) {
+/// Adds the card of a task that did something. It lists the functions that the task sleeps in, outermost first.
+pub(crate) fn add_task_card(
+    sheet: &mut Sheet,
+    names: &Names,
+    manager: &Manager,
+    actor: &Actor<'_>,
+) {
     let shot = actor.shot;
-    sheet.fill(
-        "<div class={}><b>task {}</b> {}",
-        &[
-            Markup(class_of(shot)),
-            Number(u64::from(actor.task.0)),
-            Markup(mode_text(shot.mode)),
-        ],
-    );
+    sheet.fill("<div class={}><b>task ", &[Markup(class_of(shot))]);
+    add_task(sheet, names, actor.task);
+    sheet.fill("</b> {}", &[Markup(mode_text(shot.mode))]);
     let frames = shot.frames.as_slice();
     if !frames.is_empty() {
         sheet.markup(" in<ul class=m>");
@@ -107,15 +112,14 @@ pub(crate) fn add_task_card(sheet: &mut Sheet, manager: &Manager, actor: &Actor<
     sheet.markup("</div>");
 }
 
-/// A task that was there before the line.
-pub(crate) fn add_ended_card(sheet: &mut Sheet, task: TaskId) {
-    sheet.fill(
-        "<div class=card><b>task {}</b> has ended</div>",
-        &[Number(u64::from(task.0))],
-    );
+/// Adds the card of a task that ended with this line.
+pub(crate) fn add_ended_card(sheet: &mut Sheet, names: &Names, task: TaskId) {
+    sheet.markup("<div class=card><b>task ");
+    add_task(sheet, names, task);
+    sheet.markup("</b> has ended</div>");
 }
 
-/// The tasks that have no card, since there are too many.
+/// Adds a card that says how many tasks have none of their own. Adds nothing if all have one.
 pub(crate) fn add_uncarded(sheet: &mut Sheet, count: u64) {
     match count {
         0 => {}

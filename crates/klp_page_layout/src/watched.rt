@@ -8,13 +8,13 @@ use klp_model::Event;
 use klp_types::{Edit, MAX_PATCHES, MAX_TARGETS, MAX_VALUE_BYTES, PatchId, ShadowKey, ShadowValue};
 use std::alloc::{AllocError, Global};
 
-/// How many scripts a catalog has at most: four for each object of each patch.
+/// How many scripts a catalog has at most: one for each kind of callback of each object of each patch.
 const MAX_SCRIPTS: usize = 4 * MAX_TARGETS * MAX_PATCHES;
 
-/// How many shadow variables are watched at most. There are never as many at a time.
+/// How many shadow variables are watched at most. A manager never has as many at a time.
 const MAX_WATCHED: usize = 1_024;
 
-/// A shadow variable: what it was before the last look, and what it is.
+/// A shadow variable with its values before and after the last event.
 #[derive(Clone, Copy)]
 struct Variable {
     key: ShadowKey,
@@ -22,7 +22,7 @@ struct Variable {
     value: Option<ShadowValue>,
 }
 
-/// A system state of a patch, likewise.
+/// A system state of a patch with its values before and after the last event.
 #[derive(Clone, Copy)]
 struct State {
     patch: PatchId,
@@ -31,18 +31,19 @@ struct State {
     value: Option<u64>,
 }
 
-/// What is watched.
+/// All that callbacks can change, as it was before and after the last event.
 #[derive(Drop)]
 pub(crate) struct Watched {
     variables: Vec<Variable>,
-    /// The ids of which a script removes all variables, whoever added them.
+    /// The ids of shadow variables of which a script removes all, also those that it didn't add.
     freed: Vec<u64>,
     states: Vec<State>,
-    /// Whether a variable isn't watched, since there are too many.
+    /// Whether some variable isn't watched, since [`MAX_WATCHED`] others are.
     is_full: bool,
 }
 
-/// Adds a value, as a line can give it again: its number where it has eight bytes, and else an `x` and its bytes.
+/// Adds the value of a shadow variable as a script spells it: a number if it has eight bytes, else `x` and its bytes
+/// in hexadecimal.
 fn add_value(sheet: &mut Sheet, value: &Option<ShadowValue>) {
     let Some(value) = value else {
         sheet.markup("none");
@@ -60,11 +61,13 @@ fn add_value(sheet: &mut Sheet, value: &Option<ShadowValue>) {
 }
 
 impl Variable {
+    /// Reads the variable's value after an event.
     fn look(&mut self, manager: &Manager) {
         self.was = self.value;
         self.value = manager.shadow_get(self.key);
     }
 
+    /// Adds a list item for the change of this variable.
     fn add(&self, sheet: &mut Sheet) {
         sheet.fill(
             "<li>shadow variable ({}, {}): ",
@@ -77,13 +80,14 @@ impl Variable {
 }
 
 impl State {
+    /// Reads the state's value after an event.
     fn look(&mut self, manager: &Manager) {
         self.was = self.value;
         self.value = manager.state_of(self.patch, self.id);
     }
 
-    /// The value before and the one now, where a callback changed it. That of a patch which is just installed is 0, and
-    /// one that left has none.
+    /// Returns the value before and the value after, if a callback changed the state. A patch that was just installed
+    /// had the value 0 before, and one that left has no value.
     fn change(&self) -> Option<(u64, u64)> {
         let value = self.value?;
         let was = self.was.unwrap_or(0);
@@ -93,6 +97,7 @@ impl State {
         Some((was, value))
     }
 
+    /// Adds a list item for the change of this state.
     fn add(&self, sheet: &mut Sheet, manager: &Manager, was: u64, value: u64) {
         sheet.fill(
             "<li>state {} of '{}': {} {} {}",
@@ -108,6 +113,7 @@ impl State {
 }
 
 impl Watched {
+    /// Returns the state before anything is watched. Takes no memory.
     pub(crate) fn new(alloc: Global) -> Watched {
         Watched {
             variables: Vec::new(alloc),
@@ -117,6 +123,7 @@ impl Watched {
         }
     }
 
+    /// Whether the shadow variable with this key is watched.
     fn is_watched(&self, key: ShadowKey) -> bool {
         for variable in &self.variables {
             if variable.key == key {
@@ -126,6 +133,7 @@ impl Watched {
         false
     }
 
+    /// Begins to watch a shadow variable, unless [`MAX_WATCHED`] others are watched. `Err` if memory runs out.
     fn add_variable(&mut self, key: ShadowKey) -> Result<(), AllocError> {
         if self.is_watched(key) {
             return Ok(());
@@ -142,6 +150,7 @@ impl Watched {
         Ok(())
     }
 
+    /// Begins to watch what an edit of a script changes. `Err` if memory runs out.
     fn add_edit(&mut self, edit: &Edit) -> Result<(), AllocError> {
         match *edit {
             Edit::Alloc(key, _) | Edit::Free(key) => self.add_variable(key)?,
@@ -151,7 +160,7 @@ impl Watched {
         Ok(())
     }
 
-    /// Takes up the shadow variables that the scripts of a plan name.
+    /// Begins to watch what the scripts of a plan change. `Err` if memory runs out.
     pub(crate) fn add_scripts(&mut self, plan: &Plan) -> Result<(), AllocError> {
         for number in 0..MAX_SCRIPTS {
             let Some(script) = plan.script(number) else {
@@ -164,7 +173,7 @@ impl Watched {
         Ok(())
     }
 
-    /// Adds each system state that a patch of the manager's catalog names, with no value yet.
+    /// Begins to watch each system state that a patch of the manager's catalog names. `Err` if memory runs out.
     pub(crate) fn open(&mut self, manager: &Manager) -> Result<(), AllocError> {
         let catalog = manager.catalog();
         for number in 0..catalog.patches() {
@@ -181,7 +190,7 @@ impl Watched {
         Ok(())
     }
 
-    /// Takes up the shadow variable that an event of the run adds, where a script may remove it.
+    /// Begins to watch the shadow variable that an event adds, if a script can remove it. `Err` if memory runs out.
     fn add_named(&mut self, event: &Event) -> Result<(), AllocError> {
         match *event {
             Event::ShadowAlloc(key, _) | Event::ShadowGetOrAlloc(key, _)
@@ -190,7 +199,7 @@ impl Watched {
         }
     }
 
-    /// Looks at what an event of shadow variables changed.
+    /// Reads the shadow variables that an event of the run itself changed. `Err` if memory runs out.
     pub(crate) fn hear(&mut self, manager: &Manager, event: &Event) -> Result<(), AllocError> {
         self.add_named(event)?;
         let (own, all) = match *event {
@@ -207,7 +216,7 @@ impl Watched {
         Ok(())
     }
 
-    /// Looks at all.
+    /// Reads all watched values after an event.
     pub(crate) fn look(&mut self, manager: &Manager) {
         for variable in &mut self.variables {
             variable.look(manager);
@@ -217,7 +226,7 @@ impl Watched {
         }
     }
 
-    /// Adds what changed from the look before to the last one. Answers whether something did.
+    /// Adds a list item for each value that the last event changed. Returns whether there is one.
     pub(crate) fn add_changes(&self, sheet: &mut Sheet, manager: &Manager) -> bool {
         let mut is_changed = false;
         for variable in &self.variables {

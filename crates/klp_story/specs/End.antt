@@ -18,8 +18,10 @@ use Rattle.klp_timeline.specs.Facts.{is_outdated}
 use Rattle.klp_timeline.specs.Lagging.{lagging}
 use Rattle.klp_timeline.specs.Shown.{is_lasting}
 use Rattle.klp_catalog.specs.Catalog.{Catalog}
+use Rattle.klp_names.specs.Names.{Names}
 use Rattle.klp_markup.specs.Names.{version_text}
 use Rattle.klp_markup.specs.Tasks.{plural, tasks_text}
+use Rattle.klp_markup.specs.Times.{line_time}
 use Rattle.klp_story.specs.declared.end.TheConstants.{MAX_HOLDERS}
 use Rattle.klp_story.specs.Words.{counted_text, link_text, quoted_text, why}
 
@@ -27,10 +29,11 @@ abbrev pub way : Bool → List ℕ
 way true = codes " is in transition, patching"
 way false = codes " is in transition, unpatching"
 
-abbrev pub since_text : Option Since → List ℕ
-since_text None = []
-since_text (Some (Turned line)) = codes " since " ++ link_text (codes "line ") line
-since_text (Some (Undone line)) = codes " since " ++ link_text (codes "line ") line ++ codes " at least, where events were undone"
+abbrev pub since_text : Names → Option Since → List ℕ
+since_text names None = []
+since_text names (Some (Turned line)) = codes " since " ++ link_text (codes "line ") line ++ line_time names line
+since_text names (Some (Undone line)) =
+    codes " since " ++ link_text (codes "line ") line ++ line_time names line ++ codes " at least, where events were undone"
 
 abbrev pub forced_text : Bool → List ℕ
 forced_text is_forced = if is_forced then codes ", and was forced" else []
@@ -56,10 +59,10 @@ abbrev pub rest_text : Catalog → List ℕ → List ℕ
 rest_text catalog patches = codes "No patch is in transition." ++ enabled_text catalog patches
 
 -- what moves, or that nothing does
-abbrev pub state_text : Catalog → View → Course → Option Transition → List ℕ
-state_text catalog view course None = rest_text catalog view.installed.items
-state_text catalog view course (Some move) =
-    quoted_text catalog move.patch ++ way move.target ++ since_text course.since ++ forced_text course.is_forced ++ held_text (count_by is_holding view.stays)
+abbrev pub state_text : Names → Catalog → View → Course → Option Transition → List ℕ
+state_text names catalog view course None = rest_text catalog view.installed.items
+state_text names catalog view course (Some move) =
+    quoted_text catalog move.patch ++ way move.target ++ since_text names course.since ++ forced_text course.is_forced ++ held_text (count_by is_holding view.stays)
 
 abbrev pub outdated_text : ℕ → List ℕ
 outdated_text count =
@@ -77,15 +80,15 @@ reason_text catalog (Holds move version) = version_text catalog version ++ codes
 reason_text catalog (Outdated version) = version_text catalog version ++ codes ", which isn't called now: the module or patch that has it mustn't be unloaded.\n"
 
 -- who still sleeps there, since which line
-abbrev pub sleeper_text : Catalog → ℕ → Said → List ℕ
-sleeper_text catalog line (Did fact) = []
-sleeper_text catalog line (Slept sleepers) =
-    codes "<li class=holds><b>" ++ tasks_text sleepers.tasks ++ codes "</b>, in the way since " ++ link_text (codes "line ") line ++ codes ": asleep in "
+abbrev pub sleeper_text : Names → Catalog → ℕ → Said → List ℕ
+sleeper_text names catalog line (Did fact) = []
+sleeper_text names catalog line (Slept sleepers) =
+    codes "<li class=holds><b>" ++ tasks_text names sleepers.tasks ++ codes "</b>, in the way since " ++ link_text (codes "line ") line ++ line_time names line ++ codes ": asleep in "
     ++ reason_text catalog sleepers.stay
 
-abbrev pub sleepers_text : Catalog → List Sentence → List ℕ
-sleepers_text catalog [] = []
-sleepers_text catalog (sentence ∷ rest) = sleeper_text catalog sentence.line sentence.said ++ sleepers_text catalog rest
+abbrev pub sleepers_text : Names → Catalog → List Sentence → List ℕ
+sleepers_text names catalog [] = []
+sleepers_text names catalog (sentence ∷ rest) = sleeper_text names catalog sentence.line sentence.said ++ sleepers_text names catalog rest
 
 abbrev pub tasks_said : Said → ℕ
 tasks_said (Did fact) = 0
@@ -102,9 +105,9 @@ others_text count =
     (codes " tasks more, of which the sentences below tell.\n")
 
 -- all who sleep where it matters: some by themselves, and how many others
-abbrev pub all_sleepers_text : Catalog → List (Option Stay) → List Sentence → List ℕ
-all_sleepers_text catalog stays sentences =
-    let shown = first_lasting MAX_HOLDERS sentences in sleepers_text catalog shown ++ others_text (count_by is_some stays - sum_by tasks_of shown)
+abbrev pub all_sleepers_text : Names → Catalog → List (Option Stay) → List Sentence → List ℕ
+all_sleepers_text names catalog stays sentences =
+    let shown = first_lasting MAX_HOLDERS sentences in sleepers_text names catalog shown ++ others_text (count_by is_some stays - sum_by tasks_of shown)
 
 -- where so many tasks are that merely lag, and when they switch
 abbrev pub switching : Mode → ℕ → List ℕ
@@ -116,17 +119,17 @@ switching Kernel count =
 switching Asleep count =
     plural count (codes " lags, asleep elsewhere: the next poll switches it.\n") (codes " lag, asleep elsewhere: the next poll switches them.\n")
 
-abbrev pub item_text : Mode → List ℕ → List ℕ
-item_text mode [] = []
-item_text mode (task ∷ tasks) =
-    codes "<li><b>" ++ tasks_text (task ∷ tasks) ++ codes "</b>" ++ switching mode (length (task ∷ tasks))
+abbrev pub item_text : Names → Mode → List ℕ → List ℕ
+item_text names mode [] = []
+item_text names mode (task ∷ tasks) =
+    codes "<li><b>" ++ tasks_text names (task ∷ tasks) ++ codes "</b>" ++ switching mode (length (task ∷ tasks))
 
 -- who lags there, if anybody does
-abbrev pub lagging_text : Mode → List (Option Mode) → List ℕ
-lagging_text mode waits = item_text mode (lagging mode waits)
+abbrev pub lagging_text : Names → Mode → List (Option Mode) → List ℕ
+lagging_text names mode waits = item_text names mode (lagging mode waits)
 
-abbrev pub all_lagging_text : List (Option Mode) → List ℕ
-all_lagging_text waits = lagging_text User waits ++ lagging_text Kernel waits ++ lagging_text Asleep waits
+abbrev pub all_lagging_text : Names → List (Option Mode) → List ℕ
+all_lagging_text names waits = lagging_text names User waits ++ lagging_text names Kernel waits ++ lagging_text names Asleep waits
 
 -- where each of so many lines was refused
 abbrev pub refused_text : Option ℕ → List ℕ
@@ -136,11 +139,11 @@ refused_text (Some lines) =
     else codes "Nothing was done: all " ++ decimal lines ++ codes " lines were refused. "
 
 -- a page's first line; the number is that of the lines, where each was refused
-unfoldable pub first_text : Catalog → View → List Sentence → Option ℕ → List ℕ
-first_text catalog view sentences refused =
-    codes "<h1>" ++ refused_text refused ++ codes "At the end: " ++ state_text catalog view (course_of sentences) view.moving ++ outdated_text (count_by is_outdated view.stays) ++ codes "</h1>"
+unfoldable pub first_text : Names → Catalog → View → List Sentence → Option ℕ → List ℕ
+first_text names catalog view sentences refused =
+    codes "<h1>" ++ refused_text refused ++ codes "At the end: " ++ state_text names catalog view (course_of sentences) view.moving ++ outdated_text (count_by is_outdated view.stays) ++ codes "</h1>"
 
 -- and what belongs to it
-abbrev pub end_text : Catalog → View → List Sentence → Option ℕ → List ℕ
-end_text catalog view sentences refused =
-    first_text catalog view sentences refused ++ codes "<ul class=story>\n" ++ all_sleepers_text catalog view.stays sentences ++ all_lagging_text view.waits ++ codes "</ul>\n"
+abbrev pub end_text : Names → Catalog → View → List Sentence → Option ℕ → List ℕ
+end_text names catalog view sentences refused =
+    first_text names catalog view sentences refused ++ codes "<ul class=story>\n" ++ all_sleepers_text names catalog view.stays sentences ++ all_lagging_text names view.waits ++ codes "</ul>\n"

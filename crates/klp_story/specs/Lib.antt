@@ -1,3 +1,4 @@
 pub mod End
+pub mod Examples
 pub mod Sentences
 pub mod Words

@@ -10,9 +10,11 @@ use Rattle.klp_timeline.specs.declared.moment.Said.TheVariants.{Did, Slept}
 use Rattle.klp_timeline.specs.declared.moment.Sentence.{Sentence}
 use Rattle.klp_timeline.specs.Shown.{shown, left_out}
 use Rattle.klp_catalog.specs.Catalog.{Catalog}
+use Rattle.klp_names.specs.Names.{Names}
 use Rattle.klp_markup.specs.Escaped.{name_text}
 use Rattle.klp_markup.specs.Names.{object_name, version_text}
 use Rattle.klp_markup.specs.Tasks.{plural, tasks_text}
+use Rattle.klp_markup.specs.Times.{line_time, span_time}
 use Rattle.klp_story.specs.Words.{counted_text, link_text, quoted_text, why}
 
 -- in the kernel's words
@@ -50,12 +52,16 @@ fact_text catalog (Reverses move) = quoted_text catalog move.patch ++ reversing 
 fact_text catalog (Completes move sleepers) = quoted_text catalog move.patch ++ completing move.target ++ meaning move.target sleepers
 fact_text catalog (Leaves patch) = quoted_text catalog patch ++ codes " was replaced, and has left."
 
--- from which line to which a stay is seen; None where it still is
-abbrev pub span_text : ℕ → Option ℕ → List ℕ
-span_text line None = codes "<li class=holds>Since " ++ link_text (codes "line ") line ++ codes ", and still: "
-span_text line (Some to) =
-    if to == line then codes "<li>" ++ link_text (codes "Line ") line ++ codes ": "
-    else codes "<li>" ++ link_text (codes "Lines ") line ++ codes " to " ++ decimal to ++ codes ": "
+-- from which line to which a stay is seen that ended
+abbrev pub lines_text : ℕ → ℕ → List ℕ
+lines_text line to =
+    if to == line then codes "<li>" ++ link_text (codes "Line ") line
+    else codes "<li>" ++ link_text (codes "Lines ") line ++ codes " to " ++ decimal to
+
+-- from which line to which a stay is seen, and how long it lasted; None where it still is
+abbrev pub span_text : Names → ℕ → Option ℕ → List ℕ
+span_text names line None = codes "<li class=holds>Since " ++ link_text (codes "line ") line ++ line_time names line ++ codes ", and still: "
+span_text names line (Some to) = lines_text line to ++ span_time names line (Some to) ++ codes ": "
 
 -- what the label of a drawing leads to
 unfoldable pub anchor_text : ℕ → ℕ → List ℕ
@@ -83,22 +89,22 @@ stay_text catalog (Holds move version) to count =
     holding to count ++ quoted_text catalog move.patch ++ codes " up, asleep in " ++ version_text catalog version ++ codes ", " ++ why move.target version ++ codes "."
 stay_text catalog (Outdated version) to count = sleeping to count ++ version_text catalog version ++ warning to
 
-abbrev pub said_text : Catalog → ℕ → Said → List ℕ
-said_text catalog line (Did fact) = codes "<li>" ++ link_text (codes "Line ") line ++ codes ": " ++ fact_text catalog fact
-said_text catalog line (Slept sleepers) =
-    span_text line sleepers.to ++ anchors_text line sleepers.tasks ++ tasks_text sleepers.tasks
+abbrev pub said_text : Names → Catalog → ℕ → Said → List ℕ
+said_text names catalog line (Did fact) = codes "<li>" ++ link_text (codes "Line ") line ++ line_time names line ++ codes ": " ++ fact_text catalog fact
+said_text names catalog line (Slept sleepers) =
+    span_text names line sleepers.to ++ anchors_text line sleepers.tasks ++ tasks_text names sleepers.tasks
     ++ stay_text catalog sleepers.stay sleepers.to (length sleepers.tasks)
 
-abbrev pub sentence_text : Catalog → Sentence → List ℕ
-sentence_text catalog sentence = said_text catalog sentence.line sentence.said ++ codes "\n"
+abbrev pub sentence_text : Names → Catalog → Sentence → List ℕ
+sentence_text names catalog sentence = said_text names catalog sentence.line sentence.said ++ codes "\n"
 
-abbrev pub sentences_text : Catalog → List Sentence → List ℕ
-sentences_text catalog [] = []
-sentences_text catalog (sentence ∷ rest) = sentence_text catalog sentence ++ sentences_text catalog rest
+abbrev pub sentences_text : Names → Catalog → List Sentence → List ℕ
+sentences_text names catalog [] = []
+sentences_text names catalog (sentence ∷ rest) = sentence_text names catalog sentence ++ sentences_text names catalog rest
 
 abbrev pub earlier_text : ℕ → List ℕ
 earlier_text count = if count == 0 then [] else codes "<li>And " ++ decimal count ++ codes " earlier, which the lines below tell.\n"
 
 -- the sentences that are told of, and how many aren't
-abbrev pub story_text : Catalog → List Sentence → List ℕ
-story_text catalog sentences = sentences_text catalog (shown sentences) ++ earlier_text (left_out sentences)
+abbrev pub story_text : Names → Catalog → List Sentence → List ℕ
+story_text names catalog sentences = sentences_text names catalog (shown sentences) ++ earlier_text (left_out sentences)

@@ -15,14 +15,15 @@ use crate::lagging::add_all_lagging;
 use crate::state::{add_outdated, add_state};
 use crate::words::{add_counted, add_link, add_number, why};
 use klp_catalog::Catalog;
-use klp_markup::{Sheet, add_tasks, add_version};
+use klp_markup::{Sheet, add_line_time, add_tasks, add_version};
 use klp_modules::Modules;
+use klp_names::Names;
 use klp_timeline::{Said, Sentence, Sleepers, Stay, View, is_lasting, latest_course, outdated};
 
-/// How many sentences of sleepers are told of at the end at most.
+/// How many sentences about sleepers the end of a run shows at most.
 const MAX_HOLDERS: usize = 8;
 
-/// Adds what tasks are asleep in, and why that matters.
+/// Adds the function that tasks sleep in, and why that matters.
 fn add_reason(sheet: &mut Sheet, catalog: &Catalog, modules: &Modules, stay: &Stay)
     requires { catalog.now.names ≡ modules.now.names }
     ensures { Adds sheet.old sheet.new (reason_text catalog.now stay.now) }
@@ -44,38 +45,50 @@ fn add_reason(sheet: &mut Sheet, catalog: &Catalog, modules: &Modules, stay: &St
     }
 }
 
-/// Adds who still sleeps there, since which line.
+/// Adds the tasks of one sentence that still sleep at the end, since which line and time, and in which function.
 fn add_sleepers(
     sheet: &mut Sheet,
+    names: &Names,
     catalog: &Catalog,
     modules: &Modules,
     line: u64,
     sleepers: &Sleepers,
 )
     requires { catalog.now.names ≡ modules.now.names }
-    ensures { Adds sheet.old sheet.new (sleeper_text catalog.now line (Slept sleepers.now)) }
+    ensures { Adds sheet.old sheet.new (sleeper_text names.now catalog.now line (Slept sleepers.now)) }
 {
     klp_markup::laws::what_is_added_adds_up();
     let tasks = sleepers.tasks.as_slice();
     sheet.markup("<li class=holds><b>");
-    add_tasks(sheet, tasks);
+    add_tasks(sheet, names, tasks);
     sheet.markup("</b>, in the way since ");
     add_link(sheet, "line ", line);
+    add_line_time(sheet, names, line);
     sheet.markup(": asleep in ");
     add_reason(sheet, catalog, modules, &sleepers.stay);
 }
 
-fn add_sleeper(sheet: &mut Sheet, catalog: &Catalog, modules: &Modules, sentence: &Sentence)
+/// Adds the tasks of a sentence about sleepers. Adds nothing for a sentence about what a line did.
+fn add_sleeper(
+    sheet: &mut Sheet,
+    names: &Names,
+    catalog: &Catalog,
+    modules: &Modules,
+    sentence: &Sentence,
+)
     requires { catalog.now.names ≡ modules.now.names }
-    ensures { Adds sheet.old sheet.new (sleeper_text catalog.now sentence.now.line sentence.now.said) }
+    ensures { Adds sheet.old sheet.new (sleeper_text names.now catalog.now sentence.now.line sentence.now.said) }
 {
     klp_markup::laws::what_is_added_adds_up();
     match &sentence.said {
         Said::Did(_) => {}
-        Said::Slept(sleepers) => add_sleepers(sheet, catalog, modules, sentence.line, sleepers),
+        Said::Slept(sleepers) => {
+            add_sleepers(sheet, names, catalog, modules, sentence.line, sleepers);
+        }
     }
 }
 
+/// Returns how many tasks the sentence says sleep.
 fn tasks_of(sentence: &Sentence) -> usize
     ensures { result ≡ tasks_of sentence.now }
 {
@@ -85,28 +98,36 @@ fn tasks_of(sentence: &Sentence) -> usize
     }
 }
 
+/// Whether the end of the run shows this sentence: it lasts to the end, and fewer than [`MAX_HOLDERS`] were shown
+/// before.
 fn is_shown(room: usize, sentence: &Sentence) -> bool
     ensures { result ≡ (nat_lt 0 room && is_lasting sentence.now) }
 {
     room > 0 && is_lasting(sentence)
 }
 
-/// Adds the first sentences that last.
-fn add_lasting(sheet: &mut Sheet, catalog: &Catalog, modules: &Modules, sentences: &[Sentence])
+/// Adds the first [`MAX_HOLDERS`] of the sentences that last to the end.
+fn add_lasting(
+    sheet: &mut Sheet,
+    names: &Names,
+    catalog: &Catalog,
+    modules: &Modules,
+    sentences: &[Sentence],
+)
     requires { catalog.now.names ≡ modules.now.names }
-    ensures { Adds sheet.old sheet.new (sleepers_text catalog.now (first_lasting MAX_HOLDERS sentences.now)) }
+    ensures { Adds sheet.old sheet.new (sleepers_text names.now catalog.now (first_lasting MAX_HOLDERS sentences.now)) }
 {
     klp_markup::laws::what_is_added_adds_up();
     let mut room = MAX_HOLDERS;
     for sentence in sentences {
         if is_shown(room, sentence) {
-            add_sleeper(sheet, catalog, modules, sentence);
+            add_sleeper(sheet, names, catalog, modules, sentence);
             room -= 1;
         }
     }
 }
 
-/// How many of so many tasks these sentences don't tell of.
+/// Returns how many of the sleepers are in none of the first [`MAX_HOLDERS`] sentences that last to the end.
 fn others(sleepers: usize, sentences: &[Sentence]) -> usize
     ensures { result ≡ sleepers - sum_by tasks_of (first_lasting MAX_HOLDERS sentences.now) }
 {
@@ -121,6 +142,7 @@ fn others(sleepers: usize, sentences: &[Sentence]) -> usize
     left
 }
 
+/// Adds how many sleepers aren't named here, unless all are.
 fn add_others(sheet: &mut Sheet, count: usize)
     ensures { Adds sheet.old sheet.new (others_text count) }
 {
@@ -136,7 +158,7 @@ fn add_others(sheet: &mut Sheet, count: usize)
     }
 }
 
-/// How many tasks sleep where it matters.
+/// Returns how many tasks hold the transition up, or sleep in code that isn't called now.
 fn sleeping(stays: &[Option<Stay>]) -> usize
     ensures { result ≡ count_by is_some stays.now }
 {
@@ -149,23 +171,25 @@ fn sleeping(stays: &[Option<Stay>]) -> usize
     count
 }
 
-/// Adds all who sleep where it matters.
+/// Adds the tasks that hold the transition up, or sleep in code that isn't called now: first those of the first
+/// [`MAX_HOLDERS`] sentences that last, then how many others there are.
 fn add_all_sleepers(
     sheet: &mut Sheet,
+    names: &Names,
     catalog: &Catalog,
     modules: &Modules,
     stays: &[Option<Stay>],
     sentences: &[Sentence],
 )
     requires { catalog.now.names ≡ modules.now.names }
-    ensures { Adds sheet.old sheet.new (all_sleepers_text catalog.now stays.now sentences.now) }
+    ensures { Adds sheet.old sheet.new (all_sleepers_text names.now catalog.now stays.now sentences.now) }
 {
     klp_markup::laws::what_is_added_adds_up();
-    add_lasting(sheet, catalog, modules, sentences);
+    add_lasting(sheet, names, catalog, modules, sentences);
     add_others(sheet, others(sleeping(stays), sentences));
 }
 
-/// Adds that nothing was done, where each of so many lines was refused.
+/// Adds that nothing was done, if all lines were refused. `refused` is the number of lines then, else `None`.
 fn add_refused(sheet: &mut Sheet, refused: &Option<u64>)
     ensures { Adds sheet.old sheet.new (refused_text refused.now) }
 {
@@ -182,16 +206,18 @@ fn add_refused(sheet: &mut Sheet, refused: &Option<u64>)
     }
 }
 
-/// Adds what moves, or that nothing does.
+/// Adds the heading: the transition under way or the enabled patches, and how many tasks sleep in code that isn't
+/// called now.
 #[tactic(auto, unfolding(crate::specs::End::first_text))]
 fn add_first(
     sheet: &mut Sheet,
+    names: &Names,
     catalog: &Catalog,
     view: &View,
     sentences: &[Sentence],
     refused: &Option<u64>,
 )
-    ensures { Adds sheet.old sheet.new (first_text catalog.now view.now sentences.now refused.now) }
+    ensures { Adds sheet.old sheet.new (first_text names.now catalog.now view.now sentences.now refused.now) }
 {
     klp_markup::laws::what_is_added_adds_up();
     let course = latest_course(sentences);
@@ -199,16 +225,19 @@ fn add_first(
     sheet.markup("<h1>");
     add_refused(sheet, refused);
     sheet.markup("At the end: ");
-    add_state(sheet, catalog, view, &course);
+    add_state(sheet, names, catalog, view, &course);
     add_outdated(sheet, sleepers);
     sheet.markup("</h1>");
 }
 
-/// Adds how a run ends which ends with this view, and of which this is said: what moves, which way and since when, or which
-/// patches are enabled; who sleeps where it matters; and who merely lags. `refused` is the number of lines where each was
-/// refused. The modules are those that the catalog was assembled over.
+/// Adds how a run ends. First the transition under way, its direction and since when; or else the enabled patches.
+/// Then the tasks that hold it up, or sleep in code that isn't called now. Last the tasks that merely lag.
+///
+/// `view` is the state after the last line, and `sentences` are all sentences of the run. `refused` is the number of
+/// lines if each was refused. The catalog was assembled over these modules.
 pub fn add_end(
     sheet: &mut Sheet,
+    names: &Names,
     catalog: &Catalog,
     modules: &Modules,
     view: &View,
@@ -216,12 +245,12 @@ pub fn add_end(
     refused: &Option<u64>,
 )
     requires { catalog.now.names ≡ modules.now.names }
-    ensures { Adds sheet.old sheet.new (end_text catalog.now view.now sentences.now refused.now) }
+    ensures { Adds sheet.old sheet.new (end_text names.now catalog.now view.now sentences.now refused.now) }
 {
     klp_markup::laws::what_is_added_adds_up();
-    add_first(sheet, catalog, view, sentences, refused);
+    add_first(sheet, names, catalog, view, sentences, refused);
     sheet.markup("<ul class=story>\n");
-    add_all_sleepers(sheet, catalog, modules, &view.stays, sentences);
-    add_all_lagging(sheet, &view.waits);
+    add_all_sleepers(sheet, names, catalog, modules, &view.stays, sentences);
+    add_all_lagging(sheet, names, &view.waits);
     sheet.markup("</ul>\n");
 }

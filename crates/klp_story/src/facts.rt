@@ -14,6 +14,7 @@ use klp_modules::Modules;
 use klp_timeline::Fact;
 use klp_types::{ObjId, PatchId, Transition};
 
+/// Returns the words for the start of a transition to this target.
 fn starting(target: bool) -> &'static str
     ensures { result.now ≡ starting target }
 {
@@ -24,6 +25,7 @@ fn starting(target: bool) -> &'static str
     }
 }
 
+/// Returns the words for a transition that is reversed to this target.
 fn reversing(target: bool) -> &'static str
     ensures { result.now ≡ reversing target }
 {
@@ -34,6 +36,7 @@ fn reversing(target: bool) -> &'static str
     }
 }
 
+/// Returns the words for the completion of a transition to this target.
 fn completing(target: bool) -> &'static str
     ensures { result.now ≡ completing target }
 {
@@ -44,7 +47,7 @@ fn completing(target: bool) -> &'static str
     }
 }
 
-/// Adds a sentence of a patch.
+/// Adds a sentence whose subject is a patch: its name, and then `what`.
 fn add_of_patch(sheet: &mut Sheet, catalog: &Catalog, patch: PatchId, what: &'static str)
     ensures { Adds sheet.old sheet.new (quoted_text catalog.now patch ++ what.now) }
 {
@@ -53,7 +56,8 @@ fn add_of_patch(sheet: &mut Sheet, catalog: &Catalog, patch: PatchId, what: &'st
     sheet.markup(what);
 }
 
-/// Adds what it means that a transition is complete, where so many tasks sleep inside of code that isn't called now.
+/// Adds what a completed transition guarantees. `sleepers` is the number of tasks that still sleep in code that isn't
+/// called any more.
 fn add_meaning(sheet: &mut Sheet, target: bool, sleepers: usize)
     ensures { Adds sheet.old sheet.new (meaning target sleepers) }
 {
@@ -73,6 +77,7 @@ fn add_meaning(sheet: &mut Sheet, target: bool, sleepers: usize)
     }
 }
 
+/// Adds that a transition completed, and what that guarantees.
 fn add_complete(sheet: &mut Sheet, catalog: &Catalog, moved: &Transition, sleepers: usize)
     ensures { Adds sheet.old sheet.new (fact_text catalog.now (Fact.Completes moved.now sleepers)) }
 {
@@ -81,6 +86,7 @@ fn add_complete(sheet: &mut Sheet, catalog: &Catalog, moved: &Transition, sleepe
     add_meaning(sheet, moved.target, sleepers);
 }
 
+/// Adds that a patch's pre-patch callback refused, for which object and with which status.
 fn add_pre_failed(sheet: &mut Sheet, catalog: &Catalog, patch: PatchId, object: &[u8], status: i64)
     ensures { Adds sheet.old sheet.new (quoted_text catalog.now patch ++ codes ": its pre-patch callback for "
         ++ name_text object.now ++ codes " answered " ++ signed_decimal status ++ codes ", so nothing came of it.") }
@@ -93,7 +99,7 @@ fn add_pre_failed(sheet: &mut Sheet, catalog: &Catalog, patch: PatchId, object: 
     sheet.markup(", so nothing came of it.");
 }
 
-/// Adds a sentence of an object.
+/// Adds a sentence whose subject is an object: its name, and then `what`.
 fn add_of_object(sheet: &mut Sheet, modules: &Modules, object: ObjId, what: &'static str)
     ensures { Adds sheet.old sheet.new (name_text (object_name modules.now.names object) ++ what.now) }
 {
@@ -102,6 +108,8 @@ fn add_of_object(sheet: &mut Sheet, modules: &Modules, object: ObjId, what: &'st
     sheet.markup(what);
 }
 
+/// Adds how many events a rewind undid, and to which mark. `from` is the number of events before, `to` the number
+/// after.
 fn add_undone(sheet: &mut Sheet, from: u32, to: u32)
     ensures { Adds sheet.old sheet.new (undone_text (from - to) ++ decimal to ++ codes ".") }
 {
@@ -118,7 +126,7 @@ fn add_undone(sheet: &mut Sheet, from: u32, to: u32)
     sheet.markup(".");
 }
 
-/// Adds what a line did, in the kernel's words where it has some.
+/// Adds what a line did. Where the kernel logs a message for it, the sentence has the words of that message.
 pub(crate) fn add_fact(sheet: &mut Sheet, catalog: &Catalog, modules: &Modules, fact: &Fact)
     requires { catalog.now.names ≡ modules.now.names }
     ensures { Adds sheet.old sheet.new (fact_text catalog.now fact.now) }

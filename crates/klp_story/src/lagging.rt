@@ -6,10 +6,11 @@ ghost use Rattle.klp_timeline.specs.Lagging.{lagging};
 ghost use Rattle.klp_story.specs.End.{switching, item_text, lagging_text, all_lagging_text};
 
 use klp_markup::{Sheet, add_tasks, plural};
+use klp_names::Names;
 use klp_timeline::lagging;
 use klp_types::{MAX_TASKS, Mode, TaskId};
 
-/// Where so many tasks are, and when they switch.
+/// Returns where these tasks are, and when each will switch. `count` chooses singular or plural.
 fn switching(mode: Mode, count: usize) -> &'static str
     ensures { result.now ≡ switching mode count }
 {
@@ -32,32 +33,33 @@ fn switching(mode: Mode, count: usize) -> &'static str
     }
 }
 
-/// Adds who lags there, if anybody does.
-fn add_item(sheet: &mut Sheet, mode: Mode, tasks: &[TaskId])
-    ensures { Adds sheet.old sheet.new (item_text mode tasks.now) }
+/// Adds a list item that names the tasks which lag in this mode. Adds nothing if there are none.
+fn add_item(sheet: &mut Sheet, names: &Names, mode: Mode, tasks: &[TaskId])
+    ensures { Adds sheet.old sheet.new (item_text names.now mode tasks.now) }
 {
     klp_markup::laws::what_is_added_adds_up();
     if tasks.is_empty() {
         return;
     }
     sheet.markup("<li><b>");
-    add_tasks(sheet, tasks);
+    add_tasks(sheet, names, tasks);
     sheet.markup("</b>");
     sheet.markup(switching(mode, tasks.len()));
 }
 
-fn add_lagging(sheet: &mut Sheet, mode: Mode, waits: &[Option<Mode>; MAX_TASKS])
-    ensures { Adds sheet.old sheet.new (lagging_text mode waits.now) }
+/// Adds a list item for the tasks that lag in this mode, if there are any.
+fn add_lagging(sheet: &mut Sheet, names: &Names, mode: Mode, waits: &[Option<Mode>; MAX_TASKS])
+    ensures { Adds sheet.old sheet.new (lagging_text names.now mode waits.now) }
 {
-    add_item(sheet, mode, lagging(mode, waits).as_slice());
+    add_item(sheet, names, mode, lagging(mode, waits).as_slice());
 }
 
-/// Adds who merely lags, by where they are.
-pub(crate) fn add_all_lagging(sheet: &mut Sheet, waits: &[Option<Mode>; MAX_TASKS])
-    ensures { Adds sheet.old sheet.new (all_lagging_text waits.now) }
+/// Adds the tasks that lag without holding the transition up, grouped by their mode.
+pub(crate) fn add_all_lagging(sheet: &mut Sheet, names: &Names, waits: &[Option<Mode>; MAX_TASKS])
+    ensures { Adds sheet.old sheet.new (all_lagging_text names.now waits.now) }
 {
     klp_markup::laws::what_is_added_adds_up();
-    add_lagging(sheet, Mode::User, waits);
-    add_lagging(sheet, Mode::Kernel, waits);
-    add_lagging(sheet, Mode::Asleep, waits);
+    add_lagging(sheet, names, Mode::User, waits);
+    add_lagging(sheet, names, Mode::Kernel, waits);
+    add_lagging(sheet, names, Mode::Asleep, waits);
 }

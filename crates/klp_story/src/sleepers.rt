@@ -4,57 +4,64 @@ ghost use Rattle.std.specs.Fmt.{decimal};
 ghost use Rattle.klp_markup.specs.Adds.{Adds};
 ghost use Rattle.klp_markup.specs.Names.{version_text};
 ghost use Rattle.klp_markup.specs.Tasks.{plural, tasks_text};
+ghost use Rattle.klp_markup.specs.Times.{line_time, span_time};
 ghost use Rattle.klp_story.specs.Words.{link_text, quoted_text, why};
-ghost use Rattle.klp_story.specs.Sentences.{span_text, anchor_text, anchors_text, holding, sleeping, warning};
-ghost use Rattle.klp_story.specs.Sentences.{stay_text, said_text};
+ghost use Rattle.klp_story.specs.Sentences.{lines_text, span_text, anchor_text, anchors_text, holding, sleeping};
+ghost use Rattle.klp_story.specs.Sentences.{warning, stay_text, said_text};
 ghost use Rattle.klp_timeline.specs.declared.moment.Said.TheVariants.{Slept};
 
 use crate::words::{add_link, add_number, add_patch, why};
 use klp_catalog::Catalog;
-use klp_markup::{Sheet, add_tasks, add_version, plural};
+use klp_markup::{Sheet, add_line_time, add_span_time, add_tasks, add_version, plural};
 use klp_modules::Modules;
+use klp_names::Names;
 use klp_timeline::{Sleepers, Stay};
 use klp_types::{TaskId, Transition, Version};
 
-/// Adds a link to a line, between these.
-pub(crate) fn add_linked(
-    sheet: &mut Sheet,
-    before: &'static str,
-    word: &'static str,
-    line: u64,
-    behind: &'static str,
-)
-    ensures { Adds sheet.old sheet.new (before.now ++ link_text word.now line ++ behind.now) }
+/// Adds the text `before`, and a link to a line.
+pub(crate) fn add_linked(sheet: &mut Sheet, before: &'static str, word: &'static str, line: u64)
+    ensures { Adds sheet.old sheet.new (before.now ++ link_text word.now line) }
 {
     klp_markup::laws::what_is_added_adds_up();
     sheet.markup(before);
     add_link(sheet, word, line);
-    sheet.markup(behind);
 }
 
-/// Adds from which line to which a stay is seen.
-fn add_span(sheet: &mut Sheet, line: u64, to: &Option<u64>)
-    ensures { Adds sheet.old sheet.new (span_text line to.now) }
+/// Begins a list item with the lines of a stay that ended. `to` is the last of them.
+fn add_lines(sheet: &mut Sheet, line: u64, to: u64)
+    ensures { Adds sheet.old sheet.new (lines_text line to) }
+{
+    klp_markup::laws::what_is_added_adds_up();
+    if to == line {
+        add_linked(sheet, "<li>", "Line ", line);
+    } else {
+        add_linked(sheet, "<li>", "Lines ", line);
+        sheet.markup(" to ");
+        sheet.number(to);
+    }
+}
+
+/// Begins a list item with the lines of a stay, when it began and how long it lasted. If `to` is `None`, the stay goes
+/// on at the end of the run.
+fn add_span(sheet: &mut Sheet, names: &Names, line: u64, to: &Option<u64>)
+    ensures { Adds sheet.old sheet.new (span_text names.now line to.now) }
 {
     klp_markup::laws::what_is_added_adds_up();
     match *to {
-        None => add_linked(
-            sheet,
-            "<li class=holds>Since ",
-            "line ",
-            line,
-            ", and still: ",
-        ),
-        Some(to) if to == line => add_linked(sheet, "<li>", "Line ", line, ": "),
-        Some(to) => {
-            add_linked(sheet, "<li>", "Lines ", line, " to ");
-            sheet.number(to);
+        None => {
+            add_linked(sheet, "<li class=holds>Since ", "line ", line);
+            add_line_time(sheet, names, line);
+            sheet.markup(", and still: ");
+        }
+        Some(last) => {
+            add_lines(sheet, line, last);
+            add_span_time(sheet, names, line, Some(last));
             sheet.markup(": ");
         }
     }
 }
 
-/// Adds what the label of a drawing leads to.
+/// Adds an empty element, to which the label of this stay in the drawing links.
 #[tactic(auto, unfolding(crate::specs::Sentences::anchor_text))]
 fn add_anchor(sheet: &mut Sheet, line: u64, task: TaskId)
     ensures { Adds sheet.old sheet.new (anchor_text line task) }
@@ -65,6 +72,7 @@ fn add_anchor(sheet: &mut Sheet, line: u64, task: TaskId)
     sheet.markup("></i>");
 }
 
+/// Adds such an element for each of these tasks.
 fn add_anchors(sheet: &mut Sheet, line: u64, tasks: &[TaskId])
     ensures { Adds sheet.old sheet.new (anchors_text line tasks.now) }
 {
@@ -74,6 +82,7 @@ fn add_anchors(sheet: &mut Sheet, line: u64, tasks: &[TaskId])
     }
 }
 
+/// Returns the verb for tasks that hold a transition up. If `to` is `None`, they still do at the end.
 fn holding(to: &Option<u64>, count: usize) -> &'static str
     ensures { result.now ≡ holding to.now count }
 {
@@ -83,6 +92,7 @@ fn holding(to: &Option<u64>, count: usize) -> &'static str
     }
 }
 
+/// Returns the verb for tasks that sleep in code that isn't called. If `to` is `None`, they still do at the end.
 fn sleeping(to: &Option<u64>, count: usize) -> &'static str
     ensures { result.now ≡ sleeping to.now count }
 {
@@ -92,6 +102,7 @@ fn sleeping(to: &Option<u64>, count: usize) -> &'static str
     }
 }
 
+/// Returns what it means that a task sleeps in code that isn't called. If `to` is `None`, it still does at the end.
 fn warning(to: &Option<u64>) -> &'static str
     ensures { result.now ≡ warning to.now }
 {
@@ -101,7 +112,8 @@ fn warning(to: &Option<u64>) -> &'static str
     }
 }
 
-/// Adds that a patch is held up, by tasks that do what the verb says inside of a function.
+/// Adds that tasks hold a patch's transition up, in which function they sleep, and why that function blocks the
+/// transition. `verb` is `holds`, `hold` or `held`.
 fn add_hold(
     sheet: &mut Sheet,
     catalog: &Catalog,
@@ -125,7 +137,8 @@ fn add_hold(
     sheet.markup(".");
 }
 
-/// Adds what so many tasks do, or did.
+/// Adds what the sleepers of a sentence do: they hold a transition up, or sleep in code that isn't called. `count` is
+/// the number of sleepers.
 fn add_stay(
     sheet: &mut Sheet,
     catalog: &Catalog,
@@ -151,21 +164,22 @@ fn add_stay(
     }
 }
 
-/// Adds who sleeps where it matters, from this line on.
+/// Adds a sentence about sleepers, whose stay begins with this line.
 pub(crate) fn add_sleepers(
     sheet: &mut Sheet,
+    names: &Names,
     catalog: &Catalog,
     modules: &Modules,
     line: u64,
     sleepers: &Sleepers,
 )
     requires { catalog.now.names ≡ modules.now.names }
-    ensures { Adds sheet.old sheet.new (said_text catalog.now line (Slept sleepers.now)) }
+    ensures { Adds sheet.old sheet.new (said_text names.now catalog.now line (Slept sleepers.now)) }
 {
     klp_markup::laws::what_is_added_adds_up();
     let tasks = sleepers.tasks.as_slice();
-    add_span(sheet, line, &sleepers.to);
+    add_span(sheet, names, line, &sleepers.to);
     add_anchors(sheet, line, tasks);
-    add_tasks(sheet, tasks);
+    add_tasks(sheet, names, tasks);
     add_stay(sheet, catalog, modules, sleepers, tasks.len());
 }

@@ -2,6 +2,7 @@
 ghost use Rattle.std.specs.Prelude.{◌≡◌, ◌++◌, ◌∷◌, [], codes, count_by};
 ghost use Rattle.std.specs.Fmt.{decimal};
 ghost use Rattle.klp_markup.specs.Adds.{Adds};
+ghost use Rattle.klp_markup.specs.Times.{line_time};
 ghost use Rattle.klp_timeline.specs.Course.{course_of};
 ghost use Rattle.klp_story.specs.Words.{link_text, quoted_text};
 ghost use Rattle.klp_story.specs.End.{way, since_text, forced_text, is_holding, held_text, also_text, enabled_text};
@@ -9,10 +10,12 @@ ghost use Rattle.klp_story.specs.End.{rest_text, state_text, outdated_text};
 
 use crate::words::{add_counted, add_link, add_patch};
 use klp_catalog::Catalog;
-use klp_markup::Sheet;
+use klp_markup::{Sheet, add_line_time};
+use klp_names::Names;
 use klp_timeline::{Course, Since, Stay, View};
 use klp_types::{PatchId, Transition};
 
+/// Returns the words for a transition to this target.
 fn way(target: bool) -> &'static str
     ensures { result.now ≡ way target }
 {
@@ -23,9 +26,9 @@ fn way(target: bool) -> &'static str
     }
 }
 
-/// Adds since when a transition goes this way.
-fn add_since(sheet: &mut Sheet, since: &Option<Since>)
-    ensures { Adds sheet.old sheet.new (since_text since.now) }
+/// Adds since which line and time the transition has had its target. Adds nothing if that isn't known.
+fn add_since(sheet: &mut Sheet, names: &Names, since: &Option<Since>)
+    ensures { Adds sheet.old sheet.new (since_text names.now since.now) }
 {
     klp_markup::laws::what_is_added_adds_up();
     match *since {
@@ -33,22 +36,25 @@ fn add_since(sheet: &mut Sheet, since: &Option<Since>)
         Some(Since::Turned(line)) => {
             sheet.markup(" since ");
             add_link(sheet, "line ", line);
+            add_line_time(sheet, names, line);
         }
         Some(Since::Undone(line)) => {
             sheet.markup(" since ");
             add_link(sheet, "line ", line);
+            add_line_time(sheet, names, line);
             sheet.markup(" at least, where events were undone");
         }
     }
 }
 
+/// Returns the words for a forced transition, or none if it wasn't forced.
 fn forced(is_forced: bool) -> &'static str
     ensures { result.now ≡ forced_text is_forced }
 {
     if is_forced { ", and was forced" } else { "" }
 }
 
-/// How many tasks hold the transition up.
+/// Returns how many tasks hold the transition up.
 fn holding(stays: &[Option<Stay>]) -> usize
     ensures { result ≡ count_by is_holding stays.now }
 {
@@ -61,6 +67,7 @@ fn holding(stays: &[Option<Stay>]) -> usize
     count
 }
 
+/// Adds how many tasks hold the transition up.
 fn add_held(sheet: &mut Sheet, count: usize)
     ensures { Adds sheet.old sheet.new (held_text count) }
 {
@@ -78,26 +85,28 @@ fn add_held(sheet: &mut Sheet, count: usize)
     }
 }
 
-/// Adds what moves, which way, since when, and how many hold it up.
+/// Adds the transition under way: its patch, its target, since when, whether it was forced, and how many tasks hold it
+/// up.
 fn add_moving(
     sheet: &mut Sheet,
+    names: &Names,
     catalog: &Catalog,
     moving: &Transition,
     course: &Course,
     holders: usize,
 )
     ensures { Adds sheet.old sheet.new (quoted_text catalog.now moving.now.patch ++ way moving.now.target
-        ++ since_text course.now.since ++ forced_text course.now.is_forced ++ held_text holders) }
+        ++ since_text names.now course.now.since ++ forced_text course.now.is_forced ++ held_text holders) }
 {
     klp_markup::laws::what_is_added_adds_up();
     add_patch(sheet, catalog, moving.patch);
     sheet.markup(way(moving.target));
-    add_since(sheet, &course.since);
+    add_since(sheet, names, &course.since);
     sheet.markup(forced(course.is_forced));
     add_held(sheet, holders);
 }
 
-/// Adds patches behind others.
+/// Adds the names of these patches, with a comma before each.
 fn add_also(sheet: &mut Sheet, catalog: &Catalog, patches: &[PatchId])
     ensures { Adds sheet.old sheet.new (also_text catalog.now patches.now) }
 {
@@ -108,7 +117,7 @@ fn add_also(sheet: &mut Sheet, catalog: &Catalog, patches: &[PatchId])
     }
 }
 
-/// Adds the patches that are enabled where nothing moves.
+/// Adds which patches are enabled, in a state without a transition.
 fn add_enabled(sheet: &mut Sheet, catalog: &Catalog, patches: &[PatchId])
     ensures { Adds sheet.old sheet.new (enabled_text catalog.now patches.now) }
 {
@@ -124,7 +133,7 @@ fn add_enabled(sheet: &mut Sheet, catalog: &Catalog, patches: &[PatchId])
     }
 }
 
-/// Adds that nothing moves, and which patches are enabled.
+/// Adds that no transition is under way, and which patches are enabled.
 fn add_rest(sheet: &mut Sheet, catalog: &Catalog, patches: &[PatchId])
     ensures { Adds sheet.old sheet.new (rest_text catalog.now patches.now) }
 {
@@ -133,20 +142,26 @@ fn add_rest(sheet: &mut Sheet, catalog: &Catalog, patches: &[PatchId])
     add_enabled(sheet, catalog, patches);
 }
 
-/// Adds what moves, or that nothing does.
-pub(crate) fn add_state(sheet: &mut Sheet, catalog: &Catalog, view: &View, course: &Course)
-    ensures { Adds sheet.old sheet.new (state_text catalog.now view.now course.now view.now.moving) }
+/// Adds the transition under way, or that there is none and which patches are enabled.
+pub(crate) fn add_state(
+    sheet: &mut Sheet,
+    names: &Names,
+    catalog: &Catalog,
+    view: &View,
+    course: &Course,
+)
+    ensures { Adds sheet.old sheet.new (state_text names.now catalog.now view.now course.now view.now.moving) }
 {
     klp_markup::laws::what_is_added_adds_up();
     match &view.moving {
         None => add_rest(sheet, catalog, view.installed.as_slice()),
         Some(moving) => {
-            add_moving(sheet, catalog, moving, course, holding(&view.stays));
+            add_moving(sheet, names, catalog, moving, course, holding(&view.stays));
         }
     }
 }
 
-/// Adds how many tasks sleep inside of code that isn't called now, if any does.
+/// Adds how many tasks sleep in code that isn't called now. Adds nothing if none does.
 pub(crate) fn add_outdated(sheet: &mut Sheet, count: usize)
     ensures { Adds sheet.old sheet.new (outdated_text count) }
 {

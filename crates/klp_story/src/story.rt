@@ -1,6 +1,7 @@
 //! What happened, in sentences.
 ghost use Rattle.std.specs.Prelude.{◌≡◌, ◌++◌, ◌∷◌, [], codes};
 ghost use Rattle.klp_markup.specs.Adds.{Adds};
+ghost use Rattle.klp_markup.specs.Times.{line_time};
 ghost use Rattle.klp_timeline.specs.declared.moment.Said.TheVariants.{Did};
 ghost use Rattle.klp_timeline.specs.Shown.{shown};
 ghost use Rattle.klp_story.specs.Sentences.{said_text, sentence_text, sentences_text, earlier_text, story_text};
@@ -9,36 +10,60 @@ use crate::facts::add_fact;
 use crate::sleepers::{add_linked, add_sleepers};
 use crate::words::add_number;
 use klp_catalog::Catalog;
-use klp_markup::Sheet;
+use klp_markup::{Sheet, add_line_time};
 use klp_modules::Modules;
+use klp_names::Names;
 use klp_timeline::{Fact, Said, Sentence, excess, is_left_out, left_out};
 
-fn add_did(sheet: &mut Sheet, catalog: &Catalog, modules: &Modules, line: u64, fact: &Fact)
+/// Adds a list item for what a line did.
+fn add_did(
+    sheet: &mut Sheet,
+    names: &Names,
+    catalog: &Catalog,
+    modules: &Modules,
+    line: u64,
+    fact: &Fact,
+)
     requires { catalog.now.names ≡ modules.now.names }
-    ensures { Adds sheet.old sheet.new (said_text catalog.now line (Did fact.now)) }
+    ensures { Adds sheet.old sheet.new (said_text names.now catalog.now line (Did fact.now)) }
 {
     klp_markup::laws::what_is_added_adds_up();
-    add_linked(sheet, "<li>", "Line ", line, ": ");
+    add_linked(sheet, "<li>", "Line ", line);
+    add_line_time(sheet, names, line);
+    sheet.markup(": ");
     add_fact(sheet, catalog, modules, fact);
 }
 
-fn add_sentence(sheet: &mut Sheet, catalog: &Catalog, modules: &Modules, sentence: &Sentence)
+/// Adds a list item for a sentence.
+fn add_sentence(
+    sheet: &mut Sheet,
+    names: &Names,
+    catalog: &Catalog,
+    modules: &Modules,
+    sentence: &Sentence,
+)
     requires { catalog.now.names ≡ modules.now.names }
-    ensures { Adds sheet.old sheet.new (sentence_text catalog.now sentence.now) }
+    ensures { Adds sheet.old sheet.new (sentence_text names.now catalog.now sentence.now) }
 {
     klp_markup::laws::what_is_added_adds_up();
     let line = sentence.line;
     match &sentence.said {
-        Said::Did(fact) => add_did(sheet, catalog, modules, line, fact),
-        Said::Slept(sleepers) => add_sleepers(sheet, catalog, modules, line, sleepers),
+        Said::Did(fact) => add_did(sheet, names, catalog, modules, line, fact),
+        Said::Slept(sleepers) => add_sleepers(sheet, names, catalog, modules, line, sleepers),
     }
     sheet.markup("\n");
 }
 
-/// Adds the sentences that are told of.
-fn add_shown(sheet: &mut Sheet, catalog: &Catalog, modules: &Modules, sentences: &[Sentence])
+/// Adds a list item for each sentence that the page shows.
+fn add_shown(
+    sheet: &mut Sheet,
+    names: &Names,
+    catalog: &Catalog,
+    modules: &Modules,
+    sentences: &[Sentence],
+)
     requires { catalog.now.names ≡ modules.now.names }
-    ensures { Adds sheet.old sheet.new (sentences_text catalog.now (shown sentences.now)) }
+    ensures { Adds sheet.old sheet.new (sentences_text names.now catalog.now (shown sentences.now)) }
 {
     klp_markup::laws::what_is_added_adds_up();
     let mut excess = excess(sentences);
@@ -46,11 +71,12 @@ fn add_shown(sheet: &mut Sheet, catalog: &Catalog, modules: &Modules, sentences:
         if is_left_out(excess, sentence) {
             excess -= 1;
         } else {
-            add_sentence(sheet, catalog, modules, sentence);
+            add_sentence(sheet, names, catalog, modules, sentence);
         }
     }
 }
 
+/// Adds how many of the oldest sentences the page leaves out. Adds nothing if it shows all.
 fn add_earlier(sheet: &mut Sheet, count: usize)
     ensures { Adds sheet.old sheet.new (earlier_text count) }
 {
@@ -61,13 +87,19 @@ fn add_earlier(sheet: &mut Sheet, count: usize)
     }
 }
 
-/// Adds a list item for each sentence that is told of, in the order of the lines where each begins, and how many of the
-/// oldest aren't. The modules are those that the catalog was assembled over.
-pub fn add_story(sheet: &mut Sheet, catalog: &Catalog, modules: &Modules, sentences: &[Sentence])
+/// Adds a list item for each sentence that the page shows, in the order of their first lines. Then adds how many of
+/// the oldest sentences the page leaves out. The catalog was assembled over these modules.
+pub fn add_story(
+    sheet: &mut Sheet,
+    names: &Names,
+    catalog: &Catalog,
+    modules: &Modules,
+    sentences: &[Sentence],
+)
     requires { catalog.now.names ≡ modules.now.names }
-    ensures { Adds sheet.old sheet.new (story_text catalog.now sentences.now) }
+    ensures { Adds sheet.old sheet.new (story_text names.now catalog.now sentences.now) }
 {
     klp_markup::laws::what_is_added_adds_up();
-    add_shown(sheet, catalog, modules, sentences);
+    add_shown(sheet, names, catalog, modules, sentences);
     add_earlier(sheet, left_out(sentences));
 }

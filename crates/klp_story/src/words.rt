@@ -9,7 +9,7 @@ use klp_catalog::Catalog;
 use klp_markup::{Sheet, patch_name, plural};
 use klp_types::{PatchId, Transition, Version};
 
-/// Adds a number, between these.
+/// Adds a number, with this text before it and behind it.
 pub(crate) fn add_number(sheet: &mut Sheet, before: &'static str, number: u64, behind: &'static str)
     ensures { Adds sheet.old sheet.new (before.now ++ decimal number ++ behind.now) }
 {
@@ -19,7 +19,7 @@ pub(crate) fn add_number(sheet: &mut Sheet, before: &'static str, number: u64, b
     sheet.markup(behind);
 }
 
-/// Adds how many of something there are, behind what stands before.
+/// Adds the text `before`, a number, and the word for one of something or for another number of it.
 pub(crate) fn add_counted(
     sheet: &mut Sheet,
     before: &'static str,
@@ -32,7 +32,7 @@ pub(crate) fn add_counted(
     add_number(sheet, before, count as u64, plural(count, one, more));
 }
 
-/// Adds a link to a line, with this word before its number.
+/// Adds a link to a line: a word, and the line's number.
 #[tactic(auto, unfolding(crate::specs::Words::link_text))]
 pub(crate) fn add_link(sheet: &mut Sheet, word: &'static str, line: u64)
     ensures { Adds sheet.old sheet.new (link_text word.now line) }
@@ -44,7 +44,7 @@ pub(crate) fn add_link(sheet: &mut Sheet, word: &'static str, line: u64)
     sheet.markup("</a>");
 }
 
-/// Adds the name of a patch, in the kernel's quotes.
+/// Adds the name of a patch in single quotes, as the kernel's log has it.
 #[tactic(auto, unfolding(crate::specs::Words::quoted_text))]
 pub(crate) fn add_patch(sheet: &mut Sheet, catalog: &Catalog, patch: PatchId)
     ensures { Adds sheet.old sheet.new (quoted_text catalog.now patch) }
@@ -55,7 +55,7 @@ pub(crate) fn add_patch(sheet: &mut Sheet, catalog: &Catalog, patch: PatchId)
     sheet.markup("'");
 }
 
-/// Why a sleeper inside of a function holds the transition up.
+/// Returns why a sleeper in this function holds the transition up.
 pub(crate) fn why(moving: &Transition, version: &Version) -> &'static str
     ensures { result.now ≡ why moving.now.target version.now }
 {

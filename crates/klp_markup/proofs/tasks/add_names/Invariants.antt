@@ -6,4 +6,4 @@ use Rattle.klp_markup.proofs.tasks.add_names.Given as goal
 abbrev pub invariant-loop-place : goal.invariant-loop-place
 invariant-loop-place l = l.sheet.is_short ≡ false
     → (l.initial.sheet.is_short ≡ false)
-    × (l.sheet.text ++ names_text l.count l.place (drop l.place l.tasks) ≡ l.initial.sheet.text ++ names_text l.count 0 l.tasks)
+    × (l.sheet.text ++ names_text l.names l.count l.place (drop l.place l.tasks) ≡ l.initial.sheet.text ++ names_text l.names l.count 0 l.tasks)

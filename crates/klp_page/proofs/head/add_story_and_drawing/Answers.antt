@@ -9,7 +9,7 @@ pub returns : goal.returns
 unfolding story_and_drawing
 returns g c =
     let start = c.args.sheet.now in
-    let story = story_text c.args.catalog.now c.args.sentences.now in
+    let story = story_text c.args.names.now c.args.catalog.now c.args.sentences.now in
     let picture = c.args.drawing.now.text in
     let two = adds_append start c.add_story.new.sheet c.markup.new.self story RUN.now c.add_story.ensures c.markup.ensures in
     let three = adds_append start c.markup.new.self c.append.new.self (story ++ RUN.now) picture two c.append.ensures.adds in

@@ -47,4 +47,4 @@ boot-requires-clause-callbacks c =
     (ap (λ (n : ℕ). option_map never_ran (slice_get scripts n)) count ∙ sym c.in_ok-callback.ensures ∙ ap (option_map (λ made. made.value)) c.in_default.is) so_far
 
 pub returns-clause-page : goal.returns-clause-page
-returns-clause-page c = page_over_text c.args.plan c.in_ok-manager.manager c.args.name.now c.args.script.now c.page_over_manager.result (λ page. page.items) c.in_ok-manager.ensures.booted c.page_over_manager.ensures.page
+returns-clause-page c = page_over_text c.args.plan c.in_ok-manager.manager c.args.name.now c.args.names.now c.args.script.now c.page_over_manager.result (λ page. page.items) c.in_ok-manager.ensures.booted c.page_over_manager.ensures.page

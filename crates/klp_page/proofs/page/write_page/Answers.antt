@@ -4,7 +4,7 @@ use Rattle.klp_page.proofs.PageLemmas.{writes_none}
 use Rattle.klp_page.proofs.page.write_page.Goals as goal
 
 pub returns-in-Err : goal.returns-in-Err
-returns-in-Err g c = writes_none (Unit {0}) c.args.catalog.now c.args.name.now c.args.script.now (g.W.Write.contents c.args.out.now) c.in-Err.fault c.in-Err.ensures.fault
+returns-in-Err g c = writes_none (Unit {0}) c.args.catalog.now c.args.name.now c.args.names.now c.args.script.now (g.W.Write.contents c.args.out.now) c.in-Err.fault c.in-Err.ensures.fault
 
 pub returns-in-Ok-write_all : goal.returns-in-Ok-write_all
 returns-in-Ok-write_all g c = (

@@ -5,4 +5,4 @@ use Rattle.klp_page.proofs.row.add_rows.Given as goal
 -- what is written, and what is left to be
 abbrev pub invariant-loop-index : goal.invariant-loop-index
 invariant-loop-index l = (l.quiet ≤ l.index) × (l.sheet.is_short ≡ false
-    → (l.initial.sheet.is_short ≡ false) × (l.sheet.text ++ rows_from l.quiet (l.index + 1) (drop l.index l.rows) ≡ l.initial.sheet.text ++ rows_text l.rows))
+    → (l.initial.sheet.is_short ≡ false) × (l.sheet.text ++ rows_from l.names l.quiet (l.index + 1) (drop l.index l.rows) ≡ l.initial.sheet.text ++ rows_text l.names l.rows))

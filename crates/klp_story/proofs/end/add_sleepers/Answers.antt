@@ -10,8 +10,10 @@ returns g c =
     (add _ _ _ _ _
     (add _ _ _ _ _
     (add _ _ _ _ _
-    (add _ _ _ _ _ c.markup.ensures (subst (λ tasks. Adds c.markup.new.self c.add_tasks.new.sheet (tasks_text tasks)) c.as_slice-tasks.ensures c.add_tasks.ensures))
+    (add _ _ _ _ _
+    (add _ _ _ _ _ c.markup.ensures (subst (λ tasks. Adds c.markup.new.self c.add_tasks.new.sheet (tasks_text c.args.names.now tasks)) c.as_slice-tasks.ensures c.add_tasks.ensures))
     c.markup-2.ensures)
     c.add_link.ensures)
+    c.add_line_time.ensures)
     c.markup-3.ensures)
     c.add_reason.ensures

@@ -7,5 +7,5 @@ use Rattle.klp_story.proofs.story.add_shown.Given as goal
 abbrev pub invariant-loop-sentence : goal.invariant-loop-sentence
 invariant-loop-sentence g l = l.sheet.is_short ≡ false
     → (l.initial.sheet.is_short ≡ false)
-    × (l.sheet.text ++ sentences_text l.catalog (shown_of l.excess (drop l.sentence-index l.sentences))
-    ≡ l.initial.sheet.text ++ sentences_text l.catalog (shown l.sentences))
+    × (l.sheet.text ++ sentences_text l.names l.catalog (shown_of l.excess (drop l.sentence-index l.sentences))
+    ≡ l.initial.sheet.text ++ sentences_text l.names l.catalog (shown l.sentences))

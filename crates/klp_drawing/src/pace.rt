@@ -1,0 +1,185 @@
+//! From times to places in the drawing.
+
+use crate::scale::{COST, CUT, WIDTH};
+use klp_names::Names;
+use std::alloc::{AllocError, Global};
+
+/// A stretch is cut if it is this many times as long as all shorter stretches together.
+const LONG: u64 = 12;
+
+/// No stretch is cut until the shorter ones together last this long, in microseconds.
+const SECOND: u64 = 1_000_000;
+
+/// A stretch of time in which nothing changes.
+#[derive(Clone, Copy)]
+struct Stretch {
+    /// How long the stretch is, and how much of it is drawn, in microseconds.
+    length: u64,
+    drawn: u64,
+    /// When the stretch ends, in microseconds since the first time.
+    end: u64,
+    /// The left end of the stretch in the drawing, and its width.
+    x: u64,
+    width: u64,
+}
+
+impl Stretch {
+    /// Whether a part of the stretch isn't drawn.
+    fn is_cut(&self) -> bool {
+        self.drawn < self.length
+    }
+
+    /// Returns where a time within this stretch is drawn. Times in the part that is cut out are at the cut.
+    fn place_of(&self, time: u64) -> u64 {
+        let begin = self.end.saturating_sub(self.length);
+        let drawn = time.saturating_sub(begin).min(self.drawn);
+        let x = drawn.saturating_mul(self.width) / self.drawn.max(1);
+        self.x.saturating_add(x)
+    }
+}
+
+/// The scale of a drawing by time: the stretches of the run in order, and the left end of each cut.
+#[derive(Drop)]
+pub(crate) struct Pace {
+    stretches: Vec<Stretch>,
+    pub cuts: Vec<u64>,
+}
+
+/// The stretches that are left in a search for rising times.
+#[derive(Drop)]
+pub(crate) struct Steps<'a> {
+    rest: &'a [Stretch],
+}
+
+impl<'a> Steps<'a> {
+    /// Returns where a time is drawn. Ask for times in rising order: stretches that ended before an earlier call's
+    /// time are forgotten.
+    pub(crate) fn place_of(&mut self, time: u64) -> u64 {
+        while let [first, rest @ ..] = self.rest {
+            if time < first.end || rest.is_empty() {
+                return first.place_of(time);
+            }
+            self.rest = rest;
+        }
+        0
+    }
+}
+
+impl Pace {
+    /// Begins a search for rising times.
+    pub(crate) fn steps(&self) -> Steps<'_> {
+        Steps {
+            rest: &self.stretches,
+        }
+    }
+
+    /// Computes the place and the width of each stretch, so that all together are as wide as a drawing. `Err` if
+    /// memory runs out.
+    fn place(&mut self) -> Result<(), AllocError> {
+        let (mut all, mut cuts) = (0u64, 0u64);
+        for stretch in &self.stretches {
+            all = all.saturating_add(stretch.drawn);
+            cuts = cuts.saturating_add(u64::from(stretch.is_cut()));
+        }
+        let room = WIDTH
+            .saturating_sub(cuts.saturating_mul(COST))
+            .max(WIDTH / 2);
+        let (mut drawn, mut cut) = (0u64, 0u64);
+        for stretch in &mut self.stretches {
+            let x = drawn.saturating_mul(room) / all.max(1);
+            drawn = drawn.saturating_add(stretch.drawn);
+            let end = drawn.saturating_mul(room) / all.max(1);
+            stretch.x = x.saturating_add(cut);
+            stretch.width = end.saturating_sub(x);
+            if stretch.is_cut() {
+                self.cuts.push(stretch.x.saturating_add(stretch.width))?;
+                cut = cut.saturating_add(CUT);
+            }
+        }
+        Ok(())
+    }
+
+    /// Cuts each stretch that is longer than this: half of that length is drawn.
+    fn cut(&mut self, longest: u64) {
+        for stretch in &mut self.stretches {
+            if stretch.length > longest {
+                stretch.drawn = longest / 2;
+            }
+        }
+    }
+}
+
+/// Returns the length of the longest stretch that is drawn whole; `u64::MAX` if none is cut. `Err` if memory runs out.
+fn longest_of(alloc: Global, stretches: &[Stretch]) -> Result<u64, AllocError> {
+    let mut lengths = Vec::new(alloc);
+    for stretch in stretches {
+        lengths.push(stretch.length)?;
+    }
+    lengths.sort()?;
+    let (mut longest, mut shorter) = (0u64, 0u64);
+    for length in &lengths {
+        if shorter >= SECOND && *length > shorter.saturating_mul(LONG) {
+            return Ok(longest);
+        }
+        longest = *length;
+        shorter = shorter.saturating_add(*length);
+    }
+    Ok(u64::MAX)
+}
+
+/// Adds the stretch between two times. Returns its end. `Err` if memory runs out.
+fn add_stretch(stretches: &mut Vec<Stretch>, begin: u64, end: u64) -> Result<u64, AllocError> {
+    let length = end.saturating_sub(begin);
+    stretches.push(Stretch {
+        length,
+        drawn: length,
+        end,
+        x: 0,
+        width: 0,
+    })?;
+    Ok(end)
+}
+
+/// Returns the stretches between the lines that change something, and from the last of these to the end of the run. At
+/// a line without a time the list ends. `Err` if memory runs out.
+fn stretches_of(
+    alloc: Global,
+    changed: &[u64],
+    lines: u64,
+    names: &Names,
+) -> Result<Vec<Stretch>, AllocError> {
+    let mut stretches = Vec::new(alloc);
+    let mut begin = 0;
+    for line in changed {
+        let Some(time) = names.since_start(*line) else {
+            return Ok(stretches);
+        };
+        begin = add_stretch(&mut stretches, begin, time)?;
+    }
+    if let Some(time) = names.since_start(lines) {
+        add_stretch(&mut stretches, begin, time)?;
+    }
+    Ok(stretches)
+}
+
+/// Returns the scale by time of a run with this many lines, of which the lines in `changed` change something. `None`
+/// if one of those has no time, or if all times are the same. `Err` if memory runs out.
+pub(crate) fn pace_of(
+    alloc: Global,
+    changed: &[u64],
+    lines: u64,
+    names: &Names,
+) -> Result<Option<Pace>, AllocError> {
+    let stretches = stretches_of(alloc, changed, lines, names)?;
+    if stretches.len() < changed.len() || stretches.iter().all(|stretch| stretch.length == 0) {
+        return Ok(None);
+    }
+    let longest = longest_of(alloc, &stretches)?;
+    let mut pace = Pace {
+        stretches,
+        cuts: Vec::new(alloc),
+    };
+    pace.cut(longest);
+    pace.place()?;
+    Ok(Some(pace))
+}

@@ -1,0 +1,68 @@
+//! What a task is called.
+ghost use Rattle.std.specs.Prelude.{◌≡◌, ◌<◌, ◌≤◌, ◌++◌, length, take, codes, option_map};
+ghost use Rattle.klp_markup.specs.Adds.{Adds};
+ghost use Rattle.klp_markup.specs.Called.{goes_on, last_begin, shown_text, called_text};
+
+use crate::sheet::{Sheet, Value};
+use klp_names::Names;
+use klp_types::TaskId;
+
+/// How many bytes of a task's name a page shows at most.
+pub const MAX_SHOWN: usize = 32;
+
+/// Whether this byte continues a character of UTF-8. Else it begins a character.
+fn goes_on(byte: u8) -> bool
+    ensures { result ≡ goes_on byte }
+{
+    byte >= 128 && byte < 192
+}
+
+/// Returns the first [`MAX_SHOWN`] bytes of a name, or fewer, so that no character of UTF-8 is cut.
+fn front_of(name: &[u8]) -> &[u8]
+    requires { MAX_SHOWN < length name.now }
+    ensures { result.now ≡ take (last_begin MAX_SHOWN name.now) name.now }
+{
+    let mut end = MAX_SHOWN;
+    while end > 0 && goes_on(name[end]) {
+        end -= 1;
+    }
+    &name[..end]
+}
+
+/// Adds a task's name. A name of more than [`MAX_SHOWN`] bytes is cut, and ends with an ellipsis.
+fn add_shown(sheet: &mut Sheet, name: &[u8])
+    ensures { Adds sheet.old sheet.new (shown_text name.now) }
+{
+    crate::laws::what_is_added_adds_up();
+    if name.len() > MAX_SHOWN {
+        sheet.words(front_of(name));
+        sheet.markup("&hellip;");
+    } else {
+        sheet.words(name);
+    }
+}
+
+/// Adds a task's name behind its number. Adds nothing if the name isn't known.
+pub(crate) fn add_called(sheet: &mut Sheet, name: Option<&[u8]>)
+    ensures { Adds sheet.old sheet.new (called_text (option_map (λ name. name.now) name.entry)) }
+{
+    crate::laws::what_is_added_adds_up();
+    if let Some(name) = name {
+        sheet.markup(" <bdi class=m>");
+        add_shown(sheet, name);
+        sheet.markup("</bdi>");
+    }
+}
+
+/// Adds a task's number, and its name if that is known. It adds no markup, since a tooltip allows none. It has no
+/// contract, and is for layout.
+pub fn add_plain_task(sheet: &mut Sheet, names: &Names, task: TaskId) {
+    sheet.number(u64::from(task.0));
+    match names.name(task) {
+        Some(name) if name.len() > MAX_SHOWN => {
+            sheet.fill(" {}&hellip;", &[Value::Text(front_of(name))]);
+        }
+        Some(name) => sheet.fill(" {}", &[Value::Text(name)]),
+        None => {}
+    }
+}

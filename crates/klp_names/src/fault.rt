@@ -1,0 +1,64 @@
+//! What is wrong with a text of names.
+ghost use Rattle.std.specs.Prelude.{◌≡◌};
+ghost use Rattle.klp_names.specs.declared.fault.NamesFaultKind.TheVariants.{NoMemory};
+
+use std::alloc::{AllocError, AllocFailed};
+use std::{error, fmt};
+use thiserror::Error;
+
+/// What is wrong with a line of a text of names. If a line has several faults, the first of these is reported, but for
+/// `NoMemory`, which may stand in place of any.
+#[derive(Clone, Copy, Debug, PartialEq, Eq)]
+pub enum NamesFaultKind {
+    /// The line begins neither with `task` nor with `line`.
+    UnknownWord,
+    /// A task's number isn't one from 0 to 63.
+    BadTask,
+    /// A name has no byte, more than 64 bytes, or a control character.
+    BadName,
+    /// A line's number isn't one from 1 on.
+    BadLine,
+    /// A time isn't seconds with up to six decimals.
+    BadTime,
+    /// A task is named that has a name already.
+    NamedTwice,
+    /// A line has a time behind a later line, or a second time.
+    LineFalls,
+    /// A line is earlier than the one before it.
+    TimeFalls,
+    NoMemory,
+}
+
+/// Prints the fault's name, as `Debug` does.
+impl fmt::Display for NamesFaultKind {
+    fn fmt<W: fmt::Write>(&self, f: &mut fmt::Formatter<W>) -> fmt::Result {
+        fmt::Debug::fmt(self, f)
+    }
+}
+
+impl error::Error for NamesFaultKind {}
+
+impl From<AllocError> for NamesFaultKind {
+    ghost from_gives = { λ _ e. e ≡ NoMemory };
+
+    fn from(_e: AllocError) -> NamesFaultKind {
+        NamesFaultKind::NoMemory
+    }
+}
+
+impl<T: Drop> From<AllocFailed<T>> for NamesFaultKind {
+    ghost from_gives = { λ _ e. e ≡ NoMemory };
+
+    fn from(_e: AllocFailed<T>) -> NamesFaultKind {
+        NamesFaultKind::NoMemory
+    }
+}
+
+/// The first faulty line of a text of names, printed as `line 3: BadName`.
+#[derive(Clone, Copy, Debug, PartialEq, Eq, Error)]
+#[error("line {line}: {kind}")]
+pub struct NamesFault {
+    /// Counted from 1.
+    pub line: u64,
+    pub kind: NamesFaultKind,
+}

@@ -1,0 +1,19 @@
+//! What an observer knows of a run beside its lines: what its tasks are called, and when its lines were.
+//!
+//! [`Names::read`] reads this from a text with a line for each name and each time (`specs/Text`), or answers the
+//! first faulty line. A name is found by its task ([`Names::name`]), and a time by its line ([`Names::time`]), by a
+//! binary search, since times rise with their lines (`specs/Names`). [`Misread`] tells people which word of a faulty
+//! line isn't as wanted.
+#![tactic(auto)]
+
+mod fault;
+mod misread;
+mod named;
+mod names;
+mod text;
+mod timed;
+
+pub use fault::{NamesFault, NamesFaultKind};
+pub use misread::Misread;
+pub use names::Names;
+pub use text::MAX_TASK_NAME;

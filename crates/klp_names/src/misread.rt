@@ -1,0 +1,80 @@
+//! What is wrong with a line of a text of names, told to people.
+
+use crate::fault::{NamesFault, NamesFaultKind};
+use klp_words::cut;
+use std::fmt;
+
+/// How many bytes of a faulty word a message shows at most.
+const SHOWN: usize = 64;
+
+/// A fault of a file of names, for people: printed as `FILE: line 3: BadTask: '64': wanted is a task's number, 0 to
+/// 63`. It has no contract.
+#[derive(Clone, Copy)]
+pub struct Misread<'a> {
+    /// What the file is called.
+    pub file: &'a str,
+    pub text: &'a [u8],
+    pub fault: NamesFault,
+}
+
+/// Returns the line with this number, counted from 1.
+fn line_at(text: &[u8], number: u64) -> &[u8] {
+    let mut rest = text;
+    for _line in 1..number {
+        rest = cut(rest, b'\n').1;
+    }
+    cut(rest, b'\n').0
+}
+
+/// Returns the part of a line that is at fault, and what is wanted instead.
+fn part_of(line: &[u8], kind: NamesFaultKind) -> (&[u8], &'static str) {
+    let (word, rest) = cut(line, b' ');
+    let (number, last) = cut(rest, b' ');
+    match kind {
+        NamesFaultKind::UnknownWord => (word, "wanted is 'task' or 'line'"),
+        NamesFaultKind::BadTask => (number, "wanted is a task's number, 0 to 63"),
+        NamesFaultKind::BadName => (
+            last,
+            "wanted is a name of 1 to 64 bytes without control characters",
+        ),
+        NamesFaultKind::BadLine => (number, "wanted is a line's number, from 1 on"),
+        NamesFaultKind::BadTime => (
+            last,
+            "wanted are seconds, with up to six decimals behind a point",
+        ),
+        NamesFaultKind::NamedTwice => (number, "the task has a name already"),
+        NamesFaultKind::LineFalls => (number, "wanted is a later line than the one before"),
+        NamesFaultKind::TimeFalls => (
+            last,
+            "wanted is a time that is no earlier than the one before",
+        ),
+        NamesFaultKind::NoMemory => (b"", "there is no memory left"),
+    }
+}
+
+/// Returns the first [`SHOWN`] bytes of a word.
+fn shown(word: &[u8]) -> &[u8] {
+    word.get(..SHOWN).unwrap_or(word)
+}
+
+/// Writes text, with an escape for each character that drives a terminal or isn't printable, and for bytes that aren't
+/// UTF-8.
+fn write_escaped<W: fmt::Write>(f: &mut fmt::Formatter<W>, word: &[u8]) -> fmt::Result {
+    for chunk in word.utf8_chunks() {
+        for c in chunk.valid().chars() {
+            write!(f, "{}", c.escape_debug())?;
+        }
+        write!(f, "{}", chunk.invalid().escape_ascii())?;
+    }
+    Ok(())
+}
+
+impl<'a> fmt::Display for Misread<'a> {
+    fn fmt<W: fmt::Write>(&self, f: &mut fmt::Formatter<W>) -> fmt::Result {
+        let (word, wanted) = part_of(line_at(self.text, self.fault.line), self.fault.kind);
+        write_escaped(f, self.file.as_bytes())?;
+        write!(f, ": line {}: {}: '", self.fault.line, self.fault.kind)?;
+        write_escaped(f, shown(word))?;
+        write!(f, "': {wanted}")
+    }
+}
