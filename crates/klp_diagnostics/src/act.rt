@@ -1,4 +1,4 @@
-//! Who does what in an item of a trace that isn't honest.
+//! What an item that isn't honest tells: who does what.
 
 use crate::calls::Calls;
 use crate::escaped::Escaped;
@@ -34,7 +34,7 @@ impl<'a> fmt::Display for Act<'a> {
     }
 }
 
-/// A task returns, and runs in no function: it is inside of none, or asleep.
+/// Returns what is wrong with a task that returns: it is inside of no function, or asleep.
 fn returns<'a>(task: u64, calls: &Calls<'a>) -> Act<'a> {
     match calls.last_of(task) {
         None => Act::Inside(task, "returns, and is", None),
@@ -42,14 +42,15 @@ fn returns<'a>(task: u64, calls: &Calls<'a>) -> Act<'a> {
     }
 }
 
-/// A module goes while a task is inside of it: the first such task, and the module's symbol that it called last. `None`
-/// where no task is.
+/// Returns that a module goes while a task is inside of it: the first such task, with the symbol of the module that the
+/// task called last. `None` if no task is inside of it.
 fn goes<'a>(module: &'a [u8], calls: &Calls<'a>) -> Option<Act<'a>> {
     let (task, symbol) = calls.first_in(module)?;
     Some(Act::Going(module, task, symbol))
 }
 
-/// What the item does, where a task does it or is in its way. The calls are those that are open before it.
+/// Returns what a task does in an item, or in which task's way the item is. `calls` are those that are open before it.
+/// `None` if no task is at fault.
 fn act_in<'a>(cause: Cause, item: Item<'a>, calls: &Calls<'a>) -> Option<Act<'a>> {
     let (task, does) = match (cause, item) {
         (Cause::FramesLeft, Item::Exit(task)) => (task, "leaves the kernel"),
@@ -62,7 +63,7 @@ fn act_in<'a>(cause: Cause, item: Item<'a>, calls: &Calls<'a>) -> Option<Act<'a>
     Some(Act::Inside(task, does, calls.last_of(task)))
 }
 
-/// What is told of an item of this cause.
+/// Returns what is told of an item that breaks the premise of this cause. `calls` are those that are open before it.
 pub(crate) fn act_of<'a>(cause: Cause, item: Option<Item<'a>>, calls: &Calls<'a>) -> Act<'a> {
     let act = match item {
         Some(item) => act_in(cause, item, calls),

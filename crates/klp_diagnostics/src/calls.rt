@@ -21,6 +21,7 @@ pub(crate) struct Calls<'a> {
 }
 
 impl<'a> Call<'a> {
+    /// Whether the symbol is one of this module, by its spelling.
     fn is_in(&self, module: &[u8]) -> bool {
         match self.symbol.strip_prefix(SPELLING) {
             Some(rest) => match rest.strip_prefix(module) {
@@ -33,6 +34,8 @@ impl<'a> Call<'a> {
 }
 
 impl<'a> Calls<'a> {
+    /// Adds the call that a line makes, or takes away the one that it returns from: the task's last. `Err` if memory
+    /// runs out.
     fn add(&mut self, item: Option<Item<'a>>) -> Result<(), AllocError> {
         match item {
             Some(Item::Call(task, symbol)) => self.open.push(Call { task, symbol })?,
@@ -46,8 +49,8 @@ impl<'a> Calls<'a> {
         Ok(())
     }
 
-    /// The calls that are open behind so many lines of a trace, each of which is an honest item. So no call of a task
-    /// that ended is among them: it had returned from all.
+    /// Returns the calls that are open behind so many lines of a trace. These lines must be honest items: then a task
+    /// that ended had returned from all its calls, and none of them is open. `Err` if memory runs out.
     pub(crate) fn behind(
         alloc: Global,
         trace: &'a [u8],
@@ -63,13 +66,14 @@ impl<'a> Calls<'a> {
         Ok(calls)
     }
 
-    /// The symbol that the task called last.
+    /// Returns the symbol that the task called last. `None` if it is inside of no function.
     pub(crate) fn last_of(&self, task: u64) -> Option<&'a [u8]> {
         let call = self.open.iter().rfind(|call| call.task == task)?;
         Some(call.symbol)
     }
 
-    /// The first task that is inside of a module, with the symbol of it that it called last.
+    /// Returns, of all tasks that are inside of a module, the one with the lowest number, with the symbol of the module
+    /// that the task called last. `None` if no task is.
     pub(crate) fn first_in(&self, module: &[u8]) -> Option<(u64, &'a [u8])> {
         let mut first: Option<Call<'a>> = None;
         for call in &self.open {

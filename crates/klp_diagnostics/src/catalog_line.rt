@@ -35,19 +35,20 @@ pub(crate) fn begins_as_utf16(text: &[u8]) -> bool {
     UTF16_MARKS.iter().any(|mark| text.starts_with(mark))
 }
 
-/// The first two words of a line; an empty one where there is none.
+/// Returns the first two words of a line. A word that isn't there is empty.
 pub(crate) fn first_words(line: &[u8]) -> (&[u8], &[u8]) {
     let mut words = words_of(line.strip_suffix(b"\r").unwrap_or(line));
     let first = words.next().unwrap_or(&[]);
     (first, words.next().unwrap_or(&[]))
 }
 
+/// Whether a word is pairs of hexadecimal digits.
 fn is_body(word: &[u8]) -> bool {
     word.len() % DIGITS == 0 && word.iter().all(u8::is_ascii_hexdigit)
 }
 
-/// Whether a word is an edit, by the rule of the catalog's text: it stands alone behind a status of 0. Where there is no
-/// memory to ask, it is taken for one.
+/// Whether a word is an edit of a callback. The catalog's own reader decides: it gets a line with a status of 0 and
+/// this word. True also if memory runs out.
 fn is_edit(alloc: Global, word: &[u8]) -> bool {
     let mut script = Vec::new(alloc);
     if script.extend_from_slice(b"0 ").is_err() || script.extend_from_slice(word).is_err() {
@@ -58,6 +59,7 @@ fn is_edit(alloc: Global, word: &[u8]) -> bool {
     !matches!(read, Err(TextFaultKind::BadEdit))
 }
 
+/// Whether a word is spelled as this part of a line is.
 fn is_spelled(alloc: Global, part: Part, word: &[u8]) -> bool {
     match part {
         Part::Name => is_name(word),
@@ -72,7 +74,7 @@ fn is_spelled(alloc: Global, part: Part, word: &[u8]) -> bool {
     }
 }
 
-/// The first of these words that is no edit.
+/// Returns the first of these words that is no edit, as what is wrong. Looks at `most` words at most.
 fn bad_edit<'a>(alloc: Global, mut words: LineWords<'a>, most: usize) -> Wrong<'a> {
     let mut word = words.next().unwrap_or(&[]);
     for _ in 0..most {
@@ -84,8 +86,8 @@ fn bad_edit<'a>(alloc: Global, mut words: LineWords<'a>, most: usize) -> Wrong<'
     Wrong::Word(word, Part::Edit.wanted())
 }
 
-/// The first word of a line that isn't spelled as it should be. Where all are, it is a symbol of another object than the
-/// target's.
+/// Returns the first word of a line that isn't spelled as its part of the form is, as what is wrong. If all words are,
+/// it is the symbol: that is of another object than the target's.
 fn bad_word<'a>(alloc: Global, form: &Form, line: &'a [u8]) -> Wrong<'a> {
     let mut words = words_of(line);
     words.next();
@@ -101,7 +103,7 @@ fn bad_word<'a>(alloc: Global, form: &Form, line: &'a [u8]) -> Wrong<'a> {
     Wrong::Word(word_at(words_of(line), 2), Part::Symbol.wanted())
 }
 
-/// What stands behind the first word of a line is there already.
+/// Returns what is wrong with a line that says again what one above says: the word that is there already.
 fn twice<'a>(form: &Form, line: &'a [u8]) -> Wrong<'a> {
     let number = match form.parts {
         [Part::Name | Part::Id, ..] => 2,
@@ -110,6 +112,7 @@ fn twice<'a>(form: &Form, line: &'a [u8]) -> Wrong<'a> {
     Wrong::Word(word_at(words_of(line), number), form.once)
 }
 
+/// Returns what is wrong with a line of which there are too many, or with a body that is too long.
 fn too_many<'a>(form: &Form, line: &'a [u8]) -> Wrong<'a> {
     let body = word_at(words_of(line), 4);
     match form.parts {
@@ -120,7 +123,8 @@ fn too_many<'a>(form: &Form, line: &'a [u8]) -> Wrong<'a> {
     }
 }
 
-/// A line that begins with no word of a catalog, or a patch that is neither cumulative nor isn't.
+/// Returns what is wrong with a line that begins with no word of a catalog, or with the third word of a patch, which
+/// can only be `replace`.
 fn unknown_word(line: &[u8]) -> Wrong<'_> {
     let first = word_at(words_of(line), 1);
     match Form::of(first) {
@@ -132,6 +136,7 @@ fn unknown_word(line: &[u8]) -> Wrong<'_> {
     }
 }
 
+/// Returns what is wrong with a line of this form that has this fault.
 fn wrong_with<'a>(alloc: Global, form: &Form, kind: TextFaultKind, line: &'a [u8]) -> Wrong<'a> {
     match kind {
         TextFaultKind::WrongCount => Wrong::Word(line, form.written),
@@ -148,7 +153,7 @@ fn wrong_with<'a>(alloc: Global, form: &Form, kind: TextFaultKind, line: &'a [u8
     }
 }
 
-/// What is wrong in the line that has this fault.
+/// Returns what is wrong in the line of a catalog that has this fault.
 pub(crate) fn wrong_of(alloc: Global, catalog: &[u8], fault: TextFault) -> Wrong<'_> {
     let line = line_at(catalog, fault.line);
     match fault.kind {

@@ -1,18 +1,19 @@
-//! Bytes of a file, for a terminal.
+//! Bytes of a file, as a terminal may show them.
 
 use std::fmt;
 
 /// How many bytes of a word are shown.
 const SHOWN: usize = 64;
 
-/// Bytes as they are, but for what drives a terminal, can't be seen or is no text.
+/// Writes bytes as they are, except those that drive a terminal, can't be seen or are no text: these it escapes.
 #[derive(Clone, Copy)]
 pub(crate) struct Escaped<'a>(pub(crate) &'a [u8]);
 
-/// The same between quotes, and cut where it is long.
+/// Writes bytes as [`Escaped`] does, between quotes. Cuts them off behind the first [`SHOWN`], and writes `..` then.
 #[derive(Clone, Copy)]
 pub(crate) struct Quoted<'a>(pub(crate) &'a [u8]);
 
+/// Writes a text, and escapes what a terminal wouldn't show.
 fn write_text<W: fmt::Write>(f: &mut fmt::Formatter<W>, text: &str) -> fmt::Result {
     for c in text.chars() {
         if matches!(c, '\'' | '"' | '\\') {
@@ -34,7 +35,7 @@ impl<'a> fmt::Display for Escaped<'a> {
     }
 }
 
-/// As much of a word as is shown, which ends with a whole character.
+/// Returns as much of a word as is shown: at most [`SHOWN`] bytes, up to the end of a character.
 fn shown(word: &[u8]) -> &[u8] {
     let Some(front) = word.get(..SHOWN) else {
         return word;

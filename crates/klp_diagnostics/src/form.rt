@@ -109,17 +109,19 @@ static FORMS: [Form; 8] = [
 ];
 
 impl Form {
+    /// Whether lines of this form may begin with the word.
     fn begins_with(&self, word: &[u8]) -> bool {
         self.words.iter().any(|own| own.as_bytes() == word)
     }
 
-    /// The kind of the lines that begin with this word.
+    /// Returns the form of the lines that begin with this word. `None` if there is none.
     pub(crate) fn of(word: &[u8]) -> Option<&'static Form> {
         FORMS.iter().find(|form| form.begins_with(word))
     }
 }
 
 impl Part {
+    /// Returns what a word has to be in this place, as a phrase that begins with its verb.
     pub(crate) fn wanted(self) -> &'static str {
         match self {
             Part::Name => "is a name, of 1 to 55 letters, digits, _ and -",

@@ -7,7 +7,7 @@ use klp_types::{ENTRY_SITE_LEN, ObjectText, SymbolText};
 /// ENDBR64, behind which the entry site of a function is that begins with it.
 const ENDBR64: [u8; 4] = [0xf3, 0x0f, 0x1e, 0xfa];
 
-/// How many bytes of a symbol there are up to the end of its entry site.
+/// Returns how many bytes of a symbol's body its entry site ends behind.
 fn entry_end(symbol: &SymbolText) -> usize {
     if symbol.body.starts_with(&ENDBR64) {
         ENDBR64.len() + ENTRY_SITE_LEN
@@ -16,25 +16,28 @@ fn entry_end(symbol: &SymbolText) -> usize {
     }
 }
 
+/// Whether a symbol's body ends before its entry site does.
 fn is_short(symbol: &SymbolText) -> bool {
     symbol.body.len() < entry_end(symbol)
 }
 
-/// Whether a call at the entry site reaches the handler, with 32 bits and a sign.
+/// Whether a call at the entry site reaches the handler: the distance must fit into 32 bits with a sign.
 fn is_in_reach(handler: u64, symbol: &SymbolText) -> bool {
     let behind = i128::from(symbol.address) + entry_end(symbol) as i128;
     i32::try_from(i128::from(handler) - behind).is_ok()
 }
 
-/// The address behind a symbol.
+/// Returns the address behind the last byte of a symbol.
 fn end_of(symbol: &SymbolText) -> u128 {
     u128::from(symbol.address) + symbol.body.len() as u128
 }
 
+/// Whether two symbols have an address in common.
 fn share_address(one: &SymbolText, other: &SymbolText) -> bool {
     u128::from(one.address) < end_of(other) && u128::from(other.address) < end_of(one)
 }
 
+/// Returns a symbol with the name of its object.
 fn named<'a>(object: &'a ObjectText, symbol: &'a SymbolText) -> Named<'a> {
     Named {
         symbol: symbol.name.as_str(),
@@ -42,7 +45,7 @@ fn named<'a>(object: &'a ObjectText, symbol: &'a SymbolText) -> Named<'a> {
     }
 }
 
-/// What a symbol must be, if it has this fault by itself.
+/// Returns what a symbol must be, if it has this fault by itself. `None` if it doesn't.
 fn wanted_of(fault: ImageFault, handler: u64, symbol: &SymbolText) -> Option<&'static str> {
     match fault {
         ImageFault::ShortSymbol if is_short(symbol) => {
@@ -58,7 +61,7 @@ fn wanted_of(fault: ImageFault, handler: u64, symbol: &SymbolText) -> Option<&'s
     }
 }
 
-/// The first of an object's symbols before this place that shares an address with the symbol.
+/// Returns the first symbol of an object, among the first `before`, that shares an address with `symbol`.
 fn sharing<'a>(object: &'a ObjectText, before: usize, symbol: &SymbolText) -> Option<Named<'a>> {
     for other in object.symbols.iter().take(before) {
         if share_address(other, symbol) {
@@ -68,7 +71,7 @@ fn sharing<'a>(object: &'a ObjectText, before: usize, symbol: &SymbolText) -> Op
     None
 }
 
-/// The first symbol before this one that shares an address with it. This one is at `place` in the last object.
+/// Returns the first symbol before `symbol` that shares an address with it. `symbol` is at `place` in the last object.
 fn in_the_way<'a>(
     objects: &'a [ObjectText],
     place: usize,
@@ -83,7 +86,7 @@ fn in_the_way<'a>(
     sharing(last, place, symbol)
 }
 
-/// What is wrong with a symbol of the last of these objects, if it has this fault.
+/// Returns what is wrong with the symbol at `place` in the last of these objects. `None` if it doesn't have this fault.
 fn wrong_symbol<'a>(
     objects: &'a [ObjectText],
     place: usize,
@@ -104,7 +107,7 @@ fn wrong_symbol<'a>(
     }
 }
 
-/// The same of the first that has it: symbols before it have no fault at all.
+/// Returns what is wrong with the first symbol that has this fault. `None` if none has.
 fn first_wrong_symbol<'a>(
     objects: &'a [ObjectText],
     handler: u64,
@@ -122,7 +125,7 @@ fn first_wrong_symbol<'a>(
     None
 }
 
-/// What is wrong with the objects of a catalog that make no image.
+/// Returns what is wrong with the objects of a catalog that make no image, for this fault.
 pub(crate) fn wrong_of<'a>(
     objects: &'a [ObjectText],
     handler: u64,

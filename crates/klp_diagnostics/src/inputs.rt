@@ -4,13 +4,12 @@ ghost use Rattle.std.specs.Prelude.{◌≡◌, IfErr};
 use crate::act::act_of;
 use crate::calls::Calls;
 use crate::catalog_line::{begins_as_catalog, begins_as_utf16};
-use crate::differing::write_rules;
 use crate::escaped::{Escaped, Quoted};
 use crate::item::Item;
 use crate::lack::lack_of;
 use crate::lines::line_at;
 use crate::names::Names;
-use crate::replay::{Replay, replay_of};
+use crate::replay::{Replay, replay_of, rules_of};
 use crate::same_site::first_pair;
 use crate::stray::{STRAYS, Stray};
 use crate::unpicked::first_unloadable;
@@ -59,7 +58,8 @@ pub struct Inputs<'a> {
     pub kind: Kind,
 }
 
-/// The bytes of a program's file. Where it can't be read a line on `err` says so, and the answer is the exit status.
+/// Returns the bytes of a program's file. If the file can't be read, writes a line to `err` that says so, and returns
+/// the exit status, 1.
 pub fn file_in<R: Files + AllocGlobal, E: Write>(
     rt: &R,
     program: &str,
@@ -78,7 +78,7 @@ pub fn file_in<R: Files + AllocGlobal, E: Write>(
     }
 }
 
-/// What is wrong in a line of a trace over the plan of this catalog.
+/// Returns what is wrong with a line of a trace that is no item. `plan` is that of the catalog.
 fn wrong_item<'a>(mut plan: Plan, line: &'a [u8], catalog: &'a [u8]) -> Wrong<'a> {
     let objects = plan.take_objects();
     let (patches, _names) = plan.into_patches();
@@ -90,11 +90,12 @@ fn wrong_item<'a>(mut plan: Plan, line: &'a [u8], catalog: &'a [u8]) -> Wrong<'a
 }
 
 impl<'a> FileText<'a> {
+    /// Returns the name of the file, as a terminal may show it.
     fn shown(&self) -> Escaped<'a> {
         Escaped(self.name.as_bytes())
     }
 
-    /// What a line of a trace is called, with its time if it has one.
+    /// Writes the program, the file and the number of a line of a trace, with the line's time if it has one.
     fn write_item_place<E: Write>(&self, program: &str, line: u64, err: &mut E) -> io::Result<()> {
         match LineParts::of(line_at(self.bytes, line)).time {
             Some(time) if microseconds(time).is_some() => {
@@ -105,15 +106,16 @@ impl<'a> FileText<'a> {
         }
     }
 
-    /// What a line of it is called.
+    /// Writes the program, the file and the number of a line.
     fn write_place<E: Write>(&self, program: &str, line: u64, err: &mut E) -> io::Result<()> {
         write!(err, "{program}: {}: line {line}: ", self.shown())
     }
 }
 
 impl<'a> Inputs<'a> {
-    /// Hints at a function of the catalog whose symbol isn't picked, and at what stands in the file beside the catalog and
-    /// may be meant otherwise than it is, in its first line of each kind. Of swapped files the fault tells all.
+    /// Writes hints to `err`. One is at a function of the catalog whose symbol isn't picked. The others are at what
+    /// means something in other files and not in the one beside the catalog: the first line of each kind. Writes
+    /// nothing if the files are swapped, since then the fault tells all.
     pub fn hint<E: Write>(&self, err: &mut E) {
         if self.are_swapped() {
             return;
@@ -124,7 +126,8 @@ impl<'a> Inputs<'a> {
         }
     }
 
-    /// Hints at the first line of a script that may be misspelled. It is answered as refused, among many that are meant so.
+    /// Writes a hint to `err` at the first line of a script that may be misspelled. The console refuses such a line,
+    /// but it also refuses lines that are meant to be.
     pub fn hint_line<E: Write>(&self, alloc: Global, err: &mut E) {
         let text = self.second.bytes;
         if begins_as_catalog(text) || begins_as_utf16(text) {
@@ -135,8 +138,9 @@ impl<'a> Inputs<'a> {
         }
     }
 
-    /// Tells where a trace isn't honest: the task, and the function that it is inside of; or where the kernel differs from
-    /// the rules, what these have there, and why. Of an honest trace it hints at the events that are refused.
+    /// Writes to `err` why a verdict is so. If the trace isn't honest, that is the task, and the function that it is
+    /// inside of. If the kernel differs from the rules, it is what the rules have there, and why. If neither, it is a
+    /// hint at the events that are refused, if any are.
     pub fn print_verdict<E: Write>(&self, alloc: Global, verdict: Verdict, err: &mut E) {
         let _ = match verdict {
             Verdict::Honest(_) => self.write_refused(alloc, err),
@@ -145,7 +149,7 @@ impl<'a> Inputs<'a> {
         };
     }
 
-    /// Tells a fault, and answers its exit status.
+    /// Writes a fault to `err`: where it is, and what is wanted there. Returns its exit status, 1.
     pub fn print_fault<E: Write>(&self, alloc: Global, fault: Fault, err: &mut E) -> u8
         ensures { result ≡ 1 }
     {
@@ -153,6 +157,7 @@ impl<'a> Inputs<'a> {
         FAULT
     }
 
+    /// Hints at the first function of the catalog whose symbol isn't picked, if that is worth it.
     fn write_unloadable<E: Write>(&self, err: &mut E) -> io::Result<()> {
         match first_unloadable(self.catalog.bytes, self.second.bytes) {
             Some(found) => {
@@ -164,6 +169,7 @@ impl<'a> Inputs<'a> {
         }
     }
 
+    /// Hints at the first line of a script that may be misspelled, over the plan of the catalog.
     fn write_misspelled<E: Write>(&self, mut plan: Plan, err: &mut E) -> io::Result<()> {
         let objects = plan.take_objects();
         let (patches, _names) = plan.into_patches();
@@ -174,6 +180,7 @@ impl<'a> Inputs<'a> {
         self.write_first_misspelled(&names, err)
     }
 
+    /// Hints at the first line of a script that may be misspelled, by the names of the catalog.
     fn write_first_misspelled<E: Write>(&self, names: &Names<'_>, err: &mut E) -> io::Result<()> {
         let mut number = 0u64;
         for line in self.second.bytes.split(|b| *b == b'\n') {
@@ -186,7 +193,8 @@ impl<'a> Inputs<'a> {
         Ok(())
     }
 
-    /// What is UTF-16 has lines of another kind, of which nothing else is told.
+    /// Hints at the first line of this kind. If the file is UTF-16, that alone is told: its lines are others than they
+    /// seem.
     fn write_stray<E: Write>(&self, stray: Stray, err: &mut E) -> io::Result<()> {
         let text = self.second.bytes;
         let is_reported = matches!(stray, Stray::Utf16) || !begins_as_utf16(text);
@@ -199,7 +207,7 @@ impl<'a> Inputs<'a> {
         }
     }
 
-    /// How many events of an honest trace are refused, if any are.
+    /// Hints at the events of an honest trace that are refused, if any are and there is memory to find them.
     fn write_refused<E: Write>(&self, alloc: Global, err: &mut E) -> io::Result<()> {
         let trace = self.second.bytes;
         match replay_of(alloc, self.catalog.bytes, trace, trace.len() as u64) {
@@ -208,6 +216,7 @@ impl<'a> Inputs<'a> {
         }
     }
 
+    /// Hints at the first event that is refused, and tells how many are.
     fn write_first_refused<E: Write>(&self, replay: &Replay, err: &mut E) -> io::Result<()> {
         let Some(first) = replay.first else {
             return Ok(());
@@ -222,6 +231,7 @@ impl<'a> Inputs<'a> {
         )
     }
 
+    /// Tells the line that breaks a premise: its cause, and who does what.
     fn write_item<E: Write>(&self, alloc: Global, fault: NotHonest, err: &mut E) -> io::Result<()> {
         let (line, trace) = (fault.item as u64, self.second.bytes);
         self.second.write_item_place(self.program, line, err)?;
@@ -232,21 +242,28 @@ impl<'a> Inputs<'a> {
         }
     }
 
+    /// Tells the line at which the kernel differs from the rules: what was seen, what the rules have, and why.
     fn write_difference<E: Write>(
         &self,
         alloc: Global,
         differs: Differs,
         err: &mut E,
     ) -> io::Result<()> {
-        let (number, trace) = (differs.item, self.second.bytes);
-        let text = LineParts::of(line_at(trace, number as u64)).text;
-        self.second
-            .write_item_place(self.program, number as u64, err)?;
-        write!(err, "{}: {}: ", differs.cause, Quoted(text))?;
-        write_rules(alloc, self.catalog.bytes, trace, number, err)
+        let (line, trace) = (differs.item as u64, self.second.bytes);
+        let text = Quoted(LineParts::of(line_at(trace, line)).text);
+        self.second.write_item_place(self.program, line, err)?;
+        match rules_of(alloc, self.catalog.bytes, trace, line) {
+            Some(rules) => writeln!(err, "{}: {text}: {rules}", differs.cause),
+            None => writeln!(
+                err,
+                "{}: {text}: there is no memory to find out what the rules have",
+                differs.cause
+            ),
+        }
     }
 
-    /// What is done in the line of a trace that isn't honest, before which these calls are open.
+    /// Ends a line of `err` with who does what in the line of a trace that breaks a premise. `calls` are open before
+    /// it.
     fn write_act<E: Write>(
         &self,
         alloc: Global,
@@ -269,7 +286,7 @@ impl<'a> Inputs<'a> {
         }
     }
 
-    /// What a task is inside of behind so many lines.
+    /// Ends a line of `err` with the versions that a task is inside of behind so many lines of the trace.
     fn write_versions<E: Write>(
         &self,
         alloc: Global,
@@ -287,6 +304,7 @@ impl<'a> Inputs<'a> {
         }
     }
 
+    /// Writes a fault in the form of its kind.
     fn write_fault<E: Write>(&self, alloc: Global, fault: Fault, err: &mut E) -> io::Result<()> {
         match fault {
             Fault::Text(fault) => self.write_line(alloc, fault, err),
@@ -299,11 +317,12 @@ impl<'a> Inputs<'a> {
         }
     }
 
+    /// Whether each file is what the other should be.
     fn are_swapped(&self) -> bool {
         begins_as_catalog(self.second.bytes) && !begins_as_catalog(self.catalog.bytes)
     }
 
-    /// A line of the catalog is faulty.
+    /// Tells a faulty line of the catalog: the word, and what is wanted there.
     fn write_line<E: Write>(&self, alloc: Global, fault: TextFault, err: &mut E) -> io::Result<()> {
         let wrong = if self.are_swapped() {
             Wrong::Swapped(self.second.name)
@@ -314,7 +333,7 @@ impl<'a> Inputs<'a> {
         writeln!(err, "{}: {wrong}", fault.kind)
     }
 
-    /// The lines of the catalog are good, and what they come to together isn't.
+    /// Tells a fault of the whole catalog, each line of which is good.
     fn write_whole<E: Write>(&self, alloc: Global, fault: Fault, err: &mut E) -> io::Result<()> {
         match Catalog::read(alloc, self.catalog.bytes) {
             Ok(plan) => self.write_in_plan(plan, fault, err),
@@ -322,6 +341,7 @@ impl<'a> Inputs<'a> {
         }
     }
 
+    /// Tells a fault of the whole catalog by its plan, with the symbols or functions at fault.
     fn write_in_plan<E: Write>(&self, mut plan: Plan, fault: Fault, err: &mut E) -> io::Result<()> {
         let (objects, handler) = (plan.take_objects(), plan.handler());
         let (patches, _names) = plan.into_patches();
@@ -332,6 +352,7 @@ impl<'a> Inputs<'a> {
         self.write_catalog_fault(fault, wrong, err)
     }
 
+    /// Tells a fault of the whole catalog, and what is wrong, if that is known.
     fn write_catalog_fault<E: Write>(
         &self,
         fault: Fault,
@@ -345,7 +366,7 @@ impl<'a> Inputs<'a> {
         }
     }
 
-    /// A line of the trace is at fault.
+    /// Tells a faulty line of the trace: the word, and what is wanted there.
     fn write_trace_fault<E: Write>(
         &self,
         alloc: Global,
@@ -366,7 +387,7 @@ impl<'a> Inputs<'a> {
         }
     }
 
-    /// What is wrong in a line of the trace that is no item.
+    /// Ends a line of `err` with what is wrong in a line of the trace that is no item.
     fn write_no_item<E: Write>(&self, alloc: Global, line: &[u8], err: &mut E) -> io::Result<()> {
         match Catalog::read(alloc, self.catalog.bytes) {
             Ok(plan) => writeln!(
@@ -378,7 +399,7 @@ impl<'a> Inputs<'a> {
         }
     }
 
-    /// A line of the script is too long.
+    /// Tells the line of the script that is too long.
     fn write_long_line<E: Write>(&self, err: &mut E) -> io::Result<()> {
         let bytes = self.second.bytes;
         let mut lines = bytes.split(|b| *b == b'\n');

@@ -70,7 +70,7 @@ const TIME: &str = "is seconds, with 6 decimals at most, and an item behind a sp
 /// What is wanted where a line of a script has none of the console's forms.
 const LINE: &str = "is a line of the console";
 
-/// What a line of a trace says of a task, or of a module that goes.
+/// What a line of a trace says of a task, or of a module that goes. Other lines aren't told apart.
 #[derive(Clone, Copy)]
 pub(crate) enum Item<'a> {
     /// The task calls the function that is spelled so.
@@ -82,15 +82,17 @@ pub(crate) enum Item<'a> {
     Going(&'a [u8]),
 }
 
+/// Returns the words of a line.
 fn words_of(line: &[u8]) -> LineWords<'_> {
     LineWords::new(line, Separators::Spaces)
 }
 
+/// Returns the word of this number, counted from 1. A word that isn't there is empty.
 fn word(line: &[u8], number: usize) -> &[u8] {
     word_at(words_of(line), number)
 }
 
-/// What a line with these first words says of a task, where its verb is `task`.
+/// Returns what a line says whose first word is `task`, by its second and third. `None` if nothing of it is told apart.
 fn task_item<'a>(verb: &[u8], task: &[u8]) -> Option<Item<'a>> {
     let task = number64(task)?;
     if verb == b"sleep".as_slice() {
@@ -105,6 +107,7 @@ fn task_item<'a>(verb: &[u8], task: &[u8]) -> Option<Item<'a>> {
 }
 
 impl<'a> Item<'a> {
+    /// Reads what a line says of a task or a module. `None` if it says nothing that is told apart.
     pub(crate) fn read(line: &'a [u8]) -> Option<Item<'a>> {
         let item = LineParts::of(line).item;
         let (first, second, third) = (word(item, 1), word(item, 2), word(item, 3));
@@ -122,21 +125,21 @@ impl<'a> Item<'a> {
     }
 }
 
-/// Whether a line begins with the words of a form that stand for themselves, which are one or two.
+/// Whether a line begins as a form does: with its first word, and its second if that is in small letters.
 fn begins_as(form: &[u8], line: &[u8]) -> bool {
     let (first, second) = (word(form, 1), word(form, 2));
     let has_verb = second.iter().any(u8::is_ascii_lowercase);
     first == word(line, 1) && (!has_verb || second == word(line, 2))
 }
 
-/// What a word has to be, if it isn't what this word of a form stands for.
+/// Returns what a word has to be in this place of a form. `None` if the word is so, or if the place wants no kind.
 fn in_place_of(part: &[u8], word: &[u8], names: &Names<'_>) -> Option<Kind> {
     let (_, kind) = KINDS.iter().find(|row| row.0.as_bytes() == part)?;
     (!names.has(*kind, word)).then_some(*kind)
 }
 
-/// The first word of a line that isn't what the form has there, if the line doesn't fit. One that fits and is no item has too
-/// many functions, or asks for no event.
+/// Returns what is wrong with a line that doesn't fit this form: its first word of the wrong kind, or else the number
+/// of its words. `None` if the line fits.
 fn wrong_in<'a>(
     form: &'static str,
     line: &'a [u8],
@@ -164,7 +167,7 @@ fn wrong_in<'a>(
     Some(Wrong::Form(line, form))
 }
 
-/// What is wrong with an item that fits its form.
+/// Returns what is wrong with a line that fits its form and still is no item.
 fn wrong_though_fitting<'a>(form: &'static str, line: &'a [u8]) -> Wrong<'a> {
     if form.ends_with("..") {
         Wrong::Most(line, MAX_FRAMES, "functions")
@@ -175,7 +178,7 @@ fn wrong_though_fitting<'a>(form: &'static str, line: &'a [u8]) -> Wrong<'a> {
     }
 }
 
-/// What is wrong in a line that has none of the forms, and where this is wanted.
+/// Returns what is wrong with a line that has none of the forms. `wanted` says what its place wants.
 fn formless<'a>(line: &'a [u8], wanted: &'static str) -> Wrong<'a> {
     let first = word(line, 1);
     if first.is_empty() {
@@ -190,7 +193,8 @@ fn formless<'a>(line: &'a [u8], wanted: &'static str) -> Wrong<'a> {
     }
 }
 
-/// The form that a line has by its first words, or by how it ends where several begin alike.
+/// Returns the form of a line, by its first words. Several forms begin with `saw`: there the other words decide. `None`
+/// if it has none.
 fn form_of(line: &[u8]) -> Option<&'static str> {
     if word(line, 1) == b"saw".as_slice() {
         return Some(match (word(line, 3), word(line, 4)) {
@@ -203,7 +207,7 @@ fn form_of(line: &[u8]) -> Option<&'static str> {
     Some(*form)
 }
 
-/// What is wrong in a line of a trace that fits a form.
+/// Returns what is wrong with a line of a trace whose item fits a form: its answer, or else the item.
 fn wrong_answer<'a>(parts: LineParts<'a>, form: &'static str) -> Wrong<'a> {
     match parts.answer {
         Some(_) if is_of_no_event(parts.item) => Wrong::Word(parts.text, ANSWERED),
@@ -212,11 +216,13 @@ fn wrong_answer<'a>(parts: LineParts<'a>, form: &'static str) -> Wrong<'a> {
     }
 }
 
+/// Whether an item begins as one that is no event.
 fn is_of_no_event(item: &[u8]) -> bool {
     OF_NO_EVENT.iter().any(|first| *first == word(item, 1))
 }
 
-/// What is wrong in a line of a trace that is no item, by the names of the catalog and its text.
+/// Returns what is wrong with a line of a trace that is no item. Both the names of the catalog and its text are looked
+/// at.
 pub(crate) fn wrong_of<'a>(line: &'a [u8], names: &Names<'_>, catalog: &'a [u8]) -> Wrong<'a> {
     let parts = LineParts::of(line);
     if let Some(time) = parts.time
@@ -237,8 +243,9 @@ pub(crate) fn wrong_of<'a>(line: &'a [u8], names: &Names<'_>, catalog: &'a [u8])
     }
 }
 
-/// What may be misspelled in a line of a script: it is none of the console's, or has a name that the catalog lacks. Queries
-/// and shadow variables aren't looked into.
+/// Returns what may be misspelled in a line of a script: the line is none of the console's, or has a name that the
+/// catalog lacks. `None` if nothing is, and for lines that only ask or are about shadow variables, which aren't looked
+/// into.
 pub(crate) fn misspelled_in<'a>(
     line: &'a [u8],
     names: &Names<'_>,

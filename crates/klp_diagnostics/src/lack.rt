@@ -8,10 +8,11 @@ use std::alloc::Global;
 use std::io;
 use std::io::Write;
 
-/// What is told where there is no memory to find out.
+/// What is told if there is no memory to find out.
 const EITHER: &str = "and isn't running in the kernel, or its object isn't loaded";
 
-/// Writes the trace up to a line, in front of which its task is brought into the kernel, wherever it is.
+/// Adds the lines of a trace to `text`, up to this one. In front of that line it adds three that bring the task into
+/// the kernel, wherever it is: those that don't apply are refused. `Err` if memory runs out.
 fn load_line(text: &mut Vec<u8>, trace: &[u8], line: u64, task: u64) -> io::Result<()> {
     let mut lines = Lines::new(trace);
     for _ in 1..line {
@@ -22,8 +23,8 @@ fn load_line(text: &mut Vec<u8>, trace: &[u8], line: u64, task: u64) -> io::Resu
     text.write_all(lines.next().unwrap_or(&[]))
 }
 
-/// What the call of a task lacks in the first line that isn't honest. Once its task has come into the kernel, a call lacks
-/// nothing but a loaded object.
+/// Returns what a call lacks that can't be. It is in this line, the first that isn't honest. The trace is judged once
+/// more with the task brought into the kernel in front of it: if the call still can't be, its object isn't loaded.
 pub(crate) fn lack_of(alloc: Global, inputs: &Inputs<'_>, line: u64, task: u64) -> &'static str {
     let mut text = Vec::new(alloc);
     if load_line(&mut text, inputs.second.bytes, line, task).is_err() {

@@ -5,8 +5,8 @@
 //! (`item.rt`, by the names of the catalog, `names.rt`), the symbols that make no image (`image.rt`), and the functions
 //! that are for one site (`same_site.rt`). Of a trace that isn't honest the task is told, and the function that it is
 //! inside of (`calls.rt`), or what its call lacks (`lack.rt`). What a trace doesn't show, a manager does that takes its
-//! events once more (`replay.rt`): which versions a task is inside of, and which events are refused. Where a kernel differs
-//! from the rules, it is told what the rules have there, and why (`differing.rt`, `rules.rt`).
+//! events once more (`replay.rt`): which versions a task is inside of, and which events are refused. Where a kernel
+//! differs from the rules, it is told what the rules have there, and why (`differing.rt`, `rules.rt`).
 //!
 //! Hinted at is what means something in other files and nothing here (`stray.rt`), and a function of the catalog whose
 //! symbol isn't picked (`unpicked.rt`), with a name that is spelled nearly so (`near.rt`).

@@ -3,7 +3,7 @@
 use klp_catalog_text::Lines;
 use klp_words::LineWords;
 
-/// The line of this number, counted from 1, as a catalog and a trace have lines; an empty one where there is none.
+/// Returns the line of this number, counted from 1, of a catalog or a trace. A line that isn't there is empty.
 pub(crate) fn line_at(text: &[u8], number: u64) -> &[u8] {
     let mut lines = Lines::new(text);
     for _ in 1..number {
@@ -12,7 +12,7 @@ pub(crate) fn line_at(text: &[u8], number: u64) -> &[u8] {
     lines.next().unwrap_or(&[])
 }
 
-/// The word of this number, counted from 1; an empty one where there is none.
+/// Returns the word of this number, counted from 1. A word that isn't there is empty.
 pub(crate) fn word_at<'a>(mut words: LineWords<'a>, number: usize) -> &'a [u8] {
     for _ in 1..number {
         words.next();

@@ -1,4 +1,4 @@
-//! The names of a catalog, and the words of a trace that have to be among them.
+//! The names of a catalog, and the words of a trace or a script that have to be among them.
 
 use crate::same_site::position_in;
 use crate::unpicked::unpicked_by;
@@ -24,6 +24,7 @@ pub(crate) enum Kind {
 }
 
 impl Kind {
+    /// Returns what a word of this kind has to be, as a phrase that begins with its verb.
     pub(crate) fn wanted(self) -> &'static str {
         match self {
             Kind::Patch => "is a patch of the catalog",
@@ -38,13 +39,15 @@ impl Kind {
     }
 }
 
+/// The objects and patches of a catalog, by their names.
 #[derive(Clone, Copy)]
 pub(crate) struct Names<'a> {
     pub(crate) objects: &'a [ObjectText],
     pub(crate) patches: &'a [PlanPatch],
 }
 
-/// What is wrong with a word that isn't of this kind, by the text of the catalog.
+/// Returns what is wrong with a word that isn't of this kind. The text of the catalog tells what a symbol's name may
+/// have been meant for.
 pub(crate) fn wrong_word<'a>(kind: Kind, word: &'a [u8], catalog: &'a [u8]) -> Wrong<'a> {
     let unpicked = match kind {
         Kind::Symbol | Kind::Frame => unpicked_by(catalog, word),
@@ -56,19 +59,23 @@ pub(crate) fn wrong_word<'a>(kind: Kind, word: &'a [u8], catalog: &'a [u8]) -> W
     }
 }
 
+/// Whether a word is a number up to this one.
 fn is_number_to(most: u64, word: &[u8]) -> bool {
     number64(word).is_some_and(|number| number <= most)
 }
 
 impl<'a> Names<'a> {
+    /// Whether the catalog has a patch of this name.
     fn has_patch(&self, name: &[u8]) -> bool {
         self.patches.iter().any(|own| own.name.as_bytes() == name)
     }
 
+    /// Returns the object of this name. `None` if the catalog has none.
     fn object(&self, name: &[u8]) -> Option<&'a ObjectText> {
         self.objects.iter().find(|own| own.name.as_bytes() == name)
     }
 
+    /// Whether a word, as `.klp.sym.OBJECT.SYMBOL,POSITION`, picks one symbol of the catalog.
     fn has_symbol(&self, word: &[u8]) -> bool {
         spelling_of(word).is_some_and(|spelling| {
             let Some(object) = self.object(spelling.object.as_bytes()) else {
@@ -78,11 +85,13 @@ impl<'a> Names<'a> {
         })
     }
 
+    /// Whether a word is a function that a task can be inside of: an original, or one of a patch by its index.
     fn has_frame(&self, word: &[u8]) -> bool {
         let (patch, index) = cut(word, b':');
         self.has_symbol(word) || self.has_patch(patch) && is_number_to(MAX_INDEX, index)
     }
 
+    /// Whether a word is the path of a patch's file that can be written.
     fn has_file(&self, word: &[u8]) -> bool {
         let (patch, file) = cut(word.strip_prefix(BELOW_PATCHES).unwrap_or(&[]), b'/');
         self.has_patch(patch) && matches!(file, b"enabled" | b"force")

@@ -1,6 +1,6 @@
 //! Names that are spelled nearly alike.
 
-/// What is left of two names behind what they begin with alike.
+/// Returns what is left of two names behind their common beginning.
 fn behind_alike<'a, 'b>(one: &'a [u8], other: &'b [u8]) -> (&'a [u8], &'b [u8]) {
     let alike = one.iter().zip(other).take_while(|(a, b)| a == b).count();
     (
@@ -9,17 +9,18 @@ fn behind_alike<'a, 'b>(one: &'a [u8], other: &'b [u8]) -> (&'a [u8], &'b [u8]) 
     )
 }
 
-/// A name without its first character, if it has one.
+/// Returns a name without its first character. An empty name stays so.
 fn shortened(name: &[u8]) -> &[u8] {
     name.get(1..).unwrap_or(&[])
 }
 
-/// Whether one character that is added, left out or replaced makes one of the names of the other.
+/// Whether two names differ by at most one character that is added, left out or replaced.
 fn differ_by_one(one: &[u8], other: &[u8]) -> bool {
     let (one, other) = behind_alike(one, other);
     shortened(one) == other || one == shortened(other) || shortened(one) == shortened(other)
 }
 
+/// Whether two names differ by at most two characters, each of which is added, left out or replaced.
 fn differ_by_two(one: &[u8], other: &[u8]) -> bool {
     let (one, other) = behind_alike(one, other);
     differ_by_one(shortened(one), other)
@@ -27,8 +28,9 @@ fn differ_by_two(one: &[u8], other: &[u8]) -> bool {
         || differ_by_one(shortened(one), shortened(other))
 }
 
-/// The one of two names that is spelled more like a name: the second where one character differs and the first one isn't so
-/// near, or where two do and there is no first one.
+/// Returns which of two names is spelled more like `name`, for a search that keeps the nearest name so far as `first`.
+/// The second is nearer if it differs by one character and the first by more, or if there is no first and it differs by
+/// at most two. `None` if there is no first and the second differs by more.
 pub(crate) fn nearer<'a>(
     first: Option<&'a [u8]>,
     second: &'a [u8],

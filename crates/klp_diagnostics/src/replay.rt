@@ -1,8 +1,10 @@
-//! A trace, whose events a manager takes once more: which are refused, and which versions a task is inside of.
+//! A trace, whose events a manager takes once more. It finds out which are refused, which versions a task is inside of,
+//! and what the rules have at a line.
 ghost use Rattle.std.specs.Prelude.{◌≤◌, length};
 ghost use Rattle.klp_catalog_text.specs.Within.{AreTargetsWithin};
 ghost use Rattle.klp_core.specs.Journaled.{IsWellFormed};
 
+use crate::differing::rules_at;
 use crate::escaped::Escaped;
 use crate::item::Item;
 use crate::lines::{line_at, word_at};
@@ -41,16 +43,27 @@ pub(crate) struct Refused {
     pub(crate) refusal: Refusal,
 }
 
-/// What came of the lines of a trace.
+/// What came of the lines of a trace, so far.
 #[derive(Drop)]
 pub(crate) struct Replay {
     pub(crate) events: usize,
     pub(crate) refused: usize,
     pub(crate) first: Option<Refused>,
+    /// What the rules have at the line behind, if that is asked and can be told.
+    rules: Option<String>,
     entered: Vec<Entered>,
 }
 
-/// The function of this number, over all targets of a patch.
+/// What a manager is to find out by a trace.
+#[derive(Clone, Copy)]
+enum Question {
+    /// What comes of so many lines.
+    Lines(u64),
+    /// What the rules have at the line of this number, counted from 1.
+    Rules(u64),
+}
+
+/// Returns the function of this number, counted over all targets of a patch. `None` if the patch has fewer.
 fn function_at(patch: &PlanPatch, number: u16) -> Option<&PlanFunction> {
     let mut left = usize::from(number);
     for target in &patch.targets {
@@ -62,7 +75,7 @@ fn function_at(patch: &PlanPatch, number: u16) -> Option<&PlanFunction> {
     None
 }
 
-/// The symbol that a line calls, as it is spelled but for its position.
+/// Returns the symbol that a line calls, spelled as there, without its position.
 fn symbol_in(line: &[u8]) -> &[u8] {
     let words = LineWords::new(LineParts::of(line).item, Separators::Spaces);
     let (symbol, _) = cut(word_at(words, 3), b',');
@@ -70,7 +83,7 @@ fn symbol_in(line: &[u8]) -> &[u8] {
 }
 
 impl Entered {
-    /// Writes it behind a blank, as a line of the console names it, a patch's with the name of its function.
+    /// Writes the version behind a blank, as a line of the console names it. A new function is followed by its name.
     fn write<E: Write>(&self, trace: &[u8], patches: &[PlanPatch], err: &mut E) -> io::Result<()> {
         match self.version {
             Version::Original(_) => {
@@ -85,6 +98,7 @@ impl Entered {
     }
 }
 
+/// Writes a new function of a patch behind a blank, by its index, and its name if the patch has it.
 fn write_new<E: Write>(patch: &PlanPatch, number: u16, err: &mut E) -> io::Result<()> {
     write!(err, " {}:{number}", patch.name)?;
     match function_at(patch, number) {
@@ -93,7 +107,7 @@ fn write_new<E: Write>(patch: &PlanPatch, number: u16, err: &mut E) -> io::Resul
     }
 }
 
-/// Seals the journal where one more event might find no room in it.
+/// Makes sure that the journal has room for one more event: seals it if it might not.
 pub(crate) fn make_room(manager: &mut Manager)
     requires { IsWellFormed manager.old }
     ensures { IsWellFormed manager.new }
@@ -103,7 +117,8 @@ pub(crate) fn make_room(manager: &mut Manager)
     }
 }
 
-/// The version that a task gets where it calls a symbol now, if it can, and the symbol's position.
+/// Returns the version that a task gets if it calls a symbol now, and the symbol's position. `None` if the task can't
+/// call it.
 fn called(manager: &Manager, task: u64, symbol: &[u8]) -> Option<(Version, u32)> {
     let number = u8::try_from(task).ok()?;
     let site = site_of(symbol, manager)?;
@@ -123,16 +138,19 @@ fn is_answered(parts: LineParts<'_>) -> bool {
 }
 
 impl Replay {
+    /// Returns what came of no lines.
     fn new(alloc: Global) -> Self {
         Self {
             events: 0,
             refused: 0,
             first: None,
+            rules: None,
             entered: Vec::new(alloc),
         }
     }
 
-    /// An event is taken, or refused.
+    /// Does the event that a line asks for, and counts it, and whether it is refused. A line that asks for none is
+    /// passed over.
     fn take(&mut self, manager: &mut Manager, line: u64, text: &[u8])
         requires { IsWellFormed manager.old }
         ensures { IsWellFormed manager.new }
@@ -154,6 +172,7 @@ impl Replay {
         }
     }
 
+    /// Notes which version a task enters in a line that calls a symbol. `Err` if memory runs out.
     fn enter(
         &mut self,
         manager: &Manager,
@@ -172,13 +191,14 @@ impl Replay {
         Ok(())
     }
 
+    /// Notes that a task leaves the version that it entered last.
     fn leave(&mut self, task: u64) {
         if let Some(place) = self.entered.iter().rposition(|own| own.task == task) {
             self.entered.remove(place);
         }
     }
 
-    /// Does one line.
+    /// Does one line. `Err` if memory runs out.
     fn see(&mut self, manager: &mut Manager, line: u64, text: &[u8]) -> Result<(), AllocError>
         requires { IsWellFormed manager.old }
         ensures { IsWellFormed manager.new }
@@ -191,7 +211,7 @@ impl Replay {
         Ok(())
     }
 
-    /// Does so many lines.
+    /// Does the first lines of a trace, so many. `Err` if memory runs out.
     fn see_all(&mut self, manager: &mut Manager, trace: &[u8], lines: u64) -> Result<(), AllocError>
         requires { IsWellFormed manager.old }
     {
@@ -206,7 +226,29 @@ impl Replay {
         Ok(())
     }
 
-    /// Writes what the task is inside of to the end of a line, outermost first, the first ones of many.
+    /// Does the lines of a trace that a question needs, and finds out what it asks. `Err` if memory runs out.
+    fn answer(
+        &mut self,
+        alloc: Global,
+        manager: &mut Manager,
+        trace: &[u8],
+        question: Question,
+    ) -> Result<(), AllocError>
+        requires { IsWellFormed manager.old }
+    {
+        match question {
+            Question::Lines(lines) => self.see_all(manager, trace, lines),
+            Question::Rules(line) => {
+                self.see_all(manager, trace, line.saturating_sub(1))?;
+                let _for_its_clause = manager.mark();
+                self.rules = rules_at(alloc, manager, line_at(trace, line));
+                Ok(())
+            }
+        }
+    }
+
+    /// Ends a line of `err` with the versions that the task is inside of, the outermost first: at most [`REPORTED`],
+    /// then `..`.
     pub(crate) fn write_versions<E: Write>(
         &self,
         task: u64,
@@ -229,11 +271,16 @@ impl Replay {
     }
 }
 
-// The manager goes then.
-fn replay_by(mut manager: Manager, alloc: Global, trace: &[u8], lines: u64) -> Option<Replay> {
+// Asks a manager, and drops it then. `None` if memory runs out.
+fn replay_by(
+    mut manager: Manager,
+    alloc: Global,
+    trace: &[u8],
+    question: Question,
+) -> Option<Replay> {
     let mut replay = Replay::new(alloc);
     let _for_its_clause = manager.mark();
-    let ended = replay.see_all(&mut manager, trace, lines);
+    let ended = replay.answer(alloc, &mut manager, trace, question);
     close(manager);
     match ended {
         Ok(()) => Some(replay),
@@ -241,8 +288,13 @@ fn replay_by(mut manager: Manager, alloc: Global, trace: &[u8], lines: u64) -> O
     }
 }
 
-// Boots a manager over a plan, and does the lines by it. The callbacks are made here, as where a trace is watched.
-fn replay_plan(alloc: Global, plan: Plan, trace: &[u8], lines: u64) -> Result<Option<Replay>, Fault>
+// Boots a manager over a plan, and asks it. The boxes of the callbacks are made here, as where a trace is watched.
+fn replay_plan(
+    alloc: Global,
+    plan: Plan,
+    trace: &[u8],
+    question: Question,
+) -> Result<Option<Replay>, Fault>
     requires { AreTargetsWithin (length plan.objects) plan.patches }
 {
     let mut callbacks = Vec::new(alloc);
@@ -250,13 +302,25 @@ fn replay_plan(alloc: Global, plan: Plan, trace: &[u8], lines: u64) -> Result<Op
         callbacks.push(Boxed::new(callback))?;
     }
     let manager = boot(alloc, plan, callbacks)?;
-    Ok(replay_by(manager, alloc, trace, lines))
+    Ok(replay_by(manager, alloc, trace, question))
 }
 
-/// What comes of so many lines of a trace over a catalog. `None` where there is no memory to find out.
-pub(crate) fn replay_of(alloc: Global, catalog: &[u8], trace: &[u8], lines: u64) -> Option<Replay> {
+/// Asks a manager over a catalog's text. `None` if there is no memory for it.
+fn replayed(alloc: Global, catalog: &[u8], trace: &[u8], question: Question) -> Option<Replay> {
     let Ok(plan) = Catalog::read(alloc, catalog) else {
         return None;
     };
-    replay_plan(alloc, plan, trace, lines).ok()?
+    replay_plan(alloc, plan, trace, question).ok()?
+}
+
+/// Returns what comes of so many lines of a trace over a catalog. `None` if there is no memory to find out.
+pub(crate) fn replay_of(alloc: Global, catalog: &[u8], trace: &[u8], lines: u64) -> Option<Replay> {
+    replayed(alloc, catalog, trace, Question::Lines(lines))
+}
+
+/// Returns what the rules have at the line of this number, counted from 1, at which the kernel differs from them.
+/// `None` if there is no memory to find out.
+pub(crate) fn rules_of(alloc: Global, catalog: &[u8], trace: &[u8], line: u64) -> Option<String> {
+    let replay = replayed(alloc, catalog, trace, Question::Rules(line))?;
+    replay.rules
 }

@@ -1,21 +1,21 @@
-//! What the rules have where a kernel shows something else, and why: by the state of a manager.
+//! What the rules have where a kernel shows something else, and why, by the state of a manager.
 
 use klp_core::{Lag, Manager};
 use klp_types::{Mode, PatchId, Site, TaskId, Version};
 use klp_watch::{PatchFiles, Sight};
 use std::fmt;
 
-/// How many of the tasks that hold a transition up are told.
+/// How many of the tasks that aren't at the target of a transition are told.
 const REPORTED: usize = 3;
 
-/// A version, as a line of a trace names it.
+/// Writes a version as a line of a trace names it, a new function with its name.
 #[derive(Clone, Copy)]
 struct Spelled<'a> {
     manager: &'a Manager,
     version: Version,
 }
 
-/// Why a task isn't at the target of the transition.
+/// Writes why a task isn't at the target of the transition.
 #[derive(Clone, Copy)]
 struct Lagging<'a> {
     manager: &'a Manager,
@@ -23,27 +23,30 @@ struct Lagging<'a> {
     lag: Lag,
 }
 
-/// Which tasks hold the transition up, behind a colon; nothing where none does.
+/// Tells, behind a colon, which tasks aren't at the target of the transition, and why: first those that block it. Of
+/// many, the first ones and their number. Empty if there are none.
 #[derive(Clone, Copy)]
 pub(crate) struct Holders<'a>(pub(crate) &'a Manager);
 
-/// What the rules have in place of what was seen, and why.
+/// Writes what the rules have in place of what was seen, and why.
 #[derive(Clone, Copy)]
 pub(crate) struct InPlaceOf<'a> {
     pub(crate) manager: &'a Manager,
     pub(crate) sight: &'a Sight,
 }
 
+/// Returns the name of a patch. A manager has one for each patch that it knows.
 fn patch_name(manager: &Manager, patch: PatchId) -> &str {
     manager.catalog().patch_name(patch).unwrap_or("a patch")
 }
 
-/// The patch in transition.
+/// Returns the name of the patch in transition. `None` if none is.
 pub(crate) fn moving_name(manager: &Manager) -> Option<&str> {
     let moving = manager.moving()?;
     Some(patch_name(manager, moving.patch))
 }
 
+/// Writes a site as the symbol that it is the entry of. Writes nothing if there is none.
 fn write_symbol<W: fmt::Write>(
     f: &mut fmt::Formatter<W>,
     manager: &Manager,
@@ -57,6 +60,7 @@ fn write_symbol<W: fmt::Write>(
     write!(f, ".klp.sym.{object}.{symbol},{position}")
 }
 
+/// Writes a new function of a patch, by its number and, if the patch has it, its name.
 fn write_new<W: fmt::Write>(
     f: &mut fmt::Formatter<W>,
     manager: &Manager,
@@ -106,6 +110,7 @@ impl<'a> fmt::Display for Lagging<'a> {
     }
 }
 
+/// Whether this patch is in transition.
 fn is_moving(manager: &Manager, patch: PatchId) -> bool {
     match manager.moving() {
         Some(moving) => moving.patch == patch,
@@ -113,19 +118,34 @@ fn is_moving(manager: &Manager, patch: PatchId) -> bool {
     }
 }
 
+/// Writes those of the tasks that lag which are blocked, or those which aren't, behind so many that are written.
+/// Returns how many there are then.
+fn write_lagging<W: fmt::Write>(
+    f: &mut fmt::Formatter<W>,
+    manager: &Manager,
+    is_blocked: bool,
+    before: usize,
+) -> Result<usize, fmt::Error> {
+    let mut count = before;
+    for (task, lag) in manager.holders().iter().enumerate() {
+        let Some(lag) = *lag else {
+            continue;
+        };
+        if matches!(lag, Lag::Holds(_)) == is_blocked {
+            let mark = if count == 0 { ":" } else { ";" };
+            if count < REPORTED {
+                write!(f, "{mark} {}", Lagging { manager, task, lag })?;
+            }
+            count = count.saturating_add(1);
+        }
+    }
+    Ok(count)
+}
+
 impl<'a> fmt::Display for Holders<'a> {
     fn fmt<W: fmt::Write>(&self, f: &mut fmt::Formatter<W>) -> fmt::Result {
-        let manager = self.0;
-        let mut count: usize = 0;
-        for (task, lag) in manager.holders().iter().enumerate() {
-            if let Some(lag @ Lag::Holds(_)) = *lag {
-                let mark = if count == 0 { ":" } else { ";" };
-                if count < REPORTED {
-                    write!(f, "{mark} {}", Lagging { manager, task, lag })?;
-                }
-                count = count.saturating_add(1);
-            }
-        }
+        let blocked = write_lagging(f, self.0, true, 0)?;
+        let count = write_lagging(f, self.0, false, blocked)?;
         match count.saturating_sub(REPORTED) {
             0 => Ok(()),
             more => write!(f, "; and {more} more"),
@@ -133,7 +153,7 @@ impl<'a> fmt::Display for Holders<'a> {
     }
 }
 
-/// The state of a task, and why it has it.
+/// Writes the state of a task, and why the task has that state.
 fn write_state<W: fmt::Write>(
     f: &mut fmt::Formatter<W>,
     manager: &Manager,
@@ -152,12 +172,13 @@ fn write_state<W: fmt::Write>(
             let (task, lag) = (usize::from(number), *lag);
             write!(f, "{}", Lagging { manager, task, lag })
         }
-        (_, Some(patch)) => write!(f, "task {number} is where {patch} brings it"),
+        (_, Some(patch)) => write!(f, "that is the target of {patch}'s transition"),
         (_, None) => write!(f, "no patch is in transition"),
     }
 }
 
-/// What the files of a patch read, and who holds its transition up.
+/// Writes what the files of a patch read. If they say that the patch is in transition and the kernel's say that it
+/// isn't, writes also which tasks aren't at the target.
 fn write_files<W: fmt::Write>(
     f: &mut fmt::Formatter<W>,
     manager: &Manager,
@@ -169,7 +190,7 @@ fn write_files<W: fmt::Write>(
         let name = patch_name(manager, patch);
         return write!(
             f,
-            "the rules have no files of {name}, which isn't installed"
+            "the rules have no /sys/kernel/livepatch/{name}, since that patch isn't installed"
         );
     };
     let (enabled, transition) = (u8::from(enabled), u8::from(transition));
@@ -184,7 +205,7 @@ fn write_files<W: fmt::Write>(
     }
 }
 
-/// The version that a task gets where it calls a site, and its state, by which that is picked.
+/// Writes which version a task gets if it calls a site now, and the task's state, which decides that.
 fn write_version<W: fmt::Write>(
     f: &mut fmt::Formatter<W>,
     manager: &Manager,
@@ -212,7 +233,7 @@ fn write_version<W: fmt::Write>(
     }
 }
 
-/// Whether a site is hooked, and by which patches, the newest first.
+/// Writes whether a site is hooked, and by which patches, the newest first.
 fn write_text<W: fmt::Write>(
     f: &mut fmt::Formatter<W>,
     manager: &Manager,
@@ -234,9 +255,10 @@ fn write_text<W: fmt::Write>(
             "the rules have it plain: no patch that is installed changes it"
         );
     }
-    write!(f, "the rules have it hooked:")?;
-    for entry in entries.as_slice() {
-        write!(f, " {}", patch_name(manager, entry.patch))?;
+    write!(f, "the rules have it hooked, by")?;
+    for (place, entry) in entries.as_slice().iter().enumerate() {
+        let mark = if place == 0 { "" } else { "," };
+        write!(f, "{mark} {}", patch_name(manager, entry.patch))?;
     }
     Ok(())
 }

@@ -4,7 +4,8 @@ use crate::wrong::{Named, Pair, Wrong};
 use klp_catalog_text::{PlanFunction, PlanPatch, PlanTarget};
 use klp_types::ObjectText;
 
-/// Which of an object's symbols of this name is asked for, counted from 1, if one is.
+/// Returns which of an object's symbols of this name `sympos` asks for, counted from 1: 0 asks for the only one. `None`
+/// if there is no such symbol, or if 0 stands for several.
 pub(crate) fn position_in(object: &ObjectText, symbol: &str, sympos: u32) -> Option<usize> {
     let count = object
         .symbols
@@ -18,6 +19,7 @@ pub(crate) fn position_in(object: &ObjectText, symbol: &str, sympos: u32) -> Opt
     }
 }
 
+/// Whether two functions of a patch replace the same symbol of an object.
 fn are_for_one_site(object: &ObjectText, one: &PlanFunction, other: &PlanFunction) -> bool {
     let position = position_in(object, one.symbol.as_str(), one.sympos);
     one.symbol == other.symbol
@@ -25,7 +27,7 @@ fn are_for_one_site(object: &ObjectText, one: &PlanFunction, other: &PlanFunctio
         && position == position_in(object, other.symbol.as_str(), other.sympos)
 }
 
-/// The first of these functions that is for the same site as this one.
+/// Returns the first of these functions that is for the same site as `function`. `None` if none is.
 fn earlier<'a>(
     object: &ObjectText,
     functions: &'a [PlanFunction],
@@ -36,6 +38,7 @@ fn earlier<'a>(
         .find(|other| are_for_one_site(object, other, function))
 }
 
+/// Returns the first two functions of a target that are for one site. `None` if no two are.
 fn pair_in<'a>(patch: &'a str, object: &'a ObjectText, target: &'a PlanTarget) -> Option<Pair<'a>> {
     for (place, function) in target.functions.iter().enumerate() {
         if let Some(other) = earlier(object, &target.functions[..place], function) {
@@ -53,6 +56,7 @@ fn pair_in<'a>(patch: &'a str, object: &'a ObjectText, target: &'a PlanTarget) -
     None
 }
 
+/// Returns the first two functions of a patch that are for one site. `None` if no two are.
 fn pair_of<'a>(objects: &'a [ObjectText], patch: &'a PlanPatch) -> Option<Pair<'a>> {
     for target in &patch.targets {
         let object = objects.get(usize::from(target.object.0))?;
@@ -64,7 +68,7 @@ fn pair_of<'a>(objects: &'a [ObjectText], patch: &'a PlanPatch) -> Option<Pair<'
     None
 }
 
-/// The first two functions of one patch that are for one site.
+/// Returns, for the first patch that has such, the first two functions that are for one site. `None` if no patch has.
 pub(crate) fn first_pair<'a>(
     objects: &'a [ObjectText],
     patches: &'a [PlanPatch],

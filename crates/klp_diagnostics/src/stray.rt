@@ -42,7 +42,7 @@ const QUERIES: [&str; 9] = [
     "cat", "ls", "text", "stack", "pick", "runs", "mark", "rewind", "seal",
 ];
 
-/// Whether a line is one of a script, and asks for no event.
+/// Whether a line begins as a console line that only asks, as `cat`: a script may have it, and a trace may not.
 pub(crate) fn is_query(line: &[u8]) -> bool {
     match first_words(line) {
         (b"shadow", second) => second == b"get".as_slice(),
@@ -50,6 +50,7 @@ pub(crate) fn is_query(line: &[u8]) -> bool {
     }
 }
 
+/// Whether a line begins as only lines of a trace do.
 fn is_of_trace(line: &[u8]) -> bool {
     let (first, _) = first_words(line);
     let is_timed = first.first() == Some(&b'@');
@@ -60,8 +61,8 @@ fn is_of_trace(line: &[u8]) -> bool {
         )
 }
 
-/// Whether a line of a script has no words, is hinted at otherwise or told as a fault, or is about shadow variables, which
-/// have no names.
+/// Whether nothing is to be told of a line's spelling. So it is if the line has no words, gets another hint, is a
+/// fault, or is about shadow variables, which have no names.
 pub(crate) fn is_reported_elsewhere(line: &[u8]) -> bool {
     let (first, _) = first_words(line);
     let has_stray = line.iter().any(|b| matches!(*b, b'\r' | b'\t'));
@@ -71,6 +72,7 @@ pub(crate) fn is_reported_elsewhere(line: &[u8]) -> bool {
 }
 
 impl Stray {
+    /// Whether a line has it, or, of what is told of a whole file, whether a text has it.
     fn is_in(self, line: &[u8]) -> bool {
         match self {
             Stray::Catalog => begins_as_catalog(line),
@@ -84,7 +86,7 @@ impl Stray {
         }
     }
 
-    /// The number of the first line that has it, counted from 1.
+    /// Returns the number of the first line of a text that has it, counted from 1. `None` if no line has.
     pub(crate) fn first_line(self, text: &[u8]) -> Option<usize> {
         let mut lines = text.split(|b| *b == b'\n');
         let place = match self {
@@ -94,7 +96,7 @@ impl Stray {
         Some(place?.saturating_add(1))
     }
 
-    /// What is told of it in a file of this kind, if it is none of that kind's own.
+    /// Returns what is told of it in a file of this kind. `None` if such a file may have it.
     pub(crate) fn hint(self, kind: Kind) -> Option<&'static str> {
         Some(match (self, kind) {
             (Stray::Catalog, Kind::Script) => "a catalog, where a script is wanted",

@@ -49,6 +49,7 @@ struct Found<'a> {
     near_symbol: Option<&'a [u8]>,
 }
 
+/// Writes that a name is spelled nearly so, if there is one.
 fn write_but<W: fmt::Write>(f: &mut fmt::Formatter<W>, near: Option<&[u8]>) -> fmt::Result {
     match near {
         Some(name) => write!(f, ", but {}", Escaped(name)),
@@ -103,7 +104,8 @@ impl<'a> fmt::Display for Unloadable<'a> {
     }
 }
 
-/// What the catalog has in place of this symbol. Its objects and symbols stand in front of the first patch.
+/// Returns what a catalog has in place of this symbol. Only lines in front of the first patch are looked at, since
+/// objects and symbols stand there.
 fn found_in<'a>(catalog: &'a [u8], wanted: &Spelling<'_>) -> Found<'a> {
     let (object, symbol) = (wanted.object.as_bytes(), wanted.symbol.as_bytes());
     let mut found = Found {
@@ -129,7 +131,8 @@ fn found_in<'a>(catalog: &'a [u8], wanted: &Spelling<'_>) -> Found<'a> {
     found
 }
 
-/// What a word spells that picks no symbol of a catalog, if it spells one and picks none.
+/// Returns which symbol a word spells, and why it picks none of the catalog's. `None` if the word picks one, or spells
+/// none.
 pub(crate) fn unpicked_by<'a>(catalog: &'a [u8], word: &'a [u8]) -> Option<Unpicked<'a>> {
     let wanted = spelling_of(word)?;
     let found = found_in(catalog, &wanted);
@@ -148,13 +151,14 @@ pub(crate) fn unpicked_by<'a>(catalog: &'a [u8], word: &'a [u8]) -> Option<Unpic
     })
 }
 
-/// Whether a script or a trace loads a patch.
+/// Whether a line of a script or a trace loads this patch.
 fn is_loaded(text: &[u8], patch: &[u8]) -> bool {
     text.split(|b| *b == b'\n')
         .any(|line| first_words(line) == (b"load".as_slice(), patch))
 }
 
-/// Whether it is worth a word: nobody asks for a symbol that isn't there, but of several symbols only where a patch is loaded.
+/// Whether a hint is worth it. A symbol that isn't there is always told. That there are several of its name is told
+/// only if the script or the trace loads the patch.
 fn is_reported(unpicked: &Unpicked<'_>, patch: &[u8], second: &[u8]) -> bool {
     match unpicked.why {
         Why::NoSymbol(_) | Why::Fewer(_) => true,
@@ -163,7 +167,8 @@ fn is_reported(unpicked: &Unpicked<'_>, patch: &[u8], second: &[u8]) -> bool {
     }
 }
 
-/// The first function of a catalog whose symbol isn't picked, where that is worth a word over a script or a trace.
+/// Returns the first function of a catalog whose symbol isn't picked, and is worth a hint. `second` is the script or
+/// the trace. `None` if there is none.
 pub(crate) fn first_unloadable<'a>(catalog: &'a [u8], second: &[u8]) -> Option<Unloadable<'a>> {
     let mut patch: &[u8] = &[];
     for (number, line) in catalog.split(|b| *b == b'\n').enumerate() {

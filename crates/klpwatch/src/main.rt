@@ -1,5 +1,6 @@
-//! The program: it boots the manager over a catalog, and tells on standard output whether a trace is an honest
-//! observed run, or its first line that isn't. Standard error has what is wrong, and where.
+//! The program: it boots the manager over a catalog, and judges a trace by it. Standard output has the verdict: the trace
+//! is honest and the kernel does as the rules say, or the first line at which it isn't so. Standard error has what is
+//! wrong there.
 #![tactic(auto)]
 
 use klp_diagnostics::{FileText, Inputs, Kind, file_in};
@@ -11,7 +12,7 @@ use std::process::ExitCode;
 
 const NAME: &str = "klpwatch";
 
-// Watches the trace, tells what is wrong, and answers the exit status.
+// Judges the trace, writes to `err` what is wrong, and returns the exit status.
 fn watch<W: Write, E: Write>(alloc: Global, inputs: &Inputs<'_>, out: &mut W, err: &mut E) -> u8 {
     inputs.hint(err);
     match watch_trace(alloc, inputs.catalog.bytes, inputs.second.bytes, out) {
@@ -23,7 +24,7 @@ fn watch<W: Write, E: Write>(alloc: Global, inputs: &Inputs<'_>, out: &mut W, er
     }
 }
 
-// The exit status. Words that aren't text are refused.
+// Returns the exit status. `Err` has that of words that are refused, or of a file that can't be read.
 fn run(rt: &HostRuntime) -> Result<u8, u8> {
     let mut err = rt.stderr();
     let given = program_arguments(rt, NAME, &mut err)?;
