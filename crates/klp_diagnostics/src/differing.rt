@@ -11,7 +11,7 @@ use klp_watch::Observed;
 use std::alloc::{AllocError, Global};
 
 /// Tells an answer of the rules, and why they answer so.
-fn told(
+fn answer_and_why(
     alloc: Global,
     manager: &Manager,
     answer: &Result<Reply, Refusal>,
@@ -38,7 +38,7 @@ fn answered(alloc: Global, manager: &mut Manager, event: &Event) -> Result<Strin
 {
     make_room(manager);
     let answer = manager.apply_lent(event);
-    told(alloc, manager, &answer)
+    answer_and_why(alloc, manager, &answer)
 }
 
 /// Tells what the rules have at the first of these items. `None` if it has neither an answer nor a sight: the rules can't
