@@ -1,5 +1,6 @@
 -- The sites that a change of the entries is about, and the functions of a patch.
 use Rattle.std.specs.Prelude.{◌≡◌, ℕ, Bool, true, false, ◌==◌, ◌||◌, List, Option, Some, None, is_some, slice_get, slice_index_or}
+use Rattle.klp_types.specs.declared.version.Entry.{Entry}
 use Rattle.klp_types.specs.Image.{object_of}
 use Rattle.klp_types.specs.Setting.{Function, all_functions, function_for, patch_objects}
 use Rattle.klp_catalog.specs.Catalog.{Catalog, patches_of}
