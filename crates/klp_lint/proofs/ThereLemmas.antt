@@ -1,6 +1,5 @@
 -- The next parent object that a manager tells of is the next that has an address.
 use Rattle.std.proofs.Common.{◌≡◌, ℕ, ◌^◌, true, false, cond, ltb, Option, Some, None, refl}
-use Rattle.std.specs.FinMap as finite
 use Rattle.klp_types.specs.declared.shadow.ShadowKey.{ShadowKey}
 use Rattle.klp_types.specs.World.{World, variable}
 use Rattle.klp_world.specs.Parents.{IsNextParent}

@@ -1,4 +1,4 @@
-use Rattle.std.proofs.Common.{◌≡◌, ◌+◌, subst}
+use Rattle.std.proofs.Common.{subst}
 use Rattle.klp_lint.specs.Undone.{AreRestored, IsNextOf}
 use Rattle.klp_lint.proofs.UndoneLemmas.{ArePassed, passed_first, passed_next}
 use Rattle.klp_lint.proofs.undone.left_of_id.Goals as goal
