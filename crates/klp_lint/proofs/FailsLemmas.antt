@@ -1,21 +1,23 @@
 -- What fails one variable at a time fails in the words of the model.
-use Rattle.std.proofs.Common.{◌≡◌, ℕ, Bool, true, false, ◌||◌, List, [], ◌∷◌, None, refl, sym, ap, ◌∙◌, inl, inr, subst}
+use Rattle.std.proofs.Common.{◌≡◌, ℕ, Bool, true, false, ◌||◌, List, [], ◌∷◌, None, ◌^◌, cond, ltb, refl, sym, ap, ◌∙◌, inl, inr, subst}
 use Rattle.std.specs.Prelude.{IsTrue}
+use Rattle.std.specs.FinMap as finite
+use Rattle.std.proofs.lemmas.Bool.{ltb-false}
 use Rattle.klp_types.specs.declared.shadow.ShadowKey.{ShadowKey}
 use Rattle.klp_types.specs.declared.callback.Which.{Which}
 use Rattle.klp_types.specs.declared.callback.Which.TheVariants.{Pre, Post, PreUn, PostUn}
 use Rattle.klp_types.specs.declared.edit.Edit.{Edit}
 use Rattle.klp_types.specs.Setting.{Setting, PatchObject}
-use Rattle.klp_types.specs.World.{World, variable}
+use Rattle.klp_types.specs.World.{World, key_cmp, variable}
 use Rattle.klp_types.specs.Script.{Script, edits_made, made_of, edited_by, effect, touches, Undoes}
 use Rattle.klp_model.specs.State.{State}
 use Rattle.klp_model.specs.Company.{taking_part, script_of, one_touches, object_touches, EachUndoes, UndoesItself, AreApart, IsFairStart}
-use Rattle.klp_lint.specs.Undone.{IsRestored, AreRestored, EachRestores}
-use Rattle.klp_lint.specs.Premises.{OneOf, IsNotUndone, TwoTouch, Fails, FailsOf, IsKnown}
+use Rattle.klp_lint.specs.Undone.{Values, HaveAddresses, addressed, IsRestored, AreRestored, EachRestores}
+use Rattle.klp_lint.specs.Premises.{OneOf, IsNotUndone, TwoTouch, Fails, FailsOf, HoldEverywhere}
 use Rattle.klp_lint.specs.declared.premise.Pair.{Pair}
 use Rattle.klp_lint.specs.declared.premise.Pair.TheVariants as pair
 use Rattle.klp_lint.specs.declared.premise.Premise.{Premise}
-use Rattle.klp_lint.specs.declared.premise.Premise.TheVariants.{Moving, Installed, NotUndone, FreesAll, NotApart}
+use Rattle.klp_lint.specs.declared.premise.Premise.TheVariants.{Moving, Installed, NotUndone, NotApart}
 
 -- edits go key by key, as the law of klp_types says
 abbrev pub ByKey : Type 0
@@ -94,7 +96,6 @@ fails_there by_key setting state patch Moving h = absurd h
 fails_there by_key setting state patch Installed h = absurd h
 fails_there by_key setting state patch (NotUndone place two key) h =
     one_of (taking_part setting state patch) (λ o p. (p.0, not_undone by_key two patch state.world key o p.1)) h
-fails_there by_key setting state patch (FreesAll place id) h = h
 fails_there by_key setting state patch (NotApart first second key) h = h
 
 -- scripts that undo each other restore also the variables that neither touches
@@ -142,14 +143,13 @@ all_apart first second key (object ∷ objects) h (inl here) =
     cc
 all_apart first second key (object ∷ objects) h (inr more) = all_apart first second key objects h.1 more
 
-pub known_to_fail : Stays → (setting : Setting) (patch : ℕ) (state : State) (premise : Premise) → IsKnown premise → Fails setting patch state premise
+pub fails_fair : Stays → (setting : Setting) (patch : ℕ) (state : State) (premise : Premise) → Fails setting patch state premise
     → IsFairStart setting patch state → ⊥
-known_to_fail stays setting patch state Moving known fails fair = fails fair.still
-known_to_fail stays setting patch state Installed known fails fair = let away = fair.away in cc
-known_to_fail stays setting patch state (NotUndone place two key) known fails fair =
+fails_fair stays setting patch state Moving fails fair = fails fair.still
+fails_fair stays setting patch state Installed fails fair = let away = fair.away in cc
+fails_fair stays setting patch state (NotUndone place two key) fails fair =
     all_undone stays two patch state.world key place (taking_part setting state patch) fair.undone fails
-known_to_fail stays setting patch state (FreesAll place id) known fails fair = absurd known
-known_to_fail stays setting patch state (NotApart first second key) known fails fair =
+fails_fair stays setting patch state (NotApart first second key) fails fair =
     all_apart first second key (taking_part setting state patch) fair.apart fails
 
 -- a variable that the scripts touch isn't there
@@ -188,3 +188,40 @@ bare_undoes by_key patch world (object ∷ objects) bare h = (
   restores_bare by_key patch world object (λ key e. bare key (or_first (object_touches key object) (one_touches objects key) e)) h.0,
   bare_undoes by_key patch world objects (λ key e. bare key (or_true (object_touches key object) (one_touches objects key) e)) h.1,
 )
+
+abbrev empty_world : World
+empty_world = record { installed = []; shadow = finite.empty }
+
+nothing_there : (key : ShadowKey) → variable empty_world key ≡ None
+nothing_there key = finite.get-empty key_cmp key
+
+-- what fails without variables fails in the empty world, which is bare
+pub fails_everywhere : Stays → ByKey → (setting : Setting) (patch : ℕ) (state : State) (premise : Premise)
+    → FailsOf (λ _. None) (taking_part setting state patch) premise → HoldEverywhere setting patch state → ⊥
+fails_everywhere stays by_key setting patch state Moving fails hold = fails
+fails_everywhere stays by_key setting patch state Installed fails hold = fails
+fails_everywhere stays by_key setting patch state (NotUndone place two key) fails hold =
+    all_undone stays two patch empty_world key place (taking_part setting state patch) (hold.undone empty_world (λ q _. nothing_there q))
+    (one_of (taking_part setting state patch) (λ o p. (p.0, not_undone by_key two patch empty_world key o (λ restored. p.1 (subst (IsRestored two o.1.callbacks key) (nothing_there key) restored)))) fails)
+fails_everywhere stays by_key setting patch state (NotApart first second key) fails hold =
+    all_apart first second key (taking_part setting state patch) hold.apart fails
+
+-- the variables whose parent objects have addresses are all
+module _ (values : Values) (have : HaveAddresses values) where
+  pub all_addressed : (key : ShadowKey) → addressed values key ≡ values key
+  all_addressed key =
+      elim (ltb key.obj (2 ^ 64)) as (λ b. ltb key.obj (2 ^ 64) ≡ b → cond b (values key) None ≡ values key) [
+        | true ↦ λ e. refl
+        | false ↦ λ e. sym (have key (ltb-false key.obj (2 ^ 64) e))
+      ] refl
+
+  pub each_restores : (objects : List (ℕ × PatchObject)) → EachRestores (addressed values) objects → EachRestores values objects
+  each_restores [] h = tt
+  each_restores (object ∷ objects) h = (λ key. subst (AreRestored object.1.callbacks key) (all_addressed key) (h.0 key), each_restores objects h.1)
+
+  pub fails_of : (objects : List (ℕ × PatchObject)) (premise : Premise) → FailsOf (addressed values) objects premise → FailsOf values objects premise
+  fails_of objects Moving h = h
+  fails_of objects Installed h = h
+  fails_of objects (NotUndone place two key) h =
+      one_of objects (λ o p. (p.0, λ restored. p.1 (subst (IsRestored two o.1.callbacks key) (sym (all_addressed key)) restored))) h
+  fails_of objects (NotApart first second key) h = h

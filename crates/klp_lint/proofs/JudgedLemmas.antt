@@ -8,15 +8,13 @@ use Rattle.klp_catalog_text.specs.Plan.{PlanPatch, PlanTarget}
 use Rattle.klp_catalog.specs.Catalog.{targets_of_patch}
 use Rattle.klp_model.specs.State.{State, is_installed}
 use Rattle.klp_model.specs.Company.{AreApart, taking_part}
-use Rattle.klp_lint.specs.Scripts.{all_edits}
 use Rattle.klp_lint.specs.Acting.{acting}
-use Rattle.klp_lint.specs.Undone.{Values, EachRestores, IsLeft}
+use Rattle.klp_lint.specs.Undone.{Values, HaveAddresses, addressed, EachRestores, IsLeft}
 use Rattle.klp_lint.specs.Premises.{ArePatchesOf, OneOf, FailsOf, Judges, JudgesEverywhere, premise_of}
 use Rattle.klp_lint.specs.declared.premise.Left.{Left}
-use Rattle.klp_lint.specs.declared.premise.Left.TheVariants as left
 use Rattle.klp_lint.specs.declared.premise.Premise.{Premise}
 use Rattle.klp_lint.proofs.ActingLemmas.{acting_takes_part}
-use Rattle.klp_lint.proofs.FailsLemmas.{ByKey, restoring_undoes, bare_undoes, fails_there}
+use Rattle.klp_lint.proofs.FailsLemmas.{ByKey, restoring_undoes, bare_undoes, fails_there, each_restores, fails_of}
 
 -- the modules and the targets by which the patch is judged
 pub record IsOver (setting : Setting) (state : State) (patches : List PlanPatch) (patch : ℕ) (modules : ModuleTable) (targets : List PlanTarget) : Type 0 where
@@ -31,21 +29,23 @@ same_objects setting state patches patch modules targets is over =
 
 pub judged_there : ByKey → (setting : Setting) (state : State) (patches : List PlanPatch) (patch : ℕ) (modules : ModuleTable) (targets : List PlanTarget) (result : Result Unit Premise)
     → state.moving ≡ None → is_installed state patch ≡ false → IsOver setting state patches patch modules targets
-    → IfOk result (λ _. EachRestores (variable state.world) (acting modules 0 targets))
+    → IfOk result (λ _. EachRestores (addressed (variable state.world)) (acting modules 0 targets))
     → IfOk result (λ _. AreApart (acting modules 0 targets))
-    → IfErr result (λ premise. FailsOf (variable state.world) (acting modules 0 targets) premise)
-    → ArePatchesOf setting patches → Judges setting patch state result
-judged_there by_key setting state patches patch modules targets (Ok done) still away is undone apart fails over =
+    → IfErr result (λ premise. FailsOf (addressed (variable state.world)) (acting modules 0 targets) premise)
+    → ArePatchesOf setting patches → HaveAddresses (variable state.world) → Judges setting patch state result
+judged_there by_key setting state patches patch modules targets (Ok done) still away is undone apart fails over have =
     let same = same_objects setting state patches patch modules targets is over in
     record {
       still = still;
       away = away;
-      undone = restoring_undoes by_key patch state.world (taking_part setting state patch) (subst (EachRestores (variable state.world)) same undone);
+      undone = restoring_undoes by_key patch state.world (taking_part setting state patch)
+          (each_restores (variable state.world) have (taking_part setting state patch) (subst (EachRestores (addressed (variable state.world))) same undone));
       apart = subst AreApart same apart;
     }
-judged_there by_key setting state patches patch modules targets (Err premise) still away is undone apart fails over =
+judged_there by_key setting state patches patch modules targets (Err premise) still away is undone apart fails over have =
     fails_there by_key setting state patch premise
-    (subst (λ l. FailsOf (variable state.world) l premise) (same_objects setting state patches patch modules targets is over) fails)
+    (fails_of (variable state.world) have (taking_part setting state patch) premise
+    (subst (λ l. FailsOf (addressed (variable state.world)) l premise) (same_objects setting state patches patch modules targets is over) fails))
 
 pub judged_everywhere : ByKey → (setting : Setting) (state : State) (patches : List PlanPatch) (patch : ℕ) (modules : ModuleTable) (targets : List PlanTarget) (result : Result Unit Premise)
     → IsOver setting state patches patch modules targets
@@ -64,6 +64,5 @@ judged_everywhere by_key setting state patches patch modules targets (Err premis
 
 -- what an object leaves is a premise that fails
 pub left_fails : (values : Values) (objects : List (ℕ × PatchObject)) (place : ℕ) (rest : Left) (premise : Premise) → premise ≡ premise_of place rest
-    → OneOf (λ (o : ℕ × PatchObject). (o.0 ≡ place) × IsLeft values o.1.callbacks (all_edits o.1.callbacks) rest) objects → FailsOf values objects premise
-left_fails values objects place (left.Variable two key) premise is h = subst (FailsOf values objects) (sym is) h
-left_fails values objects place (left.Id id) premise is h = subst (FailsOf values objects) (sym is) h
+    → OneOf (λ (o : ℕ × PatchObject). (o.0 ≡ place) × IsLeft values o.1.callbacks rest) objects → FailsOf values objects premise
+left_fails values objects place rest premise is h = subst (FailsOf values objects) (sym is) h

@@ -3,4 +3,5 @@ pub mod ApartLemmas
 pub mod FailsLemmas
 pub mod JudgedLemmas
 pub mod PlanLemmas
+pub mod ThereLemmas
 pub mod UndoneLemmas

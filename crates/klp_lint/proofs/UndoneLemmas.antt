@@ -1,7 +1,7 @@
 -- Callbacks that leave nothing of what they name restore every variable.
-use Rattle.std.proofs.Common.{◌≡◌, ◌⊎◌, ℕ, true, false, cond, ◌==◌, List, [], ◌∷◌, ◌++◌, Option, Some, None, refl, sym, ap, ◌∙◌, inl, inr, subst}
+use Rattle.std.proofs.Common.{◌≡◌, ◌⊎◌, ℕ, true, false, cond, ◌==◌, List, [], ◌∷◌, ◌++◌, Option, Some, None, ◌+◌, ◌-◌, ◌^◌, ◌<◌, ◌≤◌, ltb, refl, sym, ap, ◌∙◌, inl, inr, subst, arith}
 use Rattle.std.specs.Prelude.{unwrap_or}
-use Rattle.std.proofs.lemmas.Bool.{eqb-true}
+use Rattle.std.proofs.lemmas.Bool.{eqb-true, ltb-true, ltb-false}
 use Rattle.klp_types.specs.declared.shadow.ShadowKey.{ShadowKey}
 use Rattle.klp_types.specs.declared.callback.Which.TheVariants.{Pre, Post, PreUn, PostUn}
 use Rattle.klp_types.specs.declared.edit.Edit.{Edit}
@@ -10,7 +10,7 @@ use Rattle.klp_types.specs.Setting.{Callback}
 use Rattle.klp_types.specs.World.{ShadowValue}
 use Rattle.klp_types.specs.Script.{is_key, edited_at, made_of}
 use Rattle.klp_lint.specs.Scripts.{edits_for, all_edits}
-use Rattle.klp_lint.specs.Undone.{Values, AreRestored, IsHarmless, AreHarmless}
+use Rattle.klp_lint.specs.Undone.{Values, HaveAddresses, IsNextOf, AreRestored, IsHarmless, AreHarmless}
 
 -- no edit changes the variable
 abbrev NoneChanges : ShadowKey → Option ShadowValue → List Edit → Type 0
@@ -28,18 +28,25 @@ named same values callbacks key own becomes restored =
       | false ↦ λ e. inr refl
     ] refl
 
-freed : (values : Values) (key : ShadowKey) (id : ℕ) → ((k : ShadowKey) → id ≡ k.id → values k ≡ None) → cond (id == key.id) None (values key) ≡ values key
-freed values key id none =
-    elim (id == key.id) as (λ b. (id == key.id) ≡ b → cond b None (values key) ≡ values key) [
-      | true ↦ λ e. sym (none key (eqb-true id key.id e))
-      | false ↦ λ e. refl
+present : (was : Option ShadowValue) (v : ShadowValue) → was ≡ Some v → was ≡ None → ⊥
+present was v is none = cc
+
+freed : (values : Values) (callbacks : List Callback) (key : ShadowKey) (id : ℕ) → IsHarmless values callbacks (FreeAll id)
+    → AreRestored callbacks key (values key) ⊎ (cond (id == key.id) None (values key) ≡ values key)
+freed values callbacks key id restored =
+    elim (id == key.id) as (λ b. (id == key.id) ≡ b → AreRestored callbacks key (values key) ⊎ (cond b None (values key) ≡ values key)) [
+      | true ↦ λ e. elim (values key) as (λ was. values key ≡ was → AreRestored callbacks key (values key) ⊎ (None ≡ was)) [
+        | None ↦ λ none. inr refl
+        | Some v ↦ λ there. inl (restored key (eqb-true id key.id e) (present (values key) v there))
+      ] refl
+      | false ↦ λ e. inr refl
     ] refl
 
 one : (same : Same) (values : Values) (callbacks : List Callback) (key : ShadowKey) (edit : Edit) → IsHarmless values callbacks edit
     → AreRestored callbacks key (values key) ⊎ (edited_at key (values key) edit ≡ values key)
 one same values callbacks key (Alloc own value) h = named same values callbacks key own (Some (unwrap_or (values key) value)) h
 one same values callbacks key (Free own) h = named same values callbacks key own None h
-one same values callbacks key (FreeAll id) h = inr (freed values key id h)
+one same values callbacks key (FreeAll id) h = freed values callbacks key id h
 one same values callbacks key (SetData id value) h = inr refl
 one same values callbacks key (TakePrev id) h = inr refl
 
@@ -90,3 +97,57 @@ harmless_restores same values callbacks edits all h key =
       | inl restored ↦ restored
       | inr none ↦ unchanged callbacks key (values key) (subst (NoneChanges key (values key)) all none)
     ]
+
+-- how many addresses there are at or above the next one
+abbrev pub left_over : Option ℕ → ℕ
+left_over None = 0
+left_over (Some next) = 2 ^ 64 - next
+
+-- A walk over the variables of an id: those whose parent objects are below the next one are restored.
+module _ (values : Values) (callbacks : List Callback) (id : ℕ) where
+  abbrev pub ArePassed : Option ℕ → Type 0
+  ArePassed None = IsHarmless values callbacks (FreeAll id)
+  ArePassed (Some next) = (key : ShadowKey) → id ≡ key.id → key.obj < next → (values key ≡ None → ⊥) → AreRestored callbacks key (values key)
+
+  own_key : (key : ShadowKey) → id ≡ key.id → values (record { obj = key.obj; id = id }) ≡ None → values key ≡ None
+  own_key key own none = sym (ap (λ n. values (record { obj = key.obj; id = n })) own) ∙ none
+
+  pub passed_first : (next : Option ℕ) → IsNextOf values id 0 next → ArePassed next
+  passed_first None none = λ key own there. absurd (there (own_key key own (none key.obj (omega arith))))
+  passed_first (Some p) next = λ key own below there. absurd (there (own_key key own (next.1 key.obj (omega arith) below)))
+
+  -- one at the parent object, or one that was passed
+  up_to : (p : ℕ) → ArePassed (Some p) → AreRestored callbacks (record { obj = p; id = id }) (values (record { obj = p; id = id }))
+      → (key : ShadowKey) → id ≡ key.id → key.obj < p + 1 → (values key ≡ None → ⊥) → AreRestored callbacks key (values key)
+  up_to p passed here key own below there =
+      elim (ltb key.obj p) as (λ b. ltb key.obj p ≡ b → AreRestored callbacks key (values key)) [
+        | true ↦ λ e. passed key own (ltb-true key.obj p e) there
+        | false ↦ λ e.
+            let above = ltb-false key.obj p e in
+            let at : p ≡ key.obj = omega (arith, above, below) in
+            subst (λ k. AreRestored callbacks k (values k)) (ap (λ n. record { obj = n; id = id }) at ∙ ap (λ n. record { obj = key.obj; id = n }) own) here
+      ] refl
+
+  pub passed_next : (p : ℕ) → ArePassed (Some p) → AreRestored callbacks (record { obj = p; id = id }) (values (record { obj = p; id = id }))
+      → (next : Option ℕ) → IsNextOf values id (p + 1) next → ArePassed next
+  passed_next p passed here None none = λ key own there.
+      elim (ltb key.obj (p + 1)) as (λ b. ltb key.obj (p + 1) ≡ b → AreRestored callbacks key (values key)) [
+        | true ↦ λ e. up_to p passed here key own (ltb-true key.obj (p + 1) e) there
+        | false ↦ λ e. absurd (there (own_key key own (none key.obj (ltb-false key.obj (p + 1) e))))
+      ] refl
+  passed_next p passed here (Some q) next = λ key own below there.
+      elim (ltb key.obj (p + 1)) as (λ b. ltb key.obj (p + 1) ≡ b → AreRestored callbacks key (values key)) [
+        | true ↦ λ e. up_to p passed here key own (ltb-true key.obj (p + 1) e) there
+        | false ↦ λ e. absurd (there (own_key key own (next.1 key.obj (ltb-false key.obj (p + 1) e) below)))
+      ] refl
+
+  -- no address is above the last one
+  pub passed_last : (p : ℕ) → HaveAddresses values → 2 ^ 64 ≤ p + 1 → ArePassed (Some p) → AreRestored callbacks (record { obj = p; id = id }) (values (record { obj = p; id = id }))
+      → ArePassed None
+  passed_last p addresses last passed here = λ key own there.
+      elim (ltb key.obj (p + 1)) as (λ b. ltb key.obj (p + 1) ≡ b → AreRestored callbacks key (values key)) [
+        | true ↦ λ e. up_to p passed here key own (ltb-true key.obj (p + 1) e) there
+        | false ↦ λ e.
+            let above = ltb-false key.obj (p + 1) e in
+            absurd (there (addresses key (omega (arith, last, above))))
+      ] refl

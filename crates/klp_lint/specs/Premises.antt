@@ -1,6 +1,5 @@
 -- How a premise of the round trip fails.
 use Rattle.std.specs.Prelude.{◌≡◌, ◌⊎◌, ℕ, true, false, List, [], ◌∷◌, None, Result, Ok, Err, map}
-use Rattle.std.specs.List.{list_any}
 use Rattle.klp_types.specs.declared.shadow.ShadowKey.{ShadowKey}
 use Rattle.klp_types.specs.declared.callback.Which.TheVariants.{Pre, Post, PreUn, PostUn}
 use Rattle.klp_types.specs.declared.edit.Edit.{Edit}
@@ -12,14 +11,13 @@ use Rattle.klp_catalog_text.specs.Plan.{PlanPatch}
 use Rattle.klp_catalog.specs.Catalog.{setting_patch}
 use Rattle.klp_model.specs.State.{State, is_installed}
 use Rattle.klp_model.specs.Company.{taking_part, script_of, object_touches, one_touches, company_keys, EachUndoes, AreApart, IsFairStart}
-use Rattle.klp_lint.specs.Scripts.{all_edits, one_edit_touches}
-use Rattle.klp_lint.specs.Undone.{Values, IsRestored, frees_id}
+use Rattle.klp_lint.specs.Scripts.{one_edit_touches}
+use Rattle.klp_lint.specs.Undone.{Values, IsRestored}
 use Rattle.klp_lint.specs.declared.premise.Pair.{Pair}
 use Rattle.klp_lint.specs.declared.premise.Pair.TheVariants as pair
 use Rattle.klp_lint.specs.declared.premise.Left.{Left}
-use Rattle.klp_lint.specs.declared.premise.Left.TheVariants as left
 use Rattle.klp_lint.specs.declared.premise.Premise.{Premise}
-use Rattle.klp_lint.specs.declared.premise.Premise.TheVariants.{Moving, Installed, NotUndone, FreesAll, NotApart}
+use Rattle.klp_lint.specs.declared.premise.Premise.TheVariants.{Moving, Installed, NotUndone, NotApart}
 
 -- the setting has the patches of a plan, over the names of its image
 abbrev pub ArePatchesOf : Setting → List PlanPatch → Type 0
@@ -51,14 +49,12 @@ TwoTouch first second key (object ∷ objects) =
     × OneOf (λ (later : ℕ × PatchObject). (later.0 ≡ second) × (object_touches key later ≡ true)) objects)
     ⊎ TwoTouch first second key objects
 
--- The premise doesn't hold. Of a callback that frees a whole id this isn't known: there may be no variable of the id.
+-- the premise doesn't hold
 abbrev pub Fails : Setting → ℕ → State → Premise → Type 0
 Fails setting patch state Moving = state.moving ≡ None → ⊥
 Fails setting patch state Installed = is_installed state patch ≡ true
 Fails setting patch state (NotUndone place two key) =
     OneOf (λ (o : ℕ × PatchObject). (o.0 ≡ place) × IsNotUndone two patch state.world key o) (taking_part setting state patch)
-Fails setting patch state (FreesAll place id) =
-    OneOf (λ (o : ℕ × PatchObject). (o.0 ≡ place) × (list_any (frees_id id) (all_edits o.1.callbacks) ≡ true)) (taking_part setting state patch)
 Fails setting patch state (NotApart first second key) = TwoTouch first second key (taking_part setting state patch)
 
 -- The same of the callbacks of these objects, where the variables have these values.
@@ -67,19 +63,11 @@ FailsOf values objects Moving = ⊥
 FailsOf values objects Installed = ⊥
 FailsOf values objects (NotUndone place two key) =
     OneOf (λ (o : ℕ × PatchObject). (o.0 ≡ place) × (IsRestored two o.1.callbacks key (values key) → ⊥)) objects
-FailsOf values objects (FreesAll place id) =
-    OneOf (λ (o : ℕ × PatchObject). (o.0 ≡ place) × (list_any (frees_id id) (all_edits o.1.callbacks) ≡ true)) objects
 FailsOf values objects (NotApart first second key) = TwoTouch first second key objects
 
 -- the premise that an object of this index doesn't keep, since its callbacks leave this
 abbrev pub premise_of : ℕ → Left → Premise
-premise_of place (left.Variable two key) = NotUndone place two key
-premise_of place (left.Id id) = FreesAll place id
-
--- whether it is known that the premise fails
-abbrev pub IsKnown : Premise → Type 0
-IsKnown (FreesAll place id) = ⊥
-IsKnown other = Unit {0}
+premise_of place left = NotUndone place left.pair left.key
 
 -- the answer of `leaves_no_trace`: the patch is at a fair start, or the premise fails
 abbrev pub Judges : Setting → ℕ → State → Result Unit Premise → Type 0

@@ -1,6 +1,5 @@
 -- When the callbacks of an object undo each other, one variable at a time.
-use Rattle.std.specs.Prelude.{◌≡◌, ℕ, Bool, true, false, ◌==◌, List, [], ◌∷◌, Option, None}
-use Rattle.std.specs.List.{list_any}
+use Rattle.std.specs.Prelude.{◌≡◌, ℕ, ◌^◌, ◌<◌, ◌≤◌, nat_lt, List, [], ◌∷◌, Option, Some, None, if◌then◌else◌}
 use Rattle.klp_types.specs.declared.shadow.ShadowKey.{ShadowKey}
 use Rattle.klp_types.specs.declared.callback.Which.TheVariants.{Pre, Post, PreUn, PostUn}
 use Rattle.klp_types.specs.declared.edit.Edit.{Edit}
@@ -12,11 +11,24 @@ use Rattle.klp_lint.specs.Scripts.{edits_for}
 use Rattle.klp_lint.specs.declared.premise.Pair.{Pair}
 use Rattle.klp_lint.specs.declared.premise.Pair.TheVariants as pair
 use Rattle.klp_lint.specs.declared.premise.Left.{Left}
-use Rattle.klp_lint.specs.declared.premise.Left.TheVariants as left
 
 -- the values of all shadow variables
 abbrev pub Values : Type 0
 Values = ShadowKey → Option ShadowValue
+
+-- the parent object of each variable has an address of 64 bits
+abbrev pub HaveAddresses : Values → Type 0
+HaveAddresses values = (key : ShadowKey) → 2 ^ 64 ≤ key.obj → values key ≡ None
+
+-- the values of those whose parent object has such an address
+abbrev pub addressed : Values → Values
+addressed values key = if nat_lt key.obj (2 ^ 64) then values key else None
+
+-- the lowest parent object, at or above an address, that has a variable of the id: there is none from the address up to it
+abbrev pub IsNextOf : Values → ℕ → ℕ → Option ℕ → Type 0
+IsNextOf values id from None = (other : ℕ) → from ≤ other → values (record { obj = other; id = id }) ≡ None
+IsNextOf values id from (Some parent) =
+    (from ≤ parent) × ((other : ℕ) → from ≤ other → other < parent → values (record { obj = other; id = id }) ≡ None)
 
 -- the value of a variable that the first callback of the pair finds; before pre-patch it has this one
 abbrev pub found_by : Pair → List Callback → ShadowKey → Option ShadowValue → Option ShadowValue
@@ -46,11 +58,11 @@ abbrev pub EachRestores : Values → List (ℕ × PatchObject) → Type 0
 EachRestores values [] = Unit {0}
 EachRestores values (object ∷ objects) = ((key : ShadowKey) → AreRestored object.1.callbacks key (values key)) × EachRestores values objects
 
--- Nothing that this edit names stays changed: a variable is restored, and of an id there is none.
+-- Nothing that this edit names stays changed: a variable is restored, and of an id each that is there.
 abbrev pub IsHarmless : Values → List Callback → Edit → Type 0
 IsHarmless values callbacks (Alloc key value) = AreRestored callbacks key (values key)
 IsHarmless values callbacks (Free key) = AreRestored callbacks key (values key)
-IsHarmless values callbacks (FreeAll id) = (key : ShadowKey) → id ≡ key.id → values key ≡ None
+IsHarmless values callbacks (FreeAll id) = (key : ShadowKey) → id ≡ key.id → (values key ≡ None → ⊥) → AreRestored callbacks key (values key)
 IsHarmless values callbacks (SetData id value) = Unit {0}
 IsHarmless values callbacks (TakePrev id) = Unit {0}
 
@@ -58,13 +70,6 @@ abbrev pub AreHarmless : Values → List Callback → List Edit → Type 0
 AreHarmless values callbacks [] = Unit {0}
 AreHarmless values callbacks (edit ∷ edits) = IsHarmless values callbacks edit × AreHarmless values callbacks edits
 
--- one of these edits frees all variables of the id
-abbrev pub frees_id : ℕ → Edit → Bool
-frees_id id (FreeAll own) = own == id
-frees_id id other = false
-
--- What the callbacks leave: a variable that the pair doesn't restore; or one of these edits frees the id, and whether
--- all variables of the id are restored isn't known.
-abbrev pub IsLeft : Values → List Callback → List Edit → Left → Type 0
-IsLeft values callbacks edits (left.Variable pair key) = IsRestored pair callbacks key (values key) → ⊥
-IsLeft values callbacks edits (left.Id id) = list_any (frees_id id) edits ≡ true
+-- What the callbacks leave: a variable that the pair doesn't restore.
+abbrev pub IsLeft : Values → List Callback → Left → Type 0
+IsLeft values callbacks left = IsRestored left.pair callbacks left.key (values left.key) → ⊥

@@ -1,9 +1,9 @@
 //! What the premises come to. A function here does nothing: its contract is the law.
-ghost use Rattle.std.specs.Prelude.{◌≡◌, ℕ, false, List, map};
+ghost use Rattle.std.specs.Prelude.{◌≡◌, ℕ, false, List, None, map};
 ghost use Rattle.klp_types.specs.declared.shadow.ShadowKey.{ShadowKey};
 ghost use Rattle.klp_types.specs.Setting.{Setting};
 ghost use Rattle.klp_model.specs.State.{State, is_installed};
-ghost use Rattle.klp_model.specs.Company.{IsFairStart, AreFair, company_keys};
+ghost use Rattle.klp_model.specs.Company.{IsFairStart, AreFair, company_keys, taking_part};
 ghost use Rattle.klp_model.specs.Footprint.{SameFootprint};
 ghost use Rattle.klp_modules.specs.Names.{names_of};
 ghost use Rattle.klp_catalog_text.specs.Plan.{PlanPatch};
@@ -13,7 +13,7 @@ ghost use Rattle.klp_manager_state.specs.Managed.{Managed, setting_of};
 ghost use Rattle.klp_core.specs.Journaled.{Journaled};
 ghost use Rattle.klp_core.specs.Withdrawal.{LeavesNoTrace, appended};
 ghost use Rattle.klp_lint.specs.declared.premise.Premise.{Premise as AnyPremise};
-ghost use Rattle.klp_lint.specs.Premises.{ArePatchesOf, Fails, IsKnown};
+ghost use Rattle.klp_lint.specs.Premises.{ArePatchesOf, Fails, FailsOf, HoldEverywhere};
 
 /// A manager that is booted over a plan has its patches, which `leaves_no_trace` takes: it has the names of its image,
 /// the plan's patches but for the scripts, and the plan's scripts in order (klp_program/specs/Booted). Events leave the
@@ -25,12 +25,21 @@ pub fn a_booted_manager_has_the_patches_of_its_plan()
         → scripts_of managed.catalog.patches ≡ scripts_of patches → ArePatchesOf (setting_of managed) patches }
 {}
 
-/// Where one of the premises fails that are known to, the patch isn't at a fair start.
+/// Where a premise fails, the patch isn't at a fair start.
 pub fn what_fails_is_no_fair_start()
-    ensures { (setting : Setting) (patch : ℕ) (state : State) (premise : AnyPremise) → IsKnown premise
+    ensures { (setting : Setting) (patch : ℕ) (state : State) (premise : AnyPremise)
         → Fails setting patch state premise → IsFairStart setting patch state → ⊥ }
 {
     klp_types::laws::untouched_variables_stay();
+}
+
+/// What fails where there are no variables at all doesn't hold in each world without those that the callbacks touch.
+pub fn what_fails_without_variables_fails_somewhere()
+    ensures { (setting : Setting) (patch : ℕ) (state : State) (premise : AnyPremise)
+        → FailsOf (λ _. None) (taking_part setting state patch) premise → HoldEverywhere setting patch state → ⊥ }
+{
+    klp_types::laws::untouched_variables_stay();
+    klp_types::laws::edits_go_key_by_key();
 }
 
 /// Where the premises hold before fair events, and the patch isn't installed behind them, no trace of it is left: this

@@ -4,7 +4,7 @@ ghost use Rattle.klp_types.specs.Callbacks.{script_for, is_refusing};
 ghost use Rattle.klp_types.specs.Setting.{PatchObject};
 ghost use Rattle.klp_model.specs.Company.{object_touches, AreApart};
 ghost use Rattle.klp_catalog.specs.Catalog.{patch_object};
-ghost use Rattle.klp_lint.specs.Scripts.{all_edits, one_edit_touches};
+ghost use Rattle.klp_lint.specs.Scripts.{one_edit_touches};
 ghost use Rattle.klp_lint.specs.Undone.{EachRestores, IsLeft};
 ghost use Rattle.klp_lint.specs.Acting.{acting};
 ghost use Rattle.klp_lint.specs.Premises.{AreApartFrom, OneOf, TwoTouch};
@@ -59,7 +59,7 @@ fn next_acting<'a>(modules: &Modules, place: usize, targets: &'a [PlanTarget]) -
     })
 }
 
-/// The first object whose callbacks may leave something changed, and what.
+/// The first object whose callbacks leave something changed, and what.
 pub(crate) fn first_left<V: Variables>(
     variables: &V,
     modules: &Modules,
@@ -69,7 +69,7 @@ pub(crate) fn first_left<V: Variables>(
     requires { place + length targets.now < 2 ^ 64 }
     ensures { MatchOption result (EachRestores (V.values variables.now) (acting modules.now place targets.now))
         (λ found. OneOf (λ (o : ℕ × PatchObject). (o.0 ≡ found.0)
-        × IsLeft (V.values variables.now) o.1.callbacks (all_edits o.1.callbacks) found.1)
+        × IsLeft (V.values variables.now) o.1.callbacks found.1)
         (acting modules.now place targets.now)) }
 {
     let next = next_acting(modules, place, targets)?;

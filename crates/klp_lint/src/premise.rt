@@ -12,13 +12,12 @@ pub enum Pair {
     Post,
 }
 
-/// What stays changed of what an object's callbacks name.
+/// What an object's callbacks leave changed: the second callback of the pair leaves the variable with another value than
+/// the first found.
 #[derive(Clone, Copy, PartialEq, Eq)]
-pub enum Left {
-    /// The second callback of the pair leaves this variable with another value than the first found.
-    Variable(Pair, ShadowKey),
-    /// A callback frees all variables of this id, and there may be one that nothing adds again.
-    Id(u64),
+pub(crate) struct Left {
+    pub(crate) pair: Pair,
+    pub(crate) key: ShadowKey,
 }
 
 /// A premise of the round trip that a patch doesn't keep (docs/ROUND_TRIP.md). An object is told by its index among
@@ -35,11 +34,6 @@ pub enum Premise {
         pair: Pair,
         key: ShadowKey,
     },
-    /// A callback frees all variables of this id, and it isn't known that there is none: no query lists them.
-    FreesAll {
-        place: usize,
-        id: u64,
-    },
     /// The callbacks of both objects touch the variable.
     NotApart {
         first: usize,
@@ -52,8 +46,6 @@ pub enum Premise {
 pub(crate) fn premise_of(place: usize, left: Left) -> Premise
     ensures { result ≡ premise_of place left }
 {
-    match left {
-        Left::Variable(pair, key) => Premise::NotUndone { place, pair, key },
-        Left::Id(id) => Premise::FreesAll { place, id },
-    }
+    let Left { pair, key } = left;
+    Premise::NotUndone { place, pair, key }
 }

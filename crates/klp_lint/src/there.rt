@@ -10,15 +10,15 @@ pub(crate) struct There<'a>(pub(crate) &'a Manager);
 
 impl Variables for There<'_> {
     ghost use Rattle.klp_types.specs.World.{variable};
+    ghost use Rattle.klp_lint.specs.Undone.{addressed};
 
-    ghost values = { λ there key. variable there.0.now.managed.state.world key };
+    ghost values = { λ there. addressed (variable there.0.now.managed.state.world) };
 
     fn get(&self, key: ShadowKey) -> Option<ShadowValue> {
         self.0.shadow_get(key)
     }
 
-    // No query lists the variables of an id.
-    fn has_none_of(&self, _id: u64) -> bool {
-        false
+    fn next_parent(&self, id: u64, from: u64) -> Option<u64> {
+        self.0.next_parent(id, from)
     }
 }

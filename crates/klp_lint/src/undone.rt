@@ -1,7 +1,7 @@
 //! Whether the callbacks of an object undo each other.
-ghost use Rattle.std.specs.Prelude.{◌≡◌, ◌↔◌, [], ◌∷◌, IsTrue, MatchOption};
+ghost use Rattle.std.specs.Prelude.{◌≡◌, ◌↔◌, IsTrue, MatchOption};
 ghost use Rattle.klp_types.specs.declared.shadow.ShadowKey.{ShadowKey as AnyKey};
-ghost use Rattle.klp_lint.specs.Scripts.{all_edits};
+ghost use Rattle.klp_types.specs.declared.edit.Edit.TheVariants as AnyEdit;
 ghost use Rattle.klp_lint.specs.Undone.{AreRestored, AreHarmless, IsHarmless, IsLeft, IsRestored, found_by, left_behind};
 
 use crate::edits::{all_edits, edits_for, made_of};
@@ -42,20 +42,40 @@ pub(crate) fn first_unrestored(
     None
 }
 
-/// What an edit names that may stay changed once all callbacks of its object ran.
+/// The first variable of the id that a pair of an object's callbacks doesn't restore. One that isn't there stays away,
+/// as far as a freeing of the id goes.
+fn left_of_id<V: Variables>(variables: &V, callbacks: &[PlanCallback], id: u64) -> Option<Left>
+    ensures { MatchOption result (IsHarmless (V.values variables.now) callbacks.now (AnyEdit.FreeAll id))
+        (λ left. IsLeft (V.values variables.now) callbacks.now left) }
+{
+    let mut next = variables.next_parent(id, 0);
+    while let Some(obj) = next {
+        let key = ShadowKey { obj, id };
+        if let Some(pair) = first_unrestored(callbacks, key, variables.get(key)) {
+            return Some(Left { pair, key });
+        }
+        next = match obj.checked_add(1) {
+            Some(from) => variables.next_parent(id, from),
+            None => None,
+        };
+    }
+    None
+}
+
+/// What an edit names that stays changed once all callbacks of its object ran.
 fn left_of<V: Variables>(variables: &V, callbacks: &[PlanCallback], edit: &Edit) -> Option<Left>
     ensures { MatchOption result (IsHarmless (V.values variables.now) callbacks.now edit.now)
-        (λ left. IsLeft (V.values variables.now) callbacks.now (edit.now ∷ []) left) }
+        (λ left. IsLeft (V.values variables.now) callbacks.now left) }
 {
     match *edit {
         Edit::Alloc(key, _) | Edit::Free(key) => {
             match first_unrestored(callbacks, key, variables.get(key)) {
-                Some(pair) => Some(Left::Variable(pair, key)),
+                Some(pair) => Some(Left { pair, key }),
                 None => None,
             }
         }
-        Edit::FreeAll(id) if !variables.has_none_of(id) => Some(Left::Id(id)),
-        Edit::FreeAll(_) | Edit::SetData(_, _) | Edit::TakePrev(_) => None,
+        Edit::FreeAll(id) => left_of_id(variables, callbacks, id),
+        Edit::SetData(_, _) | Edit::TakePrev(_) => None,
     }
 }
 
@@ -66,7 +86,7 @@ fn first_left<V: Variables>(
     edits: &[Edit],
 ) -> Option<Left>
     ensures { MatchOption result (AreHarmless (V.values variables.now) callbacks.now edits.now)
-        (λ left. IsLeft (V.values variables.now) callbacks.now edits.now left) }
+        (λ left. IsLeft (V.values variables.now) callbacks.now left) }
 {
     let [edit, rest @ ..] = edits else {
         return None;
@@ -77,10 +97,10 @@ fn first_left<V: Variables>(
     }
 }
 
-/// What an object's callbacks may leave changed. None if they restore every variable.
+/// What an object's callbacks leave changed. None if they restore every variable.
 pub(crate) fn left_by<V: Variables>(variables: &V, callbacks: &[PlanCallback]) -> Option<Left>
     ensures { MatchOption result ((key : AnyKey) → AreRestored callbacks.now key (V.values variables.now key))
-        (λ left. IsLeft (V.values variables.now) callbacks.now (all_edits callbacks.now) left) }
+        (λ left. IsLeft (V.values variables.now) callbacks.now left) }
 {
     klp_types::laws::keys_are_in_order();
     match first_left(variables, callbacks, &all_edits(callbacks)) {

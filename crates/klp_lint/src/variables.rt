@@ -1,6 +1,6 @@
 //! The shadow variables by which callbacks are judged: those of a manager, or none at all.
-ghost use Rattle.std.specs.Prelude.{◌≡◌, IsTrue};
-ghost use Rattle.klp_types.specs.declared.shadow.ShadowKey.{ShadowKey as AnyKey};
+ghost use Rattle.std.specs.Prelude.{◌≡◌};
+ghost use Rattle.klp_lint.specs.Undone.{HaveAddresses, IsNextOf};
 
 use klp_types::{ShadowKey, ShadowValue};
 
@@ -16,9 +16,10 @@ pub(crate) trait Variables {
     fn get(&self, key: ShadowKey) -> Option<ShadowValue>
         ensures { result ≡ values self.now key };
 
-    /// Whether it is known that no variable has this id.
-    fn has_none_of(&self, id: u64) -> bool
-        ensures { IsTrue result → (key : AnyKey) → id ≡ key.id → values self.now key ≡ None };
+    /// The lowest parent object, at or above `from`, that has a variable of the id. None if none has one there.
+    fn next_parent(&self, id: u64, from: u64) -> Option<u64>
+        ensures next { IsNextOf (values self.now) id from result }
+        ensures addresses { HaveAddresses (values self.now) };
 }
 
 /// No variables at all, as when none of those that callbacks touch exists.
@@ -34,7 +35,7 @@ impl Variables for Nowhere {
         None
     }
 
-    fn has_none_of(&self, _id: u64) -> bool {
-        true
+    fn next_parent(&self, _id: u64, _from: u64) -> Option<u64> {
+        None
     }
 }
