@@ -1,11 +1,14 @@
 //! What stands above the rows of a page, and below them.
-ghost use Rattle.std.specs.Prelude.{◌≡◌, [], ◌++◌, codes, count_by, if◌then◌else◌};
+ghost use Rattle.std.specs.Prelude.{◌≡◌, [], ◌++◌, codes, count_by, Some, if◌then◌else◌};
 ghost use Rattle.std.specs.Fmt.{decimal};
 ghost use Rattle.klp_markup.specs.Adds.{Adds};
 ghost use Rattle.klp_page.specs.Text.{is_started, is_start, count_text, refusals_text, title_text, timed_style};
-ghost use Rattle.klp_page.specs.Text.{opening_text, all_refused, front_text, story_and_drawing};
+ghost use Rattle.klp_page.specs.Text.{opening_text, all_refused, front_text, story_and_drawing, trace_style, compared_text};
 
-use crate::style::{COUNTS, HEAD, LINES, RUN, STORY, STYLE, STYLE_END, TIMED_STYLE};
+use crate::style::{
+    AGREES, COUNTS, FIRST, FIRST_END, FIRST_WORD, HEAD, LINES, RUN, STORY, STYLE, STYLE_END,
+    TIMED_STYLE, TRACE_STYLE,
+};
 use klp_catalog::Catalog;
 use klp_markup::Sheet;
 use klp_modules::Modules;
@@ -25,6 +28,16 @@ pub(crate) struct Title<'a> {
     pub refused: u64,
     pub transitions: u64,
     pub is_moving: bool,
+    /// `None` for a page of a script.
+    pub differing: Option<Differing>,
+}
+
+/// At how many rows of a trace the kernel differs from the rules, and the number of the first of these rows; 0 if it
+/// differs at none.
+#[derive(Clone, Copy)]
+pub struct Differing {
+    pub rows: u64,
+    pub first: u64,
 }
 
 /// Whether the sentence tells of the start of a transition.
@@ -101,6 +114,44 @@ fn add_timed_style(sheet: &mut Sheet, names: &Names)
     }
 }
 
+/// Adds the style of a trace, if the page is of one.
+fn add_trace_style(sheet: &mut Sheet, differing: &Option<Differing>)
+    ensures { Adds sheet.old sheet.new (trace_style differing.now) }
+{
+    klp_markup::laws::what_is_added_adds_up();
+    if differing.is_some() {
+        sheet.markup(TRACE_STYLE);
+    }
+}
+
+/// Adds at how many rows the kernel differs from the rules, with a link to the first.
+fn add_differing(sheet: &mut Sheet, differing: Differing)
+    ensures { Adds sheet.old sheet.new (compared_text (Some differing)) }
+{
+    klp_markup::laws::what_is_added_adds_up();
+    if differing.rows == 0 {
+        sheet.markup(AGREES);
+    } else {
+        sheet.markup(". <b class=holds>");
+        add_count(sheet, differing.rows, " row differs", " rows differ");
+        sheet.markup(FIRST);
+        sheet.number(differing.first);
+        sheet.markup(FIRST_WORD);
+        sheet.number(differing.first);
+        sheet.markup(FIRST_END);
+    }
+}
+
+/// Adds how the kernel of a trace compares with the rules. Adds nothing to a page of a script.
+fn add_compared(sheet: &mut Sheet, differing: &Option<Differing>)
+    ensures { Adds sheet.old sheet.new (compared_text differing.now) }
+{
+    klp_markup::laws::what_is_added_adds_up();
+    if let Some(differing) = *differing {
+        add_differing(sheet, differing);
+    }
+}
+
 /// Adds the beginning of the document, up to the end of its style.
 #[tactic(auto, unfolding(crate::specs::Text::opening_text))]
 fn add_opening(sheet: &mut Sheet, title: &Title<'_>)
@@ -113,6 +164,7 @@ fn add_opening(sheet: &mut Sheet, title: &Title<'_>)
     sheet.markup(klp_drawing::STYLE);
     sheet.markup(klp_page_layout::STYLE);
     add_timed_style(sheet, title.names);
+    add_trace_style(sheet, &title.differing);
     sheet.markup(STYLE_END);
 }
 
@@ -151,6 +203,7 @@ pub(crate) fn add_front(
     );
     sheet.markup(COUNTS);
     add_title(sheet, title);
+    add_compared(sheet, &title.differing);
     sheet.markup(STORY);
 }
 

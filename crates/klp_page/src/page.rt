@@ -6,7 +6,7 @@ ghost use Rattle.klp_page.specs.Text.{page_text};
 ghost use Rattle.klp_page.specs.Pages.{is_refused, IsPage, IsPageOfRun, IsScriptFault, IsPageOver, IsFaultOver};
 ghost use Rattle.klp_page.specs.Pages.{IsPageOf, IsFaultOf, Writes};
 
-use crate::head::{Title, add_front, add_story_and_drawing, transitions};
+use crate::head::{Differing, Title, add_front, add_story_and_drawing, transitions};
 use crate::layout::Layout;
 use crate::record::{Recorded, last_view, record};
 use crate::row::{Row, add_rows};
@@ -67,18 +67,20 @@ fn refused(rows: &[Row]) -> u64
     count as u64
 }
 
-/// Returns the text of the page of a run that was served and recorded. `Err` if memory runs out.
-fn page_of(
+/// Returns the text of the page of a run that was served and recorded. `differing` is `None` for a page of a script.
+/// `Err` if memory runs out.
+pub fn page_of(
     alloc: Global,
     manager: &Manager,
     name: &[u8],
     names: &Names,
     opening: &View,
     recorded: &Recorded,
+    differing: Option<Differing>,
     layout: &mut Layout<'_>,
 ) -> Result<Vec<u8>, AllocError>
     ensures { IfOk result (λ page. IsPageOfRun manager.now.managed.catalog name.now names.now opening.now
-        recorded.now.rows.items recorded.now.run.items page.items) }
+        recorded.now.rows.items recorded.now.run.items differing page.items) }
 {
     let sentences = sentences(alloc, opening, &recorded.run)?;
     let view = last_view(opening, &recorded.run);
@@ -89,6 +91,7 @@ fn page_of(
         refused: refused(&recorded.rows),
         transitions: transitions(&sentences),
         is_moving: view.moving.is_some(),
+        differing,
     };
     let drawing = layout.draw(alloc, manager, &sentences)?;
     written(
@@ -117,7 +120,9 @@ fn paged(
     layout.open(manager)?;
     let opening = view_of(manager);
     let recorded = record(alloc, manager, script, &opening, layout)?;
-    Ok(page_of(alloc, manager, name, names, &opening, &recorded, layout)?)
+    Ok(page_of(
+        alloc, manager, name, names, &opening, &recorded, None, layout,
+    )?)
 }
 
 // Serves a script by a manager, which is dropped then, and returns the page. Only `close` drops a manager, so that its
