@@ -80,8 +80,8 @@ abbrev pub differing_text : Bool → List ℕ
 differing_text differs = if differs then DIFFERING.now else []
 
 -- the kernel's answer, if a trace has it
-abbrev pub seen_text : List ℕ → List ℕ
-seen_text seen = if length seen == 0 then [] else SEEN.now ++ escaped seen ++ SEEN_END.now
+abbrev pub kernel_answer : List ℕ → List ℕ
+kernel_answer seen = if length seen == 0 then [] else SEEN.now ++ escaped seen ++ SEEN_END.now
 
 -- the mark of a row at which the kernel differs from the rules
 abbrev pub difference_text : Bool → List ℕ
@@ -89,7 +89,7 @@ difference_text differs = if differs then DIFFERENCE.now else []
 
 -- what a trace says of the kernel beside the rules' answer
 abbrev pub kernel_text : Row → List ℕ
-kernel_text row = seen_text row.seen.items ++ difference_text row.differs
+kernel_text row = kernel_answer row.seen.items ++ difference_text row.differs
 
 -- the line with its number and its time, its answer, the kernel's answer, and its mark
 unfoldable pub shown_text : Names → ℕ → Row → List ℕ

@@ -4,7 +4,7 @@ ghost use Rattle.std.specs.Fmt.{decimal};
 ghost use Rattle.klp_markup.specs.Adds.{Adds};
 ghost use Rattle.klp_names.specs.Names.{since_start};
 ghost use Rattle.klp_page.specs.Text.{mark_text, refused_text, open_text, time_text, shown_text, start_text, row_text};
-ghost use Rattle.klp_page.specs.Text.{fold_start, fold_end, rows_text, differing_text, seen_text, difference_text, kernel_text};
+ghost use Rattle.klp_page.specs.Text.{fold_start, fold_end, rows_text, differing_text, kernel_answer, difference_text, kernel_text};
 
 use crate::style::{
     ANSWER, ANSWER_END, CARD_NUMBER, CARD_ROW, CARDS, CARDS_END, DIFFERENCE, DIFFERING, FOLD,
@@ -70,7 +70,7 @@ fn add_differing(sheet: &mut Sheet, differs: bool)
 
 /// Adds the kernel's answer. Adds nothing if no trace has it.
 fn add_seen(sheet: &mut Sheet, seen: &[u8])
-    ensures { Adds sheet.old sheet.new (seen_text seen.now) }
+    ensures { Adds sheet.old sheet.new (kernel_answer seen.now) }
 {
     klp_markup::laws::what_is_added_adds_up();
     if !seen.is_empty() {

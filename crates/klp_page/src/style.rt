@@ -51,7 +51,7 @@ pub(crate) const TIMED_STYLE: &str =
 
 /// The style of a page of a trace: the kernel's answers, and the rows at which the kernel differs from the rules.
 pub(crate) const TRACE_STYLE: &str =
-    ".seen{grid-column:3;color:var(--soft);font-size:.86em;overflow-wrap:anywhere}.other{grid-column:2/-1;justify-self:start;color:var(--hold);
+    ".row>summary>.n,div.row>.n{grid-row:1/span 2}.seen{grid-column:3;color:var(--soft);font-size:.86em;overflow-wrap:anywhere}.other{grid-column:2/-1;justify-self:start;color:var(--hold);
 border:2px solid;padding:0 .4rem}.differs{border-left:.4rem solid var(--hold)}.differs .seen{color:var(--hold);font-weight:600}
 @media(max-width:40rem){.seen,.other{grid-column:2}}
 ";

@@ -56,8 +56,8 @@ abbrev pub rules_text : Journaled → Sight → List ℕ
 rules_text manager sight = rules_text_in manager.managed.catalog (setting_of manager.managed) manager.managed.state sight
 
 -- what was seen
-abbrev pub seen_text : Catalog → Sight → List ℕ
-seen_text catalog (StateSeen task own) = state_text own
-seen_text catalog (FilesSeen patch files) = files_text files
-seen_text catalog (VersionSeen task site version) = picked_text catalog (Some version)
-seen_text catalog (TextSeen site hooked) = hook_text hooked
+abbrev pub sight_text : Catalog → Sight → List ℕ
+sight_text catalog (StateSeen task own) = state_text own
+sight_text catalog (FilesSeen patch files) = files_text files
+sight_text catalog (VersionSeen task site version) = picked_text catalog (Some version)
+sight_text catalog (TextSeen site hooked) = hook_text hooked

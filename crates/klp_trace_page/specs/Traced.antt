@@ -16,7 +16,7 @@ use Rattle.klp_watch.specs.declared.observed.Observed.{Observed}
 use Rattle.klp_watch.specs.declared.observed.Observed.TheVariants.{Seen as Item, Answered, Saw}
 use Rattle.klp_page.specs.declared.row.Row.{Row}
 use Rattle.klp_page.specs.Rows.{IsScriptRow}
-use Rattle.klp_trace_page.specs.Rules.{rules_text, seen_text}
+use Rattle.klp_trace_page.specs.Rules.{rules_text, sight_text}
 
 -- a line without the time in front
 abbrev pub untimed : List ℕ → List ℕ
@@ -60,13 +60,18 @@ pub record IsStillRow (before after : Journaled) (text rules seen : List ℕ) (r
 abbrev pub IsRoomy : Journaled → Journaled → Type 0
 IsRoomy before there = (there ≡ before) ⊎ (there ≡ sealed before)
 
+-- an event of the trace was taken, with room in the journal for it
+abbrev pub IsPlayedEvent : Journaled → Journaled → View → List ℕ → Option (Result Reply Refusal) → Row → Moment → Type 0
+IsPlayedEvent before after view text answer row moment =
+    (there : Journaled) × IsRoomy before there × IsEventRow there after view text answer row moment
+
 -- the row of a line with this item
 abbrev pub IsTracedRow : Journaled → Journaled → View → List ℕ → Observed → Row → Moment → Type 0
-IsTracedRow before after view text (Item (Happens event)) row moment = (there : Journaled) × IsRoomy before there × IsEventRow there after view text None row moment
+IsTracedRow before after view text (Item (Happens event)) row moment = IsPlayedEvent before after view text None row moment
 IsTracedRow before after view text (Item (Calls task site)) row moment = IsStillRow before after text [] [] row moment
 IsTracedRow before after view text (Item (Returns task)) row moment = IsStillRow before after text [] [] row moment
-IsTracedRow before after view text (Answered event answer) row moment = (there : Journaled) × IsRoomy before there × IsEventRow there after view text (Some answer) row moment
-IsTracedRow before after view text (Saw sight) row moment = IsStillRow before after text (rules_text before sight) (seen_text before.managed.catalog sight) row moment
+IsTracedRow before after view text (Answered event answer) row moment = IsPlayedEvent before after view text (Some answer) row moment
+IsTracedRow before after view text (Saw sight) row moment = IsStillRow before after text (rules_text before sight) (sight_text before.managed.catalog sight) row moment
 
 -- a row and a moment for each line with its item, in order
 abbrev pub AreTraced : Journaled → Journaled → View → List (List ℕ) → List Observed → List Row → List Moment → Type 0

@@ -1,7 +1,8 @@
 //! A manager is booted over a catalog's text, and a kernel's trace is shown beside it.
-ghost use Rattle.std.specs.Prelude.{◌≡◌, length, IfOk, OnOk};
+ghost use Rattle.std.specs.Prelude.{◌≡◌, length, IfOk};
 ghost use Rattle.klp_catalog_text.specs.Within.{AreTargetsWithin};
-ghost use Rattle.klp_trace_page.specs.Pages.{IsTracePage, IsTracePageOf};
+ghost use Rattle.klp_trace_page.specs.Pages.{IsPlayed, IsTracePage, IsTracePageOver, IsTracePageOf, Writes};
+ghost use Rattle.std.specs.Str.Lines.{lines};
 
 use crate::differing::differing_in;
 use crate::record::record_trace;
@@ -29,7 +30,10 @@ fn paged(
     trace: &[u8],
     items: &[Observed],
     layout: &mut Layout<'_>,
-) -> Result<Vec<u8>, AllocError> {
+) -> Result<Vec<u8>, AllocError>
+    requires { length (lines trace.now) ≡ length items.now }
+    ensures { IfOk result (λ page. IsPlayed manager.old name.now names.now trace.now items.now page.items) }
+{
     layout.open(manager)?;
     let opening = view_of(manager);
     let recorded = record_trace(alloc, manager, trace, items, &opening, layout)?;
@@ -90,6 +94,7 @@ fn page_over_plan(
     trace: &[u8],
 ) -> Result<Vec<u8>, Fault>
     requires { AreTargetsWithin (length plan.objects) plan.patches }
+    ensures { IfOk result (λ page. IsTracePageOver plan name.now names.now trace.now page.items) }
 {
     let mut layout = Layout::new(alloc, names);
     layout.watch(&plan)?;
@@ -126,8 +131,13 @@ pub fn write_trace_page<W: Write>(
     names: &Names,
     trace: &[u8],
     out: &mut W,
-) -> Result<(), Fault> {
-    let page = page_over_trace(alloc, catalog, name, names, trace)?;
+) -> Result<(), Fault>
+    ensures { Writes catalog.now name.now names.now trace.now (W.contents out.old) (W.contents out.new) result }
+{
+    let page = match page_over_trace(alloc, catalog, name, names, trace) {
+        Ok(page) => page,
+        Err(fault) => return Err(fault),
+    };
     match out.write_all(&page) {
         Ok(()) => Ok(()),
         Err(_) => Err(Fault::Serve(ServeFault::Write)),

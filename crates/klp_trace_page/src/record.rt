@@ -1,13 +1,12 @@
 //! A trace is played line by line, and each line gets its row.
-ghost use Rattle.std.specs.Prelude.{◌≡◌, ◌⊎◌, ◌++◌, [], length, string_bytes, IfOk};
+ghost use Rattle.std.specs.Prelude.{◌≡◌, ◌&&◌, not, length, bytes_eq, option_map, IfOk};
 ghost use Rattle.std.specs.Str.Lines.{lines};
-ghost use Rattle.klp_console.specs.Answered.{sealed};
 ghost use Rattle.klp_page.specs.Rows.{last_view};
-ghost use Rattle.klp_trace_page.specs.Traced.{item_text, IsRoomy, IsEventRow, IsStillRow, IsTracedRow, AreTraced};
-ghost use Rattle.klp_trace_page.specs.Traced.{AddsTracedRow};
+ghost use Rattle.klp_trace_page.specs.Traced.{IsRoomy, IsPlayedEvent, IsStillRow, IsTracedRow, AddsTracedRow, AreTraced};
+ghost use Rattle.klp_trace_page.specs.Rules.{rules_text, sight_text};
 
 use crate::line::item_text;
-use crate::rules::{rules_text, seen_text};
+use crate::rules::{rules_text, sight_text};
 use klp_catalog_text::Lines;
 use klp_console::Outcome;
 use klp_core::Manager;
@@ -31,7 +30,15 @@ fn make_room(manager: &mut Manager)
 }
 
 /// Puts the kernel's answer beside that of the rules, and marks the row if it is another.
-fn compare(row: &mut Row, seen: Vec<u8>) {
+fn compare(row: &mut Row, seen: Vec<u8>)
+    ensures row { row.new ≡ record row.old {
+      is_quiet = row.old.is_quiet && not row.new.differs;
+      seen = row.new.seen;
+      differs = row.new.differs;
+    } }
+    ensures seen { row.new.seen.items ≡ seen.items }
+    ensures differs { row.new.differs ≡ not (bytes_eq row.old.answer.items seen.items) }
+{
     row.differs = row.answer.as_slice() != seen.as_slice();
     row.is_quiet = row.is_quiet && !row.differs;
     row.seen = seen;
@@ -46,7 +53,10 @@ fn event_row(
     answer: Option<&Result<Reply, Refusal>>,
     before: &View,
     layout: &mut Layout<'_>,
-) -> Result<(Row, Moment), AllocError> {
+) -> Result<(Row, Moment), AllocError>
+    ensures { IfOk result (λ made. IsPlayedEvent manager.old manager.new before.now text.now
+        (option_map (λ answer. answer.now) answer.entry) made.0 made.1) }
+{
     make_room(manager);
     let (mut row, moment) = record_line(alloc, manager, text, before, layout)?;
     if let Some(answer) = answer {
@@ -97,9 +107,12 @@ fn sight_row(
     sight: &Sight,
     before: &View,
     layout: &mut Layout<'_>,
-) -> Result<(Row, Moment), AllocError> {
+) -> Result<(Row, Moment), AllocError>
+    ensures { IfOk result (λ made. IsStillRow manager.now manager.now text.now (rules_text manager.now sight.now)
+        (sight_text manager.now.managed.catalog sight.now) made.0 made.1) }
+{
     let rules = rules_text(alloc, manager, sight)?;
-    let seen = seen_text(alloc, manager, sight)?;
+    let seen = sight_text(alloc, manager, sight)?;
     still_row(
         alloc,
         manager,
@@ -141,7 +154,11 @@ fn add_line(
     opening: &View,
     recorded: &mut Recorded,
     layout: &mut Layout<'_>,
-) -> Result<(), AllocError> {
+) -> Result<(), AllocError>
+    ensures { IfOk result (λ _. AddsTracedRow manager.old manager.new (last_view opening.now recorded.old.run.items)
+        line.now item.now recorded.old.rows.items recorded.new.rows.items recorded.old.run.items
+        recorded.new.run.items) }
+{
     let before = last_view(opening, &recorded.run);
     let (row, moment) = item_row(alloc, manager, item_text(line), item, before, layout)?;
     recorded.rows.push(row)?;
@@ -157,16 +174,23 @@ pub(crate) fn record_trace(
     items: &[Observed],
     opening: &View,
     layout: &mut Layout<'_>,
-) -> Result<Recorded, AllocError> {
-    let mut lines = Lines::new(text);
+) -> Result<Recorded, AllocError>
+    requires { length (lines text.now) ≡ length items.now }
+    ensures { IfOk result (λ recorded. AreTraced manager.old manager.new opening.now (lines text.now) items.now
+        recorded.rows.items recorded.run.items) }
+{
     let mut recorded = Recorded {
         rows: Vec::new(alloc),
         run: Vec::new(alloc),
     };
-    for item in items {
-        if let Some(line) = lines.next() {
-            add_line(alloc, manager, line, item, opening, &mut recorded, layout)?;
-        }
+    let mut lines = Lines::new(text);
+    let mut rest = items;
+    while let Some(line) = lines.next() {
+        let [item, others @ ..] = rest else {
+            return Ok(recorded);
+        };
+        add_line(alloc, manager, line, item, opening, &mut recorded, layout)?;
+        rest = others;
     }
     Ok(recorded)
 }

@@ -1,6 +1,6 @@
 //! What the rules say where a kernel was looked at, and what it showed, in the same words.
 ghost use Rattle.std.specs.Prelude.{◌≡◌, string_bytes, IfOk};
-ghost use Rattle.klp_trace_page.specs.Rules.{flag_text, hook_text, files_text, state_text, picked_text, text_text, rules_text, seen_text};
+ghost use Rattle.klp_trace_page.specs.Rules.{flag_text, hook_text, files_text, state_text, picked_text, text_text, rules_text, sight_text};
 
 use klp_core::Manager;
 use klp_types::{PatchId, PatchState, Site, TaskId, Version};
@@ -114,12 +114,12 @@ pub(crate) fn rules_text(
 }
 
 /// Returns what was seen, in the words of [`rules_text`].
-pub(crate) fn seen_text(
+pub(crate) fn sight_text(
     alloc: Global,
     manager: &Manager,
     sight: &Sight,
 ) -> Result<String, AllocError>
-    ensures { IfOk result (λ text. string_bytes text ≡ seen_text manager.now.managed.catalog sight.now) }
+    ensures { IfOk result (λ text. string_bytes text ≡ sight_text manager.now.managed.catalog sight.now) }
 {
     match sight {
         Sight::State(_, state) => state_text(alloc, number_of(*state)),
